@@ -1,0 +1,232 @@
+//! Classes and their methods.
+ghost use Rattle.std.specs.Prelude.{◌≡◌, ◌==◌};
+ghost use Rattle.oca_types.specs.Classes.{class_fields_of};
+ghost use Rattle.oca_types.specs.Methods.{row_at, root_methods, worker_methods, block_methods, state_methods, switch_methods, setting_methods, method_kind, own_methods, access, is_left_out};
+
+use crate::words::MethodId;
+use arrayvec::ArrayVec;
+
+#[derive(Clone, Copy, Debug, PartialEq, Eq)]
+pub enum Class {
+    Block,
+    Mute,
+    Polarity,
+    Switch,
+    Boolean,
+    Int8,
+    Int16,
+    Int32,
+    Int64,
+    Uint8,
+    Uint16,
+    Uint32,
+    Uint64,
+}
+
+#[derive(Clone, Copy, Debug, PartialEq, Eq)]
+pub enum Access {
+    Read,
+    Write,
+    Locking,
+}
+
+#[derive(Clone, Copy, Debug, PartialEq, Eq)]
+pub enum Method {
+    GetClassIdentification,
+    GetLockable,
+    LockTotal,
+    Unlock,
+    GetRole,
+    LockReadonly,
+    GetEnabled,
+    SetEnabled,
+    GetLabel,
+    SetLabel,
+    GetOwner,
+    GetMembers,
+    GetMembersRecursive,
+    GetState,
+    SetState,
+    GetPosition,
+    SetPosition,
+    GetPositionName,
+    SetPositionName,
+    GetPositionNames,
+    SetPositionNames,
+    GetPositionEnabled,
+    SetPositionEnabled,
+    GetPositionEnableds,
+    SetPositionEnableds,
+    GetSetting,
+    SetSetting,
+}
+
+#[derive(Clone, Copy, Debug, PartialEq, Eq)]
+pub enum MethodKind {
+    Known(Method, Access),
+    LeftOut,
+    Unknown,
+}
+
+fn root_method(index: u16) -> Option<Method>
+    ensures { result ≡ row_at root_methods index }
+{
+    Some(match index {
+        1 => Method::GetClassIdentification,
+        2 => Method::GetLockable,
+        3 => Method::LockTotal,
+        4 => Method::Unlock,
+        5 => Method::GetRole,
+        6 => Method::LockReadonly,
+        _ => return None,
+    })
+}
+
+fn worker_method(index: u16) -> Option<Method>
+    ensures { result ≡ row_at worker_methods index }
+{
+    match index {
+        1 => Some(Method::GetEnabled),
+        2 => Some(Method::SetEnabled),
+        8 => Some(Method::GetLabel),
+        9 => Some(Method::SetLabel),
+        10 => Some(Method::GetOwner),
+        _ => None,
+    }
+}
+
+fn block_method(index: u16) -> Option<Method>
+    ensures { result ≡ row_at block_methods index }
+{
+    match index {
+        5 => Some(Method::GetMembers),
+        6 => Some(Method::GetMembersRecursive),
+        _ => None,
+    }
+}
+
+fn state_method(index: u16) -> Option<Method>
+    ensures { result ≡ row_at state_methods index }
+{
+    match index {
+        1 => Some(Method::GetState),
+        2 => Some(Method::SetState),
+        _ => None,
+    }
+}
+
+fn switch_method(index: u16) -> Option<Method>
+    ensures { result ≡ row_at switch_methods index }
+{
+    match index {
+        1 => Some(Method::GetPosition),
+        2 => Some(Method::SetPosition),
+        3 => Some(Method::GetPositionName),
+        4 => Some(Method::SetPositionName),
+        5 => Some(Method::GetPositionNames),
+        6 => Some(Method::SetPositionNames),
+        7 => Some(Method::GetPositionEnabled),
+        8 => Some(Method::SetPositionEnabled),
+        9 => Some(Method::GetPositionEnableds),
+        10 => Some(Method::SetPositionEnableds),
+        _ => None,
+    }
+}
+
+fn setting_method(index: u16) -> Option<Method>
+    ensures { result ≡ row_at setting_methods index }
+{
+    match index {
+        1 => Some(Method::GetSetting),
+        2 => Some(Method::SetSetting),
+        _ => None,
+    }
+}
+
+/// The method of a level that the class has.
+fn known_method(class: Class, id: MethodId) -> Option<Method>
+    ensures { result ≡ row_at (own_methods class id.level) id.index }
+{
+    match (id.level, class) {
+        (1, _) => root_method(id.index),
+        (2, _) => worker_method(id.index),
+        (3, Class::Block) => block_method(id.index),
+        (4, Class::Mute | Class::Polarity) => state_method(id.index),
+        (4, Class::Switch) => switch_method(id.index),
+        (4, _) => None,
+        (5, Class::Block | Class::Mute | Class::Polarity | Class::Switch) => None,
+        (5, _) => setting_method(id.index),
+        _ => None,
+    }
+}
+
+/// Whether the method is known and left out.
+fn is_left_out(class: Class, id: MethodId) -> bool
+    ensures { result ≡ is_left_out class id }
+{
+    match id.level {
+        2 => matches!(id.index, 3..=7 | 11..=13),
+        3 => class == Class::Block && matches!(id.index, 1..=4 | 7..=20),
+        _ => false,
+    }
+}
+
+pub fn access_of(method: Method) -> Access
+    ensures { result ≡ access method }
+{
+    match method {
+        Method::LockTotal | Method::LockReadonly | Method::Unlock => Access::Locking,
+        Method::SetEnabled
+        | Method::SetLabel
+        | Method::SetState
+        | Method::SetPosition
+        | Method::SetPositionName
+        | Method::SetPositionNames
+        | Method::SetPositionEnabled
+        | Method::SetPositionEnableds
+        | Method::SetSetting => Access::Write,
+        _ => Access::Read,
+    }
+}
+
+/// What a class knows of a method.
+#[tactic(auto, unfolding(crate::specs::Methods::method_kind))]
+pub fn method_of(class: Class, id: MethodId) -> MethodKind
+    ensures { result ≡ method_kind class id }
+{
+    match known_method(class, id) {
+        Some(method) => MethodKind::Known(method, access_of(method)),
+        None if is_left_out(class, id) => MethodKind::LeftOut,
+        None => MethodKind::Unknown,
+    }
+}
+
+/// The fields of the class's identifier (OcaClassID, AES70-2), as 1.1.1.2 of a mute.
+pub fn class_fields(class: Class) -> ArrayVec<u16, 5>
+    ensures { result.items ≡ class_fields_of class }
+{
+    match class {
+        Class::Block => fields(&[1, 1, 3]),
+        Class::Mute => fields(&[1, 1, 1, 2]),
+        Class::Polarity => fields(&[1, 1, 1, 3]),
+        Class::Switch => fields(&[1, 1, 1, 4]),
+        Class::Boolean => fields(&[1, 1, 1, 1, 1]),
+        Class::Int8 => fields(&[1, 1, 1, 1, 2]),
+        Class::Int16 => fields(&[1, 1, 1, 1, 3]),
+        Class::Int32 => fields(&[1, 1, 1, 1, 4]),
+        Class::Int64 => fields(&[1, 1, 1, 1, 5]),
+        Class::Uint8 => fields(&[1, 1, 1, 1, 6]),
+        Class::Uint16 => fields(&[1, 1, 1, 1, 7]),
+        Class::Uint32 => fields(&[1, 1, 1, 1, 8]),
+        Class::Uint64 => fields(&[1, 1, 1, 1, 9]),
+    }
+}
+
+fn fields(numbers: &[u16]) -> ArrayVec<u16, 5>
+    requires { length numbers.now ≤ 5 }
+    ensures { result.items ≡ numbers.now }
+{
+    let mut fields = ArrayVec::new();
+    let _ = fields.try_extend_from_slice(numbers);
+    fields
+}

@@ -1,0 +1,196 @@
+//! Reading values from the front of a slice.
+ghost use Rattle.std.specs.Prelude.{◌≡◌, List, ◌++◌, ◌<◌, [], ◌↔◌, length, IfOk, OnErr, OnOk, IfErr, IsOk, IsOkAnd, ◌≤◌, ℕ};
+ghost use Rattle.oca_types.specs.declared.fault.ReadFault.{ReadFault};
+ghost use Rattle.oca_types.specs.declared.fault.ReadFault.TheVariants.{Short, Trailing};
+ghost use Rattle.std.specs.Int.{w8, w16, w32, w64};
+ghost use Rattle.oca_types.specs.Numbers.{IsUnsignedEncoding, IsSignedEncoding, IsBoolEncoding};
+ghost use Rattle.oca_types.specs.Texts.{IsTextEncoding};
+ghost use Rattle.oca_types.specs.Reading.{unsigned_at, signed_at, bool_at, text_at};
+ghost use Rattle.oca_types.specs.Taking.{bytes_left, Takes, TakesEach, IsCutShort, IsTextRefusal, ReadsAs};
+ghost use Rattle.oca_types.proofs.Fixed.{IsBytes};
+
+use crate::fault::ReadFault;
+use crate::text::{Text, chars_at};
+
+/// What is left of a slice. Each take answers the value whose encoding stands at the front and goes
+/// past exactly that encoding; after a refusal the cursor is as it was.
+#[derive(Clone, Copy)]
+pub struct Cursor<'a> {
+    rest: &'a [u8],
+}
+
+/// The first `n` bytes, and those behind them.
+fn split(bytes: &[u8], n: usize) -> Result<(&[u8], &[u8]), ReadFault>
+    ensures ok { IfOk result (λ x. (bytes.now ≡ x.0.now ++ x.1.now) × (length x.0.now ≡ n)) }
+    ensures short { IfErr result (λ e. (e ≡ Short) × (length bytes.now < n) × IsBytes bytes.now) }
+{
+    bytes.split_at_checked(n).ok_or(ReadFault::Short)
+}
+
+impl<'a> Cursor<'a> {
+    /// At the front of these bytes.
+    pub fn new(bytes: &'a [u8]) -> Cursor<'a>
+        ensures { bytes_left result ≡ bytes.now }
+    {
+        Cursor { rest: bytes }
+    }
+
+    fn take_bytes(&mut self, n: usize) -> Result<&'a [u8], ReadFault>
+        ensures ok { IfOk result (λ front. (self.old.rest.now ≡ front.now ++ self.new.rest.now) × (length front.now ≡ n)) }
+        ensures err { OnErr result (self.new ≡ self.old) }
+        ensures short { IfErr result (λ e. (e ≡ Short) × (length self.old.rest.now < n) × IsBytes self.old.rest.now) }
+    {
+        let (front, rest) = split(self.rest, n)?;
+        self.rest = rest;
+        Ok(front)
+    }
+
+    /// A Uint8 (AES70-3). Refusal: `Short`, and the cursor is unchanged.
+    #[tactic(auto, using(crate::proofs::Fixed::short_u8))]
+    pub fn take_u8(&mut self) -> Result<u8, ReadFault>
+        ensures found { IfOk result (λ v. Takes (IsUnsignedEncoding w8) v (bytes_left self.old) (bytes_left self.new)) }
+        ensures only { TakesEach (IsUnsignedEncoding w8) (bytes_left self.old) result (bytes_left self.new) }
+        ensures short { IfErr result (λ e. (e ≡ Short) × IsCutShort (IsUnsignedEncoding w8) (bytes_left self.old)) }
+        ensures err { OnErr result (bytes_left self.new ≡ bytes_left self.old) }
+        ensures reads { ReadsAs result (bytes_left self.new) (unsigned_at w8 (bytes_left self.old)) }
+    {
+        let front = self.take_bytes(1)?;
+        Ok(front[0])
+    }
+
+    /// A Uint16 (AES70-3). Refusal: `Short`, and the cursor is unchanged.
+    #[tactic(auto, using(crate::proofs::Fixed::short_u16))]
+    pub fn take_u16(&mut self) -> Result<u16, ReadFault>
+        ensures found { IfOk result (λ v. Takes (IsUnsignedEncoding w16) v (bytes_left self.old) (bytes_left self.new)) }
+        ensures only { TakesEach (IsUnsignedEncoding w16) (bytes_left self.old) result (bytes_left self.new) }
+        ensures short { IfErr result (λ e. (e ≡ Short) × IsCutShort (IsUnsignedEncoding w16) (bytes_left self.old)) }
+        ensures err { OnErr result (bytes_left self.new ≡ bytes_left self.old) }
+        ensures reads { ReadsAs result (bytes_left self.new) (unsigned_at w16 (bytes_left self.old)) }
+    {
+        let front = self.take_bytes(2)?;
+        Ok(u16::from_be_bytes([front[0], front[1]]))
+    }
+
+    /// A Uint32 (AES70-3). Refusal: `Short`, and the cursor is unchanged.
+    #[tactic(auto, using(crate::proofs::Fixed::short_u32))]
+    pub fn take_u32(&mut self) -> Result<u32, ReadFault>
+        ensures found { IfOk result (λ v. Takes (IsUnsignedEncoding w32) v (bytes_left self.old) (bytes_left self.new)) }
+        ensures only { TakesEach (IsUnsignedEncoding w32) (bytes_left self.old) result (bytes_left self.new) }
+        ensures short { IfErr result (λ e. (e ≡ Short) × IsCutShort (IsUnsignedEncoding w32) (bytes_left self.old)) }
+        ensures err { OnErr result (bytes_left self.new ≡ bytes_left self.old) }
+        ensures reads { ReadsAs result (bytes_left self.new) (unsigned_at w32 (bytes_left self.old)) }
+    {
+        let front = self.take_bytes(4)?;
+        Ok(u32::from_be_bytes([front[0], front[1], front[2], front[3]]))
+    }
+
+    /// A Uint64 (AES70-3). Refusal: `Short`, and the cursor is unchanged.
+    #[tactic(auto, using(crate::proofs::Fixed::short_u64))]
+    pub fn take_u64(&mut self) -> Result<u64, ReadFault>
+        ensures found { IfOk result (λ v. Takes (IsUnsignedEncoding w64) v (bytes_left self.old) (bytes_left self.new)) }
+        ensures only { TakesEach (IsUnsignedEncoding w64) (bytes_left self.old) result (bytes_left self.new) }
+        ensures short { IfErr result (λ e. (e ≡ Short) × IsCutShort (IsUnsignedEncoding w64) (bytes_left self.old)) }
+        ensures err { OnErr result (bytes_left self.new ≡ bytes_left self.old) }
+        ensures reads { ReadsAs result (bytes_left self.new) (unsigned_at w64 (bytes_left self.old)) }
+    {
+        let front = self.take_bytes(8)?;
+        Ok(u64::from_be_bytes([front[0], front[1], front[2], front[3], front[4], front[5], front[6], front[7]]))
+    }
+
+    /// An Int8 (AES70-3). Refusal: `Short`, and the cursor is unchanged.
+    #[tactic(auto, using(crate::proofs::Fixed::short_i8))]
+    pub fn take_i8(&mut self) -> Result<i8, ReadFault>
+        ensures found { IfOk result (λ v. Takes (IsSignedEncoding w8) v (bytes_left self.old) (bytes_left self.new)) }
+        ensures only { TakesEach (IsSignedEncoding w8) (bytes_left self.old) result (bytes_left self.new) }
+        ensures short { IfErr result (λ e. (e ≡ Short) × IsCutShort (IsSignedEncoding w8) (bytes_left self.old)) }
+        ensures err { OnErr result (bytes_left self.new ≡ bytes_left self.old) }
+        ensures reads { ReadsAs result (bytes_left self.new) (signed_at w8 (bytes_left self.old)) }
+    {
+        let front = self.take_bytes(1)?;
+        Ok(i8::from_be_bytes([front[0]]))
+    }
+
+    /// An Int16 (AES70-3). Refusal: `Short`, and the cursor is unchanged.
+    #[tactic(auto, using(crate::proofs::Fixed::short_i16))]
+    pub fn take_i16(&mut self) -> Result<i16, ReadFault>
+        ensures found { IfOk result (λ v. Takes (IsSignedEncoding w16) v (bytes_left self.old) (bytes_left self.new)) }
+        ensures only { TakesEach (IsSignedEncoding w16) (bytes_left self.old) result (bytes_left self.new) }
+        ensures short { IfErr result (λ e. (e ≡ Short) × IsCutShort (IsSignedEncoding w16) (bytes_left self.old)) }
+        ensures err { OnErr result (bytes_left self.new ≡ bytes_left self.old) }
+        ensures reads { ReadsAs result (bytes_left self.new) (signed_at w16 (bytes_left self.old)) }
+    {
+        let front = self.take_bytes(2)?;
+        Ok(i16::from_be_bytes([front[0], front[1]]))
+    }
+
+    /// An Int32 (AES70-3). Refusal: `Short`, and the cursor is unchanged.
+    #[tactic(auto, using(crate::proofs::Fixed::short_i32))]
+    pub fn take_i32(&mut self) -> Result<i32, ReadFault>
+        ensures found { IfOk result (λ v. Takes (IsSignedEncoding w32) v (bytes_left self.old) (bytes_left self.new)) }
+        ensures only { TakesEach (IsSignedEncoding w32) (bytes_left self.old) result (bytes_left self.new) }
+        ensures short { IfErr result (λ e. (e ≡ Short) × IsCutShort (IsSignedEncoding w32) (bytes_left self.old)) }
+        ensures err { OnErr result (bytes_left self.new ≡ bytes_left self.old) }
+        ensures reads { ReadsAs result (bytes_left self.new) (signed_at w32 (bytes_left self.old)) }
+    {
+        let front = self.take_bytes(4)?;
+        Ok(i32::from_be_bytes([front[0], front[1], front[2], front[3]]))
+    }
+
+    /// An Int64 (AES70-3). Refusal: `Short`, and the cursor is unchanged.
+    #[tactic(auto, using(crate::proofs::Fixed::short_i64))]
+    pub fn take_i64(&mut self) -> Result<i64, ReadFault>
+        ensures found { IfOk result (λ v. Takes (IsSignedEncoding w64) v (bytes_left self.old) (bytes_left self.new)) }
+        ensures only { TakesEach (IsSignedEncoding w64) (bytes_left self.old) result (bytes_left self.new) }
+        ensures short { IfErr result (λ e. (e ≡ Short) × IsCutShort (IsSignedEncoding w64) (bytes_left self.old)) }
+        ensures err { OnErr result (bytes_left self.new ≡ bytes_left self.old) }
+        ensures reads { ReadsAs result (bytes_left self.new) (signed_at w64 (bytes_left self.old)) }
+    {
+        let front = self.take_bytes(8)?;
+        Ok(i64::from_be_bytes([front[0], front[1], front[2], front[3], front[4], front[5], front[6], front[7]]))
+    }
+
+    /// An OcaBoolean: 0 is false and any other byte is true. Refusal: `Short`, and the cursor is unchanged.
+    #[tactic(auto, using(crate::proofs::Fixed::short_bool))]
+    pub fn take_bool(&mut self) -> Result<bool, ReadFault>
+        ensures found { IfOk result (λ v. Takes IsBoolEncoding v (bytes_left self.old) (bytes_left self.new)) }
+        ensures only { TakesEach IsBoolEncoding (bytes_left self.old) result (bytes_left self.new) }
+        ensures short { IfErr result (λ e. (e ≡ Short) × IsCutShort IsBoolEncoding (bytes_left self.old)) }
+        ensures err { OnErr result (bytes_left self.new ≡ bytes_left self.old) }
+        ensures reads { ReadsAs result (bytes_left self.new) (bool_at (bytes_left self.old)) }
+    {
+        let front = self.take_bytes(1)?;
+        Ok(front[0] != 0)
+    }
+
+    /// An OcaString of at most 64 bytes. Refusals, each of which leaves the cursor unchanged: `Short`,
+    /// `NotUtf8`, `TooLong`.
+    pub fn take_text(&mut self) -> Result<Text, ReadFault>
+        ensures found { IfOk result (λ text. Takes IsTextEncoding text (bytes_left self.old) (bytes_left self.new)) }
+        ensures only { (text front rest : List ℕ) → IsTextEncoding text front → bytes_left self.old ≡ front ++ rest → length text ≤ 64 →
+            (result ≡ Ok text) × (bytes_left self.new ≡ rest) }
+        ensures refusal { IfErr result (λ e. IsTextRefusal (bytes_left self.old) e) }
+        ensures err { OnErr result (bytes_left self.new ≡ bytes_left self.old) }
+        ensures reads { ReadsAs result (bytes_left self.new) (text_at (bytes_left self.old)) }
+    {
+        let mut after = *self;
+        let count = after.take_u16()?;
+        let (text, rest) = chars_at(after.rest, count)?;
+        let Some(text) = Text::new(text) else {
+            return Err(ReadFault::TooLong);
+        };
+        self.rest = rest;
+        Ok(text)
+    }
+
+    /// Succeeds exactly where nothing is left. Refusal: `Trailing`.
+    pub fn finish(&self) -> Result<(), ReadFault>
+        ensures variant { IsOk result ↔ (bytes_left self.now ≡ []) }
+        ensures err { IfErr result (λ e. e ≡ Trailing) }
+    {
+        if self.rest.is_empty() {
+            Ok(())
+        } else {
+            Err(ReadFault::Trailing)
+        }
+    }
+}

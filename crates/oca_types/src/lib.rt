@@ -1,0 +1,24 @@
+//! The basic types of AES70: numbers, Booleans and texts and their encodings (AES70-3), classes and
+//! methods (AES70-2), and the names of objects, commands and peers that the other crates speak of.
+//!
+//! Begin with [`Cursor`], which reads values from the front of a slice, and with the `put_` calls,
+//! which append them to parameters. Nothing here takes memory, and nothing reads a clock.
+#![tactic(auto)]
+
+mod class;
+mod cursor;
+mod fault;
+mod put;
+mod status;
+mod text;
+mod words;
+
+pub use class::{Access, Class, Method, MethodKind, access_of, class_fields, method_of};
+pub use cursor::Cursor;
+pub use fault::{PutFault, ReadFault};
+pub use put::{
+    put_bool, put_class_identification, put_i8, put_i16, put_i32, put_i64, put_text, put_u8, put_u16, put_u32, put_u64,
+};
+pub use status::Status;
+pub use text::Text;
+pub use words::{Command, Handle, MethodId, NoMemory, Ono, Packet, Params, Peer, Reply};

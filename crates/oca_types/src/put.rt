@@ -1,0 +1,125 @@
+//! Appending values to parameters.
+ghost use Rattle.std.specs.Prelude.{◌≡◌, ◌+◌, ◌≤◌, ◌<◌, ◌↔◌, List, ◌++◌, length, IsOk, IsErr, OnOk, OnErr};
+ghost use Rattle.std.specs.Int.{w8, w16, w32, w64};
+ghost use Rattle.oca_types.specs.Numbers.{unsigned_encoding, signed_encoding, bool_encoding};
+ghost use Rattle.oca_types.specs.Texts.{text_encoding};
+ghost use Rattle.oca_types.specs.Classes.{class_identification_encoding};
+
+use crate::class::{Class, class_fields};
+use crate::fault::PutFault;
+use crate::text::Text;
+use crate::words::Params;
+
+/// Appends a Uint8 (AES70-3). Refusal: `Full`, and the parameters are unchanged.
+pub fn put_u8(params: &mut Params, value: u8) -> Result<(), PutFault>
+    ensures full { IsErr result ↔ (1452 < length params.old.items + 1) }
+    ensures ok { OnOk result (params.new.items ≡ params.old.items ++ unsigned_encoding w8 value) }
+    ensures err { OnErr result (params.new ≡ params.old) }
+{
+    params.try_extend_from_slice(&value.to_be_bytes()).map_err(|_| PutFault::Full)
+}
+
+/// Appends a Uint16 (AES70-3). Refusal: `Full`, and the parameters are unchanged.
+pub fn put_u16(params: &mut Params, value: u16) -> Result<(), PutFault>
+    ensures full { IsErr result ↔ (1452 < length params.old.items + 2) }
+    ensures ok { OnOk result (params.new.items ≡ params.old.items ++ unsigned_encoding w16 value) }
+    ensures err { OnErr result (params.new ≡ params.old) }
+{
+    params.try_extend_from_slice(&value.to_be_bytes()).map_err(|_| PutFault::Full)
+}
+
+/// Appends a Uint32 (AES70-3). Refusal: `Full`, and the parameters are unchanged.
+pub fn put_u32(params: &mut Params, value: u32) -> Result<(), PutFault>
+    ensures full { IsErr result ↔ (1452 < length params.old.items + 4) }
+    ensures ok { OnOk result (params.new.items ≡ params.old.items ++ unsigned_encoding w32 value) }
+    ensures err { OnErr result (params.new ≡ params.old) }
+{
+    params.try_extend_from_slice(&value.to_be_bytes()).map_err(|_| PutFault::Full)
+}
+
+/// Appends a Uint64 (AES70-3). Refusal: `Full`, and the parameters are unchanged.
+pub fn put_u64(params: &mut Params, value: u64) -> Result<(), PutFault>
+    ensures full { IsErr result ↔ (1452 < length params.old.items + 8) }
+    ensures ok { OnOk result (params.new.items ≡ params.old.items ++ unsigned_encoding w64 value) }
+    ensures err { OnErr result (params.new ≡ params.old) }
+{
+    params.try_extend_from_slice(&value.to_be_bytes()).map_err(|_| PutFault::Full)
+}
+
+/// Appends an Int8 (AES70-3). Refusal: `Full`, and the parameters are unchanged.
+pub fn put_i8(params: &mut Params, value: i8) -> Result<(), PutFault>
+    ensures full { IsErr result ↔ (1452 < length params.old.items + 1) }
+    ensures ok { OnOk result (params.new.items ≡ params.old.items ++ signed_encoding w8 value) }
+    ensures err { OnErr result (params.new ≡ params.old) }
+{
+    params.try_extend_from_slice(&value.to_be_bytes()).map_err(|_| PutFault::Full)
+}
+
+/// Appends an Int16 (AES70-3). Refusal: `Full`, and the parameters are unchanged.
+pub fn put_i16(params: &mut Params, value: i16) -> Result<(), PutFault>
+    ensures full { IsErr result ↔ (1452 < length params.old.items + 2) }
+    ensures ok { OnOk result (params.new.items ≡ params.old.items ++ signed_encoding w16 value) }
+    ensures err { OnErr result (params.new ≡ params.old) }
+{
+    params.try_extend_from_slice(&value.to_be_bytes()).map_err(|_| PutFault::Full)
+}
+
+/// Appends an Int32 (AES70-3). Refusal: `Full`, and the parameters are unchanged.
+pub fn put_i32(params: &mut Params, value: i32) -> Result<(), PutFault>
+    ensures full { IsErr result ↔ (1452 < length params.old.items + 4) }
+    ensures ok { OnOk result (params.new.items ≡ params.old.items ++ signed_encoding w32 value) }
+    ensures err { OnErr result (params.new ≡ params.old) }
+{
+    params.try_extend_from_slice(&value.to_be_bytes()).map_err(|_| PutFault::Full)
+}
+
+/// Appends an Int64 (AES70-3). Refusal: `Full`, and the parameters are unchanged.
+pub fn put_i64(params: &mut Params, value: i64) -> Result<(), PutFault>
+    ensures full { IsErr result ↔ (1452 < length params.old.items + 8) }
+    ensures ok { OnOk result (params.new.items ≡ params.old.items ++ signed_encoding w64 value) }
+    ensures err { OnErr result (params.new ≡ params.old) }
+{
+    params.try_extend_from_slice(&value.to_be_bytes()).map_err(|_| PutFault::Full)
+}
+
+/// Appends an OcaBoolean, as 0 or 1. Refusal: `Full`, and the parameters are unchanged.
+pub fn put_bool(params: &mut Params, value: bool) -> Result<(), PutFault>
+    ensures full { IsErr result ↔ (1452 < length params.old.items + 1) }
+    ensures ok { OnOk result (params.new.items ≡ params.old.items ++ bool_encoding value) }
+    ensures err { OnErr result (params.new ≡ params.old) }
+{
+    put_u8(params, u8::from(value))
+}
+
+/// Appends an OcaString: the number of Unicode scalar values, then the UTF-8. Refusal: `Full`, and the
+/// parameters are unchanged.
+pub fn put_text(params: &mut Params, value: &Text) -> Result<(), PutFault>
+    ensures full { IsErr result ↔ (1452 < length params.old.items + length (text_encoding value.now)) }
+    ensures ok { OnOk result (params.new.items ≡ params.old.items ++ text_encoding value.now) }
+    ensures err { OnErr result (params.new ≡ params.old) }
+{
+    let text = value.as_str();
+    if 1452 - params.len() < 2 + text.len() {
+        return Err(PutFault::Full);
+    }
+    put_u16(params, text.chars().count() as u16)?;
+    params.try_extend_from_slice(text.as_bytes()).map_err(|_| PutFault::Full)
+}
+
+/// Appends an OcaClassIdentification: the class's identifier and its version, which is 2. Refusal:
+/// `Full`, and the parameters are unchanged.
+pub fn put_class_identification(params: &mut Params, class: Class) -> Result<(), PutFault>
+    ensures full { IsErr result ↔ (1452 < length params.old.items + length (class_identification_encoding class)) }
+    ensures ok { OnOk result (params.new.items ≡ params.old.items ++ class_identification_encoding class) }
+    ensures err { OnErr result (params.new ≡ params.old) }
+{
+    let fields = class_fields(class);
+    if 1452 - params.len() < 4 + 2 * fields.len() {
+        return Err(PutFault::Full);
+    }
+    put_u16(params, fields.len() as u16)?;
+    for field in fields.as_slice() {
+        put_u16(params, *field)?;
+    }
+    put_u16(params, 2)
+}

@@ -1,0 +1,55 @@
+//! Names for objects, commands, methods and peers, and the command and the reply that carry them.
+use crate::status::Status;
+use arrayvec::ArrayVec;
+
+/// An object number (ONo): the number of an object in its device (AES70-1).
+#[derive(Clone, Copy, Debug, PartialEq, Eq, Hash)]
+pub struct Ono(pub u32);
+
+/// The handle of a command, by which a controller knows its response (AES70-3).
+#[derive(Clone, Copy, Debug, PartialEq, Eq)]
+pub struct Handle(pub u32);
+
+/// A method: DefLevel, the depth in the class tree of the class that defines it (OcaRoot is 1), and
+/// MethodIndex, its number there (AES70-2).
+#[derive(Clone, Copy, Debug, PartialEq, Eq)]
+pub struct MethodId {
+    pub level: u16,
+    pub index: u16,
+}
+
+/// An IPv4 address, its first number in the highest byte, and a UDP port.
+#[derive(Clone, Copy, Debug, Default, PartialEq, Eq)]
+pub struct Peer {
+    pub ip: u32,
+    pub port: u16,
+}
+
+/// The parameters of a response: at most 1,452 bytes.
+pub type Params = ArrayVec<u8, 1452>;
+
+/// A datagram that is sent: at most 1,472 bytes.
+pub type Packet = ArrayVec<u8, 1472>;
+
+/// A command: what its handle is, which object and method it calls, its ParamCount and the bytes of
+/// its parameters (AES70-3).
+#[derive(Clone, Copy)]
+pub struct Command<'a> {
+    pub handle: Handle,
+    pub target: Ono,
+    pub method: MethodId,
+    pub count: u8,
+    pub params: &'a [u8],
+}
+
+/// What executing a command gave: its status, and the ParamCount and the parameters of the response.
+#[derive(Drop)]
+pub struct Reply {
+    pub status: Status,
+    pub count: u8,
+    pub params: Params,
+}
+
+/// Memory was refused. Where this is a call's only fault, its number is 1.
+#[derive(Clone, Copy, Debug, PartialEq, Eq)]
+pub struct NoMemory;
