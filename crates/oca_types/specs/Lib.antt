@@ -1,5 +1,6 @@
 pub mod Numbers
 pub mod Texts
+pub mod Characters
 pub mod Reading
 pub mod Taking
 pub mod Status

@@ -1,6 +1,10 @@
 -- Numbers and Booleans as bytes (AES70-3, encoding of the basic data types).
-use Rattle.std.specs.Prelude.{◌≡◌, ℕ, ◌<◌, ◌^◌, Bool, true, false, List, [], ◌∷◌, ℤ, FitsSigned}
+use Rattle.std.specs.Prelude.{◌≡◌, ℕ, ◌<◌, ◌^◌, Bool, true, false, List, [], ◌∷◌, slice_index, ℤ, FitsSigned}
 use Rattle.std.specs.Int.{Width, byte_len, to_be_bytes, cast_unsigned}
+
+-- Each number of the list is a byte.
+abbrev pub IsBytes : List ℕ → Type 0
+IsBytes bytes = (i : ℕ) → slice_index bytes i < 256
 
 -- an unsigned number: its bytes, the highest first
 abbrev pub unsigned_encoding : Width → ℕ → List ℕ

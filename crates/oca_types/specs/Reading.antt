@@ -1,6 +1,6 @@
 -- Reading a value from the front of a list of bytes: the value and what stands behind it, or nothing. Each take of a
 -- cursor states that it answers by its function here, and states beside it that this is what the encodings say.
-use Rattle.std.specs.Prelude.{◌≡◌, ℕ, ◌+◌, ◌==◌, ◌&&◌, nat_lt, zero, suc, not, Bool, if◌then◌else◌, List, [], ◌∷◌, length, take, drop, Option, Some, None, ℤ, option_and_then, find}
+use Rattle.std.specs.Prelude.{ℕ, ◌==◌, ◌&&◌, nat_lt, zero, suc, not, Bool, if◌then◌else◌, List, [], ◌∷◌, length, take, drop, Option, Some, None, ℤ, option_and_then, find}
 use Rattle.std.specs.Option.{option_map}
 use Rattle.std.specs.Str.{chars, is_utf8}
 use Rattle.std.specs.Int.{Width, w16, byte_len, from_be_bytes, cast_signed}

@@ -1,5 +1,5 @@
 //! Classes and their methods.
-ghost use Rattle.std.specs.Prelude.{◌≡◌, ◌==◌};
+ghost use Rattle.std.specs.Prelude.{◌≡◌, ◌≤◌, ◌==◌, length};
 ghost use Rattle.oca_types.specs.Classes.{class_fields_of};
 ghost use Rattle.oca_types.specs.Methods.{row_at, root_methods, worker_methods, block_methods, state_methods, switch_methods, setting_methods, method_kind, own_methods, access, is_left_out};
 

@@ -3,11 +3,10 @@ ghost use Rattle.std.specs.Prelude.{◌≡◌, List, ◌++◌, ◌<◌, [], ◌�
 ghost use Rattle.oca_types.specs.declared.fault.ReadFault.{ReadFault};
 ghost use Rattle.oca_types.specs.declared.fault.ReadFault.TheVariants.{Short, Trailing};
 ghost use Rattle.std.specs.Int.{w8, w16, w32, w64};
-ghost use Rattle.oca_types.specs.Numbers.{IsUnsignedEncoding, IsSignedEncoding, IsBoolEncoding};
+ghost use Rattle.oca_types.specs.Numbers.{IsBytes, IsUnsignedEncoding, IsSignedEncoding, IsBoolEncoding};
 ghost use Rattle.oca_types.specs.Texts.{IsTextEncoding};
 ghost use Rattle.oca_types.specs.Reading.{unsigned_at, signed_at, bool_at, text_at};
 ghost use Rattle.oca_types.specs.Taking.{bytes_left, Takes, TakesEach, IsCutShort, IsTextRefusal, ReadsAs};
-ghost use Rattle.oca_types.proofs.Fixed.{IsBytes};
 
 use crate::fault::ReadFault;
 use crate::text::{Text, chars_at};
@@ -21,7 +20,7 @@ pub struct Cursor<'a> {
 
 /// The first `n` bytes, and those behind them.
 fn split(bytes: &[u8], n: usize) -> Result<(&[u8], &[u8]), ReadFault>
-    ensures ok { IfOk result (λ x. (bytes.now ≡ x.0.now ++ x.1.now) × (length x.0.now ≡ n)) }
+    ensures ok { IfOk result (λ x. (bytes.now ≡ x.0.now ++ x.1.now) × (length x.0.now ≡ n) × IsBytes x.0.now) }
     ensures short { IfErr result (λ e. (e ≡ Short) × (length bytes.now < n) × IsBytes bytes.now) }
 {
     bytes.split_at_checked(n).ok_or(ReadFault::Short)
@@ -36,7 +35,7 @@ impl<'a> Cursor<'a> {
     }
 
     fn take_bytes(&mut self, n: usize) -> Result<&'a [u8], ReadFault>
-        ensures ok { IfOk result (λ front. (self.old.rest.now ≡ front.now ++ self.new.rest.now) × (length front.now ≡ n)) }
+        ensures ok { IfOk result (λ front. (self.old.rest.now ≡ front.now ++ self.new.rest.now) × (length front.now ≡ n) × IsBytes front.now) }
         ensures err { OnErr result (self.new ≡ self.old) }
         ensures short { IfErr result (λ e. (e ≡ Short) × (length self.old.rest.now < n) × IsBytes self.old.rest.now) }
     {
@@ -94,7 +93,9 @@ impl<'a> Cursor<'a> {
         ensures reads { ReadsAs result (bytes_left self.new) (unsigned_at w64 (bytes_left self.old)) }
     {
         let front = self.take_bytes(8)?;
-        Ok(u64::from_be_bytes([front[0], front[1], front[2], front[3], front[4], front[5], front[6], front[7]]))
+        Ok(u64::from_be_bytes([
+            front[0], front[1], front[2], front[3], front[4], front[5], front[6], front[7],
+        ]))
     }
 
     /// An Int8 (AES70-3). Refusal: `Short`, and the cursor is unchanged.
@@ -146,7 +147,9 @@ impl<'a> Cursor<'a> {
         ensures reads { ReadsAs result (bytes_left self.new) (signed_at w64 (bytes_left self.old)) }
     {
         let front = self.take_bytes(8)?;
-        Ok(i64::from_be_bytes([front[0], front[1], front[2], front[3], front[4], front[5], front[6], front[7]]))
+        Ok(i64::from_be_bytes([
+            front[0], front[1], front[2], front[3], front[4], front[5], front[6], front[7],
+        ]))
     }
 
     /// An OcaBoolean: 0 is false and any other byte is true. Refusal: `Short`, and the cursor is unchanged.

@@ -17,7 +17,8 @@ pub use class::{Access, Class, Method, MethodKind, access_of, class_fields, meth
 pub use cursor::Cursor;
 pub use fault::{PutFault, ReadFault};
 pub use put::{
-    put_bool, put_class_identification, put_i8, put_i16, put_i32, put_i64, put_text, put_u8, put_u16, put_u32, put_u64,
+    put_bool, put_class_identification, put_i8, put_i16, put_i32, put_i64, put_text, put_u8,
+    put_u16, put_u32, put_u64,
 };
 pub use status::Status;
 pub use text::Text;

@@ -1,5 +1,6 @@
 //! Appending values to parameters.
 ghost use Rattle.std.specs.Prelude.{◌≡◌, ◌+◌, ◌≤◌, ◌<◌, ◌↔◌, List, ◌++◌, length, IsOk, IsErr, OnOk, OnErr};
+ghost use Rattle.std.specs.Str.{chars};
 ghost use Rattle.std.specs.Int.{w8, w16, w32, w64};
 ghost use Rattle.oca_types.specs.Numbers.{unsigned_encoding, signed_encoding, bool_encoding};
 ghost use Rattle.oca_types.specs.Texts.{text_encoding};
@@ -10,13 +11,24 @@ use crate::fault::PutFault;
 use crate::text::Text;
 use crate::words::Params;
 
+/// Appends bytes.
+fn put_bytes(params: &mut Params, bytes: &[u8]) -> Result<(), PutFault>
+    ensures full { IsErr result ↔ (1452 < length params.old.items + length bytes.now) }
+    ensures ok { OnOk result (params.new.items ≡ params.old.items ++ bytes.now) }
+    ensures err { OnErr result (params.new ≡ params.old) }
+{
+    params
+        .try_extend_from_slice(bytes)
+        .map_err(|_| PutFault::Full)
+}
+
 /// Appends a Uint8 (AES70-3). Refusal: `Full`, and the parameters are unchanged.
 pub fn put_u8(params: &mut Params, value: u8) -> Result<(), PutFault>
     ensures full { IsErr result ↔ (1452 < length params.old.items + 1) }
     ensures ok { OnOk result (params.new.items ≡ params.old.items ++ unsigned_encoding w8 value) }
     ensures err { OnErr result (params.new ≡ params.old) }
 {
-    params.try_extend_from_slice(&value.to_be_bytes()).map_err(|_| PutFault::Full)
+    put_bytes(params, &value.to_be_bytes())
 }
 
 /// Appends a Uint16 (AES70-3). Refusal: `Full`, and the parameters are unchanged.
@@ -25,7 +37,7 @@ pub fn put_u16(params: &mut Params, value: u16) -> Result<(), PutFault>
     ensures ok { OnOk result (params.new.items ≡ params.old.items ++ unsigned_encoding w16 value) }
     ensures err { OnErr result (params.new ≡ params.old) }
 {
-    params.try_extend_from_slice(&value.to_be_bytes()).map_err(|_| PutFault::Full)
+    put_bytes(params, &value.to_be_bytes())
 }
 
 /// Appends a Uint32 (AES70-3). Refusal: `Full`, and the parameters are unchanged.
@@ -34,7 +46,7 @@ pub fn put_u32(params: &mut Params, value: u32) -> Result<(), PutFault>
     ensures ok { OnOk result (params.new.items ≡ params.old.items ++ unsigned_encoding w32 value) }
     ensures err { OnErr result (params.new ≡ params.old) }
 {
-    params.try_extend_from_slice(&value.to_be_bytes()).map_err(|_| PutFault::Full)
+    put_bytes(params, &value.to_be_bytes())
 }
 
 /// Appends a Uint64 (AES70-3). Refusal: `Full`, and the parameters are unchanged.
@@ -43,7 +55,7 @@ pub fn put_u64(params: &mut Params, value: u64) -> Result<(), PutFault>
     ensures ok { OnOk result (params.new.items ≡ params.old.items ++ unsigned_encoding w64 value) }
     ensures err { OnErr result (params.new ≡ params.old) }
 {
-    params.try_extend_from_slice(&value.to_be_bytes()).map_err(|_| PutFault::Full)
+    put_bytes(params, &value.to_be_bytes())
 }
 
 /// Appends an Int8 (AES70-3). Refusal: `Full`, and the parameters are unchanged.
@@ -52,7 +64,7 @@ pub fn put_i8(params: &mut Params, value: i8) -> Result<(), PutFault>
     ensures ok { OnOk result (params.new.items ≡ params.old.items ++ signed_encoding w8 value) }
     ensures err { OnErr result (params.new ≡ params.old) }
 {
-    params.try_extend_from_slice(&value.to_be_bytes()).map_err(|_| PutFault::Full)
+    put_bytes(params, &value.to_be_bytes())
 }
 
 /// Appends an Int16 (AES70-3). Refusal: `Full`, and the parameters are unchanged.
@@ -61,7 +73,7 @@ pub fn put_i16(params: &mut Params, value: i16) -> Result<(), PutFault>
     ensures ok { OnOk result (params.new.items ≡ params.old.items ++ signed_encoding w16 value) }
     ensures err { OnErr result (params.new ≡ params.old) }
 {
-    params.try_extend_from_slice(&value.to_be_bytes()).map_err(|_| PutFault::Full)
+    put_bytes(params, &value.to_be_bytes())
 }
 
 /// Appends an Int32 (AES70-3). Refusal: `Full`, and the parameters are unchanged.
@@ -70,7 +82,7 @@ pub fn put_i32(params: &mut Params, value: i32) -> Result<(), PutFault>
     ensures ok { OnOk result (params.new.items ≡ params.old.items ++ signed_encoding w32 value) }
     ensures err { OnErr result (params.new ≡ params.old) }
 {
-    params.try_extend_from_slice(&value.to_be_bytes()).map_err(|_| PutFault::Full)
+    put_bytes(params, &value.to_be_bytes())
 }
 
 /// Appends an Int64 (AES70-3). Refusal: `Full`, and the parameters are unchanged.
@@ -79,7 +91,7 @@ pub fn put_i64(params: &mut Params, value: i64) -> Result<(), PutFault>
     ensures ok { OnOk result (params.new.items ≡ params.old.items ++ signed_encoding w64 value) }
     ensures err { OnErr result (params.new ≡ params.old) }
 {
-    params.try_extend_from_slice(&value.to_be_bytes()).map_err(|_| PutFault::Full)
+    put_bytes(params, &value.to_be_bytes())
 }
 
 /// Appends an OcaBoolean, as 0 or 1. Refusal: `Full`, and the parameters are unchanged.
@@ -89,6 +101,14 @@ pub fn put_bool(params: &mut Params, value: bool) -> Result<(), PutFault>
     ensures err { OnErr result (params.new ≡ params.old) }
 {
     put_u8(params, u8::from(value))
+}
+
+/// The number of Unicode scalar values in a short text.
+fn scalar_count(text: &str) -> u16
+    requires { length text.now ≤ 64 }
+    ensures { result ≡ length (chars text.now) }
+{
+    text.chars().count() as u16
 }
 
 /// Appends an OcaString: the number of Unicode scalar values, then the UTF-8. Refusal: `Full`, and the
@@ -102,8 +122,8 @@ pub fn put_text(params: &mut Params, value: &Text) -> Result<(), PutFault>
     if 1452 - params.len() < 2 + text.len() {
         return Err(PutFault::Full);
     }
-    put_u16(params, text.chars().count() as u16)?;
-    params.try_extend_from_slice(text.as_bytes()).map_err(|_| PutFault::Full)
+    put_u16(params, scalar_count(text))?;
+    put_bytes(params, text.as_bytes())
 }
 
 /// Appends an OcaClassIdentification: the class's identifier and its version, which is 2. Refusal:

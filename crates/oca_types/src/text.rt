@@ -1,7 +1,7 @@
 //! Texts of at most 64 bytes, and where a number of characters ends.
 ghost use Rattle.std.specs.Prelude.{◌≡◌, ℕ, ◌≤◌, ◌<◌, ◌↔◌, List, ◌++◌, length, IsSome, IfSome, IfNone, IfOk, IfErr, IsUtf8};
 ghost use Rattle.oca_types.specs.declared.fault.ReadFault.{ReadFault};
-ghost use Rattle.oca_types.proofs.CharsAt.{HasChars, IsCharsRefusal};
+ghost use Rattle.oca_types.specs.Characters.{HasChars, IsCharsRefusal};
 
 use crate::fault::ReadFault;
 use arrayvec::ArrayString;
