@@ -1,0 +1,61 @@
+-- What the calls of an end do to what it delivered, what it took, whether it is closed and its count of failures (*profile*).
+use Rattle.std.specs.Prelude.{◌≡◌, ℕ, ◌+◌, ◌<◌, min, Bool, true, false, ◌||◌, if◌then◌else◌, List, [], ◌∷◌, ◌++◌, length}
+use Rattle.oca_types.specs.declared.words.Peer.{Peer}
+use Rattle.oca_net.specs.declared.end.Heard.{Heard}
+use Rattle.oca_net.specs.declared.end.Heard.TheVariants as heard
+use Rattle.oca_net.specs.Deliveries.{Delivery, Datagram, Quiet, Failed, Sent}
+
+-- a datagram holds at most 1,472 bytes
+abbrev pub largest_datagram : ℕ
+largest_datagram = 1472
+
+-- What an end delivered grows by the entry that a receive answers, `bytes` being what the packet then holds:
+-- for an oversize datagram some datagram of more than 1,472 bytes with that moment, for Closed nothing.
+abbrev pub Delivers : Heard → List ℕ → List Delivery → List Delivery → Type 0
+Delivers (heard.Datagram from now) bytes old new = new ≡ old ++ Datagram from bytes now ∷ []
+Delivers (heard.Quiet now) bytes old new = new ≡ old ++ Quiet now ∷ []
+Delivers (heard.Oversize now) bytes old new =
+    (from : Peer) × (long : List ℕ) × (largest_datagram < length long) × (new ≡ old ++ Datagram from long now ∷ [])
+Delivers heard.Failed bytes old new = new ≡ old ++ Failed ∷ []
+Delivers heard.Closed bytes old new = new ≡ old
+
+-- the packet of a receive holds bytes at Datagram alone
+abbrev pub HoldsOnlyADatagram : Heard → List ℕ → Type 0
+HoldsOnlyADatagram (heard.Datagram from now) bytes = Unit {0}
+HoldsOnlyADatagram (heard.Quiet now) bytes = bytes ≡ []
+HoldsOnlyADatagram (heard.Oversize now) bytes = bytes ≡ []
+HoldsOnlyADatagram heard.Failed bytes = bytes ≡ []
+HoldsOnlyADatagram heard.Closed bytes = bytes ≡ []
+
+abbrev pub is_failed : Heard → Bool
+is_failed (heard.Datagram from now) = false
+is_failed (heard.Quiet now) = false
+is_failed (heard.Oversize now) = false
+is_failed heard.Failed = true
+is_failed heard.Closed = false
+
+abbrev pub is_closed : Heard → Bool
+is_closed (heard.Datagram from now) = false
+is_closed (heard.Quiet now) = false
+is_closed (heard.Oversize now) = false
+is_closed heard.Failed = false
+is_closed heard.Closed = true
+
+-- the last value of a 64-bit number
+abbrev pub last_u64 : ℕ
+last_u64 = 18446744073709551615
+
+-- One more, in a 64-bit number that stays at its last value.
+abbrev pub one_more : ℕ → ℕ
+one_more n = min (n + 1) last_u64
+
+-- the count of failures after a receive, and after a send that answered whether the datagram was taken
+abbrev pub failures_after : Heard → ℕ → ℕ
+failures_after h n = if is_failed h then one_more n else n
+
+abbrev pub failures_sent : Bool → ℕ → ℕ
+failures_sent was_taken n = if was_taken then n else one_more n
+
+-- what an end took, after a send
+abbrev pub taken_after : Bool → Peer → List ℕ → List Sent → List Sent
+taken_after was_taken to bytes taken = if was_taken then taken ++ (record { to = to; bytes = bytes }) ∷ [] else taken

@@ -1,0 +1,3 @@
+pub mod Deliveries
+pub mod Ends
+pub mod Memory

@@ -1,0 +1,96 @@
+-- An end in memory: a script that it delivers, and room for what it takes (*profile*).
+use Rattle.std.specs.Prelude.{◌≡◌, ℕ, ◌==◌, nat_le, nat_lt, Bool, true, false, not, ◌&&◌, if◌then◌else◌, List, [], ◌∷◌, ◌++◌, length, map, Option, Some, None}
+use Rattle.oca_types.specs.declared.words.Peer.{Peer}
+use Rattle.arrayvec.specs.ArrayVec.{ArrayVec}
+use Rattle.oca_net.specs.declared.end.Heard.{Heard}
+use Rattle.oca_net.specs.declared.end.Heard.TheVariants as heard
+use Rattle.oca_net.specs.declared.memory.Scripted.{Scripted}
+use Rattle.oca_net.specs.declared.memory.Scripted.TheVariants as scripted
+use Rattle.oca_net.specs.Deliveries.{Delivery, Datagram, Quiet, Failed, Sent}
+use Rattle.oca_net.specs.Ends.{largest_datagram, one_more, failures_after, failures_sent, taken_after}
+
+-- What an end in memory has delivered, what it will deliver, what it took and for how many it has room, the number of the
+-- next send and of the one that fails, whether it has answered Closed, and its count of failures.
+pub record MemoryState : Type 0 where
+  pub delivered : List Delivery
+  pub to_come : List Delivery
+  pub taken : List Sent
+  pub room : ℕ
+  pub send_number : ℕ
+  pub fail_send : Option ℕ
+  pub closed : Bool
+  pub failures : ℕ
+
+-- an entry of a script
+abbrev pub delivery_of : Scripted → Delivery
+delivery_of (scripted.Datagram from bytes now) = Datagram from bytes.items now
+delivery_of (scripted.Quiet now) = Quiet now
+delivery_of scripted.Failed = Failed
+
+abbrev pub deliveries_of : List Scripted → List Delivery
+deliveries_of entries = map delivery_of entries
+
+-- a packet that was taken
+abbrev pub sent_of : Peer × ArrayVec ℕ → Sent
+sent_of x = record { to = x.0; bytes = x.1.items }
+
+abbrev pub sent_packets : List (Peer × ArrayVec ℕ) → List Sent
+sent_packets packets = map sent_of packets
+
+-- a new one
+abbrev pub new_memory : List Delivery → ℕ → Option ℕ → MemoryState
+new_memory script room fail_send =
+    record {
+      delivered = []; to_come = script; taken = []; room = room; send_number = 0; fail_send = fail_send; closed = false; failures = 0;
+    }
+
+-- how an entry is heard, and what the packet then holds: a datagram of more than 1,472 bytes is oversize
+abbrev pub heard_of : Delivery → Heard
+heard_of (Datagram from bytes now) = if nat_le (length bytes) largest_datagram then heard.Datagram from now else heard.Oversize now
+heard_of (Quiet now) = heard.Quiet now
+heard_of Failed = heard.Failed
+
+abbrev pub bytes_of : Delivery → List ℕ
+bytes_of (Datagram from bytes now) = if nat_le (length bytes) largest_datagram then bytes else []
+bytes_of (Quiet now) = []
+bytes_of Failed = []
+
+-- A receive delivers the next entry of the script. Behind the last it answers Closed.
+abbrev pub next_heard : List Delivery → Heard
+next_heard [] = heard.Closed
+next_heard (d ∷ rest) = heard_of d
+
+abbrev pub next_bytes : List Delivery → List ℕ
+next_bytes [] = []
+next_bytes (d ∷ rest) = bytes_of d
+
+abbrev pub after_next : List Delivery → MemoryState → MemoryState
+after_next [] e =
+    record {
+      delivered = e.delivered; to_come = e.to_come; taken = e.taken; room = e.room; send_number = e.send_number;
+      fail_send = e.fail_send; closed = true; failures = e.failures;
+    }
+after_next (d ∷ rest) e =
+    record {
+      delivered = e.delivered ++ d ∷ []; to_come = rest; taken = e.taken; room = e.room; send_number = e.send_number;
+      fail_send = e.fail_send; closed = e.closed; failures = failures_after (heard_of d) e.failures;
+    }
+
+abbrev pub after_receive : MemoryState → MemoryState
+after_receive e = after_next e.to_come e
+
+abbrev pub is_number : Option ℕ → ℕ → Bool
+is_number None n = false
+is_number (Some k) n = n == k
+
+-- a send is taken where there is room and it is not the one that fails
+abbrev pub takes : MemoryState → Bool
+takes e = nat_lt (length e.taken) e.room && not (is_number e.fail_send e.send_number)
+
+-- After a send: each counts in the numbering, which stays at its last value.
+abbrev pub after_send : MemoryState → Peer → List ℕ → MemoryState
+after_send e to bytes =
+    record {
+      delivered = e.delivered; to_come = e.to_come; taken = taken_after (takes e) to bytes e.taken; room = e.room;
+      send_number = one_more e.send_number; fail_send = e.fail_send; closed = e.closed; failures = failures_sent (takes e) e.failures;
+    }

@@ -1,0 +1,15 @@
+//! Ends of a link: where datagrams come from and go to.
+//!
+//! The device and the controller receive and send through the trait [`End`] alone. An end may tell what
+//! it delivered and what it took; then a proof about a loop over it can say what that loop did.
+//! [`MemoryEnd`] tells: it delivers a script and keeps what it took.
+#![tactic(auto)]
+
+mod end;
+mod memory;
+
+pub use end::{End, Heard};
+pub use memory::{MemoryEnd, Scripted};
+
+#[cfg(test)]
+mod tests;

@@ -1,0 +1,199 @@
+//! An end in memory, for tests and for running a link without a network.
+ghost use Rattle.std.specs.Prelude.{◌≡◌, ◌+◌, ◌<◌, ◌≤◌, [], ◌∷◌, ◌++◌, length, IfOk, true, vec_len, vec_capacity};
+ghost use Rattle.oca_net.specs.Ends.{largest_datagram, one_more};
+ghost use Rattle.oca_net.specs.Memory.{delivery_of, deliveries_of, heard_of, bytes_of, sent_packets, new_memory, next_heard, next_bytes, after_receive, takes, after_send};
+
+use crate::end::{End, Heard};
+use oca_types::{NoMemory, Packet, Peer};
+use std::alloc::Global;
+use std::marker::Model;
+
+/// An entry of the script of a [`MemoryEnd`]. Moments are in milliseconds.
+#[derive(Drop)]
+pub enum Scripted {
+    /// A datagram. One of more than 1,472 bytes is heard as oversize.
+    Datagram {
+        from: Peer,
+        bytes: Vec<u8>,
+        now: u64,
+    },
+    /// No datagram came.
+    Quiet {
+        now: u64,
+    },
+    /// A receive that fails.
+    Failed,
+}
+
+/// An end that delivers a script, and keeps what it takes.
+#[derive(Drop)]
+pub struct MemoryEnd {
+    script: Vec<Scripted>,
+    next: usize,
+    taken: Vec<(Peer, Packet)>,
+    room: usize,
+    send_number: u64,
+    fail_send: Option<u64>,
+    closed: bool,
+    failures: u64,
+}
+
+impl Model for MemoryEnd {
+    ghost use Rattle.std.specs.Prelude.{◌≤◌, length, take, drop};
+    ghost use Rattle.std.specs.Vec.{vec_capacity};
+    ghost use Rattle.oca_net.specs.Memory.{MemoryState, deliveries_of, sent_packets};
+
+    ghost Value = { MemoryState };
+
+    ghost view = { λ a. record {
+      delivered = deliveries_of (take a.next a.script.items);
+      to_come = deliveries_of (drop a.next a.script.items);
+      taken = sent_packets a.taken.items;
+      room = a.room;
+      send_number = a.send_number;
+      fail_send = a.fail_send;
+      closed = a.closed;
+      failures = a.failures;
+    } };
+
+    ghost invariant = { λ a. (a.next ≤ length a.script.items) × (length a.taken.items ≤ a.room) × (a.room ≤ vec_capacity a.taken) };
+}
+
+impl MemoryEnd {
+    /// An end that will deliver this script and take up to `room` datagrams. The send number `fail_send`, counted from 0,
+    /// fails. Refusal: `NoMemory`.
+    pub fn new(
+        alloc: Global,
+        script: Vec<Scripted>,
+        room: usize,
+        fail_send: Option<u64>,
+    ) -> Result<MemoryEnd, NoMemory>
+        ensures { IfOk result (λ e. e ≡ new_memory (deliveries_of script.items) room fail_send) }
+    {
+        let taken = Vec::with_capacity(alloc, room).map_err(|_| NoMemory)?;
+        Ok(MemoryEnd {
+            script,
+            next: 0,
+            taken,
+            room,
+            send_number: 0,
+            fail_send,
+            closed: false,
+            failures: 0,
+        })
+    }
+
+    /// The part of the script that was delivered.
+    pub fn delivered(&self) -> &[Scripted]
+        ensures { deliveries_of result.now ≡ self.now.delivered }
+    {
+        &self.script[..self.next]
+    }
+
+    /// The datagrams that were taken, and where each was to go.
+    pub fn taken(&self) -> &[(Peer, Packet)]
+        ensures { sent_packets result.now ≡ self.now.taken }
+    {
+        &self.taken
+    }
+
+    /// The number of receives and sends that failed.
+    pub fn failures(&self) -> u64
+        ensures { result ≡ self.now.failures }
+    {
+        self.failures
+    }
+}
+
+impl End for MemoryEnd {
+    ghost tells = { λ _. true };
+
+    ghost delivered = { λ e. e.delivered };
+
+    ghost taken = { λ e. e.taken };
+
+    ghost closed = { λ e. e.closed };
+
+    ghost failures = { λ e. e.failures };
+
+    /// Delivers the next entry of the script; behind the last it answers `Closed`.
+    fn receive(&mut self, packet: &mut Packet) -> Heard
+        ensures heard { result ≡ next_heard self.old.to_come }
+        ensures packet { packet.new.items ≡ next_bytes self.old.to_come }
+        ensures end { self.new ≡ after_receive self.old }
+    {
+        packet.clear();
+        if self.next == self.script.len() {
+            self.closed = true;
+            return Heard::Closed;
+        }
+        let heard = hear(&self.script[self.next], packet);
+        self.next += 1;
+        if heard == Heard::Failed {
+            step(&mut self.failures);
+        }
+        heard
+    }
+
+    /// Takes the datagram where there is room and this send is not the one that fails.
+    fn send(&mut self, to: Peer, bytes: &[u8]) -> bool
+        requires { length bytes.now ≤ largest_datagram }
+        ensures taken { result ≡ takes self.old }
+        ensures end { self.new ≡ after_send self.old to bytes.now }
+    {
+        let number = self.send_number;
+        step(&mut self.send_number);
+        if self.taken.len() < self.room && self.fail_send != Some(number) {
+            put(&mut self.taken, to, bytes);
+            true
+        } else {
+            step(&mut self.failures);
+            false
+        }
+    }
+}
+
+/// Counts one more, up to the last value.
+fn step(count: &mut u64)
+    ensures { count.new ≡ one_more count.old }
+{
+    *count = count.saturating_add(1);
+}
+
+/// Puts an entry's datagram in the packet.
+fn hear(entry: &Scripted, packet: &mut Packet) -> Heard
+    requires { packet.old.items ≡ [] }
+    ensures heard { result ≡ heard_of (delivery_of entry.now) }
+    ensures packet { packet.new.items ≡ bytes_of (delivery_of entry.now) }
+{
+    match entry {
+        Scripted::Datagram { from, bytes, now } => match packet.try_extend_from_slice(bytes) {
+            Ok(()) => Heard::Datagram {
+                from: *from,
+                now: *now,
+            },
+            Err(_) => Heard::Oversize { now: *now },
+        },
+        Scripted::Quiet { now } => Heard::Quiet { now: *now },
+        Scripted::Failed => Heard::Failed,
+    }
+}
+
+/// Keeps a datagram.
+fn put(taken: &mut Vec<(Peer, Packet)>, to: Peer, bytes: &[u8])
+    requires size { length bytes.now ≤ largest_datagram }
+    requires room { vec_len taken.old < vec_capacity taken.old }
+    ensures items { sent_packets taken.new.items ≡ sent_packets taken.old.items ++ (record { to = to; bytes = bytes.now }) ∷ [] }
+    ensures len { vec_len taken.new ≡ vec_len taken.old + 1 }
+    ensures capacity { vec_capacity taken.old ≤ vec_capacity taken.new }
+{
+    let mut packet = Packet::new();
+    match packet.try_extend_from_slice(bytes) {
+        Ok(()) => {}
+        Err(_) => unreachable!(),
+    }
+    match taken.push((to, packet)) {
+        Ok(()) => {}
+        Err(_) => unreachable!(),
+    }
+}
