@@ -6,7 +6,7 @@ use Rattle.oca_types.specs.declared.class.Class.{Class}
 use Rattle.oca_types.specs.declared.class.Class.TheVariants as class
 use Rattle.oca_types.specs.Numbers.{unsigned_encoding}
 
--- the fields of a class's identifier (OcaClassID)
+-- the fields of a class's identifier (AES70-2, OcaClassID)
 abbrev pub class_fields_of : Class → List ℕ
 class_fields_of class.Block = 1 ∷ 1 ∷ 3 ∷ []
 class_fields_of class.Mute = 1 ∷ 1 ∷ 1 ∷ 2 ∷ []
@@ -26,7 +26,7 @@ class_fields_of class.Uint64 = 1 ∷ 1 ∷ 1 ∷ 1 ∷ 9 ∷ []
 abbrev pub class_version : ℕ
 class_version = 2
 
--- OcaClassIdentification: the number of fields, the fields, the version
+-- The encoding of a class's identification (AES70-2, OcaClassIdentification; AES70-3): the number of fields, the fields, the version
 abbrev pub class_identification_encoding : Class → List ℕ
 class_identification_encoding c =
     unsigned_encoding w16 (length (class_fields_of c)) ++ flat_map (unsigned_encoding w16) (class_fields_of c) ++ unsigned_encoding w16 class_version

@@ -6,11 +6,11 @@ use Rattle.std.specs.Int.{Width, byte_len, to_be_bytes, cast_unsigned}
 abbrev pub IsBytes : List ℕ → Type 0
 IsBytes bytes = (i : ℕ) → slice_index bytes i < 256
 
--- an unsigned number: its bytes, the highest first
+-- an unsigned number of 1, 2, 4 or 8 bytes: its bytes, the highest first
 abbrev pub unsigned_encoding : Width → ℕ → List ℕ
 unsigned_encoding w n = to_be_bytes w n
 
--- a signed number: two's complement, where a number below 0 stands for itself plus 2 to the bits
+-- a signed number: two's complement, where a number below 0 is written as itself plus 2 to the bits
 abbrev pub signed_encoding : Width → ℤ → List ℕ
 signed_encoding w z = to_be_bytes w (cast_unsigned w z)
 

@@ -1,9 +1,9 @@
--- Peers, and what a command asks.
+-- Peers, and what a command asks (AES70-3).
 use Rattle.std.specs.Prelude.{ℕ, ◌==◌, ◌&&◌, Bool, List}
 use Rattle.oca_types.specs.declared.words.Peer.{Peer}
 use Rattle.oca_types.specs.declared.words.Command.{Command}
 
--- two peers are the same where address and port are
+-- two peers are the same where address and port are (profile)
 abbrev pub same_peer : Peer → Peer → Bool
 same_peer p q = (p.ip == q.ip) && (p.port == q.port)
 
@@ -16,5 +16,6 @@ pub record CommandFields : Type 0 where
   pub count : ℕ
   pub params : List ℕ
 
+-- the fields of a command (AES70-3)
 abbrev pub fields_of : Command → CommandFields
 fields_of c = record { handle = c.handle.0; target = c.target.0; level = c.method.level; index = c.method.index; count = c.count; params = c.params.now }

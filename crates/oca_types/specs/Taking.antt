@@ -1,4 +1,5 @@
--- What a take answers of the bytes that are left, and what it leaves; and what a put does.
+-- What a take answers of the bytes that are left, and what it leaves (the rules are AES70-3's encodings; the refusals are
+-- the profile's).
 use Rattle.std.specs.Prelude.{◌≡◌, ℕ, ◌<◌, List, ◌++◌, length, Result, Ok, Err, Option, Some, None}
 use Rattle.oca_types.specs.declared.fault.ReadFault.{ReadFault}
 use Rattle.oca_types.specs.declared.fault.ReadFault.TheVariants.{Short, NotUtf8, TooLong, Trailing}
@@ -9,11 +10,11 @@ use Rattle.oca_types.specs.Texts.{IsTextEncoding}
 abbrev pub bytes_left : Cursor → List ℕ
 bytes_left c = c.rest.now
 
--- A prefix of old is an encoding of v, and new is what stands behind it.
+-- A prefix of old is an encoding of v, and new is what is behind it.
 abbrev pub Takes : {V : Type 0} → (V → List ℕ → Type 0) → V → List ℕ → List ℕ → Type 0
 Takes IsEncoding v old new = (front : List ℕ) × IsEncoding v front × (old ≡ front ++ new)
 
--- Whatever value has an encoding at the front of old, that value is the answer, and new is what stands behind it.
+-- Whatever value has an encoding at the front of old, that value is the answer, and new is what is behind it.
 abbrev pub TakesEach : {V : Type 0} → (V → List ℕ → Type 0) → List ℕ → Result V ReadFault → List ℕ → Type 0
 TakesEach {V} IsEncoding old r new = (v : V) (front rest : List ℕ) → IsEncoding v front → old ≡ front ++ rest → (r ≡ Ok v) × (new ≡ rest)
 
@@ -21,7 +22,9 @@ TakesEach {V} IsEncoding old r new = (v : V) (front rest : List ℕ) → IsEncod
 abbrev pub IsCutShort : {V : Type 0} → (V → List ℕ → Type 0) → List ℕ → Type 0
 IsCutShort {V} IsEncoding bytes = (v : V) × (more : List ℕ) × (0 < length more) × IsEncoding v (bytes ++ more)
 
--- When each refusal of a text comes.
+-- When each refusal of a text comes: Short where the bytes are a proper prefix of a text's encoding, TooLong where a prefix
+-- is the encoding of a text of more than 64 bytes, NotUtf8 where no prefix is the encoding of any text and they are not cut
+-- short (profile).
 abbrev pub IsTextRefusal : List ℕ → ReadFault → Type 0
 IsTextRefusal old Short = IsCutShort IsTextEncoding old
 IsTextRefusal old NotUtf8 = (IsCutShort IsTextEncoding old → ⊥) × ((text front rest : List ℕ) → IsTextEncoding text front → old ≡ front ++ rest → ⊥)

@@ -6,65 +6,117 @@ ghost use Rattle.oca_types.specs.Methods.{row_at, root_methods, worker_methods, 
 use crate::words::MethodId;
 use arrayvec::ArrayVec;
 
+/// A class of which this device has objects (AES70-2).
 #[derive(Clone, Copy, Debug, PartialEq, Eq)]
 pub enum Class {
+    /// OcaBlock, 1.1.3.
     Block,
+    /// OcaMute, 1.1.1.2.
     Mute,
+    /// OcaPolarity, 1.1.1.3.
     Polarity,
+    /// OcaSwitch, 1.1.1.4.
     Switch,
+    /// OcaBooleanActuator, 1.1.1.1.1.
     Boolean,
+    /// OcaInt8Actuator, 1.1.1.1.2.
     Int8,
+    /// OcaInt16Actuator, 1.1.1.1.3.
     Int16,
+    /// OcaInt32Actuator, 1.1.1.1.4.
     Int32,
+    /// OcaInt64Actuator, 1.1.1.1.5.
     Int64,
+    /// OcaUint8Actuator, 1.1.1.1.6.
     Uint8,
+    /// OcaUint16Actuator, 1.1.1.1.7.
     Uint16,
+    /// OcaUint32Actuator, 1.1.1.1.8.
     Uint32,
+    /// OcaUint64Actuator, 1.1.1.1.9.
     Uint64,
 }
 
+/// What a method does to the object's lock and state: it reads, it writes, or it takes and gives back the
+/// lock. A lock of another peer refuses by it (*profile*).
 #[derive(Clone, Copy, Debug, PartialEq, Eq)]
 pub enum Access {
+    /// It reads.
     Read,
+    /// It writes.
     Write,
+    /// It takes the lock or gives it back.
     Locking,
 }
 
+/// A method that this device carries out (AES70-2), under the name that its class gives it. Mute and
+/// polarity share `GetState` and `SetState`; the basic actuators share `GetSetting` and `SetSetting`.
 #[derive(Clone, Copy, Debug, PartialEq, Eq)]
 pub enum Method {
+    /// 1.1: the class and its version.
     GetClassIdentification,
+    /// 1.2: whether the object can be locked.
     GetLockable,
+    /// 1.3: keeps other peers from reading and writing.
     LockTotal,
+    /// 1.4: takes the lock off.
     Unlock,
+    /// 1.5: the role's text.
     GetRole,
+    /// 1.6: keeps other peers from writing.
     LockReadonly,
+    /// 2.1: whether the object is enabled.
     GetEnabled,
+    /// 2.2: enables or disables the object.
     SetEnabled,
+    /// 2.8: the label's text.
     GetLabel,
+    /// 2.9: sets the label.
     SetLabel,
+    /// 2.10: the ONo of the containing block.
     GetOwner,
+    /// 3.5 of a block: its members.
     GetMembers,
+    /// 3.6 of a block: its members and theirs.
     GetMembersRecursive,
+    /// 4.1 of a mute or a polarity.
     GetState,
+    /// 4.2 of a mute or a polarity.
     SetState,
+    /// 4.1 of a switch: the position, the least and the greatest.
     GetPosition,
+    /// 4.2 of a switch.
     SetPosition,
+    /// 4.3 of a switch: the name of one position.
     GetPositionName,
+    /// 4.4 of a switch.
     SetPositionName,
+    /// 4.5 of a switch: the names of all positions.
     GetPositionNames,
+    /// 4.6 of a switch.
     SetPositionNames,
+    /// 4.7 of a switch: whether one position is enabled.
     GetPositionEnabled,
+    /// 4.8 of a switch.
     SetPositionEnabled,
+    /// 4.9 of a switch: which positions are enabled.
     GetPositionEnableds,
+    /// 4.10 of a switch.
     SetPositionEnableds,
+    /// 5.1 of a basic actuator: the setting, of an integer with its least and greatest.
     GetSetting,
+    /// 5.2 of a basic actuator.
     SetSetting,
 }
 
+/// What a class knows of a pair of DefLevel and MethodIndex (*profile*).
 #[derive(Clone, Copy, Debug, PartialEq, Eq)]
 pub enum MethodKind {
+    /// The class has the method.
     Known(Method, Access),
+    /// The class has the method, and this device leaves it out: `NotImplemented`.
     LeftOut,
+    /// The class has no such method: `BadMethod`.
     Unknown,
 }
 
@@ -171,6 +223,7 @@ fn is_left_out(class: Class, id: MethodId) -> bool
     }
 }
 
+/// What a method does: read, write, or lock (*profile*).
 pub fn access_of(method: Method) -> Access
     ensures { result ≡ access method }
 {
@@ -189,7 +242,7 @@ pub fn access_of(method: Method) -> Access
     }
 }
 
-/// What a class knows of a method.
+/// What a class knows of a pair of DefLevel and MethodIndex (AES70-2; the numbers are the profile's).
 #[tactic(auto, unfolding(crate::specs::Methods::method_kind))]
 pub fn method_of(class: Class, id: MethodId) -> MethodKind
     ensures { result ≡ method_kind class id }

@@ -11,8 +11,8 @@ ghost use Rattle.oca_types.specs.Taking.{bytes_left, Takes, TakesEach, IsCutShor
 use crate::fault::ReadFault;
 use crate::text::{Text, chars_at};
 
-/// What is left of a slice. Each take answers the value whose encoding stands at the front and goes
-/// past exactly that encoding; after a refusal the cursor is as it was.
+/// What is left of a slice. Each take answers the value whose encoding is at the front (AES70-3) and
+/// goes past exactly that encoding; after a refusal the cursor is as it was.
 #[derive(Clone, Copy)]
 pub struct Cursor<'a> {
     rest: &'a [u8],
@@ -152,7 +152,7 @@ impl<'a> Cursor<'a> {
         ]))
     }
 
-    /// An OcaBoolean: 0 is false and any other byte is true. Refusal: `Short`, and the cursor is unchanged.
+    /// An OcaBoolean (AES70-3): 0 is false and any other byte is true (*profile*). Refusal: `Short`, and the cursor is unchanged.
     #[tactic(auto, using(crate::proofs::Fixed::short_bool))]
     pub fn take_bool(&mut self) -> Result<bool, ReadFault>
         ensures found { IfOk result (λ v. Takes IsBoolEncoding v (bytes_left self.old) (bytes_left self.new)) }
@@ -165,12 +165,14 @@ impl<'a> Cursor<'a> {
         Ok(front[0] != 0)
     }
 
-    /// An OcaString of at most 64 bytes. Refusals, each of which leaves the cursor unchanged: `Short`,
-    /// `NotUtf8`, `TooLong`.
+    /// An OcaString of at most 64 bytes: a Uint16 with the number of its Unicode scalar values, then its
+    /// UTF-8 (AES70-3; past ASCII the count is the profile's). Refusals, each of which leaves the cursor
+    /// unchanged: `Short`, `NotUtf8`, `TooLong`.
     pub fn take_text(&mut self) -> Result<Text, ReadFault>
         ensures found { IfOk result (λ text. Takes IsTextEncoding text (bytes_left self.old) (bytes_left self.new)) }
         ensures only { (text front rest : List ℕ) → IsTextEncoding text front → bytes_left self.old ≡ front ++ rest → length text ≤ 64 →
             (result ≡ Ok text) × (bytes_left self.new ≡ rest) }
+        ensures within { IfOk result (λ text. length text ≤ 64) }
         ensures refusal { IfErr result (λ e. IsTextRefusal (bytes_left self.old) e) }
         ensures err { OnErr result (bytes_left self.new ≡ bytes_left self.old) }
         ensures reads { ReadsAs result (bytes_left self.new) (text_at (bytes_left self.old)) }
@@ -185,7 +187,7 @@ impl<'a> Cursor<'a> {
         Ok(text)
     }
 
-    /// Succeeds exactly where nothing is left. Refusal: `Trailing`.
+    /// Succeeds exactly where nothing is left. Refusal: `Trailing`. The cursor is unchanged (*profile*).
     pub fn finish(&self) -> Result<(), ReadFault>
         ensures variant { IsOk result ↔ (bytes_left self.now ≡ []) }
         ensures err { IfErr result (λ e. e ≡ Trailing) }

@@ -1,6 +1,6 @@
 //! Why a value could not be read or written.
 
-/// Why a take was refused.
+/// Why a take was refused. The numbers are promised (*profile*).
 #[derive(Clone, Copy, Debug, PartialEq, Eq)]
 pub enum ReadFault {
     /// What is left is a proper prefix of an encoding; of a text, of one with the count that its length names.
@@ -13,9 +13,15 @@ pub enum ReadFault {
     Trailing = 4,
 }
 
-/// Why a put was refused.
+/// Why a put was refused. The number is promised (*profile*).
 #[derive(Clone, Copy, Debug, PartialEq, Eq)]
 pub enum PutFault {
     /// The parameters would pass 1,452 bytes.
     Full = 1,
 }
+
+const _: () = prove!(ReadFault::Short as u8 == 1);
+const _: () = prove!(ReadFault::NotUtf8 as u8 == 2);
+const _: () = prove!(ReadFault::TooLong as u8 == 3);
+const _: () = prove!(ReadFault::Trailing as u8 == 4);
+const _: () = prove!(PutFault::Full as u8 == 1);

@@ -10,6 +10,8 @@ mod cursor;
 mod fault;
 mod put;
 mod status;
+#[cfg(test)]
+mod tests;
 mod text;
 mod words;
 

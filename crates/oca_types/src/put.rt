@@ -1,4 +1,4 @@
-//! Appending values to parameters.
+//! Appending values to parameters, which take at most 1,452 bytes.
 ghost use Rattle.std.specs.Prelude.{◌≡◌, ◌+◌, ◌≤◌, ◌<◌, ◌↔◌, List, ◌++◌, length, IsOk, IsErr, OnOk, OnErr};
 ghost use Rattle.std.specs.Str.{chars};
 ghost use Rattle.std.specs.Int.{w8, w16, w32, w64};
@@ -94,7 +94,7 @@ pub fn put_i64(params: &mut Params, value: i64) -> Result<(), PutFault>
     put_bytes(params, &value.to_be_bytes())
 }
 
-/// Appends an OcaBoolean, as 0 or 1. Refusal: `Full`, and the parameters are unchanged.
+/// Appends an OcaBoolean (AES70-3), as 0 or 1. Refusal: `Full`, and the parameters are unchanged.
 pub fn put_bool(params: &mut Params, value: bool) -> Result<(), PutFault>
     ensures full { IsErr result ↔ (1452 < length params.old.items + 1) }
     ensures ok { OnOk result (params.new.items ≡ params.old.items ++ bool_encoding value) }
@@ -111,8 +111,8 @@ fn scalar_count(text: &str) -> u16
     text.chars().count() as u16
 }
 
-/// Appends an OcaString: the number of Unicode scalar values, then the UTF-8. Refusal: `Full`, and the
-/// parameters are unchanged.
+/// Appends an OcaString (AES70-3): a Uint16 with the number of Unicode scalar values, then the UTF-8.
+/// Refusal: `Full`, and the parameters are unchanged.
 pub fn put_text(params: &mut Params, value: &Text) -> Result<(), PutFault>
     ensures full { IsErr result ↔ (1452 < length params.old.items + length (text_encoding value.now)) }
     ensures ok { OnOk result (params.new.items ≡ params.old.items ++ text_encoding value.now) }
@@ -126,8 +126,8 @@ pub fn put_text(params: &mut Params, value: &Text) -> Result<(), PutFault>
     put_bytes(params, text.as_bytes())
 }
 
-/// Appends an OcaClassIdentification: the class's identifier and its version, which is 2. Refusal:
-/// `Full`, and the parameters are unchanged.
+/// Appends an OcaClassIdentification (AES70-2): the class's identifier, and its version, which is 2
+/// (*profile*). Refusal: `Full`, and the parameters are unchanged.
 pub fn put_class_identification(params: &mut Params, class: Class) -> Result<(), PutFault>
     ensures full { IsErr result ↔ (1452 < length params.old.items + length (class_identification_encoding class)) }
     ensures ok { OnOk result (params.new.items ≡ params.old.items ++ class_identification_encoding class) }

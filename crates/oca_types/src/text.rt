@@ -8,7 +8,7 @@ use arrayvec::ArrayString;
 use std::marker::Model;
 use std::str;
 
-/// A text in UTF-8 of at most 64 bytes. Contracts see it as its bytes.
+/// A text in UTF-8 of at most 64 bytes (*profile*). Contracts see it as its bytes.
 #[derive(Drop)]
 pub struct Text {
     text: ArrayString<64>,
@@ -23,7 +23,7 @@ impl Model for Text {
 }
 
 impl Text {
-    /// The text, where it has at most 64 bytes.
+    /// The text, where it has at most 64 bytes; `None` where it has more.
     pub fn new(text: &str) -> Option<Text>
         ensures variant { IsSome result ↔ (length text.now ≤ 64) }
         ensures value { IfSome result (λ t. t ≡ text.now) }
@@ -60,6 +60,7 @@ impl Default for Text {
         }
     }
 }
+
 /// The first `count` characters, and what is behind them.
 fn split_chars(text: &str, count: u16) -> Option<(&str, &str)>
     ensures some { IfSome result (λ x. HasChars count x.0.now × (text.now ≡ x.0.now ++ x.1.now)) }

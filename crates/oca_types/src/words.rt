@@ -14,14 +14,18 @@ pub struct Handle(pub u32);
 /// MethodIndex, its number there (AES70-2).
 #[derive(Clone, Copy, Debug, PartialEq, Eq)]
 pub struct MethodId {
+    /// DefLevel, from 1.
     pub level: u16,
+    /// MethodIndex, from 1.
     pub index: u16,
 }
 
 /// An IPv4 address, its first number in the highest byte, and a UDP port.
 #[derive(Clone, Copy, Debug, Default, PartialEq, Eq)]
 pub struct Peer {
+    /// The address: 127.0.0.1 is 0x7F000001.
     pub ip: u32,
+    /// The UDP port.
     pub port: u16,
 }
 
@@ -35,18 +39,26 @@ pub type Packet = ArrayVec<u8, 1472>;
 /// its parameters (AES70-3).
 #[derive(Clone, Copy)]
 pub struct Command<'a> {
+    /// By which its response is known.
     pub handle: Handle,
+    /// The object that it is for.
     pub target: Ono,
+    /// The method that it calls.
     pub method: MethodId,
+    /// ParamCount: how many parameters it has.
     pub count: u8,
+    /// The bytes of the parameters.
     pub params: &'a [u8],
 }
 
 /// What executing a command gave: its status, and the ParamCount and the parameters of the response.
 #[derive(Drop)]
 pub struct Reply {
+    /// How it went.
     pub status: Status,
+    /// ParamCount: how many parameters follow.
     pub count: u8,
+    /// The bytes of the parameters.
     pub params: Params,
 }
 
