@@ -1,3 +1,7 @@
 pub mod Agreeing
 pub mod MessageLoop
 pub mod PduLoop
+pub mod Codec
+pub mod Encoded
+pub mod Refused
+pub mod Exact

@@ -6,7 +6,7 @@ use Rattle.oca_pdu.specs.declared.fault.PduFaultKind.TheVariants.{Count}
 use Rattle.oca_pdu.specs.declared.message.Kind.{Kind}
 use Rattle.oca_pdu.specs.Messages.{Msg}
 use Rattle.oca_pdu.specs.Reading.{◌>>=◌, fault, message_at, messages_at}
-use Rattle.oca_pdu.proofs.Agreeing.{behind}
+use Rattle.oca_pdu.specs.Checking.{behind}
 
 -- what was read before, and what is still read
 abbrev pub with_front : List Msg → Result (List Msg) PduFault → Result (List Msg) PduFault

@@ -6,4 +6,7 @@ pub mod Messages
 pub mod Encoding
 pub mod FirstFault
 pub mod Reading
+pub mod Checking
 pub mod Datagrams
+pub mod Writing
+pub mod Laws

@@ -6,7 +6,7 @@ ghost use Rattle.oca_pdu.specs.Encoding.{IsDatagram};
 ghost use Rattle.oca_pdu.specs.FirstFault.{IsFirstFault};
 ghost use Rattle.oca_pdu.specs.Reading.{read_datagram, pdus_at, pdu_at, inside_at, keep_alive_at, messages_at, message_at};
 ghost use Rattle.oca_pdu.specs.Datagrams.{datagram_messages};
-ghost use Rattle.oca_pdu.proofs.Agreeing.{Agrees, Leaves};
+ghost use Rattle.oca_pdu.specs.Checking.{Agrees, Leaves};
 
 use crate::datagram::Datagram;
 use crate::fault::{PduFault, PduFaultKind};

@@ -3,6 +3,7 @@ ghost use Rattle.std.specs.Prelude.{IsTrue, is_ok};
 ghost use Rattle.oca_pdu.specs.Reading.{read_datagram};
 
 use crate::messages::Messages;
+use crate::walk;
 
 /// The bytes of a well-formed datagram, seen as its messages.
 #[derive(Clone, Copy)]
@@ -19,6 +20,6 @@ impl<'a> Datagram<'a> {
     pub fn messages(&self) -> Messages<'a>
         ensures { messages_left result ≡ datagram_messages self.now }
     {
-        Messages::over(self.bytes)
+        walk::start(self.bytes)
     }
 }
