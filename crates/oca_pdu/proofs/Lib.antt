@@ -4,4 +4,5 @@ pub mod PduLoop
 pub mod Codec
 pub mod Encoded
 pub mod Refused
+pub mod Decided
 pub mod Exact
