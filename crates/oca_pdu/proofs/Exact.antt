@@ -4,7 +4,9 @@ use Rattle.std.specs.Prelude.{is_ok}
 use Rattle.std.specs.List.{flat_map}
 use Rattle.oca_pdu.specs.declared.fault.PduFault.{PduFault}
 use Rattle.oca_pdu.specs.Messages.{Msg, Pdu, messages_of}
-use Rattle.oca_pdu.specs.Encoding.{IsDatagram}
+use Rattle.oca_pdu.specs.Encoding.{IsDatagram, pdu_encoding}
+use Rattle.oca_pdu.specs.Datagrams.{read_or_none}
+use Rattle.std.proofs.lemmas.List.{append-nil}
 use Rattle.oca_pdu.specs.Reading.{read_datagram}
 use Rattle.oca_pdu.specs.Laws.{OneListOfMessages, OneFirstFault, NoFaultOfADatagram, ReadsExactly, ReadingIsExact, WrittenIsReadBack, AreBytes}
 use Rattle.oca_pdu.proofs.MessageLoop.{ok_is}
@@ -63,3 +65,26 @@ exact bytes all =
       messages = λ ms. (λ e. is_found bytes ms fits e, λ h. is_messages bytes ms h);
       fault = λ f. (λ e. is_fault bytes f fits e, λ h. datagram_refused bytes f h);
     }
+
+-- ---- as `check` states it
+
+ok_or_none : (r : Result (List Msg) PduFault) → is_ok r ≡ true → r ≡ Ok (read_or_none r)
+ok_or_none (Ok ms) e = refl
+ok_or_none (Err f) e = absurd cc
+
+pub check_found : (bytes : List ℕ) → IsBytes bytes → is_ok (read_datagram bytes) ≡ true → (ps : List Pdu) × IsDatagram ps bytes × (read_or_none (read_datagram bytes) ≡ flat_map messages_of ps)
+check_found bytes fits e =
+    let h = is_found bytes (read_or_none (read_datagram bytes)) fits (ok_or_none (read_datagram bytes) e) in
+    (h.0, h.1, sym h.2)
+
+pub check_only : (ps : List Pdu) (bytes : List ℕ) → IsDatagram ps bytes → read_or_none (read_datagram bytes) ≡ flat_map messages_of ps
+check_only ps bytes p = ap read_or_none (datagram_again ps bytes p)
+
+pub not_refused : {P : Type 0} (ps : List Pdu) (bytes : List ℕ) (f : PduFault) → IsDatagram ps bytes → read_datagram bytes ≡ Err f → P
+not_refused ps bytes f p e = not_both (read_datagram bytes) (flat_map messages_of ps) f (datagram_again ps bytes p) e
+
+-- ---- what is written is read back
+
+pub read_back : WrittenIsReadBack
+read_back p are =
+    datagram_again (p ∷ []) (pdu_encoding p) are ∙ ap (λ (l : List Msg). Ok l) (append-nil (messages_of p))
