@@ -6,3 +6,4 @@ pub mod Encoded
 pub mod Refused
 pub mod Decided
 pub mod Exact
+pub mod Walking
