@@ -2,16 +2,17 @@
 use Rattle.std.proofs.Common.{◌≡◌, ℕ, zero, suc, ◌-◌, ◌+◌, ◌≤◌, ◌<◌, Bool, true, false, cond, eqb, ltb, List, [], ◌∷◌, ◌++◌, length, take, drop, Result, Ok, Err, refl, sym, ap, subst, ◌∙◌, arith}
 use Rattle.std.specs.Prelude.{◌||◌, not, is_ok, Option, Some, None, slice_index}
 use Rattle.std.specs.Result.{result_ok}
-use Rattle.std.specs.Int.{w16, w32}
+use Rattle.std.specs.Int.{w16, w32, from_be_bytes}
 use Rattle.std.proofs.lemmas.Bool.{ltb-false, eqb-true, eqb-false, ne_eqb, eq-eqb}
-use Rattle.std.proofs.lemmas.List.{length-drop, nil_from_length}
+use Rattle.std.proofs.lemmas.List.{length-drop, nil_from_length, take_all, take_rest}
 use Rattle.oca_pdu.specs.declared.fault.PduFault.{PduFault}
 use Rattle.oca_pdu.specs.declared.fault.PduFaultKind.{PduFaultKind}
 use Rattle.oca_pdu.specs.declared.fault.PduFaultKind.TheVariants.{Empty, TooLong, Sync, Version, PduSize, PduType, Count, MessageSize, Truncated}
 use Rattle.oca_pdu.specs.declared.message.Kind.{Kind}
 use Rattle.oca_pdu.specs.declared.message.Content.{Content}
 use Rattle.oca_pdu.specs.declared.message.Content.TheVariants as contents
-use Rattle.oca_pdu.specs.Messages.{Msg}
+use Rattle.oca_pdu.specs.declared.message.Form.TheVariants.{Seconds, Millis}
+use Rattle.oca_pdu.specs.Messages.{Msg, KeepAlive}
 use Rattle.oca_pdu.specs.Reading.{◌>>=◌, fault, number_at, least_size, message_in, message_at, messages_at, keep_alive_at, content_of, content_at, inside_at, pdu_at, pdus_at, read_datagram}
 use Rattle.oca_pdu.specs.Datagrams.{read_or_none}
 use Rattle.oca_pdu.proofs.MessageLoop.{ok_is}
@@ -100,6 +101,10 @@ pdu_same p p' bytes =
 guard_ok : {A : Type 0} (b : Bool) (d : PduFault) (r : Result A PduFault) (y : A) → cond b (Err d) r ≡ Ok y → (b ≡ false) × (r ≡ Ok y)
 guard_ok true d r y e = absurd cc
 guard_ok false d r y e = (refl, e)
+
+guard_else : {A : Type 0} (b : Bool) (d : PduFault) (r : Result A PduFault) (y : A) → cond b r (Err d) ≡ Ok y → (b ≡ true) × (r ≡ Ok y)
+guard_else true d r y e = (refl, e)
+guard_else false d r y e = absurd cc
 
 bind_ok : {A B : Type 0} (r : Result A PduFault) (f : A → Result B PduFault) (y : B) → (r >>= f) ≡ Ok y → (x : A) × (r ≡ Ok x) × (f x ≡ Ok y)
 bind_ok (Ok x) f y e = (x, refl, e)
@@ -303,3 +308,73 @@ keep_alive_is count body ok =
     let g = given (content_at (Some contents.KeepAlive) count 0 body) ok in
     let h = guard_ok (not (eqb count 1)) (at_fault Count (0 + 8)) (keep_alive_at 0 body) g.0 g.1 in
     record { ok = ap is_ok h.1; all = g.1 ∙ sym h.1 }
+
+-- ---- as the steps take it
+
+pub step_inside : (kind : Kind) (n size : ℕ) (inside front back : List ℕ) (others : List Msg) (m : Msg) → MessagesOpen kind n inside → size ≡ number_at w32 0 inside → front ≡ take size inside → back ≡ drop size inside → m ≡ message_in kind front
+    → read_or_none (messages_at kind n 0 0 inside) ++ others ≡ m ∷ (read_or_none (messages_at kind (n - 1) 0 0 back) ++ others)
+step_inside kind n size inside front back others m o e1 e2 e3 e4 =
+    ap (λ (l : List Msg). l ++ others) o.all ∙ rw (e4, e2, e3, e1) refl
+
+pub left_inside : (kind : Kind) (n size : ℕ) (inside back : List ℕ) → MessagesOpen kind n inside → size ≡ number_at w32 0 inside → back ≡ drop size inside → is_ok (messages_at kind (n - 1) 0 0 back) ≡ true
+left_inside kind n size inside back o e1 e2 = rw (e2, e1) o.others
+
+pub none_left : (kind : Kind) → messages_at kind 0 0 0 [] ≡ Ok []
+unfolding messages_at
+none_left kind = refl
+
+pub seconds_of : (bytes : List ℕ) (n : ℕ) → length bytes ≡ 2 → n ≡ from_be_bytes w16 bytes → keep_alive_at 0 bytes ≡ Ok (KeepAlive (Seconds n) ∷ [])
+unfolding keep_alive_at
+seconds_of bytes n two is =
+    let a : eqb (length bytes) 2 ≡ true = eq-eqb _ _ two in
+    let all : take 2 bytes ≡ bytes = take_all 2 bytes (omega (arith, two)) in
+    rw (a, all, is) refl
+
+pub is_four : (bytes : List ℕ) → (length bytes ≡ 2 → ⊥) → is_ok (keep_alive_at 0 bytes) ≡ true → length bytes ≡ 4
+unfolding keep_alive_at
+is_four bytes other ok =
+    let g = given (keep_alive_at 0 bytes) ok in
+    let a : eqb (length bytes) 2 ≡ false = ne_eqb _ _ other in
+    let h = sym (choice_ok (eqb (length bytes) 2) _ _ a) ∙ g.1 in
+    let k = guard_else (eqb (length bytes) 4) (at_fault MessageSize (0 + 10)) _ g.0 h in
+    eqb-true _ _ k.0
+
+pub millis_of : (bytes : List ℕ) (n : ℕ) → length bytes ≡ 4 → n ≡ from_be_bytes w32 bytes → keep_alive_at 0 bytes ≡ Ok (KeepAlive (Millis n) ∷ [])
+unfolding keep_alive_at
+millis_of bytes n four is =
+    let a : eqb (length bytes) 2 ≡ false = ne_eqb _ _ (λ e. omega (arith, e, four)) in
+    let b : eqb (length bytes) 4 ≡ true = eq-eqb _ _ four in
+    let all : take 4 bytes ≡ bytes = take_all 4 bytes (omega (arith, four)) in
+    rw (a, b, all, is) refl
+
+-- how a PDU at the front is parted
+pub record Parts (bytes : List ℕ) (size : ℕ) (pdu rest : List ℕ) : Type 0 where
+  pub size_is : size ≡ number_at w32 3 bytes
+  pub pdu_is : pdu ≡ take (1 + size) bytes
+  pub rest_is : rest ≡ drop (1 + size) bytes
+
+pub inside_ok : (bytes : List ℕ) (size : ℕ) (pdu rest : List ℕ) → PdusOpen bytes → Parts bytes size pdu rest → is_ok (inside_at 0 pdu) ≡ true
+inside_ok bytes size pdu rest o p = rw (p.pdu_is, p.size_is) o.inside
+
+pub rest_ok : (bytes : List ℕ) (size : ℕ) (pdu rest : List ℕ) → PdusOpen bytes → Parts bytes size pdu rest → is_ok (pdus_at (length rest) 0 rest) ≡ true
+rest_ok bytes size pdu rest o p = rw (p.rest_is, p.size_is) o.others
+
+all_of : (bytes : List ℕ) (size : ℕ) (pdu rest : List ℕ) → PdusOpen bytes → Parts bytes size pdu rest → read_or_none (pdus_at (length bytes) 0 bytes) ≡ read_or_none (inside_at 0 pdu) ++ read_or_none (pdus_at (length rest) 0 rest)
+all_of bytes size pdu rest o p = rw (p.rest_is, p.pdu_is, p.size_is) o.all
+
+body_is : (pdu body : List ℕ) (count : ℕ) (content : Content) → body ≡ drop 10 pdu → count ≡ number_at w16 8 pdu
+    → content_at (Some content) count 0 body ≡ content_at (Some content) (number_at w16 8 pdu) 0 (drop 10 pdu)
+body_is pdu body count content e1 e2 = rw (e1, e2) refl
+
+pub content_ok : (bytes : List ℕ) (size : ℕ) (pdu rest body : List ℕ) (count : ℕ) (content : Content) → PdusOpen bytes → Parts bytes size pdu rest → content_of (slice_index pdu 7) ≡ Some content → body ≡ drop 10 pdu → count ≡ number_at w16 8 pdu
+    → is_ok (content_at (Some content) count 0 body) ≡ true
+content_ok bytes size pdu rest body count content o p is e1 e2 =
+    let i = inside_is pdu content is (inside_ok bytes size pdu rest o p) in
+    ap is_ok (body_is pdu body count content e1 e2) ∙ i.ok
+
+pub step_behind : (bytes : List ℕ) (size : ℕ) (pdu rest body : List ℕ) (count : ℕ) (content : Content) (all : List Msg) → PdusOpen bytes → Parts bytes size pdu rest → content_of (slice_index pdu 7) ≡ Some content → body ≡ drop 10 pdu → count ≡ number_at w16 8 pdu
+    → read_or_none (content_at (Some content) count 0 body) ++ read_or_none (pdus_at (length rest) 0 rest) ≡ all → read_or_none (pdus_at (length bytes) 0 bytes) ≡ all
+step_behind bytes size pdu rest body count content all o p is e1 e2 e =
+    let i = inside_is pdu content is (inside_ok bytes size pdu rest o p) in
+    let these : read_or_none (inside_at 0 pdu) ≡ read_or_none (content_at (Some content) count 0 body) = i.all ∙ ap read_or_none (sym (body_is pdu body count content e1 e2)) in
+    all_of bytes size pdu rest o p ∙ ap (λ (l : List Msg). l ++ read_or_none (pdus_at (length rest) 0 rest)) these ∙ e

@@ -9,6 +9,7 @@ use crate::message::{Content, Form, Kind, Message};
 use crate::messages::Messages;
 
 /// At the first of these PDUs.
+#[tactic(auto, unfolding(crate::specs::Reading::messages_at))]
 fn over(bytes: &[u8]) -> Messages<'_>
     requires { IsTrue (is_ok (pdus_at (length bytes.now) 0 bytes.now)) }
     ensures { messages_left result ≡ read_or_none (pdus_at (length bytes.now) 0 bytes.now) }
