@@ -1,0 +1,9 @@
+pub mod Agreeing
+pub mod MessageLoop
+pub mod PduLoop
+pub mod Codec
+pub mod Encoded
+pub mod Refused
+pub mod Decided
+pub mod Exact
+pub mod Walking

@@ -1,0 +1,24 @@
+use Rattle.std.proofs.Common.{sym, ◌∙◌, arith, ◌≡◌, ◌-◌, ◌+◌, length}
+use Rattle.std.proofs.lemmas.Result.{err_from_is_err_and}
+use Rattle.oca_pdu.proofs.MessageLoop.{goes_on, ends, ends_early, ends_late, is_done}
+use Rattle.oca_pdu.proofs.checking.check_messages.Goals as goal
+
+pub returns-then-is_empty : goal.returns-then-is_empty
+returns-then-is_empty c = ends_early c.args.kind c.args.count c.loop.counter c.args.pdu _ c.loop.rest.now _ c.loop-test.true (sym c.is_empty.ensures ∙ c.if-is_empty.true) c.loop.invariant.1
+
+pub returns-in_err-rest : goal.returns-in_err-rest
+returns-in_err-rest c =
+    let p = err_from_is_err_and c.from_residual.result c.from_residual.ensures.1 in
+    rw (p.1, p.2) (ends c.args.kind c.args.count c.loop.counter c.args.pdu _ c.loop.rest.now c.in_err-rest.field-0.0 _ c.loop-test.true (sym c.is_empty.ensures ∙ c.if-is_empty.false) c.in_err-rest.ensures.exact c.loop.invariant.1)
+
+pub loop-preserved : goal.loop-preserved
+loop-preserved c =
+    let at = c.args.pdu + 10 + (length c.args.bytes.now - length c.loop.rest.now) in
+    let step : c.args.pdu + 10 + (length c.args.bytes.now - length c.in_ok-rest.rest.now) ≡ at + (length c.loop.rest.now - length c.in_ok-rest.rest.now) = omega (arith, c.in_ok-rest.ensures.shorter, c.loop.invariant.0) in
+    (omega (arith, c.in_ok-rest.ensures.shorter, c.loop.invariant.0), goes_on c.args.kind c.args.count c.loop.counter c.args.pdu at _ c.loop.rest.now c.in_ok-rest.rest.now _ c.loop-test.true (sym c.is_empty.ensures ∙ c.if-is_empty.false) c.in_ok-rest.ensures.exact step c.loop.invariant.1)
+
+pub returns-then-is_empty-2 : goal.returns-then-is_empty-2
+returns-then-is_empty-2 c = is_done c.args.kind c.args.count c.loop.counter c.args.pdu _ c.loop.rest.now _ c.loop-test.false (sym c.is_empty-2.ensures ∙ c.if-is_empty-2.true) c.loop.invariant.1
+
+pub returns-else-is_empty-2 : goal.returns-else-is_empty-2
+returns-else-is_empty-2 c = ends_late c.args.kind c.args.count c.loop.counter c.args.pdu _ c.loop.rest.now _ c.loop-test.false (sym c.is_empty-2.ensures ∙ c.if-is_empty-2.false) c.loop.invariant.1

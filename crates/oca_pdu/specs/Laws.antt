@@ -1,0 +1,37 @@
+-- What holds of the encodings and of reading, for every list of bytes.
+use Rattle.std.specs.Prelude.{◌≡◌, ℕ, ◌<◌, ◌↔◌, List, [], ◌∷◌, Result, Ok, Err, Bool}
+use Rattle.std.specs.List.{flat_map, AllByRecursion}
+use Rattle.oca_types.specs.Peers.{CommandFields}
+use Rattle.oca_pdu.specs.declared.fault.PduFault.{PduFault}
+use Rattle.oca_pdu.specs.Messages.{Msg, Pdu, messages_of}
+use Rattle.oca_pdu.specs.Encoding.{IsDatagram, PduFits, pdu_encoding}
+use Rattle.oca_pdu.specs.FirstFault.{IsFirstFault}
+use Rattle.oca_pdu.specs.Reading.{read_datagram}
+
+-- each number is a byte
+abbrev pub AreBytes : List ℕ → Type 0
+AreBytes bytes = AllByRecursion (λ b. b < 256) bytes
+
+-- Bytes are the encodings of one list of messages at most, however they are parted into PDUs.
+abbrev pub OneListOfMessages : Type 0
+OneListOfMessages = (bytes : List ℕ) (ps qs : List Pdu) → IsDatagram ps bytes → IsDatagram qs bytes → flat_map messages_of ps ≡ flat_map messages_of qs
+
+-- Bytes have one first fault at most.
+abbrev pub OneFirstFault : Type 0
+OneFirstFault = (bytes : List ℕ) (f g : PduFault) → IsFirstFault bytes f → IsFirstFault bytes g → f ≡ g
+
+-- No bytes are a datagram and have a first fault.
+abbrev pub NoFaultOfADatagram : Type 0
+NoFaultOfADatagram = (bytes : List ℕ) (ps : List Pdu) (f : PduFault) → IsDatagram ps bytes → IsFirstFault bytes f → ⊥
+
+-- Reading gives exactly the messages of a datagram, and exactly the first fault of other bytes.
+pub record ReadsExactly (bytes : List ℕ) : Type 0 where
+  pub messages : (ms : List Msg) → (read_datagram bytes ≡ Ok ms) ↔ ((ps : List Pdu) × IsDatagram ps bytes × (flat_map messages_of ps ≡ ms))
+  pub fault : (f : PduFault) → (read_datagram bytes ≡ Err f) ↔ IsFirstFault bytes f
+
+abbrev pub ReadingIsExact : Type 0
+ReadingIsExact = (bytes : List ℕ) → AreBytes bytes → ReadsExactly bytes
+
+-- A PDU that is written alone is read back as its messages.
+abbrev pub WrittenIsReadBack : Type 0
+WrittenIsReadBack = (p : Pdu) → IsDatagram (p ∷ []) (pdu_encoding p) → read_datagram (pdu_encoding p) ≡ Ok (messages_of p)

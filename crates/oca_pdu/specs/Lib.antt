@@ -1,0 +1,12 @@
+pub use Rattle.oca_types.specs.Numbers
+pub use Rattle.oca_types.specs.Status
+pub use Rattle.oca_types.specs.Peers
+pub mod Faults
+pub mod Messages
+pub mod Encoding
+pub mod FirstFault
+pub mod Reading
+pub mod Checking
+pub mod Datagrams
+pub mod Writing
+pub mod Laws

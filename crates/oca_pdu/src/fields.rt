@@ -1,0 +1,62 @@
+//! The fields of messages and of a PDU's header, read from bytes that are long enough.
+ghost use Rattle.std.specs.Prelude.{◌≡◌, ◌≤◌, length};
+ghost use Rattle.std.specs.Int.{w16, w32, from_be_bytes};
+ghost use Rattle.oca_pdu.specs.Messages.{msg_of};
+ghost use Rattle.oca_pdu.specs.Reading.{least_size, message_in, content_of};
+
+use crate::message::{Content, Kind, Message};
+use oca_types::{Command, Handle, MethodId, Ono};
+
+/// The number in two bytes.
+pub fn u16_in(bytes: &[u8]) -> u16
+    requires { length bytes.now ≡ 2 }
+    ensures { result ≡ from_be_bytes w16 bytes.now }
+{
+    u16::from_be_bytes([bytes[0], bytes[1]])
+}
+
+/// The number in four bytes.
+pub fn u32_in(bytes: &[u8]) -> u32
+    requires { length bytes.now ≡ 4 }
+    ensures { result ≡ from_be_bytes w32 bytes.now }
+{
+    u32::from_be_bytes([bytes[0], bytes[1], bytes[2], bytes[3]])
+}
+
+/// The least size of a message.
+pub fn least(kind: Kind) -> usize
+    ensures { result ≡ least_size kind }
+{
+    match kind {
+        Kind::Command | Kind::CommandWithResponse => 17,
+        Kind::Response => 10,
+    }
+}
+
+/// What a PDU of this PduType holds.
+pub fn content(pdu_type: u8) -> Option<Content>
+    ensures { result ≡ content_of pdu_type }
+{
+    match pdu_type {
+        0 => Some(Content::Messages(Kind::Command)),
+        1 => Some(Content::Messages(Kind::CommandWithResponse)),
+        3 => Some(Content::Messages(Kind::Response)),
+        4 => Some(Content::KeepAlive),
+        _ => None,
+    }
+}
+
+/// The message that is all of the bytes.
+pub fn message(kind: Kind, bytes: &[u8]) -> Message<'_>
+    requires { least_size kind ≤ length bytes.now }
+    ensures { msg_of result ≡ message_in kind bytes.now }
+{
+    let handle = Handle(u32_in(&bytes[4..8]));
+    if let Kind::Response = kind {
+        return Message::Response { handle, status: bytes[8], count: bytes[9], params: &bytes[10..] };
+    }
+    let target = Ono(u32_in(&bytes[8..12]));
+    let method = MethodId { level: u16_in(&bytes[12..14]), index: u16_in(&bytes[14..16]) };
+    let command = Command { handle, target, method, count: bytes[16], params: &bytes[17..] };
+    Message::Command { respond: matches!(kind, Kind::CommandWithResponse), command }
+}
