@@ -4,7 +4,7 @@ use Rattle.std.specs.Prelude.{nat_lt, nat_le, not, ◌&&◌, nat_eq, is_some, If
 use Rattle.std.specs.List.{find, position_or_len}
 use Rattle.std.proofs.Math.ListN.{set}
 use Rattle.std.proofs.Math.Seq.{take-set-lt}
-use Rattle.std.proofs.lemmas.List.{get_or-take, length-take}
+use Rattle.std.proofs.lemmas.List.{get_or-take, length-take, take_more_set}
 use Rattle.std.proofs.lemmas.List.Elements.{All-set}
 use Rattle.std.proofs.lemmas.List.Quantifiers.{position-Some}
 use Rattle.std.proofs.lemmas.Bool.{ltb-true}
@@ -12,7 +12,7 @@ use Rattle.std.proofs.lemmas.Bool.Decides.{nat_tests}
 use Rattle.oca_types.specs.declared.words.Peer.{Peer}
 use Rattle.oca_types.specs.Peers.{same_peer}
 use Rattle.oca_session.specs.Accepted.{Entry, retained_of, Agrees}
-use Rattle.oca_session.specs.Table.{Session, is_of, session_of, peers_of, changed, heard_at, with_heartbeat, with_entry, with_accepted, is_lapsed, lapsed, stays, forgotten, AgreesAt}
+use Rattle.oca_session.specs.Table.{Session, is_of, session_of, peers_of, changed, opened, heard_at, with_heartbeat, with_entry, with_accepted, is_lapsed, lapsed, stays, forgotten, AgreesAt}
 use Rattle.oca_session.specs.Sound.{IsSession, IsOnePerPeer}
 use Rattle.oca_session.proofs.Windows.{retaining_agreed}
 
@@ -311,3 +311,17 @@ heartbeat_sound w ms s h = record { size = h.size; least = omega arith; most = o
 
 pub entry_sound : (w : ℕ) (e : Entry) (s : Session) → IsSession w s → IsSession w (with_entry e s)
 entry_sound w e s h = record { size = h.size; least = h.least; most = h.most }
+
+-- ---- an opened session
+
+pub opened_sound : (w : ℕ) (p : Peer) (moment : ℕ) → IsSession w (opened w p moment)
+opened_sound w p moment = record { size = refl; least = omega arith; most = omega arith }
+
+-- a session that is opened at the first free place stands last
+pub opened_in : (p : Peer) (w moment : ℕ) (items : List Session) (count : ℕ) (old new : Session) → count < length items →
+    All (IsSession w) items → old ≡ get_or items count old → new ≡ opened old.retained.size p moment →
+    take (count + 1) (set items count new) ≡ take count items ++ opened w p moment ∷ []
+opened_in p w moment items count old new below all was is =
+    let before : IsSession w old = subst (IsSession w) (sym was) (all count old below) in
+    take_more_set items count new below
+    ∙ ap (λ s. take count items ++ s ∷ []) (is ∙ ap (λ n. opened n p moment) before.size)
