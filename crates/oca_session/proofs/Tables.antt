@@ -1,7 +1,7 @@
 -- The sessions by their places, and what the calls leave of what holds of them.
 use Rattle.std.proofs.Common.{◌≡◌, ℕ, ◌+◌, ◌-◌, ◌*◌, ◌<◌, ◌≤◌, Bool, true, false, cond, List, [], ◌∷◌, ◌++◌, length, take, drop, get_or, Option, Some, None, refl, sym, ap, ◌∙◌, arith, zero, suc, subst}
-use Rattle.std.specs.Prelude.{nat_lt, nat_le, not, ◌&&◌, nat_eq, is_some, IfSome, IsSome, map, filter, position, All, AllPairs, Contains}
-use Rattle.std.specs.List.{find, position_or_len}
+use Rattle.std.specs.Prelude.{nat_lt, nat_le, not, ◌&&◌, ◌||◌, nat_eq, is_some, IfSome, IsSome, map, filter, position, All, AllPairs, Contains}
+use Rattle.std.specs.List.{find, list_any, position_or_len}
 use Rattle.std.proofs.Math.ListN.{set}
 use Rattle.std.proofs.Math.Seq.{take-set-lt}
 use Rattle.std.proofs.lemmas.List.{get_or-take, length-take, take_more_set}
@@ -212,18 +212,20 @@ IsOnePerPeer-push ss s h one = push ss (all_others s.peer ss h) one
 pub same_peer-self : (p : Peer) → same_peer p p ≡ true
 same_peer-self p = grind (arith, nat_tests)
 
--- a change that keeps the peers keeps who has a session
-pub known-changed : (p : Peer) (f : Session → Session) → ((s : Session) → (f s).peer ≡ s.peer) → (ss : List Session) →
-    is_some (session_of p (changed p f ss)) ≡ is_some (session_of p ss)
-known-changed p f same [] = refl
-known-changed p f same (s ∷ ss) = by_test (is_of p s) refl (known-changed p f same ss)
+-- who has a session is said by the peers alone
+known_by_peers : (p : Peer) (ss : List Session) → is_some (session_of p ss) ≡ list_any (λ q. same_peer q p) (peers_of ss)
+known_by_peers p [] = refl
+known_by_peers p (s ∷ ss) = by_test (is_of p s) (known_by_peers p ss)
   where
-    by_test : (b : Bool) → is_of p s ≡ b → is_some (session_of p (changed p f ss)) ≡ is_some (session_of p ss) →
-        is_some (session_of p (cond b (f s) s ∷ changed p f ss)) ≡ is_some (cond b (Some s) (session_of p ss))
-    by_test true here h =
-        ap (λ b. is_some (cond b (Some (f s)) (session_of p (changed p f ss)))) (ap (λ q. same_peer q p) (same s) ∙ here)
-    by_test false here h =
-        ap (λ b. is_some (cond b (Some s) (session_of p (changed p f ss)))) here ∙ h
+    by_test : (b : Bool) → is_some (session_of p ss) ≡ list_any (λ q. same_peer q p) (peers_of ss) →
+        is_some (cond b (Some s) (session_of p ss)) ≡ (b || list_any (λ q. same_peer q p) (peers_of ss))
+    by_test true h = refl
+    by_test false h = h
+
+-- a change that keeps the peers keeps who has a session
+pub known_same : (p : Peer) (ss ts : List Session) → peers_of ss ≡ peers_of ts → is_some (session_of p ss) ≡ is_some (session_of p ts)
+known_same p ss ts h =
+    known_by_peers p ss ∙ ap (list_any (λ q. same_peer q p)) h ∙ sym (known_by_peers p ts)
 
 pub known-push : (p : Peer) (ss : List Session) (s : Session) → is_of p s ≡ true → is_some (session_of p (ss ++ s ∷ [])) ≡ true
 known-push p [] s here = ap (λ b. is_some (cond b (Some s) None)) here

@@ -1,5 +1,6 @@
 //! The sessions of all peers.
 ghost use Rattle.std.specs.Prelude.{◌≡◌, ℕ, ◌<◌, ◌≤◌, List, [], ◌∷◌, ◌++◌, length, IfOk, IsSome, IfSome, is_some, Some, vec_len, take, position, All, Contains, ◌==◌};
+ghost use Rattle.oca_types.specs.declared.words.Peer.{Peer};
 ghost use Rattle.oca_session.specs.Accepted.{Entry, judgement, Fresh};
 ghost use Rattle.oca_session.specs.Judging.{told, judged};
 ghost use Rattle.oca_session.specs.Table.{is_of, session_of, peers_of, lapsed, staying, forgotten};
@@ -149,6 +150,7 @@ impl Sessions {
         requires { IsSome (session_of peer self.old.sessions) }
         ensures heartbeat { self.new ≡ with_sessions self.old (changed peer (with_heartbeat ms) self.old.sessions) }
         ensures peers { peers_of self.new.sessions ≡ peers_of self.old.sessions }
+        ensures known { (p : Peer) → is_some (session_of p self.new.sessions) ≡ is_some (session_of p self.old.sessions) }
     {
         let at = place_of_known(&self.places[..self.count], peer);
         self.places[at].set_heartbeat(ms);
@@ -181,6 +183,7 @@ impl Sessions {
                 (changed peer (with_accepted w (A ++ record { handle = handle.0; reply = reply } ∷ [])) self.old.sessions)
         }
         ensures peers { peers_of self.new.sessions ≡ peers_of self.old.sessions }
+        ensures known { (p : Peer) → is_some (session_of p self.new.sessions) ≡ is_some (session_of p self.old.sessions) }
     {
         self.put(peer, handle, reply);
     }

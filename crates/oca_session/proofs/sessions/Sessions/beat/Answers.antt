@@ -1,7 +1,7 @@
 use Rattle.std.proofs.Common.{◌≡◌, ap, arith, refl, ◌∙◌}
 use Rattle.std.proofs.Math.ListN.{length-set}
 use Rattle.oca_session.specs.Table.{Table, with_heartbeat, peers_of}
-use Rattle.oca_session.proofs.Tables.{changed_in, one_in, sound_in, heartbeat_sound, peers_of-changed}
+use Rattle.oca_session.proofs.Tables.{changed_in, one_in, sound_in, heartbeat_sound, peers_of-changed, known_same}
 use Rattle.oca_session.proofs.sessions.Sessions.beat.Goals as goal
 
 pub invariant_of-self : goal.invariant_of-self
@@ -31,3 +31,6 @@ returns-clause-peers c =
       (changed_in c.args.peer (with_heartbeat c.args.ms) a.places.items c.deref.result.now a.count at.result _ _
         c.self.invariant.4 c.deref.ensures.value at.ensures c.index_mut.ensures.value c.set_heartbeat.ensures)
       ∙ peers_of-changed c.args.peer (with_heartbeat c.args.ms) (λ s. refl) _)
+
+pub returns-clause-known : goal.returns-clause-known
+returns-clause-known c = λ p. known_same p _ c.args.self.now.sessions (returns-clause-peers c)

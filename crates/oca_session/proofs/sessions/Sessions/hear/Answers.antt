@@ -4,7 +4,7 @@ use Rattle.std.proofs.Math.ListN.{length-set, set}
 use Rattle.std.proofs.lemmas.List.Elements.{All-set}
 use Rattle.oca_session.specs.Table.{Session, Table, is_of, session_of, heard_at, changed, opened}
 use Rattle.oca_session.specs.Sound.{IsSession, IsOnePerPeer}
-use Rattle.oca_session.proofs.Tables.{changed_in, one_in, sound_in, heard_sound, known_by_place, known-changed, none_known, opened_in, opened_sound, known-push, same_peer-self, IsOnePerPeer-push}
+use Rattle.oca_session.proofs.Tables.{changed_in, one_in, sound_in, heard_sound, known_by_place, known_same, peers_of-changed, none_known, opened_in, opened_sound, known-push, same_peer-self, IsOnePerPeer-push}
 use Rattle.oca_session.proofs.sessions.Sessions.hear.Goals as goal
 
 pub invariant_of-self : goal.invariant_of-self
@@ -43,7 +43,7 @@ returns-in-Some-clause-known c =
     let there : position (is_of c.args.peer) (take a.count a.places.items) ≡ Some at = rw (← c.deref.ensures.value) placed in
     ap (λ ss. is_some (session_of c.args.peer ss)) (changed_in c.args.peer (heard_at m) a.places.items c.deref.result.now a.count at _ _
         c.self.invariant.4 c.deref.ensures.value placed c.index_mut.ensures.value c.note.ensures)
-    ∙ known-changed c.args.peer (heard_at m) (λ s. refl) (take a.count a.places.items)
+    ∙ known_same c.args.peer _ (take a.count a.places.items) (peers_of-changed c.args.peer (heard_at m) (λ s. refl) (take a.count a.places.items))
     ∙ sym (known_by_place c.args.peer (take a.count a.places.items)) ∙ ap is_some there
 
 pub returns-then-self-eq-SESSIONS-clause-hears : goal.returns-then-self-eq-SESSIONS-clause-hears

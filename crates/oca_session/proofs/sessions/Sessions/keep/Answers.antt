@@ -1,6 +1,6 @@
 use Rattle.std.proofs.Common.{ap, ◌∙◌, refl}
 use Rattle.oca_session.specs.Table.{with_sessions, peers_of}
-use Rattle.oca_session.proofs.Tables.{changed_agreed, peers_of-changed}
+use Rattle.oca_session.proofs.Tables.{changed_agreed, peers_of-changed, known_same}
 use Rattle.oca_session.proofs.sessions.Sessions.keep.Goals as goal
 
 pub returns-clause-accepted : goal.returns-clause-accepted
@@ -12,3 +12,6 @@ pub returns-clause-peers : goal.returns-clause-peers
 returns-clause-peers c =
     ap (λ t. peers_of t.sessions) c.put.ensures.retained
     ∙ peers_of-changed c.args.peer _ (λ s. refl) c.args.self.now.sessions
+
+pub returns-clause-known : goal.returns-clause-known
+returns-clause-known c = λ p. known_same p _ c.args.self.now.sessions (returns-clause-peers c)
