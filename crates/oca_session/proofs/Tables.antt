@@ -253,7 +253,7 @@ changed_agreed p w A e (s ∷ ss) one h =
         let none : All (λ t. is_of p t ≡ false) ss = λ k d within. other_peer s.peer (get_or ss k d).peer p here (others k d within) in
         ap (λ r. record s { retained = r } ∷ changed p (with_entry e) ss) (retaining_agreed w A s.retained e a)
         ∙ ap (λ xs. with_accepted w (A ++ e ∷ []) s ∷ xs)
-            (changed_none p (with_entry e) ss none ∙ sym (changed_none p (with_accepted w (A ++ e ∷ [])) ss none))
+        (changed_none p (with_entry e) ss none ∙ sym (changed_none p (with_accepted w (A ++ e ∷ [])) ss none))
     by_test false here a rest = ap (λ xs. s ∷ xs) (rest a)
 
 -- ---- the forgotten

@@ -53,8 +53,10 @@ none_has (e ∷ es) h p =
     both : (a b : Bool) → (a && b) ≡ true → (a ≡ true) × (b ≡ true)
     both true b q = (refl, q)
     both false b q = cc
+
     neither : (a b : Bool) → a ≡ false → b ≡ false → (a || b) ≡ false
     neither a b q r = cc
+
     other : (n k : ℕ) → nat_lt n k ≡ true → nat_eq n k ≡ false
     other n k q = grind (arith, nat_tests)
 
@@ -92,12 +94,12 @@ judged-retained_of w A h =
     let kept = window w A in
     let below = list_all (is_below h) out in
     let whole : list_any (has_handle h) A ≡ (list_any (has_handle h) out || list_any (has_handle h) kept)
-        = sym (ap (list_any (has_handle h)) (parts w A)) ∙ list_any-append (has_handle h) out kept in
+    = sym (ap (list_any (has_handle h)) (parts w A)) ∙ list_any-append (has_handle h) out kept in
     let same : (not (is_some (entry_under h kept)) && is_above (greatest out) h) ≡ accepts w A h =
-        ap (λ b. not b && is_above (greatest out) h) (sym (any_is_found h kept))
-        ∙ ap (λ b. not (list_any (has_handle h) kept) && b) (is_above-greatest out h)
-        ∙ split (list_any (has_handle h) out) (list_any (has_handle h) kept) below (none_has out h)
-        ∙ ap (λ b. not b && below) (sym whole) in
+    ap (λ b. not b && is_above (greatest out) h) (sym (any_is_found h kept))
+    ∙ ap (λ b. not (list_any (has_handle h) kept) && b) (is_above-greatest out h)
+    ∙ split (list_any (has_handle h) out) (list_any (has_handle h) kept) below (none_has out h)
+    ∙ ap (λ b. not b && below) (sym whole) in
     judged_cases (entry_under h kept) (is_above (greatest out) h)
     ∙ ap (λ b. cond b Fresh (duplicate_or_old (entry_under h kept))) same
 
@@ -126,17 +128,17 @@ lt_or_le a b = grind arith
 full_or_all : {X : Type 0} (w : ℕ) (A : List X) (e : X) →
     (outside w A ≡ []) ⊎ (w ≤ length (window w A ++ e ∷ []))
 full_or_all w A e = elim (lt_or_le (length A) w) [
-    inl h ↦ let none : length A - w ≡ 0 = omega arith in inl (ap (λ n. take n A) none)
+  | inl h ↦ let none : length A - w ≡ 0 = omega arith in inl (ap (λ n. take n A) none)
   | inr h ↦ inr (rw (length-append, length-drop) (omega arith))
-  ]
+]
 
 -- with nothing pushed out before, the rest is all
 from_rest : {X : Type 0} (w : ℕ) (out rest : List X) → (out ≡ []) ⊎ (w ≤ length rest) →
     (window w (out ++ rest) ≡ window w rest) × (outside w (out ++ rest) ≡ out ++ outside w rest)
 from_rest w out rest h = elim h [
-    inl e ↦ (ap (λ xs. window w (xs ++ rest)) e, ap (λ xs. outside w (xs ++ rest)) e ∙ sym (ap (λ xs. xs ++ outside w rest) e))
+  | inl e ↦ (ap (λ xs. window w (xs ++ rest)) e, ap (λ xs. outside w (xs ++ rest)) e ∙ sym (ap (λ xs. xs ++ outside w rest) e))
   | inr l ↦ (window_rest w out rest l, outside_rest w out rest l)
-  ]
+]
 
 -- What is retained of a list, with one more command, is what is retained of the longer list.
 pub retaining-retained_of : (w : ℕ) (A : List Entry) (e : Entry) → retaining (retained_of w A) e ≡ retained_of w (A ++ e ∷ [])
@@ -144,10 +146,10 @@ retaining-retained_of w A e =
     let rest = window w A ++ e ∷ [] in
     let split = from_rest w (outside w A) rest (full_or_all w A e) in
     let entries : window w rest ≡ window w (A ++ e ∷ []) =
-        sym (ap (window w) (regrouped w A e) ∙ split.0) in
+    sym (ap (window w) (regrouped w A e) ∙ split.0) in
     let floor : higher (greatest (outside w A)) (greatest (outside w rest)) ≡ greatest (outside w (A ++ e ∷ [])) =
-        sym (greatest-append (outside w A) (outside w rest))
-        ∙ ap greatest (sym (ap (outside w) (regrouped w A e) ∙ split.1)) in
+    sym (greatest-append (outside w A) (outside w rest))
+    ∙ ap greatest (sym (ap (outside w) (regrouped w A e) ∙ split.1)) in
     ap (λ (p : List Entry × Option ℕ). record { size = w; entries = p.0; floor = p.1 }) (pair entries floor)
   where
     pair : {X Y : Type 0} {a b : X} {c d : Y} → a ≡ b → c ≡ d → let p : X × Y = (a, c) in let q : X × Y = (b, d) in p ≡ q

@@ -12,3 +12,6 @@ mod window;
 
 pub use sessions::{Heard, Sessions};
 pub use window::Judged;
+
+#[cfg(test)]
+mod tests;

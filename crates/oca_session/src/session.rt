@@ -94,9 +94,7 @@ impl Place {
 
     pub fn judge(&self, handle: Handle) -> Judged<'_>
         ensures exact { told result ≡ judged self.now.retained handle.0 }
-        ensures accepted {
-            (w : ℕ) (A : List Entry) → Agrees w A self.now.retained → told result ≡ judgement w A handle.0
-        }
+        ensures accepted { (w : ℕ) (A : List Entry) → Agrees w A self.now.retained → told result ≡ judgement w A handle.0 }
     {
         self.window.judge(handle)
     }

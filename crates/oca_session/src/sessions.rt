@@ -51,10 +51,8 @@ impl Model for Sessions {
 
     ghost view = { λ a. record { window = a.window; moment = a.moment; sessions = take a.count a.places.items } };
 
-    ghost invariant = {
-        λ a. (0 < a.window) × (a.count ≤ 16) × (length a.places.items ≡ 16)
-        × All (IsSession a.window) a.places.items × IsOnePerPeer (take a.count a.places.items)
-    };
+    ghost invariant = { λ a. (0 < a.window) × (a.count ≤ 16) × (length a.places.items ≡ 16)
+        × All (IsSession a.window) a.places.items × IsOnePerPeer (take a.count a.places.items) };
 }
 
 impl Sessions {
@@ -70,7 +68,7 @@ impl Sessions {
     }
 
     /// No session, with reply windows of this size.
-    fn with_window(alloc: Global, window: usize) -> Result<Sessions, NoMemory>
+    pub(crate) fn with_window(alloc: Global, window: usize) -> Result<Sessions, NoMemory>
         requires { 0 < window }
         ensures { IfOk result (λ t. t ≡ record { window = window; moment = 0; sessions = [] }) }
     {
@@ -161,9 +159,7 @@ impl Sessions {
     pub fn judge(&self, peer: Peer, handle: Handle) -> Judged<'_>
         requires { IsSome (session_of peer self.now.sessions) }
         ensures retained { IfSome (session_of peer self.now.sessions) (λ s. told result ≡ judged s.retained handle.0) }
-        ensures accepted {
-            (w : ℕ) (A : List Entry) → AgreesAt peer w A self.now.sessions → told result ≡ judgement w A handle.0
-        }
+        ensures accepted { (w : ℕ) (A : List Entry) → AgreesAt peer w A self.now.sessions → told result ≡ judgement w A handle.0 }
     {
         known_place(&self.places[..self.count], peer).judge(handle)
     }
@@ -173,15 +169,11 @@ impl Sessions {
     pub fn keep(&mut self, peer: Peer, handle: Handle, reply: Reply)
         requires known { IsSome (session_of peer self.old.sessions) }
         requires fresh { IfSome (session_of peer self.old.sessions) (λ s. judged s.retained handle.0 ≡ Fresh) }
-        ensures retained {
+        ensures retained { self.new ≡ with_sessions self.old
+            (changed peer (with_entry (record { handle = handle.0; reply = reply })) self.old.sessions) }
+        ensures accepted { (w : ℕ) (A : List Entry) → AgreesAt peer w A self.old.sessions →
             self.new ≡ with_sessions self.old
-                (changed peer (with_entry (record { handle = handle.0; reply = reply })) self.old.sessions)
-        }
-        ensures accepted {
-            (w : ℕ) (A : List Entry) → AgreesAt peer w A self.old.sessions →
-            self.new ≡ with_sessions self.old
-                (changed peer (with_accepted w (A ++ record { handle = handle.0; reply = reply } ∷ [])) self.old.sessions)
-        }
+            (changed peer (with_accepted w (A ++ record { handle = handle.0; reply = reply } ∷ [])) self.old.sessions) }
         ensures peers { peers_of self.new.sessions ≡ peers_of self.old.sessions }
         ensures known { (p : Peer) → is_some (session_of p self.new.sessions) ≡ is_some (session_of p self.old.sessions) }
     {
@@ -191,10 +183,8 @@ impl Sessions {
     fn put(&mut self, peer: Peer, handle: Handle, reply: Reply)
         requires known { IsSome (session_of peer self.old.sessions) }
         requires fresh { IfSome (session_of peer self.old.sessions) (λ s. judged s.retained handle.0 ≡ Fresh) }
-        ensures retained {
-            self.new ≡ with_sessions self.old
-                (changed peer (with_entry (record { handle = handle.0; reply = reply })) self.old.sessions)
-        }
+        ensures retained { self.new ≡ with_sessions self.old
+            (changed peer (with_entry (record { handle = handle.0; reply = reply })) self.old.sessions) }
         ensures one { IsTable self.old }
     {
         let at = place_of_known(&self.places[..self.count], peer);

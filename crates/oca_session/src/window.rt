@@ -9,6 +9,7 @@ use std::alloc::{AllocError, Global};
 use std::marker::Model;
 
 /// What the reply window of a session says of a handle.
+#[derive(Clone, Copy)]
 pub enum Judged<'a> {
     /// No accepted command has the handle, and it is above all that the window left behind: execute it.
     Fresh,
@@ -99,9 +100,7 @@ impl Window {
     /// Whether a command of this handle is fresh, a duplicate of one in the window, or too old.
     pub fn judge(&self, handle: Handle) -> Judged<'_>
         ensures exact { told result ≡ judged self.now handle.0 }
-        ensures accepted {
-            (w : ℕ) (A : List Entry) → Agrees w A self.now → told result ≡ judgement w A handle.0
-        }
+        ensures accepted { (w : ℕ) (A : List Entry) → Agrees w A self.now → told result ≡ judgement w A handle.0 }
     {
         self.judge_retained(handle)
     }
@@ -122,10 +121,8 @@ impl Window {
     pub fn keep(&mut self, handle: Handle, reply: Reply)
         requires { judged self.old handle.0 ≡ Fresh }
         ensures exact { self.new ≡ retaining self.old (record { handle = handle.0; reply = reply }) }
-        ensures accepted {
-            (w : ℕ) (A : List Entry) → Agrees w A self.old →
-            Agrees w (A ++ record { handle = handle.0; reply = reply } ∷ []) self.new
-        }
+        ensures accepted { (w : ℕ) (A : List Entry) → Agrees w A self.old →
+            Agrees w (A ++ record { handle = handle.0; reply = reply } ∷ []) self.new }
     {
         self.put(RetainedReply { handle, reply });
     }

@@ -13,12 +13,15 @@ invariant_of-self c =
     let m = c.max-self-inside.result in
     let at = c.in-Some.at in
     let f = heard_at m in
-    let placed = sym c.place_of.ensures ∙ c.in-Some.is in
-    (c.self.invariant.0, c.self.invariant.1, length-set a.places.items at _ ∙ c.self.invariant.2,
+    let placed = sym c.place_of.ensures ∙ c.in-Some.is in (
+      c.self.invariant.0,
+      c.self.invariant.1,
+      length-set a.places.items at _ ∙ c.self.invariant.2,
       sound_in a.window c.args.peer f (heard_sound a.window m) a.places.items c.deref.result.now a.count at _ _
-        c.self.invariant.3 c.deref.ensures.value placed c.index_mut.ensures.value c.note.ensures,
+          c.self.invariant.3 c.deref.ensures.value placed c.index_mut.ensures.value c.note.ensures,
       one_in c.args.peer f (λ s. refl) a.places.items c.deref.result.now a.count at _ _
-        c.self.invariant.4 c.deref.ensures.value placed c.index_mut.ensures.value c.note.ensures)
+          c.self.invariant.4 c.deref.ensures.value placed c.index_mut.ensures.value c.note.ensures,
+    )
 
 pub returns-in-Some-clause-hears : goal.returns-in-Some-clause-hears
 returns-in-Some-clause-hears c =
@@ -31,8 +34,9 @@ returns-in-Some-clause-hears c =
     rw (← c.self.view_is) (
       sym (known_by_place c.args.peer (take a.count a.places.items)) ∙ ap is_some there,
       ap (table m.result) (changed_in c.args.peer (heard_at m.result) a.places.items c.deref.result.now a.count at _ _
-        c.self.invariant.4 c.deref.ensures.value placed c.index_mut.ensures.value c.note.ensures)
-      ∙ ap (λ (t : ℕ). table t (changed c.args.peer (heard_at t) (take a.count a.places.items))) m.ensures)
+          c.self.invariant.4 c.deref.ensures.value placed c.index_mut.ensures.value c.note.ensures)
+          ∙ ap (λ (t : ℕ). table t (changed c.args.peer (heard_at t) (take a.count a.places.items))) m.ensures,
+    )
 
 pub returns-in-Some-clause-known : goal.returns-in-Some-clause-known
 returns-in-Some-clause-known c =
@@ -42,7 +46,7 @@ returns-in-Some-clause-known c =
     let placed = sym c.place_of.ensures ∙ c.in-Some.is in
     let there : position (is_of c.args.peer) (take a.count a.places.items) ≡ Some at = rw (← c.deref.ensures.value) placed in
     ap (λ ss. is_some (session_of c.args.peer ss)) (changed_in c.args.peer (heard_at m) a.places.items c.deref.result.now a.count at _ _
-        c.self.invariant.4 c.deref.ensures.value placed c.index_mut.ensures.value c.note.ensures)
+    c.self.invariant.4 c.deref.ensures.value placed c.index_mut.ensures.value c.note.ensures)
     ∙ known_same c.args.peer _ (take a.count a.places.items) (peers_of-changed c.args.peer (heard_at m) (λ s. refl) (take a.count a.places.items))
     ∙ sym (known_by_place c.args.peer (take a.count a.places.items)) ∙ ap is_some there
 
@@ -56,7 +60,8 @@ returns-then-self-eq-SESSIONS-clause-hears c =
     rw (← c.self.view_is) (
       none_known c.args.peer ss unplaced,
       omega (arith, length-take a.count a.places.items, c.self.invariant.2, c.if-self-eq-SESSIONS.true),
-      ap table m.ensures)
+      ap table m.ensures,
+    )
 
 pub returns-then-self-eq-SESSIONS-clause-known : goal.returns-then-self-eq-SESSIONS-clause-known
 returns-then-self-eq-SESSIONS-clause-known c =
@@ -74,11 +79,14 @@ invariant_of-self-2 c =
     let below : a.count < length a.places.items = omega (arith, c.self.invariant.2) in
     let last = opened_in c.args.peer a.window m a.places.items a.count _ _ below c.self.invariant.3 c.index_mut-2.ensures.value c.open.ensures in
     let before : IsSession a.window c.index_mut-2.result.now =
-        subst (IsSession a.window) (sym c.index_mut-2.ensures.value) (c.self.invariant.3 a.count c.index_mut-2.result.now below) in
-    let new : c.open.new.self ≡ opened a.window c.args.peer m = c.open.ensures ∙ ap (λ n. opened n c.args.peer m) before.size in
-    (c.self.invariant.0, omega arith, length-set a.places.items a.count _ ∙ c.self.invariant.2,
+    subst (IsSession a.window) (sym c.index_mut-2.ensures.value) (c.self.invariant.3 a.count c.index_mut-2.result.now below) in
+    let new : c.open.new.self ≡ opened a.window c.args.peer m = c.open.ensures ∙ ap (λ n. opened n c.args.peer m) before.size in (
+      c.self.invariant.0,
+      omega arith,
+      length-set a.places.items a.count _ ∙ c.self.invariant.2,
       All-set (IsSession a.window) a.places.items a.count _ (subst (IsSession a.window) (sym new) (opened_sound a.window c.args.peer m)) c.self.invariant.3,
-      subst IsOnePerPeer (sym last) (IsOnePerPeer-push ss (opened a.window c.args.peer m) (none_known c.args.peer ss unplaced) c.self.invariant.4))
+      subst IsOnePerPeer (sym last) (IsOnePerPeer-push ss (opened a.window c.args.peer m) (none_known c.args.peer ss unplaced) c.self.invariant.4),
+    )
 
 pub returns-clause-hears : goal.returns-clause-hears
 returns-clause-hears c =
@@ -93,7 +101,8 @@ returns-clause-hears c =
     rw (← c.self.view_is) (
       none_known c.args.peer ss unplaced,
       omega (arith, length-take a.count a.places.items),
-      ap (table m.result) last ∙ ap (λ (t : ℕ). table t (ss ++ opened a.window c.args.peer t ∷ [])) m.ensures)
+      ap (table m.result) last ∙ ap (λ (t : ℕ). table t (ss ++ opened a.window c.args.peer t ∷ [])) m.ensures,
+    )
 
 pub returns-clause-known : goal.returns-clause-known
 returns-clause-known c =
