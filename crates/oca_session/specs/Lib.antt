@@ -1,0 +1,4 @@
+pub mod Accepted
+pub mod Judging
+pub mod Table
+pub mod Sound

@@ -1,0 +1,159 @@
+//! The reply window of one session.
+ghost use Rattle.std.specs.Prelude.{◌≡◌, ℕ, ◌<◌, List, [], ◌∷◌, ◌++◌, IfOk, Some};
+ghost use Rattle.std.specs.Option.{option_copied};
+ghost use Rattle.oca_session.specs.Accepted.{Entry, retained_of, Agrees, judgement, Fresh, higher, entry_under, has_handle};
+ghost use Rattle.oca_session.specs.Judging.{told, judged, retaining};
+
+use oca_types::{Handle, Reply};
+use std::alloc::{AllocError, Global};
+use std::marker::Model;
+
+/// What the reply window of a session says of a handle.
+#[derive(Clone, Copy)]
+pub enum Judged<'a> {
+    /// No accepted command has the handle, and it is above all that the window left behind: execute it.
+    Fresh,
+    /// The command is a duplicate of one in the window, which got this reply.
+    Kept(&'a Reply),
+    /// The handle is not in the window, and at or below one that the window left behind.
+    Old,
+}
+
+/// An accepted command of the window: its handle and the reply that it got.
+#[derive(Drop)]
+struct RetainedReply {
+    handle: Handle,
+    reply: Reply,
+}
+
+impl Model for RetainedReply {
+    ghost use Rattle.oca_session.specs.Accepted.{Entry};
+
+    ghost Value = { Entry };
+
+    ghost view = { λ a. record { handle = a.handle.0; reply = a.reply } };
+}
+
+impl RetainedReply {
+    fn has_handle(&self, handle: Handle) -> bool
+        ensures { result ≡ has_handle handle.0 self.now }
+    {
+        self.handle == handle
+    }
+
+    fn handle(&self) -> Handle
+        ensures { result.0 ≡ self.now.handle }
+    {
+        self.handle
+    }
+
+    fn reply(&self) -> &Reply
+        ensures { result.now ≡ self.now.reply }
+    {
+        &self.reply
+    }
+}
+
+/// The last accepted commands of a session with their replies, and the floor, the greatest handle that was
+/// pushed out of the window.
+#[derive(Drop)]
+pub struct Window {
+    size: usize,
+    entries: Vec<RetainedReply>,
+    floor: Option<u32>,
+}
+
+impl Model for Window {
+    ghost use Rattle.std.specs.Prelude.{◌<◌, ◌≤◌, length};
+    ghost use Rattle.std.specs.Vec.{vec_capacity};
+    ghost use Rattle.oca_session.specs.Accepted.{Retained};
+
+    ghost Value = { Retained };
+
+    ghost view = { λ a. record { size = a.size; entries = a.entries.items; floor = a.floor } };
+
+    ghost invariant = { λ a. (0 < a.size) × (length a.entries.items ≤ a.size) × (a.size ≤ vec_capacity a.entries) };
+}
+
+impl Window {
+    /// An empty window of this size, with room for all that it will retain.
+    pub fn new(alloc: Global, size: usize) -> Result<Window, AllocError>
+        requires { 0 < size }
+        ensures { IfOk result (λ k. k ≡ retained_of size []) }
+    {
+        let entries = Vec::with_capacity(alloc, size)?;
+        Ok(Window {
+            size,
+            entries,
+            floor: None,
+        })
+    }
+
+    /// Empties the window, for another session.
+    pub fn clear(&mut self)
+        ensures { self.new ≡ retained_of self.old.size [] }
+    {
+        self.entries.clear();
+        self.floor = None;
+    }
+
+    /// Whether a command of this handle is fresh, a duplicate of one in the window, or too old.
+    pub fn judge(&self, handle: Handle) -> Judged<'_>
+        ensures exact { told result ≡ judged self.now handle.0 }
+        ensures accepted { (w : ℕ) (A : List Entry) → Agrees w A self.now → told result ≡ judgement w A handle.0 }
+    {
+        self.judge_retained(handle)
+    }
+
+    fn judge_retained(&self, handle: Handle) -> Judged<'_>
+        ensures { told result ≡ judged self.now handle.0 }
+    {
+        if let Some(entry) = entry_of(&self.entries, handle) {
+            return Judged::Kept(entry.reply());
+        }
+        match self.floor {
+            Some(floor) if handle.0 <= floor => Judged::Old,
+            _ => Judged::Fresh,
+        }
+    }
+
+    /// Retains a fresh command with its reply. A full window pushes its oldest out.
+    pub fn keep(&mut self, handle: Handle, reply: Reply)
+        requires { judged self.old handle.0 ≡ Fresh }
+        ensures exact { self.new ≡ retaining self.old (record { handle = handle.0; reply = reply }) }
+        ensures accepted { (w : ℕ) (A : List Entry) → Agrees w A self.old →
+            Agrees w (A ++ record { handle = handle.0; reply = reply } ∷ []) self.new }
+    {
+        self.put(RetainedReply { handle, reply });
+    }
+
+    fn put(&mut self, entry: RetainedReply)
+        ensures { self.new ≡ retaining self.old entry }
+    {
+        if self.entries.len() == self.size {
+            let oldest = self.entries.remove(0);
+            self.floor = Some(raised_floor(self.floor, oldest.handle()));
+        }
+        match self.entries.push(entry) {
+            Ok(()) => {}
+            Err(_) => unreachable!(),
+        }
+    }
+}
+
+/// What is retained under a handle.
+fn entry_of(entries: &[RetainedReply], handle: Handle) -> Option<&RetainedReply>
+    ensures { option_copied result ≡ entry_under handle.0 entries.now }
+{
+    entries.iter().find(|entry| entry.has_handle(handle))
+}
+
+/// The floor after a command of this handle was pushed out.
+fn raised_floor(floor: Option<u32>, handle: Handle) -> u32
+    ensures { higher floor (Some handle.0) ≡ Some result }
+{
+    match floor {
+        Some(floor) => floor.max(handle.0),
+        None => handle.0,
+    }
+}
