@@ -1,12 +1,11 @@
 -- Facts on numbers and fields.
-use Rattle.std.proofs.Common.{◌≡◌, ℕ, zero, suc, ◌+◌, ◌-◌, ◌*◌, ◌<◌, ◌≤◌, ◌==◌, Bool, true, false, ◌&&◌, ◌||◌, ◌⊎◌, inl, inr, List, [], ◌∷◌, ◌++◌, length, take, drop, get_or, Option, Some, None, Err, refl, sym, ap, ◌∙◌, arith, cond, leb, ltb, add-one, append_assoc, append-nil}
-use Rattle.std.proofs.lemmas.Grind.{common_steps}
+use Rattle.std.proofs.Common.{◌≡◌, ℕ, suc, ◌+◌, ◌-◌, ◌*◌, ◌<◌, ◌≤◌, ◌==◌, true, false, ◌||◌, inl, inr, List, [], ◌∷◌, ◌++◌, length, take, drop, get_or, Option, Some, None, refl, sym, ap, ◌∙◌, arith, cond, ltb, add-one, append_assoc, append-nil}
 use Rattle.std.proofs.lemmas.Bool.{cases_lt}
 use Rattle.std.proofs.lemmas.Bool.Decides.{nat_tests}
 use Rattle.std.specs.Option.{option_map}
 use Rattle.std.proofs.lemmas.List.{take_more}
-use Rattle.std.proofs.Math.Seq.{drop-cons, drop-length}
-use Rattle.oca_script.specs.Fields.{value_after, at_most, number_of, split_at, fields, fields_after, onto_first}
+use Rattle.std.proofs.Math.Seq.{drop-cons}
+use Rattle.oca_script.specs.Fields.{value_after, at_most, number_of, split_at, fields, onto_first}
 
 pub value_after-digit : (n c : ℕ) (cs : List ℕ) → 48 ≤ c → c ≤ 57 → value_after n (c ∷ cs) ≡ value_after (n * 10 + (c - 48)) cs
 value_after-digit n c cs low high = grind (arith, nat_tests)

@@ -4,3 +4,4 @@ pub mod Splitting
 pub mod Script
 pub mod Printing
 pub mod Replaying
+pub mod Steps

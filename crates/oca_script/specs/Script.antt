@@ -1,5 +1,5 @@
 -- What a script asks for, as a function of its bytes (profile).
-use Rattle.std.specs.Prelude.{◌≡◌, ℕ, ◌+◌, ◌==◌, Bool, true, false, if◌then◌else◌, nat_le, nat_lt, List, [], ◌∷◌, ◌++◌, length, take, Option, Some, None, Result, Ok, Err}
+use Rattle.std.specs.Prelude.{ℕ, ◌+◌, ◌==◌, Bool, true, false, if◌then◌else◌, nat_le, nat_lt, List, [], ◌∷◌, ◌++◌, length, take, Option, Some, None, Result, Ok, Err}
 use Rattle.std.specs.List.{list_all}
 use Rattle.oca_script.specs.Fields.{fields}
 use Rattle.oca_script.specs.declared.fault.LineFault.{LineFault}
@@ -17,17 +17,23 @@ is_skipped (b ∷ bs) = b == 35
 abbrev pub is_ascii : List ℕ → Bool
 is_ascii line = list_all (λ b. nat_lt b 128) line
 
-abbrev pub some_request : {R : Type 0} → Result R LineFault → Result (Option R) LineFault
-some_request (Ok r) = Ok (Some r)
-some_request (Err fault) = Err fault
-
--- A line asks for nothing, asks for one thing, or has a fault. `asked` says what its fields ask for.
-unfoldable pub parsed : {R : Type 0} → (List (List ℕ) → Result R LineFault) → List ℕ → Result (Option R) LineFault
-parsed asked line =
+-- whether a line asks for something; a line that is skipped does not, and some lines have a fault whatever their fields are
+unfoldable pub asks : List ℕ → Result Bool LineFault
+asks line =
     if nat_lt 4096 (length line) then Err TooLong
-    else if is_skipped line then Ok None
-    else if is_ascii line then some_request (asked (fields line))
+    else if is_skipped line then Ok false
+    else if is_ascii line then Ok true
     else Err Form
+
+abbrev pub parsed_by : {R : Type 0} → Result Bool LineFault → Result R LineFault → Result (Option R) LineFault
+parsed_by (Err fault) r = Err fault
+parsed_by (Ok false) r = Ok None
+parsed_by (Ok true) (Err fault) = Err fault
+parsed_by (Ok true) (Ok request) = Ok (Some request)
+
+-- A line asks for nothing, asks for one thing, or has a fault. `asked` says what fields ask for.
+abbrev pub parsed : {R : Type 0} → (List (List ℕ) → Result R LineFault) → List ℕ → Result (Option R) LineFault
+parsed asked line = parsed_by (asks line) (asked (fields line))
 
 -- ---- lines
 

@@ -12,6 +12,8 @@ pub mod fault;
 pub mod field;
 pub mod language;
 pub mod printing;
+mod progress;
+pub mod replay;
 pub mod text;
 
 pub use fault::{LineFault, ReplayFault, Stop, WriteFailed};

@@ -1,6 +1,6 @@
 use Rattle.std.proofs.Common.{[]}
 use Rattle.std.proofs.lemmas.Result.{err_from_is_err_and}
-use Rattle.oca_script.proofs.PrintLemmas.{prints-lost, prints-flushed, prints-past}
+use Rattle.oca_script.proofs.PrintLemmas.{prints-lost, prints-past}
 use Rattle.oca_script.proofs.printing.print.Goals as goal
 
 pub returns-in_err-flush : goal.returns-in_err-flush

@@ -1,4 +1,4 @@
-use Rattle.std.proofs.Common.{arith, ◌+◌, ◌≡◌, length, take, drop, ℕ, length-take, length-drop}
+use Rattle.std.proofs.Common.{arith, ◌+◌, ℕ, length-take, length-drop}
 use Rattle.oca_script.proofs.PrintLemmas.{Appends-kept, front-of, Appends-more}
 use Rattle.oca_script.proofs.printing.write_bytes.Goals as goal
 
