@@ -1,0 +1,7 @@
+pub mod FieldLemmas
+pub mod TextLemmas
+pub mod PrintLemmas
+pub mod ScriptLemmas
+pub mod StepLemmas
+pub mod PieceLemmas
+pub mod ReadLemmas

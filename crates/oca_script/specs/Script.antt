@@ -1,0 +1,95 @@
+-- What a script asks for, as a function of its bytes (profile).
+use Rattle.std.specs.Prelude.{ℕ, ◌+◌, ◌==◌, Bool, true, false, if◌then◌else◌, nat_le, nat_lt, List, [], ◌∷◌, ◌++◌, length, take, Option, Some, None, Result, Ok, Err}
+use Rattle.std.specs.List.{list_all}
+use Rattle.oca_script.specs.Fields.{fields}
+use Rattle.oca_script.specs.declared.fault.LineFault.{LineFault}
+use Rattle.oca_script.specs.declared.fault.LineFault.TheVariants.{TooLong, Form}
+use Rattle.oca_script.specs.declared.fault.ReplayFault.{ReplayFault}
+use Rattle.oca_script.specs.declared.fault.ReplayFault.TheVariants.{Line, TooMuch}
+
+-- ---- one line
+
+-- empty, or a comment
+abbrev pub is_skipped : List ℕ → Bool
+is_skipped [] = true
+is_skipped (b ∷ bs) = b == 35
+
+abbrev pub is_ascii : List ℕ → Bool
+is_ascii line = list_all (λ b. nat_lt b 128) line
+
+-- whether a line asks for something; a line that is skipped does not, and some lines have a fault whatever their fields are
+unfoldable pub asks : List ℕ → Result Bool LineFault
+asks line =
+    if nat_lt 4096 (length line) then Err TooLong
+    else if is_skipped line then Ok false
+    else if is_ascii line then Ok true
+    else Err Form
+
+abbrev pub parsed_by : {R : Type 0} → Result Bool LineFault → Result R LineFault → Result (Option R) LineFault
+parsed_by (Err fault) r = Err fault
+parsed_by (Ok false) r = Ok None
+parsed_by (Ok true) (Err fault) = Err fault
+parsed_by (Ok true) (Ok request) = Ok (Some request)
+
+-- A line asks for nothing, asks for one thing, or has a fault. `asked` says what fields ask for.
+abbrev pub parsed : {R : Type 0} → (List (List ℕ) → Result R LineFault) → List ℕ → Result (Option R) LineFault
+parsed asked line = parsed_by (asks line) (asked (fields line))
+
+-- ---- lines
+
+-- the lines that a line feed ends, and what stands behind the last line feed
+pub record Cut : Type 0 where
+  pub ended : List (List ℕ)
+  pub rest : List ℕ
+
+abbrev pub with_line : List ℕ → Cut → Cut
+with_line line c = record { ended = line ∷ c.ended; rest = c.rest }
+
+-- bytes cut at their line feeds, where `line` stands before them
+abbrev pub cut_after : List ℕ → List ℕ → Cut
+cut_after line [] = record { ended = []; rest = line }
+cut_after line (b ∷ bs) = if b == 10 then with_line line (cut_after [] bs) else cut_after (line ++ b ∷ []) bs
+
+-- all lines; the last may lack its line feed, and an empty last one is skipped like any empty line
+abbrev pub all_lines : Cut → List (List ℕ)
+all_lines c = c.ended ++ c.rest ∷ []
+
+-- the lines that count where more bytes follow: those that are ended, and one that is too long already
+abbrev pub counted_lines : Cut → List (List ℕ)
+counted_lines c = c.ended ++ (if nat_lt 4096 (length c.rest) then c.rest ∷ [] else [])
+
+-- ---- the whole script
+
+-- the requests of the lines before the first with a fault, and how the script ends
+pub record Script (R : Type 0) : Type 0 where
+  pub requests : List R
+  pub ending : Result Unit ReplayFault
+
+-- a script that begins with these requests
+abbrev pub behind : {R : Type 0} → List R → Script R → Script R
+behind requests s = record { requests = requests ++ s.requests; ending = s.ending }
+
+-- no request, and that ending
+abbrev pub ends_by : {R : Type 0} → Result Unit ReplayFault → Script R
+ends_by ending = record { requests = []; ending = ending }
+
+-- a line of that number, and the script of the lines after it
+abbrev pub line_then : {R : Type 0} → ℕ → Result (Option R) LineFault → Script R → Script R
+line_then number (Err fault) s = ends_by (Err (Line number fault))
+line_then number (Ok None) s = s
+line_then number (Ok (Some request)) s = behind (request ∷ []) s
+
+-- the script of these lines, numbered from `number`
+abbrev pub script_of : {R : Type 0} → (List (List ℕ) → Result R LineFault) → ℕ → List (List ℕ) → Result Unit ReplayFault → Script R
+script_of asked number [] ending = ends_by ending
+script_of asked number (line ∷ lines) ending = line_then number (parsed asked line) (script_of asked (number + 1) lines ending)
+
+-- what `bytes` ask for where `line` stands before them in the line of that number, and `left` of them count
+unfoldable pub script_from : {R : Type 0} → (List (List ℕ) → Result R LineFault) → ℕ → List ℕ → ℕ → List ℕ → Script R
+script_from asked number line left bytes =
+    if nat_le (length bytes) left then script_of asked number (all_lines (cut_after line bytes)) (Ok tt)
+    else script_of asked number (counted_lines (cut_after line (take left bytes))) (Err TooMuch)
+
+-- What a script asks for. Of more than 16,777,216 bytes only the first 16,777,216 count.
+abbrev pub script : {R : Type 0} → (List (List ℕ) → Result R LineFault) → List ℕ → Script R
+script asked bytes = script_from asked 1 [] 16777216 bytes

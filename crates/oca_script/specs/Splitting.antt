@@ -1,0 +1,10 @@
+-- What the field readers answer, without where it lies in memory.
+use Rattle.std.specs.Prelude.{ℕ, List, Option}
+use Rattle.std.specs.Option.{option_map}
+use denote.Ref.{Bor}
+
+abbrev pub split_view : Option (Bor (List ℕ) × Bor (List ℕ)) → Option (List ℕ × List ℕ)
+split_view r = option_map (λ p. (p.0.now, p.1.now)) r
+
+abbrev pub given_bytes : Option (Bor (List ℕ)) → Option (List ℕ)
+given_bytes r = option_map (λ bytes. bytes.now) r

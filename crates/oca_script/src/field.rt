@@ -1,0 +1,105 @@
+//! The fields of a line.
+ghost use Rattle.std.specs.Prelude.{◌≡◌, ◌+◌, ◌*◌, ◌≤◌, ◌<◌, IfSome, ◌∷◌, length};
+ghost use Rattle.std.specs.Option.{option_copied};
+ghost use Rattle.oca_script.specs.Fields.{number_of, moment_of, split_at, peer_of, fields, fields_after, hex_of};
+ghost use Rattle.oca_script.specs.Splitting.{split_view, given_bytes};
+
+use oca_types::Peer;
+
+/// The number that one to `most` decimal digits write, where it is at most `largest`. Leading
+/// zeros count as digits.
+#[tactic(auto, unfolding(crate::specs::Fields::number_of, crate::specs::Fields::at_most), using(crate::proofs::FieldLemmas::number_rules))]
+pub fn number(digits: &[u8], most: usize, largest: u64) -> Option<u64>
+    ensures value { result ≡ number_of most largest digits.now }
+    ensures bound { IfSome result (λ n. n ≤ largest) }
+{
+    if digits.is_empty() || digits.len() > most {
+        return None;
+    }
+    let mut value: u64 = 0;
+    for digit in digits {
+        let digit = *digit;
+        if digit < b'0' || digit > b'9' {
+            return None;
+        }
+        let add = (digit - b'0') as u64;
+        if value > (u64::MAX - add) / 10 {
+            return None;
+        }
+        value = value * 10 + add;
+    }
+    if value <= largest { Some(value) } else { None }
+}
+
+/// A moment in milliseconds: one to twenty decimal digits, in 64 bits.
+pub fn moment(text: &[u8]) -> Option<u64>
+    ensures { result ≡ moment_of text.now }
+{
+    number(text, 20, u64::MAX)
+}
+
+/// What stands before and after the first such byte.
+#[tactic(auto, using(crate::proofs::FieldLemmas::split_rules))]
+pub fn split_at_byte(text: &[u8], separator: u8) -> Option<(&[u8], &[u8])>
+    ensures value { split_view result ≡ split_at separator text.now }
+    ensures within { IfSome result (λ p. length p.0.now + length p.1.now + 1 ≡ length text.now) }
+{
+    for (i, byte) in text.iter().enumerate() {
+        if *byte == separator {
+            return Some((&text[..i], &text[i + 1..]));
+        }
+    }
+    None
+}
+
+/// The first field, and where a space ends it what stands after that space.
+#[tactic(auto, using(crate::proofs::FieldLemmas::field_rules))]
+pub fn first_field(text: &[u8]) -> (&[u8], Option<&[u8]>)
+    ensures value { fields text.now ≡ result.0.now ∷ fields_after (option_copied result.1) }
+    ensures first_within { length result.0.now ≤ length text.now }
+    ensures rest_within { IfSome result.1 (λ rest. length rest.now ≤ length text.now) }
+{
+    match split_at_byte(text, b' ') {
+        Some((field, rest)) => (field, Some(rest)),
+        None => (text, None),
+    }
+}
+
+/// A peer: `a.b.c.d:port` in decimal numbers of at most 255 and 65,535, one to three and one to
+/// five digits.
+#[tactic(auto, unfolding(crate::specs::Fields::peer_of))]
+pub fn peer(text: &[u8]) -> Option<Peer>
+    ensures { result ≡ peer_of text.now }
+{
+    let (a, rest) = split_at_byte(text, b'.')?;
+    let (b, rest) = split_at_byte(rest, b'.')?;
+    let (c, rest) = split_at_byte(rest, b'.')?;
+    let (d, port) = split_at_byte(rest, b':')?;
+    let a = number(a, 3, 255)? as u32;
+    let b = number(b, 3, 255)? as u32;
+    let c = number(c, 3, 255)? as u32;
+    let d = number(d, 3, 255)? as u32;
+    let port = number(port, 5, 65535)? as u16;
+    let ip = ((a * 256 + b) * 256 + c) * 256 + d;
+    Some(Peer { ip, port })
+}
+
+/// The bytes of a field: `-` for none, else an even number, two or more, of hexadecimal digits of
+/// either case. They are put into `room`.
+#[tactic(auto, unfolding(crate::specs::Fields::hex_of))]
+pub fn hex_bytes<'a>(text: &[u8], room: &'a mut [u8]) -> Option<&'a [u8]>
+    requires { length text.now ≤ 2 * length room.old }
+    ensures { given_bytes result ≡ hex_of text.now }
+{
+    if text == b"-".as_slice() {
+        return Some(&room[..0]);
+    }
+    if text.is_empty() {
+        return None;
+    }
+    let count = text.len() / 2;
+    if hex::decode_to_slice(text, &mut room[..count]).is_err() {
+        return None;
+    }
+    Some(&room[..count])
+}

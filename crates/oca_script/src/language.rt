@@ -1,0 +1,39 @@
+//! What the lines of a script ask for.
+use super::fault::{LineFault, Stop};
+use super::printing::Pending;
+use std::io::Write;
+
+ghost use Rattle.std.specs.Prelude.{◌≡◌, ◌≤◌, ℕ, List, Result, length};
+ghost use Rattle.oca_script.specs.Fields.{fields};
+ghost use Rattle.oca_script.specs.Replaying.{Takes};
+ghost use Rattle.oca_script.specs.declared.fault.LineFault.{LineFault};
+
+/// What the fields of a line ask for, and what serving that does to a state and prints.
+pub trait Language {
+    /// What the requests act on.
+    type State;
+    /// Room for serving a request. What it holds between requests does not matter.
+    type Room;
+
+    // What a line can ask for.
+    ghost Request: { Type 0 };
+
+    // What the fields of a line ask for, or their fault.
+    ghost asked: { List (List ℕ) → Result Self.Request LineFault };
+
+    // From a state a request leads to a state, and prints a text.
+    ghost serves: { Self.State → Self.Request → Self.State → List ℕ → Type 0 };
+
+    /// Serves what the line asks for and prints its text; or answers the fault of its fields, and
+    /// then does nothing. Lines that are skipped or are not ASCII are not handed on.
+    fn take_line<W: Write>(
+        state: &mut Self::State,
+        room: &mut Self::Room,
+        line: &[u8],
+        pending: &mut Pending,
+        writer: &mut W,
+    ) -> Result<(), Stop>
+        requires { length line.now ≤ 4096 }
+        ensures { Takes (asked (fields line.now)) serves state.old state.new result
+            (W.contents writer.old) pending.old.items (W.contents writer.new) pending.new.items };
+}

@@ -1,0 +1,27 @@
+//! How far a script was read.
+ghost use Rattle.std.specs.Prelude.{◌≡◌, []};
+
+use arrayvec::ArrayVec;
+
+/// The most bytes of a line, its line feed not counted.
+pub const LONGEST_LINE: usize = 4096;
+
+/// What there is of a line whose line feed is still to come, and its number.
+#[derive(Drop)]
+pub struct Progress {
+    pub line: ArrayVec<u8, LONGEST_LINE>,
+    pub number: u64,
+}
+
+impl Progress {
+    /// At the start of a script.
+    pub fn new() -> Progress
+        ensures line { result.line.items ≡ [] }
+        ensures number { result.number ≡ 1 }
+    {
+        Progress {
+            line: ArrayVec::new(),
+            number: 1,
+        }
+    }
+}
