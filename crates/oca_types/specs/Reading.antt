@@ -1,6 +1,7 @@
 -- Reading a value from the front of a list of bytes (AES70-3): the value and the bytes behind it, or nothing. Each take of a
 -- cursor states that it answers by its function here, and states beside it that this is what the encodings say.
-use Rattle.std.specs.Prelude.{ℕ, ◌==◌, ◌&&◌, nat_lt, zero, suc, not, Bool, if◌then◌else◌, List, [], ◌∷◌, length, take, drop, Option, Some, None, ℤ, option_and_then, find}
+use Rattle.std.specs.Prelude.{ℕ, ◌==◌, ◌&&◌, nat_lt, not, Bool, if◌then◌else◌, List, [], ◌∷◌, length, take, drop, Option, Some, None, ℤ, option_and_then, find}
+use Rattle.std.specs.List.{range_with_len}
 use Rattle.std.specs.Option.{option_map}
 use Rattle.std.specs.Str.{chars, is_utf8}
 use Rattle.std.specs.Int.{Width, w16, byte_len, from_be_bytes, cast_signed}
@@ -22,14 +23,9 @@ bool_at (b ∷ bytes) = Some (not (b == 0), bytes)
 abbrev pub is_text_of : ℕ → List ℕ → Bool
 is_text_of n text = is_utf8 text && (length (chars text) == n)
 
--- the numbers from first on, so many
-abbrev pub numbers_from : ℕ → ℕ → List ℕ
-numbers_from first zero = []
-numbers_from first (suc count) = first ∷ numbers_from (suc first) count
-
--- the front of at most 64 bytes that is UTF-8 of n scalar values, and the bytes behind it (64 is the profile's)
+-- the front of 0 to 64 bytes that is UTF-8 of n scalar values, and the bytes behind it (64 is the profile's)
 unfoldable pub text_front : ℕ → List ℕ → Option (List ℕ × List ℕ)
-text_front n bytes = option_map (λ k. (take k bytes, drop k bytes)) (find (λ k. is_text_of n (take k bytes)) (numbers_from 0 65))
+text_front n bytes = option_map (λ k. (take k bytes, drop k bytes)) (find (λ k. is_text_of n (take k bytes)) (range_with_len 0 65))
 
 -- a text: the number of its scalar values, then its UTF-8
 unfoldable pub text_at : List ℕ → Option (List ℕ × List ℕ)

@@ -28,7 +28,7 @@ pub fn put_u8(params: &mut Params, value: u8) -> Result<(), PutFault>
     ensures ok { OnOk result (params.new.items ≡ params.old.items ++ unsigned_encoding w8 value) }
     ensures err { OnErr result (params.new ≡ params.old) }
 {
-    put_bytes(params, &value.to_be_bytes())
+    put_bytes(params, &u8::to_be_bytes(value))
 }
 
 /// Appends a Uint16 (AES70-3). Refusal: `Full`, and the parameters are unchanged.
@@ -37,7 +37,7 @@ pub fn put_u16(params: &mut Params, value: u16) -> Result<(), PutFault>
     ensures ok { OnOk result (params.new.items ≡ params.old.items ++ unsigned_encoding w16 value) }
     ensures err { OnErr result (params.new ≡ params.old) }
 {
-    put_bytes(params, &value.to_be_bytes())
+    put_bytes(params, &u16::to_be_bytes(value))
 }
 
 /// Appends a Uint32 (AES70-3). Refusal: `Full`, and the parameters are unchanged.
@@ -46,7 +46,7 @@ pub fn put_u32(params: &mut Params, value: u32) -> Result<(), PutFault>
     ensures ok { OnOk result (params.new.items ≡ params.old.items ++ unsigned_encoding w32 value) }
     ensures err { OnErr result (params.new ≡ params.old) }
 {
-    put_bytes(params, &value.to_be_bytes())
+    put_bytes(params, &u32::to_be_bytes(value))
 }
 
 /// Appends a Uint64 (AES70-3). Refusal: `Full`, and the parameters are unchanged.
@@ -55,7 +55,7 @@ pub fn put_u64(params: &mut Params, value: u64) -> Result<(), PutFault>
     ensures ok { OnOk result (params.new.items ≡ params.old.items ++ unsigned_encoding w64 value) }
     ensures err { OnErr result (params.new ≡ params.old) }
 {
-    put_bytes(params, &value.to_be_bytes())
+    put_bytes(params, &u64::to_be_bytes(value))
 }
 
 /// Appends an Int8 (AES70-3). Refusal: `Full`, and the parameters are unchanged.
@@ -64,7 +64,7 @@ pub fn put_i8(params: &mut Params, value: i8) -> Result<(), PutFault>
     ensures ok { OnOk result (params.new.items ≡ params.old.items ++ signed_encoding w8 value) }
     ensures err { OnErr result (params.new ≡ params.old) }
 {
-    put_bytes(params, &value.to_be_bytes())
+    put_bytes(params, &i8::to_be_bytes(value))
 }
 
 /// Appends an Int16 (AES70-3). Refusal: `Full`, and the parameters are unchanged.
@@ -73,7 +73,7 @@ pub fn put_i16(params: &mut Params, value: i16) -> Result<(), PutFault>
     ensures ok { OnOk result (params.new.items ≡ params.old.items ++ signed_encoding w16 value) }
     ensures err { OnErr result (params.new ≡ params.old) }
 {
-    put_bytes(params, &value.to_be_bytes())
+    put_bytes(params, &i16::to_be_bytes(value))
 }
 
 /// Appends an Int32 (AES70-3). Refusal: `Full`, and the parameters are unchanged.
@@ -82,7 +82,7 @@ pub fn put_i32(params: &mut Params, value: i32) -> Result<(), PutFault>
     ensures ok { OnOk result (params.new.items ≡ params.old.items ++ signed_encoding w32 value) }
     ensures err { OnErr result (params.new ≡ params.old) }
 {
-    put_bytes(params, &value.to_be_bytes())
+    put_bytes(params, &i32::to_be_bytes(value))
 }
 
 /// Appends an Int64 (AES70-3). Refusal: `Full`, and the parameters are unchanged.
@@ -91,7 +91,7 @@ pub fn put_i64(params: &mut Params, value: i64) -> Result<(), PutFault>
     ensures ok { OnOk result (params.new.items ≡ params.old.items ++ signed_encoding w64 value) }
     ensures err { OnErr result (params.new ≡ params.old) }
 {
-    put_bytes(params, &value.to_be_bytes())
+    put_bytes(params, &i64::to_be_bytes(value))
 }
 
 /// Appends an OcaBoolean (AES70-3), as 0 or 1. Refusal: `Full`, and the parameters are unchanged.
