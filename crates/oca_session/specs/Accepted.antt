@@ -45,15 +45,15 @@ abbrev pub judgement : ℕ → List Entry → ℕ → Judgement
 judgement w A h = if accepts w A h then Fresh else duplicate_or_old (entry_under h (window w A))
 
 -- the higher of two floors
-abbrev pub higher : Option ℕ → Option ℕ → Option ℕ
-higher None g = g
-higher (Some f) None = Some f
-higher (Some f) (Some g) = Some (max f g)
+abbrev pub higher_of : Option ℕ → Option ℕ → Option ℕ
+higher_of None g = g
+higher_of (Some f) None = Some f
+higher_of (Some f) (Some g) = Some (max f g)
 
 -- the greatest handle, or none where there is no command
 abbrev pub greatest : List Entry → Option ℕ
 greatest [] = None
-greatest (e ∷ es) = higher (Some e.handle) (greatest es)
+greatest (e ∷ es) = higher_of (Some e.handle) (greatest es)
 
 -- What a window of a size retains: the commands in it with their replies, oldest first, and the floor, the greatest handle
 -- outside it.
