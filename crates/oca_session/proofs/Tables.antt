@@ -1,6 +1,6 @@
 -- The sessions by their places, and what the calls leave of what holds of them.
-use Rattle.std.proofs.Common.{◌≡◌, ℕ, ◌+◌, ◌-◌, ◌*◌, ◌<◌, ◌≤◌, Bool, true, false, cond, List, [], ◌∷◌, ◌++◌, length, take, drop, get_or, Option, Some, None, refl, sym, ap, ◌∙◌, arith, zero, suc, subst}
-use Rattle.std.specs.Prelude.{nat_lt, nat_le, not, ◌&&◌, ◌||◌, nat_eq, is_some, IfSome, IsSome, map, filter, position, All, AllPairs, Contains}
+use Rattle.std.proofs.Common.{◌≡◌, ℕ, ◌+◌, ◌<◌, Bool, true, false, cond, List, [], ◌∷◌, ◌++◌, length, take, get_or, Option, Some, None, refl, sym, ap, ◌∙◌, arith, zero, suc, subst}
+use Rattle.std.specs.Prelude.{nat_lt, not, ◌||◌, is_some, IfSome, filter, position, All, Contains}
 use Rattle.std.specs.List.{find, list_any, position_or_len}
 use Rattle.std.proofs.Math.ListN.{set}
 use Rattle.std.proofs.Math.Seq.{take-set-lt}
@@ -11,7 +11,7 @@ use Rattle.std.proofs.lemmas.Bool.{ltb-true}
 use Rattle.std.proofs.lemmas.Bool.Decides.{nat_tests}
 use Rattle.oca_types.specs.declared.words.Peer.{Peer}
 use Rattle.oca_types.specs.Peers.{same_peer}
-use Rattle.oca_session.specs.Accepted.{Entry, retained_of, Agrees}
+use Rattle.oca_session.specs.Accepted.{Entry, Agrees}
 use Rattle.oca_session.specs.Table.{Session, is_of, session_of, peers_of, changed, opened, heard_at, with_heartbeat, with_entry, with_accepted, is_lapsed, lapsed, stays, forgotten, AgreesAt}
 use Rattle.oca_session.specs.Sound.{IsSession, IsOnePerPeer}
 use Rattle.oca_session.proofs.Windows.{retained_after_agreed}

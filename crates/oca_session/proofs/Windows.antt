@@ -1,12 +1,12 @@
 -- What a window retains judges each handle as the whole list of accepted commands does, and stays that of the list as it grows.
-use Rattle.std.proofs.Common.{◌≡◌, ℕ, ◌+◌, ◌-◌, ◌<◌, ◌≤◌, Bool, true, false, cond, List, [], ◌∷◌, ◌++◌, length, take, drop, Option, Some, None, refl, sym, ap, ◌∙◌, arith, append_assoc, length-append, length-take, length-drop, ◌⊎◌, inl, inr}
+use Rattle.std.proofs.Common.{◌≡◌, ℕ, ◌+◌, ◌-◌, ◌<◌, ◌≤◌, Bool, true, false, cond, List, [], ◌∷◌, ◌++◌, length, take, drop, Option, Some, None, refl, sym, ap, ◌∙◌, arith, append_assoc, length-append, length-drop, ◌⊎◌, inl, inr}
 use Rattle.std.specs.Prelude.{is_some, nat_eq, nat_lt, max, not, ◌&&◌, ◌||◌}
 use Rattle.std.specs.List.{list_any, list_all}
 use Rattle.std.proofs.lemmas.List.{take-append-drop}
 use Rattle.std.proofs.lemmas.List.Folds.{list_any-append}
 use Rattle.std.proofs.lemmas.Bool.Decides.{nat_tests}
 use Rattle.std.proofs.Math.Seq.{take-append-add, drop-append-add}
-use Rattle.oca_session.specs.Accepted.{Entry, window, outside, has_handle, is_below, accepts, entry_under, Judgement, Fresh, duplicate_or_old, judgement, higher_of, greatest, Retained, retained_of, Agrees}
+use Rattle.oca_session.specs.Accepted.{Entry, window, outside, has_handle, is_below, accepts, entry_under, Fresh, duplicate_or_old, judgement, higher_of, greatest, Retained, retained_of, Agrees}
 use Rattle.oca_session.specs.Judging.{is_above, judgement_by, judgement_from, retained_after}
 
 max_assoc : (a b c : ℕ) → max (max a b) c ≡ max a (max b c)

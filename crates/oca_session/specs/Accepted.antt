@@ -1,5 +1,5 @@
 -- The accepted commands of a session, a list that is never cut, and what a reply window of size w retains of them (profile).
-use Rattle.std.specs.Prelude.{◌≡◌, ℕ, ◌-◌, ◌==◌, nat_lt, max, Bool, not, ◌&&◌, if◌then◌else◌, List, [], ◌∷◌, ◌++◌, take, drop, length, Option, Some, None}
+use Rattle.std.specs.Prelude.{◌≡◌, ℕ, ◌-◌, ◌==◌, nat_lt, max, Bool, not, ◌&&◌, if◌then◌else◌, List, [], ◌∷◌, take, drop, length, Option, Some, None}
 use Rattle.std.specs.List.{list_any, list_all, find}
 use Rattle.oca_types.specs.declared.words.Reply.{Reply}
 

@@ -1,5 +1,5 @@
 -- How a handle is judged, and a command added, where only what the window retains is known.
-use Rattle.std.specs.Prelude.{ℕ, nat_lt, Bool, true, if◌then◌else◌, List, [], ◌∷◌, ◌++◌, Option, Some, None}
+use Rattle.std.specs.Prelude.{ℕ, nat_lt, Bool, true, if◌then◌else◌, [], ◌∷◌, ◌++◌, Option, Some, None}
 use Rattle.oca_session.specs.declared.window.Judged.{Judged}
 use Rattle.oca_session.specs.declared.window.Judged.TheVariants as answer
 use Rattle.oca_session.specs.Accepted.{Entry, Judgement, Fresh, Duplicate, Old, Retained, entry_under, window, outside, higher_of, greatest}

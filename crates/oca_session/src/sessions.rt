@@ -30,10 +30,12 @@ pub enum Heard {
     NoRoom,
 }
 
-/// The sessions of at most 16 peers, in order of opening.
+/// The sessions of at most 16 peers, in order of opening (profile: AES70-3 has keep-alives, and leaves sessions
+/// over UDP to the device).
 ///
 /// A peer is *known* while it has a session. The present moment is the latest that `advance` and `hear`
-/// were given, and 0 at first.
+/// were given, in milliseconds, and 0 at first. The *silence* of a session is the present moment less the
+/// moment when its peer was last heard.
 #[derive(Drop)]
 pub struct Sessions {
     window: usize,

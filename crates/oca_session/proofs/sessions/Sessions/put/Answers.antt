@@ -1,6 +1,6 @@
 use Rattle.std.proofs.Common.{◌≡◌, ap, sym, subst, ◌∙◌, refl}
 use Rattle.std.proofs.Math.ListN.{length-set}
-use Rattle.std.specs.Prelude.{Option, Some, IfSome}
+use Rattle.std.specs.Prelude.{Option, IfSome}
 use Rattle.oca_session.specs.Accepted.{Fresh}
 use Rattle.oca_session.specs.Judging.{judgement_from}
 use Rattle.oca_session.specs.Table.{Session, Table, session_of, with_entry}
