@@ -1,6 +1,6 @@
 -- The sessions by their places, and what the calls leave of what holds of them.
-use Rattle.std.proofs.Common.{◌≡◌, ℕ, ◌+◌, ◌-◌, ◌*◌, ◌<◌, ◌≤◌, Bool, true, false, cond, List, [], ◌∷◌, ◌++◌, length, take, drop, get_or, Option, Some, None, refl, sym, ap, ◌∙◌, arith, zero, suc, subst}
-use Rattle.std.specs.Prelude.{nat_lt, nat_le, not, ◌&&◌, ◌||◌, nat_eq, is_some, IfSome, IsSome, map, filter, position, All, AllPairs, Contains}
+use Rattle.std.proofs.Common.{◌≡◌, ℕ, ◌+◌, ◌<◌, Bool, true, false, cond, List, [], ◌∷◌, ◌++◌, length, take, get_or, Option, Some, None, refl, sym, ap, ◌∙◌, arith, zero, suc, subst}
+use Rattle.std.specs.Prelude.{nat_lt, not, ◌||◌, is_some, IfSome, filter, position, All, Contains}
 use Rattle.std.specs.List.{find, list_any, position_or_len}
 use Rattle.std.proofs.Math.ListN.{set}
 use Rattle.std.proofs.Math.Seq.{take-set-lt}
@@ -11,10 +11,10 @@ use Rattle.std.proofs.lemmas.Bool.{ltb-true}
 use Rattle.std.proofs.lemmas.Bool.Decides.{nat_tests}
 use Rattle.oca_types.specs.declared.words.Peer.{Peer}
 use Rattle.oca_types.specs.Peers.{same_peer}
-use Rattle.oca_session.specs.Accepted.{Entry, retained_of, Agrees}
+use Rattle.oca_session.specs.Accepted.{Entry, Agrees}
 use Rattle.oca_session.specs.Table.{Session, is_of, session_of, peers_of, changed, opened, heard_at, with_heartbeat, with_entry, with_accepted, is_lapsed, lapsed, stays, forgotten, AgreesAt}
 use Rattle.oca_session.specs.Sound.{IsSession, IsOnePerPeer}
-use Rattle.oca_session.proofs.Windows.{retaining_agreed}
+use Rattle.oca_session.proofs.Windows.{retained_after_agreed}
 
 one_more : (n : ℕ) → 1 + n ≡ suc n
 one_more n = omega arith
@@ -251,7 +251,7 @@ changed_agreed p w A e (s ∷ ss) one h =
     by_test true here a rest =
         let others = IsOnePerPeer-head s ss one in
         let none : All (λ t. is_of p t ≡ false) ss = λ k d within. other_peer s.peer (get_or ss k d).peer p here (others k d within) in
-        ap (λ r. record s { retained = r } ∷ changed p (with_entry e) ss) (retaining_agreed w A s.retained e a)
+        ap (λ r. record s { retained = r } ∷ changed p (with_entry e) ss) (retained_after_agreed w A s.retained e a)
         ∙ ap (λ xs. with_accepted w (A ++ e ∷ []) s ∷ xs)
         (changed_none p (with_entry e) ss none ∙ sym (changed_none p (with_accepted w (A ++ e ∷ [])) ss none))
     by_test false here a rest = ap (λ xs. s ∷ xs) (rest a)

@@ -1,28 +1,28 @@
 -- What a window retains judges each handle as the whole list of accepted commands does, and stays that of the list as it grows.
-use Rattle.std.proofs.Common.{◌≡◌, ℕ, ◌+◌, ◌-◌, ◌<◌, ◌≤◌, Bool, true, false, cond, List, [], ◌∷◌, ◌++◌, length, take, drop, Option, Some, None, refl, sym, ap, ◌∙◌, arith, append_assoc, length-append, length-take, length-drop, ◌⊎◌, inl, inr}
+use Rattle.std.proofs.Common.{◌≡◌, ℕ, ◌+◌, ◌-◌, ◌<◌, ◌≤◌, Bool, true, false, cond, List, [], ◌∷◌, ◌++◌, length, take, drop, Option, Some, None, refl, sym, ap, ◌∙◌, arith, append_assoc, length-append, length-drop, ◌⊎◌, inl, inr}
 use Rattle.std.specs.Prelude.{is_some, nat_eq, nat_lt, max, not, ◌&&◌, ◌||◌}
 use Rattle.std.specs.List.{list_any, list_all}
 use Rattle.std.proofs.lemmas.List.{take-append-drop}
 use Rattle.std.proofs.lemmas.List.Folds.{list_any-append}
 use Rattle.std.proofs.lemmas.Bool.Decides.{nat_tests}
 use Rattle.std.proofs.Math.Seq.{take-append-add, drop-append-add}
-use Rattle.oca_session.specs.Accepted.{Entry, window, outside, has_handle, is_below, accepts, entry_under, Judgement, Fresh, duplicate_or_old, judgement, higher, greatest, Retained, retained_of, Agrees}
-use Rattle.oca_session.specs.Judging.{is_above, judged_by, judged, retaining}
+use Rattle.oca_session.specs.Accepted.{Entry, window, outside, has_handle, is_below, accepts, entry_under, Fresh, duplicate_or_old, judgement, higher_of, greatest, Retained, retained_of, Agrees}
+use Rattle.oca_session.specs.Judging.{is_above, judgement_by, judgement_from, retained_after}
 
 max_assoc : (a b c : ℕ) → max (max a b) c ≡ max a (max b c)
 max_assoc a b c = omega arith
 
-higher_assoc : (f g k : Option ℕ) → higher (higher f g) k ≡ higher f (higher g k)
-higher_assoc None g k = refl
-higher_assoc (Some a) None k = refl
-higher_assoc (Some a) (Some b) None = refl
-higher_assoc (Some a) (Some b) (Some c) = ap Some (max_assoc a b c)
+higher_of_assoc : (f g k : Option ℕ) → higher_of (higher_of f g) k ≡ higher_of f (higher_of g k)
+higher_of_assoc None g k = refl
+higher_of_assoc (Some a) None k = refl
+higher_of_assoc (Some a) (Some b) None = refl
+higher_of_assoc (Some a) (Some b) (Some c) = ap Some (max_assoc a b c)
 
-greatest-append : (es fs : List Entry) → greatest (es ++ fs) ≡ higher (greatest es) (greatest fs)
+greatest-append : (es fs : List Entry) → greatest (es ++ fs) ≡ higher_of (greatest es) (greatest fs)
 greatest-append [] fs = refl
 greatest-append (e ∷ es) fs =
-    ap (higher (Some e.handle)) (greatest-append es fs)
-    ∙ sym (higher_assoc (Some e.handle) (greatest es) (greatest fs))
+    ap (higher_of (Some e.handle)) (greatest-append es fs)
+    ∙ sym (higher_of_assoc (Some e.handle) (greatest es) (greatest fs))
 
 -- h is above the greater of two numbers where it is above both
 max_below : (f g h : ℕ) → nat_lt (max f g) h ≡ (nat_lt f h && nat_lt g h)
@@ -32,16 +32,16 @@ and_true : (a : Bool) → a ≡ (a && true)
 and_true true = refl
 and_true false = refl
 
-is_above-higher : (f g : Option ℕ) (h : ℕ) → is_above (higher f g) h ≡ (is_above f h && is_above g h)
-is_above-higher None g h = refl
-is_above-higher (Some f) None h = and_true (nat_lt f h)
-is_above-higher (Some f) (Some g) h = max_below f g h
+is_above-higher_of : (f g : Option ℕ) (h : ℕ) → is_above (higher_of f g) h ≡ (is_above f h && is_above g h)
+is_above-higher_of None g h = refl
+is_above-higher_of (Some f) None h = and_true (nat_lt f h)
+is_above-higher_of (Some f) (Some g) h = max_below f g h
 
 -- a handle is above the greatest where it is above each
 is_above-greatest : (es : List Entry) (h : ℕ) → is_above (greatest es) h ≡ list_all (is_below h) es
 is_above-greatest [] h = refl
 is_above-greatest (e ∷ es) h =
-    is_above-higher (Some e.handle) (greatest es) h ∙ ap (λ b. nat_lt e.handle h && b) (is_above-greatest es h)
+    is_above-higher_of (Some e.handle) (greatest es) h ∙ ap (λ b. nat_lt e.handle h && b) (is_above-greatest es h)
 
 -- none of those below h has the handle h
 none_has : (es : List Entry) (h : ℕ) → list_all (is_below h) es ≡ true → list_any (has_handle h) es ≡ false
@@ -82,14 +82,14 @@ any_is_found h (e ∷ es) = by_test (has_handle h e) (any_is_found h es)
     by_test true found = refl
     by_test false found = found
 
-judged_cases : (found : Option Entry) (above : Bool) → judged_by found above ≡ cond (not (is_some found) && above) Fresh (duplicate_or_old found)
-judged_cases (Some e) above = refl
-judged_cases None true = refl
-judged_cases None false = refl
+judgement_by_cases : (found : Option Entry) (above : Bool) → judgement_by found above ≡ cond (not (is_some found) && above) Fresh (duplicate_or_old found)
+judgement_by_cases (Some e) above = refl
+judgement_by_cases None true = refl
+judgement_by_cases None false = refl
 
 -- From what is retained a handle is judged as from the whole list.
-pub judged-retained_of : (w : ℕ) (A : List Entry) (h : ℕ) → judged (retained_of w A) h ≡ judgement w A h
-judged-retained_of w A h =
+pub judgement_from-retained_of : (w : ℕ) (A : List Entry) (h : ℕ) → judgement_from (retained_of w A) h ≡ judgement w A h
+judgement_from-retained_of w A h =
     let out = outside w A in
     let kept = window w A in
     let below = list_all (is_below h) out in
@@ -100,11 +100,11 @@ judged-retained_of w A h =
     ∙ ap (λ b. not (list_any (has_handle h) kept) && b) (is_above-greatest out h)
     ∙ split (list_any (has_handle h) out) (list_any (has_handle h) kept) below (none_has out h)
     ∙ ap (λ b. not b && below) (sym whole) in
-    judged_cases (entry_under h kept) (is_above (greatest out) h)
+    judgement_by_cases (entry_under h kept) (is_above (greatest out) h)
     ∙ ap (λ b. cond b Fresh (duplicate_or_old (entry_under h kept))) same
 
-pub judged_agreed : (w : ℕ) (A : List Entry) (k : Retained) (h : ℕ) → Agrees w A k → judged k h ≡ judgement w A h
-judged_agreed w A k h e = ap (λ x. judged x h) e ∙ judged-retained_of w A h
+pub judgement_from_agreed : (w : ℕ) (A : List Entry) (k : Retained) (h : ℕ) → Agrees w A k → judgement_from k h ≡ judgement w A h
+judgement_from_agreed w A k h e = ap (λ x. judgement_from x h) e ∙ judgement_from-retained_of w A h
 
 -- What was pushed out stays out as the rest grows, and the window looks at the rest alone.
 window_rest : {X : Type 0} (w : ℕ) (out rest : List X) → w ≤ length rest → window w (out ++ rest) ≡ window w rest
@@ -141,13 +141,13 @@ from_rest w out rest h = elim h [
 ]
 
 -- What is retained of a list, with one more command, is what is retained of the longer list.
-pub retaining-retained_of : (w : ℕ) (A : List Entry) (e : Entry) → retaining (retained_of w A) e ≡ retained_of w (A ++ e ∷ [])
-retaining-retained_of w A e =
+pub retained_after-retained_of : (w : ℕ) (A : List Entry) (e : Entry) → retained_after (retained_of w A) e ≡ retained_of w (A ++ e ∷ [])
+retained_after-retained_of w A e =
     let rest = window w A ++ e ∷ [] in
     let split = from_rest w (outside w A) rest (full_or_all w A e) in
     let entries : window w rest ≡ window w (A ++ e ∷ []) =
     sym (ap (window w) (regrouped w A e) ∙ split.0) in
-    let floor : higher (greatest (outside w A)) (greatest (outside w rest)) ≡ greatest (outside w (A ++ e ∷ [])) =
+    let floor : higher_of (greatest (outside w A)) (greatest (outside w rest)) ≡ greatest (outside w (A ++ e ∷ [])) =
     sym (greatest-append (outside w A) (outside w rest))
     ∙ ap greatest (sym (ap (outside w) (regrouped w A e) ∙ split.1)) in
     ap (λ (p : List Entry × Option ℕ). record { size = w; entries = p.0; floor = p.1 }) (pair entries floor)
@@ -155,5 +155,5 @@ retaining-retained_of w A e =
     pair : {X Y : Type 0} {a b : X} {c d : Y} → a ≡ b → c ≡ d → let p : X × Y = (a, c) in let q : X × Y = (b, d) in p ≡ q
     pair {X} {Y} {a} {b} {c} {d} p q = ap (λ x. (x, c)) p ∙ ap (λ y. (b, y)) q
 
-pub retaining_agreed : (w : ℕ) (A : List Entry) (k : Retained) (e : Entry) → Agrees w A k → Agrees w (A ++ e ∷ []) (retaining k e)
-retaining_agreed w A k e h = ap (λ x. retaining x e) h ∙ retaining-retained_of w A e
+pub retained_after_agreed : (w : ℕ) (A : List Entry) (k : Retained) (e : Entry) → Agrees w A k → Agrees w (A ++ e ∷ []) (retained_after k e)
+retained_after_agreed w A k e h = ap (λ x. retained_after x e) h ∙ retained_after-retained_of w A e

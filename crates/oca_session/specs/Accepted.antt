@@ -1,5 +1,5 @@
 -- The accepted commands of a session, a list that is never cut, and what a reply window of size w retains of them (profile).
-use Rattle.std.specs.Prelude.{◌≡◌, ℕ, ◌-◌, ◌==◌, nat_lt, max, Bool, not, ◌&&◌, if◌then◌else◌, List, [], ◌∷◌, ◌++◌, take, drop, length, Option, Some, None}
+use Rattle.std.specs.Prelude.{◌≡◌, ℕ, ◌-◌, ◌==◌, nat_lt, max, Bool, not, ◌&&◌, if◌then◌else◌, List, [], ◌∷◌, take, drop, length, Option, Some, None}
 use Rattle.std.specs.List.{list_any, list_all, find}
 use Rattle.oca_types.specs.declared.words.Reply.{Reply}
 
@@ -45,15 +45,15 @@ abbrev pub judgement : ℕ → List Entry → ℕ → Judgement
 judgement w A h = if accepts w A h then Fresh else duplicate_or_old (entry_under h (window w A))
 
 -- the higher of two floors
-abbrev pub higher : Option ℕ → Option ℕ → Option ℕ
-higher None g = g
-higher (Some f) None = Some f
-higher (Some f) (Some g) = Some (max f g)
+abbrev pub higher_of : Option ℕ → Option ℕ → Option ℕ
+higher_of None g = g
+higher_of (Some f) None = Some f
+higher_of (Some f) (Some g) = Some (max f g)
 
 -- the greatest handle, or none where there is no command
 abbrev pub greatest : List Entry → Option ℕ
 greatest [] = None
-greatest (e ∷ es) = higher (Some e.handle) (greatest es)
+greatest (e ∷ es) = higher_of (Some e.handle) (greatest es)
 
 -- What a window of a size retains: the commands in it with their replies, oldest first, and the floor, the greatest handle
 -- outside it.

@@ -6,7 +6,7 @@ use Rattle.oca_types.specs.Peers.{same_peer}
 use Rattle.oca_session.specs.declared.sessions.Heard.{Heard}
 use Rattle.oca_session.specs.declared.sessions.Heard.TheVariants as answer
 use Rattle.oca_session.specs.Accepted.{Entry, Retained, retained_of, Agrees}
-use Rattle.oca_session.specs.Judging.{retaining}
+use Rattle.oca_session.specs.Judging.{retained_after}
 
 -- A session: whose it is, when its last datagram was heard, its heartbeat, and what its reply window retains.
 pub record Session : Type 0 where
@@ -59,7 +59,7 @@ with_heartbeat ms s = record s { heartbeat = max 250 (min ms 30000) }
 
 -- the session where one more command is accepted
 abbrev pub with_entry : Entry → Session → Session
-with_entry e s = record s { retained = retaining s.retained e }
+with_entry e s = record s { retained = retained_after s.retained e }
 
 -- the session where the accepted commands are A
 abbrev pub with_accepted : ℕ → List Entry → Session → Session

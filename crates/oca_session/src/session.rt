@@ -1,7 +1,7 @@
 //! One session.
 ghost use Rattle.std.specs.Prelude.{◌≡◌, ℕ, ◌<◌, List, IfOk};
 ghost use Rattle.oca_session.specs.Accepted.{Entry, Agrees, judgement, Fresh};
-ghost use Rattle.oca_session.specs.Judging.{told, judged};
+ghost use Rattle.oca_session.specs.Judging.{judgement_of, judgement_from};
 ghost use Rattle.oca_session.specs.Table.{is_of, is_lapsed, stays, heard_at, with_heartbeat, opened, with_entry};
 
 use crate::window::{Judged, Window};
@@ -93,14 +93,14 @@ impl Place {
     }
 
     pub fn judge(&self, handle: Handle) -> Judged<'_>
-        ensures exact { told result ≡ judged self.now.retained handle.0 }
-        ensures accepted { (w : ℕ) (A : List Entry) → Agrees w A self.now.retained → told result ≡ judgement w A handle.0 }
+        ensures exact { judgement_of result ≡ judgement_from self.now.retained handle.0 }
+        ensures accepted { (w : ℕ) (A : List Entry) → Agrees w A self.now.retained → judgement_of result ≡ judgement w A handle.0 }
     {
         self.window.judge(handle)
     }
 
     pub fn keep(&mut self, handle: Handle, reply: Reply)
-        requires { judged self.old.retained handle.0 ≡ Fresh }
+        requires { judgement_from self.old.retained handle.0 ≡ Fresh }
         ensures { self.new ≡ with_entry (record { handle = handle.0; reply = reply }) self.old }
     {
         self.window.keep(handle, reply);

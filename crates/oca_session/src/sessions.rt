@@ -2,7 +2,7 @@
 ghost use Rattle.std.specs.Prelude.{◌≡◌, ℕ, ◌<◌, ◌≤◌, List, [], ◌∷◌, ◌++◌, length, IfOk, IsSome, IfSome, is_some, Some, vec_len, take, position, All, Contains, ◌==◌};
 ghost use Rattle.oca_types.specs.declared.words.Peer.{Peer};
 ghost use Rattle.oca_session.specs.Accepted.{Entry, judgement, Fresh};
-ghost use Rattle.oca_session.specs.Judging.{told, judged};
+ghost use Rattle.oca_session.specs.Judging.{judgement_of, judgement_from};
 ghost use Rattle.oca_session.specs.Table.{is_of, session_of, peers_of, lapsed, staying, forgotten};
 ghost use Rattle.oca_session.specs.Sound.{IsSession};
 
@@ -30,10 +30,12 @@ pub enum Heard {
     NoRoom,
 }
 
-/// The sessions of at most 16 peers, in order of opening.
+/// The sessions of at most 16 peers, in order of opening (profile: AES70-3 has keep-alives, and leaves sessions
+/// over UDP to the device).
 ///
 /// A peer is *known* while it has a session. The present moment is the latest that `advance` and `hear`
-/// were given, and 0 at first.
+/// were given, in milliseconds, and 0 at first. The *silence* of a session is the present moment less the
+/// moment when its peer was last heard.
 #[derive(Drop)]
 pub struct Sessions {
     window: usize,
@@ -158,8 +160,8 @@ impl Sessions {
     /// session, of which it retains the last 32.
     pub fn judge(&self, peer: Peer, handle: Handle) -> Judged<'_>
         requires { IsSome (session_of peer self.now.sessions) }
-        ensures retained { IfSome (session_of peer self.now.sessions) (λ s. told result ≡ judged s.retained handle.0) }
-        ensures accepted { (w : ℕ) (A : List Entry) → AgreesAt peer w A self.now.sessions → told result ≡ judgement w A handle.0 }
+        ensures retained { IfSome (session_of peer self.now.sessions) (λ s. judgement_of result ≡ judgement_from s.retained handle.0) }
+        ensures accepted { (w : ℕ) (A : List Entry) → AgreesAt peer w A self.now.sessions → judgement_of result ≡ judgement w A handle.0 }
     {
         known_place(&self.places[..self.count], peer).judge(handle)
     }
@@ -168,7 +170,7 @@ impl Sessions {
     /// window pushes its oldest command out.
     pub fn keep(&mut self, peer: Peer, handle: Handle, reply: Reply)
         requires known { IsSome (session_of peer self.old.sessions) }
-        requires fresh { IfSome (session_of peer self.old.sessions) (λ s. judged s.retained handle.0 ≡ Fresh) }
+        requires fresh { IfSome (session_of peer self.old.sessions) (λ s. judgement_from s.retained handle.0 ≡ Fresh) }
         ensures retained { self.new ≡ with_sessions self.old
             (changed peer (with_entry (record { handle = handle.0; reply = reply })) self.old.sessions) }
         ensures accepted { (w : ℕ) (A : List Entry) → AgreesAt peer w A self.old.sessions →
@@ -182,7 +184,7 @@ impl Sessions {
 
     fn put(&mut self, peer: Peer, handle: Handle, reply: Reply)
         requires known { IsSome (session_of peer self.old.sessions) }
-        requires fresh { IfSome (session_of peer self.old.sessions) (λ s. judged s.retained handle.0 ≡ Fresh) }
+        requires fresh { IfSome (session_of peer self.old.sessions) (λ s. judgement_from s.retained handle.0 ≡ Fresh) }
         ensures retained { self.new ≡ with_sessions self.old
             (changed peer (with_entry (record { handle = handle.0; reply = reply })) self.old.sessions) }
         ensures one { IsTable self.old }

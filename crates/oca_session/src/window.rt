@@ -1,8 +1,8 @@
 //! The reply window of one session.
 ghost use Rattle.std.specs.Prelude.{◌≡◌, ℕ, ◌<◌, List, [], ◌∷◌, ◌++◌, IfOk, Some};
 ghost use Rattle.std.specs.Option.{option_copied};
-ghost use Rattle.oca_session.specs.Accepted.{Entry, retained_of, Agrees, judgement, Fresh, higher, entry_under, has_handle};
-ghost use Rattle.oca_session.specs.Judging.{told, judged, retaining};
+ghost use Rattle.oca_session.specs.Accepted.{Entry, retained_of, Agrees, judgement, Fresh, higher_of, entry_under, has_handle};
+ghost use Rattle.oca_session.specs.Judging.{judgement_of, judgement_from, retained_after};
 
 use oca_types::{Handle, Reply};
 use std::alloc::{AllocError, Global};
@@ -99,14 +99,14 @@ impl Window {
 
     /// Whether a command of this handle is fresh, a duplicate of one in the window, or too old.
     pub fn judge(&self, handle: Handle) -> Judged<'_>
-        ensures exact { told result ≡ judged self.now handle.0 }
-        ensures accepted { (w : ℕ) (A : List Entry) → Agrees w A self.now → told result ≡ judgement w A handle.0 }
+        ensures exact { judgement_of result ≡ judgement_from self.now handle.0 }
+        ensures accepted { (w : ℕ) (A : List Entry) → Agrees w A self.now → judgement_of result ≡ judgement w A handle.0 }
     {
         self.judge_retained(handle)
     }
 
     fn judge_retained(&self, handle: Handle) -> Judged<'_>
-        ensures { told result ≡ judged self.now handle.0 }
+        ensures { judgement_of result ≡ judgement_from self.now handle.0 }
     {
         if let Some(entry) = entry_of(&self.entries, handle) {
             return Judged::Kept(entry.reply());
@@ -119,8 +119,8 @@ impl Window {
 
     /// Retains a fresh command with its reply. A full window pushes its oldest out.
     pub fn keep(&mut self, handle: Handle, reply: Reply)
-        requires { judged self.old handle.0 ≡ Fresh }
-        ensures exact { self.new ≡ retaining self.old (record { handle = handle.0; reply = reply }) }
+        requires { judgement_from self.old handle.0 ≡ Fresh }
+        ensures exact { self.new ≡ retained_after self.old (record { handle = handle.0; reply = reply }) }
         ensures accepted { (w : ℕ) (A : List Entry) → Agrees w A self.old →
             Agrees w (A ++ record { handle = handle.0; reply = reply } ∷ []) self.new }
     {
@@ -128,7 +128,7 @@ impl Window {
     }
 
     fn put(&mut self, entry: RetainedReply)
-        ensures { self.new ≡ retaining self.old entry }
+        ensures { self.new ≡ retained_after self.old entry }
     {
         if self.entries.len() == self.size {
             let oldest = self.entries.remove(0);
@@ -150,7 +150,7 @@ fn entry_of(entries: &[RetainedReply], handle: Handle) -> Option<&RetainedReply>
 
 /// The floor after a command of this handle was pushed out.
 fn raised_floor(floor: Option<u32>, handle: Handle) -> u32
-    ensures { higher floor (Some handle.0) ≡ Some result }
+    ensures { higher_of floor (Some handle.0) ≡ Some result }
 {
     match floor {
         Some(floor) => floor.max(handle.0),

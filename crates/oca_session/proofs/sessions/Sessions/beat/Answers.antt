@@ -1,4 +1,4 @@
-use Rattle.std.proofs.Common.{◌≡◌, ap, arith, refl, ◌∙◌}
+use Rattle.std.proofs.Common.{ap, refl, ◌∙◌}
 use Rattle.std.proofs.Math.ListN.{length-set}
 use Rattle.oca_session.specs.Table.{Table, with_heartbeat, peers_of}
 use Rattle.oca_session.proofs.Tables.{changed_in, one_in, sound_in, heartbeat_sound, peers_of-changed, known_same}

@@ -1,6 +1,6 @@
-use Rattle.std.proofs.Common.{ℕ, List, take, length, length-take, ◌≡◌, ◌<◌, ap, sym, ◌∙◌, subst, refl, arith, Some, None, ◌++◌, ◌∷◌, [], ◌+◌}
-use Rattle.std.specs.Prelude.{IsSome, is_some, max, position, All}
-use Rattle.std.proofs.Math.ListN.{length-set, set}
+use Rattle.std.proofs.Common.{ℕ, List, take, length, length-take, ◌≡◌, ◌<◌, ap, sym, ◌∙◌, subst, refl, arith, Some, None, ◌++◌, ◌∷◌, []}
+use Rattle.std.specs.Prelude.{is_some, position}
+use Rattle.std.proofs.Math.ListN.{length-set}
 use Rattle.std.proofs.lemmas.List.Elements.{All-set}
 use Rattle.oca_session.specs.Table.{Session, Table, is_of, session_of, heard_at, changed, opened}
 use Rattle.oca_session.specs.Sound.{IsSession, IsOnePerPeer}

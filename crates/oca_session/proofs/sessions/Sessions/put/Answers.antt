@@ -1,8 +1,8 @@
 use Rattle.std.proofs.Common.{◌≡◌, ap, sym, subst, ◌∙◌, refl}
 use Rattle.std.proofs.Math.ListN.{length-set}
-use Rattle.std.specs.Prelude.{Option, Some, IfSome}
+use Rattle.std.specs.Prelude.{Option, IfSome}
 use Rattle.oca_session.specs.Accepted.{Fresh}
-use Rattle.oca_session.specs.Judging.{judged}
+use Rattle.oca_session.specs.Judging.{judgement_from}
 use Rattle.oca_session.specs.Table.{Session, Table, session_of, with_entry}
 use Rattle.oca_session.proofs.Tables.{changed_in, session_in, one_in, sound_in, entry_sound}
 use Rattle.oca_session.proofs.sessions.Sessions.put.Goals as goal
@@ -11,7 +11,7 @@ pub keep-requires : goal.keep-requires
 keep-requires c =
     let a = c.self.inside in
     let at = c.place_of_known-at in
-    let fresh : Option Session → Type 0 = λ o. IfSome o (λ s. judged s.retained c.args.handle.0 ≡ Fresh) in
+    let fresh : Option Session → Type 0 = λ o. IfSome o (λ s. judgement_from s.retained c.args.handle.0 ≡ Fresh) in
     let seen = ap (λ t. session_of c.args.peer t.sessions) c.self.view_is in
     let found = session_in c.args.peer a.places.items c.deref.result.now a.count at.result _
     c.deref.ensures.value at.ensures c.index_mut.ensures.value in
