@@ -378,3 +378,19 @@ step_behind bytes size pdu rest body count content all o p is e1 e2 e =
     let i = inside_is pdu content is (inside_ok bytes size pdu rest o p) in
     let these : read_or_none (inside_at 0 pdu) ≡ read_or_none (content_at (Some content) count 0 body) = i.all ∙ ap read_or_none (sym (body_is pdu body count content e1 e2)) in
     all_of bytes size pdu rest o p ∙ ap (λ (l : List Msg). l ++ read_or_none (pdus_at (length rest) 0 rest)) these ∙ e
+
+none_begun : (kind : Kind) (bytes : List ℕ) → read_or_none (messages_at kind 0 0 0 bytes) ≡ []
+unfolding messages_at
+none_begun kind bytes = elim (eqb (length bytes) 0) as (λ b. read_or_none (cond b (Ok []) (fault Count (0 + 8))) ≡ []) [ true ↦ refl | false ↦ refl ]
+
+no_pdus : (bytes : List ℕ) → length bytes ≡ 0 → read_or_none (pdus_at (length bytes) 0 bytes) ≡ []
+unfolding pdus_at
+no_pdus [] e = refl
+no_pdus (b ∷ bytes) e = absurd (omega (arith, e))
+
+-- nothing is left of the PDU that was begun
+pub only_pdus : (kind : Kind) (left : ℕ) (inside rest : List ℕ) → left ≡ 0 → read_or_none (messages_at kind left 0 0 inside) ++ read_or_none (pdus_at (length rest) 0 rest) ≡ read_or_none (pdus_at (length rest) 0 rest)
+only_pdus kind left inside rest none = rw (none, none_begun kind inside) refl
+
+pub nothing_left : (kind : Kind) (left : ℕ) (inside rest : List ℕ) → left ≡ 0 → length rest ≡ 0 → read_or_none (messages_at kind left 0 0 inside) ++ read_or_none (pdus_at (length rest) 0 rest) ≡ []
+nothing_left kind left inside rest none end = only_pdus kind left inside rest none ∙ no_pdus rest end

@@ -28,14 +28,15 @@ impl<'a> Iterator for Messages<'a> {
     ghost remaining = { item_count messages_left };
 
     fn next(&mut self) -> Option<Message<'a>> {
-        if self.left == 0 && self.rest.is_empty() {
+        if self.left != 0 {
+            let (message, after) = walk::inside(self.kind, self.left, self.inside, self.rest);
+            *self = after;
+            return Some(message);
+        }
+        if self.rest.is_empty() {
             return None;
         }
-        let (message, after) = if self.left == 0 {
-            walk::behind(self.rest)
-        } else {
-            walk::inside(self.kind, self.left, self.inside, self.rest)
-        };
+        let (message, after) = walk::behind(self.rest);
         *self = after;
         Some(message)
     }
