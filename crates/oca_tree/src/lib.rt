@@ -1,0 +1,15 @@
+//! The objects of a device (AES70-2): their tree, their ranges and their locks.
+//!
+//! Begin with [`TreeBuilder`], which adds objects one by one, and [`Tree::execute`], which carries a
+//! peer's command out. Once a tree is built nothing here takes memory, and nothing reads a clock.
+#![tactic(auto)]
+
+mod builder;
+mod object;
+mod request;
+mod tree;
+
+pub use builder::{AddFault, Kind, Spec};
+pub use object::{Lock, LockKind, MuteState, NumberKind, Object, PolarityState, Range, Switch, Value};
+pub use request::Request;
+pub use tree::{Done, ObjectInfo, Setting};
