@@ -19,16 +19,19 @@ use Rattle.oca_tree.specs.Places.{places, is_block_at, depth}
 abbrev pub number : NumberKind → ℤ → ℤ → ℤ → Value
 number kind setting least greatest = values.Number (record { kind = kind; setting = setting; least = least; greatest = greatest })
 
--- the value of a kind: every position of a switch is enabled at first
+-- a switch whose positions are all enabled
+abbrev pub switch : List (List ℕ) → ℕ → Value
+switch names position = values.Switch (record {
+  names = record { items = names };
+  enableds = record { items = replicate (length names) true };
+  position = position;
+})
+
 unfoldable pub value_of : Kind → Value
 value_of given.Block = values.Block
 value_of (given.Mute state) = values.Mute state
 value_of (given.Polarity state) = values.Polarity state
-value_of (given.Switch names position) = values.Switch (record {
-  names = record { items = map (λ name. name.now) names.now };
-  enableds = record { items = replicate (length names.now) true };
-  position = position;
-})
+value_of (given.Switch names position) = switch (map (λ name. name.now) names.now) position
 value_of (given.Boolean truth) = values.Boolean truth
 value_of (given.Int8 setting least greatest) = number kinds.Int8 setting least greatest
 value_of (given.Int16 setting least greatest) = number kinds.Int16 setting least greatest

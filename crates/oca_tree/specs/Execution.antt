@@ -172,22 +172,14 @@ changed_value (values.Boolean _) (requests.SetBoolean truth) = values.Boolean tr
 changed_value (values.Number range) (requests.SetNumber n) = values.Number (record range { setting = n })
 changed_value value _ = value
 
--- the object with its lock, its label, whether it is enabled, or its value changed
+-- the object with its lock, its label or whether it is enabled set, or else its value with what was set
 unfoldable pub changed : Object → Peer → Request → Object
 changed o peer requests.LockTotal = record o { lock = Some (record { kind = Total; holder = peer }) }
 changed o peer requests.LockReadonly = record o { lock = Some (record { kind = Readonly; holder = peer }) }
 changed o peer requests.Unlock = record o { lock = None }
 changed o peer (requests.SetEnabled truth) = record o { enabled = truth }
 changed o peer (requests.SetLabel text) = record o { label = text }
-changed o peer (requests.SetState n) = record o { value = changed_value o.value (requests.SetState n) }
-changed o peer (requests.SetPosition n) = record o { value = changed_value o.value (requests.SetPosition n) }
-changed o peer (requests.SetPositionName n text) = record o { value = changed_value o.value (requests.SetPositionName n text) }
-changed o peer (requests.SetPositionNames texts) = record o { value = changed_value o.value (requests.SetPositionNames texts) }
-changed o peer (requests.SetPositionEnabled n truth) = record o { value = changed_value o.value (requests.SetPositionEnabled n truth) }
-changed o peer (requests.SetPositionEnableds truths) = record o { value = changed_value o.value (requests.SetPositionEnableds truths) }
-changed o peer (requests.SetBoolean truth) = record o { value = changed_value o.value (requests.SetBoolean truth) }
-changed o peer (requests.SetNumber n) = record o { value = changed_value o.value (requests.SetNumber n) }
-changed o peer _ = o
+changed o peer request = record o { value = changed_value o.value request }
 
 -- ---- the status
 

@@ -8,3 +8,4 @@ pub mod Trees
 pub mod Building
 pub mod Bench
 pub mod Readers
+pub mod Inside

@@ -6,6 +6,7 @@ use Rattle.oca_types.specs.declared.class.Method.{Method}
 use Rattle.oca_types.specs.declared.class.Method.TheVariants as methods
 use Rattle.oca_types.specs.Reading.{unsigned_at, bool_at, text_at}
 use Rattle.oca_tree.specs.declared.object.Lock.{Lock}
+use Rattle.oca_tree.specs.declared.object.Range.{Range}
 use Rattle.oca_tree.specs.declared.object.Switch.{Switch}
 use Rattle.oca_tree.specs.declared.object.Value.{Value}
 use Rattle.oca_tree.specs.declared.object.Value.TheVariants as values
@@ -54,6 +55,19 @@ setting_request (values.Boolean _) count params = option_map requests.SetBoolean
 setting_request (values.Number range) count params = option_map requests.SetNumber (exactly 1 (number_at range.kind) count params)
 setting_request _ count params = None
 
+abbrev pub position_name_request : ℕ → List ℕ → Option Request
+position_name_request count params = option_map (λ x. requests.SetPositionName x.0 x.1) (exactly 2 (pair_at (unsigned_at w16) text_at) count params)
+
+abbrev pub position_enabled_request : ℕ → List ℕ → Option Request
+position_enabled_request count params = option_map (λ x. requests.SetPositionEnabled x.0 x.1) (exactly 2 (pair_at (unsigned_at w16) bool_at) count params)
+
+-- a list has exactly as many items as the switch has positions
+abbrev pub position_names_request : Value → ℕ → List ℕ → Option Request
+position_names_request value count params = option_map (λ x. requests.SetPositionNames (record { items = x })) (exactly 1 (list_at text_at (positions value)) count params)
+
+abbrev pub position_enableds_request : Value → ℕ → List ℕ → Option Request
+position_enableds_request value count params = option_map (λ x. requests.SetPositionEnableds (record { items = x })) (exactly 1 (list_at bool_at (positions value)) count params)
+
 unfoldable pub request_of : Value → Method → ℕ → List ℕ → Option Request
 request_of value methods.GetClassIdentification count params = bare requests.GetClassIdentification count params
 request_of value methods.GetLockable count params = bare requests.GetLockable count params
@@ -73,13 +87,13 @@ request_of value methods.SetState count params = option_map requests.SetState (e
 request_of value methods.GetPosition count params = bare requests.GetPosition count params
 request_of value methods.SetPosition count params = option_map requests.SetPosition (exactly 1 (unsigned_at w16) count params)
 request_of value methods.GetPositionName count params = option_map requests.GetPositionName (exactly 1 (unsigned_at w16) count params)
-request_of value methods.SetPositionName count params = option_map (λ x. requests.SetPositionName x.0 x.1) (exactly 2 (pair_at (unsigned_at w16) text_at) count params)
+request_of value methods.SetPositionName count params = position_name_request count params
 request_of value methods.GetPositionNames count params = bare requests.GetPositionNames count params
-request_of value methods.SetPositionNames count params = option_map (λ x. requests.SetPositionNames (record { items = x })) (exactly 1 (list_at text_at (positions value)) count params)
+request_of value methods.SetPositionNames count params = position_names_request value count params
 request_of value methods.GetPositionEnabled count params = option_map requests.GetPositionEnabled (exactly 1 (unsigned_at w16) count params)
-request_of value methods.SetPositionEnabled count params = option_map (λ x. requests.SetPositionEnabled x.0 x.1) (exactly 2 (pair_at (unsigned_at w16) bool_at) count params)
+request_of value methods.SetPositionEnabled count params = position_enabled_request count params
 request_of value methods.GetPositionEnableds count params = bare requests.GetPositionEnableds count params
-request_of value methods.SetPositionEnableds count params = option_map (λ x. requests.SetPositionEnableds (record { items = x })) (exactly 1 (list_at bool_at (positions value)) count params)
+request_of value methods.SetPositionEnableds count params = position_enableds_request value count params
 request_of value methods.GetSetting count params = bare requests.GetSetting count params
 request_of value methods.SetSetting count params = setting_request value count params
 
@@ -93,18 +107,35 @@ is_position switch n = nat_lt n (length switch.names.items)
 abbrev pub is_enabled : Switch → ℕ → Bool
 is_enabled switch n = slice_index_or switch.enableds.items n false
 
--- an enumeration value that is not listed, a setting outside its range, a position that is not there, or a current
--- position that is disabled
+-- whether the position can be the current one: it is there and enabled
+abbrev pub can_be_current : Switch → ℕ → Bool
+can_be_current switch n = is_position switch n && is_enabled switch n
+
+-- an enumeration value that is not listed (both enumerations list 1 and 2)
+abbrev pub is_unlisted : Request → Bool
+is_unlisted (requests.SetState n) = not ((n == 1) || (n == 2))
+is_unlisted _ = false
+
+-- a position that is not there, or a current position that is disabled
+abbrev pub is_bad_position : Switch → Request → Bool
+is_bad_position switch (requests.SetPosition n) = not (can_be_current switch n)
+is_bad_position switch (requests.GetPositionName n) = not (is_position switch n)
+is_bad_position switch (requests.SetPositionName n name) = not (is_position switch n)
+is_bad_position switch (requests.GetPositionEnabled n) = not (is_position switch n)
+is_bad_position switch (requests.SetPositionEnabled n truth) = not (is_position switch n)
+is_bad_position switch _ = false
+
+-- a setting outside its range
+abbrev pub is_outside : Range → Request → Bool
+is_outside range (requests.SetNumber n) = not (int_le range.least n && int_le n range.greatest)
+is_outside range _ = false
+
 unfoldable pub is_out_of_range : Value → Request → Bool
-is_out_of_range (values.Mute _) (requests.SetState n) = not ((n == 1) || (n == 2))
-is_out_of_range (values.Polarity _) (requests.SetState n) = not ((n == 1) || (n == 2))
-is_out_of_range (values.Switch switch) (requests.SetPosition n) = not (is_position switch n && is_enabled switch n)
-is_out_of_range (values.Switch switch) (requests.GetPositionName n) = not (is_position switch n)
-is_out_of_range (values.Switch switch) (requests.SetPositionName n name) = not (is_position switch n)
-is_out_of_range (values.Switch switch) (requests.GetPositionEnabled n) = not (is_position switch n)
-is_out_of_range (values.Switch switch) (requests.SetPositionEnabled n truth) = not (is_position switch n)
-is_out_of_range (values.Number range) (requests.SetNumber n) = not (int_le range.least n && int_le n range.greatest)
-is_out_of_range _ _ = false
+is_out_of_range (values.Mute _) request = is_unlisted request
+is_out_of_range (values.Polarity _) request = is_unlisted request
+is_out_of_range (values.Switch switch) request = is_bad_position switch request
+is_out_of_range (values.Number range) request = is_outside range request
+is_out_of_range _ request = false
 
 -- a lock of an object that is not lockable, or taking a lock off where there is none
 unfoldable pub is_invalid : Bool → Option Lock → Request → Bool

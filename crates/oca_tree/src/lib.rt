@@ -4,12 +4,18 @@
 //! peer's command out. Once a tree is built nothing here takes memory, and nothing reads a clock.
 #![tactic(auto)]
 
+mod answer;
 mod builder;
+mod change;
+mod execute;
 mod object;
+mod place;
+mod put;
 mod request;
+mod take;
 mod tree;
 
-pub use builder::{AddFault, Kind, Spec};
+pub use builder::{AddFault, Kind, Spec, TreeBuilder};
 pub use object::{Lock, LockKind, MuteState, NumberKind, Object, PolarityState, Range, Switch, Value};
 pub use request::Request;
-pub use tree::{Done, ObjectInfo, Setting};
+pub use tree::{Done, ObjectInfo, Setting, Tree};

@@ -1,4 +1,10 @@
 //! An object of the tree: its place, its value and its lock.
+ghost use Rattle.std.specs.Prelude.{◌≡◌};
+ghost use Rattle.oca_tree.specs.Kinds.{number_class};
+ghost use Rattle.oca_tree.specs.Objects.{class_of};
+ghost use Rattle.oca_tree.specs.Locks.{lock_refuses, without_lock_of};
+ghost use Rattle.oca_tree.specs.Places.{is_block_value};
+
 
 use arrayvec::ArrayVec;
 use oca_types::{Access, Class, Ono, Peer, Text};
@@ -83,4 +89,70 @@ pub struct Object {
     pub enabled: bool,
     pub value: Value,
     pub lock: Option<Lock>,
+}
+
+fn number_class(kind: NumberKind) -> Class
+    ensures { result ≡ number_class kind }
+{
+    match kind {
+        NumberKind::Int8 => Class::Int8,
+        NumberKind::Int16 => Class::Int16,
+        NumberKind::Int32 => Class::Int32,
+        NumberKind::Int64 => Class::Int64,
+        NumberKind::Uint8 => Class::Uint8,
+        NumberKind::Uint16 => Class::Uint16,
+        NumberKind::Uint32 => Class::Uint32,
+        NumberKind::Uint64 => Class::Uint64,
+    }
+}
+
+impl Value {
+    /// Whether it is a block.
+    pub(crate) fn is_block(&self) -> bool
+        ensures { result ≡ is_block_value self.now }
+    {
+        match self {
+            Value::Block => true,
+            _ => false,
+        }
+    }
+}
+
+impl Object {
+    /// The object's class.
+    #[tactic(auto, unfolding(crate::specs::Objects::class_of))]
+    pub(crate) fn class(&self) -> Class
+        ensures { result ≡ class_of self.now.value }
+    {
+        match &self.value {
+            Value::Block => Class::Block,
+            Value::Mute(_) => Class::Mute,
+            Value::Polarity(_) => Class::Polarity,
+            Value::Switch(_) => Class::Switch,
+            Value::Boolean(_) => Class::Boolean,
+            Value::Number(range) => number_class(range.kind),
+        }
+    }
+
+    /// Whether the lock of another peer refuses this access.
+    #[tactic(auto, unfolding(crate::specs::Locks::lock_refuses))]
+    pub(crate) fn is_locked_for(&self, peer: Peer, access: Access) -> bool
+        ensures { result ≡ lock_refuses self.now.lock peer access }
+    {
+        match self.lock {
+            Some(lock) if lock.holder != peer => {
+                lock.kind == LockKind::Total || access != Access::Read
+            }
+            _ => false,
+        }
+    }
+
+    /// Takes the lock off, if the peer holds it.
+    pub(crate) fn release(&mut self, peer: Peer)
+        ensures { self.new ≡ without_lock_of peer self.old }
+    {
+        if let Some(lock) = self.lock && lock.holder == peer {
+            self.lock = None;
+        }
+    }
 }
