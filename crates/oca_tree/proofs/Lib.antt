@@ -3,4 +3,7 @@ pub mod Positions
 pub mod Puts
 pub mod Chains
 pub mod Writes
+pub mod Asked
 pub mod Sound
+pub mod Adding
+pub mod Executing

@@ -19,6 +19,7 @@ use Rattle.oca_tree.specs.declared.object.PolarityState.TheVariants.{NonInverted
 use Rattle.oca_tree.specs.declared.object.LockKind.{LockKind}
 use Rattle.oca_tree.specs.declared.object.LockKind.TheVariants.{Total, Readonly}
 use Rattle.oca_tree.specs.declared.object.Object.{Object}
+use Rattle.oca_tree.specs.declared.object.Range.{Range}
 use Rattle.oca_tree.specs.declared.object.Switch.{Switch}
 use Rattle.oca_tree.specs.declared.object.Value.{Value}
 use Rattle.oca_tree.specs.declared.object.Value.TheVariants as values
@@ -155,6 +156,14 @@ mute_state n = if n == 1 then Muted else Unmuted
 abbrev pub polarity_state : ℕ → PolarityState
 polarity_state n = if n == 1 then NonInverted else Inverted
 
+abbrev pub changed_mute : MuteState → Request → MuteState
+changed_mute state (requests.SetState n) = mute_state n
+changed_mute state _ = state
+
+abbrev pub changed_polarity : PolarityState → Request → PolarityState
+changed_polarity state (requests.SetState n) = polarity_state n
+changed_polarity state _ = state
+
 abbrev pub changed_switch : Switch → Request → Switch
 changed_switch switch (requests.SetPosition n) = record switch { position = n }
 changed_switch switch (requests.SetPositionName n text) = record switch { names = record { items = slice_set switch.names.items n text } }
@@ -163,14 +172,22 @@ changed_switch switch (requests.SetPositionEnabled n truth) = record switch { en
 changed_switch switch (requests.SetPositionEnableds truths) = record switch { enableds = truths }
 changed_switch switch _ = switch
 
+abbrev pub changed_truth : Bool → Request → Bool
+changed_truth truth (requests.SetBoolean set) = set
+changed_truth truth _ = truth
+
+abbrev pub changed_range : Range → Request → Range
+changed_range range (requests.SetNumber n) = record range { setting = n }
+changed_range range _ = range
+
 -- the value with what was set
 unfoldable pub changed_value : Value → Request → Value
-changed_value (values.Mute _) (requests.SetState n) = values.Mute (mute_state n)
-changed_value (values.Polarity _) (requests.SetState n) = values.Polarity (polarity_state n)
+changed_value values.Block request = values.Block
+changed_value (values.Mute state) request = values.Mute (changed_mute state request)
+changed_value (values.Polarity state) request = values.Polarity (changed_polarity state request)
 changed_value (values.Switch switch) request = values.Switch (changed_switch switch request)
-changed_value (values.Boolean _) (requests.SetBoolean truth) = values.Boolean truth
-changed_value (values.Number range) (requests.SetNumber n) = values.Number (record range { setting = n })
-changed_value value _ = value
+changed_value (values.Boolean truth) request = values.Boolean (changed_truth truth request)
+changed_value (values.Number range) request = values.Number (changed_range range request)
 
 -- the object with its lock, its label or whether it is enabled set, or else its value with what was set
 unfoldable pub changed : Object → Peer → Request → Object

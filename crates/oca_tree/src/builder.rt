@@ -63,12 +63,18 @@ pub enum Kind<'a> {
     Uint64 { setting: u64, least: u64, greatest: u64 },
 }
 
+fn has_long(names: &[&str]) -> bool
+    ensures { result ≡ list_any (λ name. is_long name.now) names.now }
+{
+    names.iter().any(|name| name.len() > 64)
+}
+
 /// Whether a position name has more than 64 bytes.
 fn has_bad_name(kind: &Kind<'_>) -> bool
     ensures { result ≡ has_bad_name kind.now }
 {
     match kind {
-        Kind::Switch { names, .. } => names.iter().any(|name| name.len() > 64),
+        Kind::Switch { names, .. } => has_long(names),
         _ => false,
     }
 }
@@ -253,7 +259,7 @@ fn object_for(
     if !is_block_at(objects, container) {
         return Err(AddFault::NoSuchBlock);
     }
-    if depth(objects, container) + 1 > 8 {
+    if depth(objects, container) >= 8 {
         return Err(AddFault::TooDeep);
     }
     if spec.role.is_empty() || has_bad_name(&spec.kind) {
@@ -316,8 +322,10 @@ impl TreeBuilder {
             value: Value::Block,
             lock: None,
         };
-        objects.push(root).map_err(|_| AddFault::NoMemory)?;
-        Ok(TreeBuilder { objects })
+        match objects.push(root) {
+            Ok(()) => Ok(TreeBuilder { objects }),
+            Err(_) => Err(AddFault::NoMemory),
+        }
     }
 
     /// Adds an object at the end: enabled, unlocked and with an empty label. It is refused by the first
@@ -327,7 +335,10 @@ impl TreeBuilder {
         ensures { Adds result self.old self.new container.0 ono.0 spec.now }
     {
         let object = object_for(&self.objects, container, ono, spec)?;
-        self.objects.push(object).map_err(|_| AddFault::NoMemory)
+        match self.objects.push(object) {
+            Ok(()) => Ok(()),
+            Err(_) => Err(AddFault::NoMemory),
+        }
     }
 
     /// The tree of the objects that were added.

@@ -1,6 +1,9 @@
 //! Executing a command: whether it is refused, what it answers and what it changes.
 ghost use Rattle.std.specs.Prelude.{◌≡◌, [], ◌≤◌, length};
 ghost use Rattle.oca_types.specs.Peers.{fields_of};
+ghost use Rattle.oca_types.specs.Methods.{method_kind};
+ghost use Rattle.oca_types.specs.declared.class.MethodKind.TheVariants.{Known};
+ghost use Rattle.oca_tree.specs.Objects.{class_of};
 ghost use Rattle.oca_tree.specs.Trees.{IsTree, IsSound};
 ghost use Rattle.oca_tree.specs.Inside.{Understood, Answered, Executes};
 
@@ -9,18 +12,20 @@ use crate::change::change;
 use crate::object::Object;
 use crate::place::place_of;
 use crate::request::Request;
-use oca_types::{Command, MethodKind, Params, Peer, Status, method_of};
+use oca_types::{Access, Command, Method, MethodKind, Params, Peer, Status, method_of};
 
-/// What a command asks of an object, or why it is refused.
-fn understood(object: &Object, peer: Peer, command: &Command<'_>) -> Result<Request, Status>
-    requires { IsSound object.now }
+/// What a command asks by this method of an object, or why it is refused.
+fn admitted(
+    object: &Object,
+    peer: Peer,
+    command: &Command<'_>,
+    method: Method,
+    access: Access,
+) -> Result<Request, Status>
+    requires sound { IsSound object.now }
+    requires known { method_kind (class_of object.now.value) command.now.method ≡ Known method access }
     ensures { Understood result object.now peer (fields_of command.now) }
 {
-    let (method, access) = match method_of(object.class(), command.method) {
-        MethodKind::Known(method, access) => (method, access),
-        MethodKind::LeftOut => return Err(Status::NotImplemented),
-        MethodKind::Unknown => return Err(Status::BadMethod),
-    };
     if object.is_locked_for(peer, access) {
         return Err(Status::Locked);
     }
@@ -34,6 +39,18 @@ fn understood(object: &Object, peer: Peer, command: &Command<'_>) -> Result<Requ
         return Err(Status::InvalidRequest);
     }
     Ok(request)
+}
+
+/// What a command asks of an object, or why it is refused.
+fn understood(object: &Object, peer: Peer, command: &Command<'_>) -> Result<Request, Status>
+    requires { IsSound object.now }
+    ensures { Understood result object.now peer (fields_of command.now) }
+{
+    match method_of(object.class(), command.method) {
+        MethodKind::Known(method, access) => admitted(object, peer, command, method, access),
+        MethodKind::LeftOut => Err(Status::NotImplemented),
+        MethodKind::Unknown => Err(Status::BadMethod),
+    }
 }
 
 /// Finds what a command asks and answers it, or refuses it. It changes no object.
