@@ -1,0 +1,62 @@
+-- An object is added at the end.
+use Rattle.std.proofs.Common.{◌≡◌, ℕ, ◌+◌, ◌<◌, ◌≤◌, Bool, true, false, List, [], ◌∷◌, ◌++◌, map, length, refl, sym, ap, ◌∙◌, arith, length-append}
+use Rattle.std.specs.Prelude.{Option, Some, None, is_some, codes, nat_le, nat_lt, ◌==◌}
+use Rattle.std.specs.List.{All}
+use Rattle.std.proofs.lemmas.List.Elements.{All-push}
+use Rattle.oca_tree.specs.declared.object.Object.{Object}
+use Rattle.oca_tree.specs.declared.object.Value.{Value}
+use Rattle.oca_tree.specs.declared.object.Value.TheVariants as values
+use Rattle.oca_tree.specs.declared.builder.AddFault.{AddFault}
+use Rattle.oca_tree.specs.declared.builder.Spec.{Spec}
+use Rattle.oca_tree.specs.Objects.{object_of}
+use Rattle.oca_tree.specs.Places.{Place, place_of, places, place_at, is_block_at, depth}
+use Rattle.oca_tree.specs.Trees.{IsTree, IsSound, IsSoundValue, IsBuilt, IsFree}
+use Rattle.oca_tree.specs.Trees as trees
+use Rattle.oca_tree.specs.Building.{root, new_object, object_of_spec, value_of, has_bad_name, is_bad_value, add_fault}
+use Rattle.oca_tree.proofs.Chains.{place_absent}
+
+places_push : (tree : List Object) (o : Object) → places (tree ++ o ∷ []) ≡ places tree ++ place_of o ∷ []
+places_push [] o = refl
+places_push (x ∷ xs) o = ap (λ ps. place_of x ∷ ps) (places_push xs o)
+
+none_there : (o : Option Object) → is_some o ≡ false → o ≡ None
+none_there None e = refl
+none_there (Some x) e = cc
+
+pub added_tree : (tree : List Object) (o : Object) → length tree < 128 → 4096 ≤ o.ono.0 → is_some (object_of tree o.ono.0) ≡ false → is_block_at (places tree) o.container.0 ≡ true
+  → depth (places tree) o.container.0 < 8 → IsSound o → IsTree tree → IsTree (tree ++ o ∷ [])
+added_tree tree o few number free block shallow sound h = record {
+  built = rw (places_push tree o) (trees.next (places tree) (place_of o) h.built (record {
+    number = number;
+    untaken = place_absent tree o.ono.0 (none_there (object_of tree o.ono.0) free);
+    container = block;
+    shallow = shallow;
+  }));
+  objects = All-push IsSound tree o h.objects sound;
+  few = rw length-append (omega (arith, few));
+}
+
+root_sound : IsSound root
+unfolding IsSoundValue
+root_sound = record { value = tt; lock = tt }
+
+pub root_tree : IsTree (root ∷ [])
+root_tree = record { built = trees.root; objects = All-push IsSound [] root (λ k d h. absurd (omega arith)) root_sound; few = omega arith }
+
+pub first_object : (container ono : ℕ) (spec : Spec) (role label : List ℕ) (value : Value) → role ≡ spec.role.now → label ≡ [] → value ≡ value_of spec.kind
+  → record (new_object ono container spec.lockable role value) { label = label } ≡ object_of_spec container ono spec
+first_object container ono spec role label value a b d =
+    ap (λ (x : List ℕ). record (new_object ono container spec.lockable x value) { label = label }) a
+    ∙ ap (λ (x : List ℕ). record (new_object ono container spec.lockable spec.role.now value) { label = x }) b
+    ∙ ap (λ (x : Value). new_object ono container spec.lockable spec.role.now x) d
+
+pub no_fault : (tree : List Object) (container ono : ℕ) (spec : Spec) → length tree < 128 → 4096 ≤ ono → is_some (object_of tree ono) ≡ false → is_block_at (places tree) container ≡ true
+  → depth (places tree) container < 8 → (length spec.role.now == 0) ≡ false → has_bad_name spec.kind ≡ false → length spec.role.now ≤ 64 → is_bad_value (value_of spec.kind) ≡ false
+  → add_fault tree container ono spec ≡ None
+unfolding add_fault
+no_fault tree container ono spec few number free block shallow full names short range =
+    let a : nat_le 128 (length tree) ≡ false = grind arith in
+    let b : nat_lt ono 4096 ≡ false = grind arith in
+    let d : nat_lt 8 (depth (places tree) container + 1) ≡ false = grind arith in
+    let s : nat_lt 64 (length spec.role.now) ≡ false = grind arith in
+    rw (a, b, free, block, d, full, s, names, range) refl

@@ -1,0 +1,9 @@
+pub mod Items
+pub mod Positions
+pub mod Puts
+pub mod Chains
+pub mod Writes
+pub mod Asked
+pub mod Sound
+pub mod Adding
+pub mod Executing

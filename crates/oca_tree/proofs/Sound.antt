@@ -1,0 +1,243 @@
+-- What is asked and in range keeps a tree one.
+use Rattle.std.proofs.Common.{◌≡◌, ℕ, zero, suc, ◌+◌, ◌<◌, ◌≤◌, Bool, true, false, cond, List, [], ◌∷◌, ◌++◌, map, length, get_or, set, refl, sym, ap, ◌∙◌, subst, arith, rules, length-append}
+use Rattle.std.specs.Prelude.{Option, Some, None, ℤ, ◌≤ℤ◌, int_le, ◌&&◌, not, IsTrue, nat_lt}
+use Rattle.std.proofs.lemmas.Int.{ints}
+use Rattle.std.specs.List.{All}
+use Rattle.std.proofs.Math.ListN.{length-set}
+use Rattle.std.proofs.lemmas.List.{length-map}
+use Rattle.std.proofs.lemmas.List.Elements.{All-map, All-set, All-weaker, All-push}
+use Rattle.oca_types.specs.declared.words.Peer.{Peer}
+use Rattle.oca_tree.specs.declared.object.NumberKind.{NumberKind}
+use Rattle.oca_tree.specs.declared.object.NumberKind.TheVariants.{Int8, Int16, Int32, Int64, Uint8, Uint16, Uint32, Uint64}
+use Rattle.oca_tree.specs.declared.object.Object.{Object}
+use Rattle.oca_tree.specs.declared.object.Range.{Range}
+use Rattle.oca_tree.specs.declared.object.Switch.{Switch}
+use Rattle.oca_tree.specs.declared.object.Value.{Value}
+use Rattle.oca_tree.specs.declared.object.Value.TheVariants as values
+use Rattle.oca_tree.specs.declared.request.Request.{Request}
+use Rattle.oca_tree.specs.declared.request.Request.TheVariants as requests
+use Rattle.oca_tree.specs.Kinds.{IsOfType}
+use Rattle.oca_tree.specs.Places.{Place, place_of, places, is_block_value}
+use Rattle.oca_tree.specs.Locks.{without_lock_of, is_held_by}
+use Rattle.oca_tree.specs.Requests.{positions, is_enabled, is_out_of_range, is_outside, is_bad_position, is_invalid}
+use Rattle.oca_tree.specs.Execution.{changed, changed_value, changed_switch, changed_range}
+use Rattle.oca_tree.proofs.Asked.{FitsPositions}
+use Rattle.oca_tree.specs.Trees.{IsTree, IsSound, IsSoundValue, IsSoundRange, IsSoundSwitch, IsSoundLock, IsBuilt}
+
+-- ---- changing an object
+
+value_block : (v : Value) (r : Request) → is_block_value (changed_value v r) ≡ is_block_value v
+unfolding changed_value
+value_block values.Block r = refl
+value_block (values.Mute state) r = refl
+value_block (values.Polarity state) r = refl
+value_block (values.Switch switch) r = refl
+value_block (values.Boolean truth) r = refl
+value_block (values.Number range) r = refl
+
+placed : (o : Object) (v : Value) → is_block_value v ≡ is_block_value o.value → place_of (record o { value = v }) ≡ place_of o
+placed o v e = ap (λ b. record { number = o.ono.0; container = o.container.0; block = b }) e
+
+pub changed_place : (o : Object) (peer : Peer) (r : Request) → place_of (changed o peer r) ≡ place_of o
+unfolding changed
+changed_place o peer requests.GetClassIdentification = placed o (changed_value o.value requests.GetClassIdentification) (value_block o.value requests.GetClassIdentification)
+changed_place o peer requests.GetLockable = placed o (changed_value o.value requests.GetLockable) (value_block o.value requests.GetLockable)
+changed_place o peer requests.LockTotal = refl
+changed_place o peer requests.Unlock = refl
+changed_place o peer requests.GetRole = placed o (changed_value o.value requests.GetRole) (value_block o.value requests.GetRole)
+changed_place o peer requests.LockReadonly = refl
+changed_place o peer requests.GetEnabled = placed o (changed_value o.value requests.GetEnabled) (value_block o.value requests.GetEnabled)
+changed_place o peer (requests.SetEnabled truth) = refl
+changed_place o peer requests.GetLabel = placed o (changed_value o.value requests.GetLabel) (value_block o.value requests.GetLabel)
+changed_place o peer (requests.SetLabel text) = refl
+changed_place o peer requests.GetOwner = placed o (changed_value o.value requests.GetOwner) (value_block o.value requests.GetOwner)
+changed_place o peer requests.GetMembers = placed o (changed_value o.value requests.GetMembers) (value_block o.value requests.GetMembers)
+changed_place o peer requests.GetMembersRecursive = placed o (changed_value o.value requests.GetMembersRecursive) (value_block o.value requests.GetMembersRecursive)
+changed_place o peer requests.GetState = placed o (changed_value o.value requests.GetState) (value_block o.value requests.GetState)
+changed_place o peer (requests.SetState n) = placed o (changed_value o.value (requests.SetState n)) (value_block o.value (requests.SetState n))
+changed_place o peer requests.GetPosition = placed o (changed_value o.value requests.GetPosition) (value_block o.value requests.GetPosition)
+changed_place o peer (requests.SetPosition n) = placed o (changed_value o.value (requests.SetPosition n)) (value_block o.value (requests.SetPosition n))
+changed_place o peer (requests.GetPositionName n) = placed o (changed_value o.value (requests.GetPositionName n)) (value_block o.value (requests.GetPositionName n))
+changed_place o peer (requests.SetPositionName n text) = placed o (changed_value o.value (requests.SetPositionName n text)) (value_block o.value (requests.SetPositionName n text))
+changed_place o peer requests.GetPositionNames = placed o (changed_value o.value requests.GetPositionNames) (value_block o.value requests.GetPositionNames)
+changed_place o peer (requests.SetPositionNames texts) = placed o (changed_value o.value (requests.SetPositionNames texts)) (value_block o.value (requests.SetPositionNames texts))
+changed_place o peer (requests.GetPositionEnabled n) = placed o (changed_value o.value (requests.GetPositionEnabled n)) (value_block o.value (requests.GetPositionEnabled n))
+changed_place o peer (requests.SetPositionEnabled n truth) = placed o (changed_value o.value (requests.SetPositionEnabled n truth)) (value_block o.value (requests.SetPositionEnabled n truth))
+changed_place o peer requests.GetPositionEnableds = placed o (changed_value o.value requests.GetPositionEnableds) (value_block o.value requests.GetPositionEnableds)
+changed_place o peer (requests.SetPositionEnableds truths) = placed o (changed_value o.value (requests.SetPositionEnableds truths)) (value_block o.value (requests.SetPositionEnableds truths))
+changed_place o peer requests.GetSetting = placed o (changed_value o.value requests.GetSetting) (value_block o.value requests.GetSetting)
+changed_place o peer (requests.SetBoolean truth) = placed o (changed_value o.value (requests.SetBoolean truth)) (value_block o.value (requests.SetBoolean truth))
+changed_place o peer (requests.SetNumber n) = placed o (changed_value o.value (requests.SetNumber n)) (value_block o.value (requests.SetNumber n))
+
+pub changed_ono : (o : Object) (peer : Peer) (r : Request) → (changed o peer r).ono.0 ≡ o.ono.0
+changed_ono o peer r = ap (λ (p : Place). p.number) (changed_place o peer r)
+
+-- a number between two of a type is of the type
+pub between : (kind : NumberKind) (low z high : ℤ) → IsOfType kind low → IsOfType kind high → low ≤ℤ z → z ≤ℤ high → IsOfType kind z
+between Int8 low z high a b c d = omega (arith, ints)
+between Int16 low z high a b c d = omega (arith, ints)
+between Int32 low z high a b c d = omega (arith, ints)
+between Int64 low z high a b c d = omega (arith, ints)
+between Uint8 low z high a b c d = (omega (arith, ints), omega (arith, ints))
+between Uint16 low z high a b c d = (omega (arith, ints), omega (arith, ints))
+between Uint32 low z high a b c d = (omega (arith, ints), omega (arith, ints))
+between Uint64 low z high a b c d = (omega (arith, ints), omega (arith, ints))
+
+number_sound : (range : Range) (n : ℤ) → IsSoundRange range → is_outside range (requests.SetNumber n) ≡ false → IsSoundRange (record range { setting = n })
+number_sound range n s e =
+    let low : range.least ≤ℤ n = grind (arith, ints) in
+    let high : n ≤ℤ range.greatest = grind (arith, ints) in
+    record { setting = between range.kind range.least n range.greatest s.least s.greatest low high; least = s.least; greatest = s.greatest; above = low; below = high }
+
+range_sound : (range : Range) (r : Request) → IsSoundRange range → is_outside range r ≡ false → IsSoundRange (changed_range range r)
+range_sound range requests.GetClassIdentification s e = s
+range_sound range requests.GetLockable s e = s
+range_sound range requests.LockTotal s e = s
+range_sound range requests.Unlock s e = s
+range_sound range requests.GetRole s e = s
+range_sound range requests.LockReadonly s e = s
+range_sound range requests.GetEnabled s e = s
+range_sound range (requests.SetEnabled truth) s e = s
+range_sound range requests.GetLabel s e = s
+range_sound range (requests.SetLabel text) s e = s
+range_sound range requests.GetOwner s e = s
+range_sound range requests.GetMembers s e = s
+range_sound range requests.GetMembersRecursive s e = s
+range_sound range requests.GetState s e = s
+range_sound range (requests.SetState n) s e = s
+range_sound range requests.GetPosition s e = s
+range_sound range (requests.SetPosition n) s e = s
+range_sound range (requests.GetPositionName n) s e = s
+range_sound range (requests.SetPositionName n text) s e = s
+range_sound range requests.GetPositionNames s e = s
+range_sound range (requests.SetPositionNames texts) s e = s
+range_sound range (requests.GetPositionEnabled n) s e = s
+range_sound range (requests.SetPositionEnabled n truth) s e = s
+range_sound range requests.GetPositionEnableds s e = s
+range_sound range (requests.SetPositionEnableds truths) s e = s
+range_sound range requests.GetSetting s e = s
+range_sound range (requests.SetBoolean truth) s e = s
+range_sound range (requests.SetNumber n) s e = number_sound range n s e
+
+-- a position that can be the current one is there
+current_there : (a b : Bool) → not (a && b) ≡ false → a ≡ true
+current_there true b e = refl
+current_there false b e = cc
+
+position_there : (switch : Switch) (n : ℕ) → is_bad_position switch (requests.SetPosition n) ≡ false → n < length switch.names.items
+position_there switch n e = let t = current_there (nat_lt n (length switch.names.items)) (is_enabled switch n) e in grind (arith, t)
+
+switch_sound : (switch : Switch) (r : Request) → IsSoundSwitch switch → is_bad_position switch r ≡ false → FitsPositions (values.Switch switch) r → IsSoundSwitch (changed_switch switch r)
+unfolding FitsPositions
+switch_sound switch requests.GetClassIdentification s e f = s
+switch_sound switch requests.GetLockable s e f = s
+switch_sound switch requests.LockTotal s e f = s
+switch_sound switch requests.Unlock s e f = s
+switch_sound switch requests.GetRole s e f = s
+switch_sound switch requests.LockReadonly s e f = s
+switch_sound switch requests.GetEnabled s e f = s
+switch_sound switch (requests.SetEnabled truth) s e f = s
+switch_sound switch requests.GetLabel s e f = s
+switch_sound switch (requests.SetLabel text) s e f = s
+switch_sound switch requests.GetOwner s e f = s
+switch_sound switch requests.GetMembers s e f = s
+switch_sound switch requests.GetMembersRecursive s e f = s
+switch_sound switch requests.GetState s e f = s
+switch_sound switch (requests.SetState n) s e f = s
+switch_sound switch requests.GetPosition s e f = s
+switch_sound switch (requests.SetPosition n) s e f = record { few = s.few; both = s.both; position = position_there switch n e }
+switch_sound switch (requests.GetPositionName n) s e f = s
+switch_sound switch (requests.SetPositionName n text) s e f = record { few = rw length-set s.few; both = rw length-set s.both; position = rw length-set s.position }
+switch_sound switch requests.GetPositionNames s e f = s
+switch_sound switch (requests.SetPositionNames texts) s e f = record { few = rw f s.few; both = s.both ∙ sym f; position = rw f s.position }
+switch_sound switch (requests.GetPositionEnabled n) s e f = s
+switch_sound switch (requests.SetPositionEnabled n truth) s e f = record { few = s.few; both = rw length-set s.both; position = s.position }
+switch_sound switch requests.GetPositionEnableds s e f = s
+switch_sound switch (requests.SetPositionEnableds truths) s e f = record { few = s.few; both = f; position = s.position }
+switch_sound switch requests.GetSetting s e f = s
+switch_sound switch (requests.SetBoolean truth) s e f = s
+switch_sound switch (requests.SetNumber n) s e f = s
+
+value_sound : (v : Value) (r : Request) → IsSoundValue v → is_out_of_range v r ≡ false → FitsPositions v r → IsSoundValue (changed_value v r)
+unfolding changed_value is_out_of_range IsSoundValue
+value_sound values.Block r s e f = tt
+value_sound (values.Mute state) r s e f = tt
+value_sound (values.Polarity state) r s e f = tt
+value_sound (values.Switch switch) r s e f = switch_sound switch r s e f
+value_sound (values.Boolean truth) r s e f = tt
+value_sound (values.Number range) r s e f = range_sound range r s e
+
+locked_sound : (lockable : Bool) → not lockable ≡ false → IsTrue lockable
+locked_sound lockable e = grind arith
+
+pub changed_sound : (o : Object) (peer : Peer) (r : Request) → IsSound o → is_out_of_range o.value r ≡ false → is_invalid o.lockable o.lock r ≡ false → FitsPositions o.value r → IsSound (changed o peer r)
+unfolding changed is_invalid
+changed_sound o peer requests.GetClassIdentification s range valid f = record { value = value_sound o.value requests.GetClassIdentification s.value range f; lock = s.lock }
+changed_sound o peer requests.GetLockable s range valid f = record { value = value_sound o.value requests.GetLockable s.value range f; lock = s.lock }
+changed_sound o peer requests.LockTotal s range valid f = record { value = s.value; lock = locked_sound o.lockable valid }
+changed_sound o peer requests.Unlock s range valid f = record { value = s.value; lock = tt }
+changed_sound o peer requests.GetRole s range valid f = record { value = value_sound o.value requests.GetRole s.value range f; lock = s.lock }
+changed_sound o peer requests.LockReadonly s range valid f = record { value = s.value; lock = locked_sound o.lockable valid }
+changed_sound o peer requests.GetEnabled s range valid f = record { value = value_sound o.value requests.GetEnabled s.value range f; lock = s.lock }
+changed_sound o peer (requests.SetEnabled truth) s range valid f = record { value = s.value; lock = s.lock }
+changed_sound o peer requests.GetLabel s range valid f = record { value = value_sound o.value requests.GetLabel s.value range f; lock = s.lock }
+changed_sound o peer (requests.SetLabel text) s range valid f = record { value = s.value; lock = s.lock }
+changed_sound o peer requests.GetOwner s range valid f = record { value = value_sound o.value requests.GetOwner s.value range f; lock = s.lock }
+changed_sound o peer requests.GetMembers s range valid f = record { value = value_sound o.value requests.GetMembers s.value range f; lock = s.lock }
+changed_sound o peer requests.GetMembersRecursive s range valid f = record { value = value_sound o.value requests.GetMembersRecursive s.value range f; lock = s.lock }
+changed_sound o peer requests.GetState s range valid f = record { value = value_sound o.value requests.GetState s.value range f; lock = s.lock }
+changed_sound o peer (requests.SetState n) s range valid f = record { value = value_sound o.value (requests.SetState n) s.value range f; lock = s.lock }
+changed_sound o peer requests.GetPosition s range valid f = record { value = value_sound o.value requests.GetPosition s.value range f; lock = s.lock }
+changed_sound o peer (requests.SetPosition n) s range valid f = record { value = value_sound o.value (requests.SetPosition n) s.value range f; lock = s.lock }
+changed_sound o peer (requests.GetPositionName n) s range valid f = record { value = value_sound o.value (requests.GetPositionName n) s.value range f; lock = s.lock }
+changed_sound o peer (requests.SetPositionName n text) s range valid f = record { value = value_sound o.value (requests.SetPositionName n text) s.value range f; lock = s.lock }
+changed_sound o peer requests.GetPositionNames s range valid f = record { value = value_sound o.value requests.GetPositionNames s.value range f; lock = s.lock }
+changed_sound o peer (requests.SetPositionNames texts) s range valid f = record { value = value_sound o.value (requests.SetPositionNames texts) s.value range f; lock = s.lock }
+changed_sound o peer (requests.GetPositionEnabled n) s range valid f = record { value = value_sound o.value (requests.GetPositionEnabled n) s.value range f; lock = s.lock }
+changed_sound o peer (requests.SetPositionEnabled n truth) s range valid f = record { value = value_sound o.value (requests.SetPositionEnabled n truth) s.value range f; lock = s.lock }
+changed_sound o peer requests.GetPositionEnableds s range valid f = record { value = value_sound o.value requests.GetPositionEnableds s.value range f; lock = s.lock }
+changed_sound o peer (requests.SetPositionEnableds truths) s range valid f = record { value = value_sound o.value (requests.SetPositionEnableds truths) s.value range f; lock = s.lock }
+changed_sound o peer requests.GetSetting s range valid f = record { value = value_sound o.value requests.GetSetting s.value range f; lock = s.lock }
+changed_sound o peer (requests.SetBoolean truth) s range valid f = record { value = value_sound o.value (requests.SetBoolean truth) s.value range f; lock = s.lock }
+changed_sound o peer (requests.SetNumber n) s range valid f = record { value = value_sound o.value (requests.SetNumber n) s.value range f; lock = s.lock }
+
+-- ---- writing an object back
+
+places_set : (tree : List Object) (i : ℕ) (o new : Object) → i < length tree → o ≡ get_or tree i o → place_of new ≡ place_of o → places (set tree i new) ≡ places tree
+places_set [] i o new within here same = absurd (omega arith)
+places_set (x ∷ xs) zero o new within here same = ap (λ p. p ∷ places xs) (same ∙ ap place_of here)
+places_set (x ∷ xs) (suc i) o new within here same = ap (λ ps. place_of x ∷ ps) (places_set xs i o new (omega arith) here same)
+
+pub written_tree : (tree : List Object) (i : ℕ) (o new : Object) → i < length tree → o ≡ get_or tree i o → place_of new ≡ place_of o → IsSound new → IsTree tree → IsTree (set tree i new)
+written_tree tree i o new within here same sound h = record {
+  built = rw (places_set tree i o new within here same) h.built;
+  objects = All-set IsSound tree i new sound h.objects;
+  few = rw length-set h.few;
+}
+
+-- ---- taking locks off
+
+without_lock_sound : (peer : Peer) (o : Object) → IsSound o → IsSound (without_lock_of peer o)
+without_lock_sound peer o s = by_test (is_held_by peer o.lock)
+  where
+    by_test : (b : Bool) → IsSound (cond b (record o { lock = None }) o)
+    by_test true = record { value = s.value; lock = tt }
+    by_test false = s
+
+without_lock_place : (peer : Peer) (o : Object) → place_of (without_lock_of peer o) ≡ place_of o
+without_lock_place peer o = by_test (is_held_by peer o.lock)
+  where
+    by_test : (b : Bool) → place_of (cond b (record o { lock = None }) o) ≡ place_of o
+    by_test true = refl
+    by_test false = refl
+
+released_places : (peer : Peer) (tree : List Object) → places (map (without_lock_of peer) tree) ≡ places tree
+released_places peer [] = refl
+released_places peer (o ∷ os) = rw (without_lock_place peer o, released_places peer os) refl
+
+pub released_tree : (peer : Peer) (old new : List Object) → new ≡ map (without_lock_of peer) old → IsTree old → IsTree new
+released_tree peer old new e h = rw e (record {
+  built = rw (released_places peer old) h.built;
+  objects = All-map IsSound (without_lock_of peer) old (All-weaker IsSound (λ o. IsSound (without_lock_of peer o)) (without_lock_sound peer) old h.objects);
+  few = rw (length-map) h.few;
+})

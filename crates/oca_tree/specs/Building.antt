@@ -1,0 +1,101 @@
+-- How a tree is built (the order of the faults is the profile's).
+use Rattle.std.specs.Prelude.{◌≡◌, ℕ, ◌+◌, ◌==◌, ◌&&◌, ◌||◌, not, ◌⊎◌, Bool, true, false, if◌then◌else◌, nat_lt, nat_le, List, [], ◌∷◌, ◌++◌, length, map, replicate, codes, Option, Some, None, is_some, Result, Ok, Err, ℤ, int_le, int_lt, pos}
+use Rattle.std.specs.List.{list_any}
+use Rattle.oca_tree.specs.declared.object.NumberKind.{NumberKind}
+use Rattle.oca_tree.specs.declared.object.NumberKind.TheVariants as kinds
+use Rattle.oca_tree.specs.declared.object.Object.{Object}
+use Rattle.oca_tree.specs.declared.object.Value.{Value}
+use Rattle.oca_tree.specs.declared.object.Value.TheVariants as values
+use Rattle.oca_tree.specs.declared.builder.AddFault.{AddFault}
+use Rattle.oca_tree.specs.declared.builder.AddFault.TheVariants as faults
+use Rattle.oca_tree.specs.declared.builder.Spec.{Spec}
+use Rattle.oca_tree.specs.declared.builder.Kind.{Kind}
+use Rattle.oca_tree.specs.declared.builder.Kind.TheVariants as given
+use Rattle.oca_tree.specs.Objects.{object_of}
+use Rattle.oca_tree.specs.Places.{places, is_block_at, depth}
+
+-- ---- the object that is added
+
+abbrev pub number : NumberKind → ℤ → ℤ → ℤ → Value
+number kind setting least greatest = values.Number (record { kind = kind; setting = setting; least = least; greatest = greatest })
+
+-- a switch whose positions are all enabled
+abbrev pub switch : List (List ℕ) → ℕ → Value
+switch names position = values.Switch (record {
+  names = record { items = names };
+  enableds = record { items = replicate (length names) true };
+  position = position;
+})
+
+unfoldable pub value_of : Kind → Value
+value_of given.Block = values.Block
+value_of (given.Mute state) = values.Mute state
+value_of (given.Polarity state) = values.Polarity state
+value_of (given.Switch names position) = switch (map (λ name. name.now) names.now) position
+value_of (given.Boolean truth) = values.Boolean truth
+value_of (given.Int8 setting least greatest) = number kinds.Int8 setting least greatest
+value_of (given.Int16 setting least greatest) = number kinds.Int16 setting least greatest
+value_of (given.Int32 setting least greatest) = number kinds.Int32 setting least greatest
+value_of (given.Int64 setting least greatest) = number kinds.Int64 setting least greatest
+value_of (given.Uint8 setting least greatest) = number kinds.Uint8 (pos setting) (pos least) (pos greatest)
+value_of (given.Uint16 setting least greatest) = number kinds.Uint16 (pos setting) (pos least) (pos greatest)
+value_of (given.Uint32 setting least greatest) = number kinds.Uint32 (pos setting) (pos least) (pos greatest)
+value_of (given.Uint64 setting least greatest) = number kinds.Uint64 (pos setting) (pos least) (pos greatest)
+
+-- an object as it is at first: with an empty label, enabled and unlocked
+abbrev pub new_object : ℕ → ℕ → Bool → List ℕ → Value → Object
+new_object ono container lockable role value = record {
+  ono = record { 0 = ono };
+  container = record { 0 = container };
+  lockable = lockable;
+  role = role;
+  label = [];
+  enabled = true;
+  value = value;
+  lock = None;
+}
+
+abbrev pub root : Object
+root = new_object 100 0 true (codes "root") values.Block
+
+abbrev pub object_of_spec : ℕ → ℕ → Spec → Object
+object_of_spec container ono spec = new_object ono container spec.lockable spec.role.now (value_of spec.kind)
+
+-- ---- when it is refused
+
+abbrev pub is_long : List ℕ → Bool
+is_long text = nat_lt 64 (length text)
+
+abbrev pub has_bad_name : Kind → Bool
+has_bad_name (given.Switch names position) = list_any (λ name. is_long name.now) names.now
+has_bad_name _ = false
+
+-- limits the wrong way round, a setting outside them, other than 1 to 16 positions, a position that is not there
+unfoldable pub is_bad_value : Value → Bool
+is_bad_value (values.Number range) = int_lt range.greatest range.least || int_lt range.setting range.least || int_lt range.greatest range.setting
+is_bad_value (values.Switch switch) =
+    (length switch.names.items == 0) || nat_lt 16 (length switch.names.items) || nat_le (length switch.names.items) switch.position
+is_bad_value _ = false
+
+-- the fault of the first line whose condition holds
+abbrev pub first_fault : List (Bool × AddFault) → Option AddFault
+first_fault [] = None
+first_fault (line ∷ lines) = if line.0 then Some line.1 else first_fault lines
+
+unfoldable pub add_fault : List Object → ℕ → ℕ → Spec → Option AddFault
+add_fault tree container ono spec = first_fault (
+    (nat_le 128 (length tree), faults.Full)
+    ∷ (nat_lt ono 4096, faults.Reserved)
+    ∷ (is_some (object_of tree ono), faults.Taken)
+    ∷ (not (is_block_at (places tree) container), faults.NoSuchBlock)
+    ∷ (nat_lt 8 (depth (places tree) container + 1), faults.TooDeep)
+    ∷ ((length spec.role.now == 0) || is_long spec.role.now || has_bad_name spec.kind, faults.BadText)
+    ∷ (is_bad_value (value_of spec.kind), faults.BadRange)
+    ∷ [])
+
+-- The object is added at the end where no line applies. A refusal changes nothing, and is the first line that applies, or want
+-- of memory where none does.
+abbrev pub Adds : {X : Type 0} → Result X AddFault → List Object → List Object → ℕ → ℕ → Spec → Type 0
+Adds (Ok _) old new container ono spec = (add_fault old container ono spec ≡ None) × (new ≡ old ++ object_of_spec container ono spec ∷ [])
+Adds (Err e) old new container ono spec =
+    (new ≡ old) × ((add_fault old container ono spec ≡ Some e) ⊎ ((add_fault old container ono spec ≡ None) × (e ≡ faults.NoMemory)))

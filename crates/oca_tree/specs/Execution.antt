@@ -1,0 +1,275 @@
+-- What a command does to a tree, and what is answered (AES70-2; the order of the statuses is the profile's).
+use Rattle.std.specs.Prelude.{ℕ, ◌-◌, ◌==◌, not, Bool, true, false, if◌then◌else◌, List, [], ◌∷◌, ◌++◌, length, nat_lt, slice_index_or, slice_set, Option, Some, None, is_none, ℤ}
+use Rattle.std.specs.List.{flat_map}
+use Rattle.std.specs.Int.{w8, w16, w32}
+use Rattle.oca_types.specs.declared.words.Peer.{Peer}
+use Rattle.oca_types.specs.declared.status.Status.{Status}
+use Rattle.oca_types.specs.declared.status.Status.TheVariants as status
+use Rattle.oca_types.specs.declared.class.MethodKind.{MethodKind}
+use Rattle.oca_types.specs.declared.class.MethodKind.TheVariants.{Known, LeftOut, Unknown}
+use Rattle.oca_types.specs.Numbers.{unsigned_encoding, bool_encoding}
+use Rattle.oca_types.specs.Texts.{text_encoding}
+use Rattle.oca_types.specs.Classes.{class_identification_encoding}
+use Rattle.oca_types.specs.Methods.{method_kind}
+use Rattle.oca_types.specs.Peers.{CommandFields}
+use Rattle.oca_tree.specs.declared.object.MuteState.{MuteState}
+use Rattle.oca_tree.specs.declared.object.MuteState.TheVariants.{Muted, Unmuted}
+use Rattle.oca_tree.specs.declared.object.PolarityState.{PolarityState}
+use Rattle.oca_tree.specs.declared.object.PolarityState.TheVariants.{NonInverted, Inverted}
+use Rattle.oca_tree.specs.declared.object.LockKind.{LockKind}
+use Rattle.oca_tree.specs.declared.object.LockKind.TheVariants.{Total, Readonly}
+use Rattle.oca_tree.specs.declared.object.Object.{Object}
+use Rattle.oca_tree.specs.declared.object.Range.{Range}
+use Rattle.oca_tree.specs.declared.object.Switch.{Switch}
+use Rattle.oca_tree.specs.declared.object.Value.{Value}
+use Rattle.oca_tree.specs.declared.object.Value.TheVariants as values
+use Rattle.oca_tree.specs.declared.request.Request.{Request}
+use Rattle.oca_tree.specs.declared.request.Request.TheVariants as requests
+use Rattle.oca_tree.specs.Kinds.{number_encoding}
+use Rattle.oca_tree.specs.Objects.{class_of, object_of, with_object, members, descendants}
+use Rattle.oca_tree.specs.Locks.{lock_refuses}
+use Rattle.oca_tree.specs.Requests.{request_of, is_out_of_range, is_invalid}
+
+-- ---- encodings
+
+-- OcaObjectIdentification: number and class
+abbrev pub identification_encoding : Object → List ℕ
+identification_encoding o = unsigned_encoding w32 o.ono.0 ++ class_identification_encoding (class_of o.value)
+
+-- OcaBlockMember: an identification, then the number of the container
+abbrev pub block_member_encoding : Object → List ℕ
+block_member_encoding o = identification_encoding o ++ unsigned_encoding w32 o.container.0
+
+-- OcaList: the number of the items, then the items
+abbrev pub list_encoding : {X : Type 0} → (X → List ℕ) → List X → List ℕ
+list_encoding item xs = unsigned_encoding w16 (length xs) ++ flat_map item xs
+
+abbrev pub mute_number : MuteState → ℕ
+mute_number Muted = 1
+mute_number Unmuted = 2
+
+abbrev pub polarity_number : PolarityState → ℕ
+polarity_number NonInverted = 1
+polarity_number Inverted = 2
+
+-- ---- what each method answers
+
+abbrev pub state_answer : Value → List ℕ
+state_answer (values.Mute state) = unsigned_encoding w8 (mute_number state)
+state_answer (values.Polarity state) = unsigned_encoding w8 (polarity_number state)
+state_answer _ = []
+
+-- the position, the least and the greatest
+abbrev pub position_answer : Switch → List ℕ
+position_answer switch =
+    unsigned_encoding w16 switch.position ++ unsigned_encoding w16 0 ++ unsigned_encoding w16 (length switch.names.items - 1)
+
+abbrev pub switch_answer : Switch → Request → List ℕ
+switch_answer switch requests.GetPosition = position_answer switch
+switch_answer switch (requests.GetPositionName n) = text_encoding (slice_index_or switch.names.items n [])
+switch_answer switch requests.GetPositionNames = list_encoding text_encoding switch.names.items
+switch_answer switch (requests.GetPositionEnabled n) = bool_encoding (slice_index_or switch.enableds.items n false)
+switch_answer switch requests.GetPositionEnableds = list_encoding bool_encoding switch.enableds.items
+switch_answer switch _ = []
+
+abbrev pub position_request_answer : Value → Request → List ℕ
+position_request_answer (values.Switch switch) request = switch_answer switch request
+position_request_answer _ request = []
+
+-- the setting, and of a number its least and its greatest too
+abbrev pub setting_answer : Value → List ℕ
+setting_answer (values.Boolean truth) = bool_encoding truth
+setting_answer (values.Number range) =
+    number_encoding range.kind range.setting ++ number_encoding range.kind range.least ++ number_encoding range.kind range.greatest
+setting_answer _ = []
+
+unfoldable pub answer : List Object → Object → Request → List ℕ
+answer tree o requests.GetClassIdentification = class_identification_encoding (class_of o.value)
+answer tree o requests.GetLockable = bool_encoding o.lockable
+answer tree o requests.LockTotal = []
+answer tree o requests.Unlock = []
+answer tree o requests.GetRole = text_encoding o.role
+answer tree o requests.LockReadonly = []
+answer tree o requests.GetEnabled = bool_encoding o.enabled
+answer tree o (requests.SetEnabled truth) = []
+answer tree o requests.GetLabel = text_encoding o.label
+answer tree o (requests.SetLabel text) = []
+answer tree o requests.GetOwner = unsigned_encoding w32 o.container.0
+answer tree o requests.GetMembers = list_encoding identification_encoding (members tree o.ono.0)
+answer tree o requests.GetMembersRecursive = list_encoding block_member_encoding (descendants tree o.ono.0)
+answer tree o requests.GetState = state_answer o.value
+answer tree o (requests.SetState n) = []
+answer tree o requests.GetPosition = position_request_answer o.value requests.GetPosition
+answer tree o (requests.SetPosition n) = []
+answer tree o (requests.GetPositionName n) = position_request_answer o.value (requests.GetPositionName n)
+answer tree o (requests.SetPositionName n text) = []
+answer tree o requests.GetPositionNames = position_request_answer o.value requests.GetPositionNames
+answer tree o (requests.SetPositionNames texts) = []
+answer tree o (requests.GetPositionEnabled n) = position_request_answer o.value (requests.GetPositionEnabled n)
+answer tree o (requests.SetPositionEnabled n truth) = []
+answer tree o requests.GetPositionEnableds = position_request_answer o.value requests.GetPositionEnableds
+answer tree o (requests.SetPositionEnableds truths) = []
+answer tree o requests.GetSetting = setting_answer o.value
+answer tree o (requests.SetBoolean truth) = []
+answer tree o (requests.SetNumber n) = []
+
+-- how many parameters the answer has (ParamCount)
+abbrev pub setting_count : Value → ℕ
+setting_count (values.Number range) = 3
+setting_count _ = 1
+
+unfoldable pub answer_count : Value → Request → ℕ
+answer_count value requests.GetClassIdentification = 1
+answer_count value requests.GetLockable = 1
+answer_count value requests.LockTotal = 0
+answer_count value requests.Unlock = 0
+answer_count value requests.GetRole = 1
+answer_count value requests.LockReadonly = 0
+answer_count value requests.GetEnabled = 1
+answer_count value (requests.SetEnabled truth) = 0
+answer_count value requests.GetLabel = 1
+answer_count value (requests.SetLabel text) = 0
+answer_count value requests.GetOwner = 1
+answer_count value requests.GetMembers = 1
+answer_count value requests.GetMembersRecursive = 1
+answer_count value requests.GetState = 1
+answer_count value (requests.SetState n) = 0
+answer_count value requests.GetPosition = 3
+answer_count value (requests.SetPosition n) = 0
+answer_count value (requests.GetPositionName n) = 1
+answer_count value (requests.SetPositionName n text) = 0
+answer_count value requests.GetPositionNames = 1
+answer_count value (requests.SetPositionNames texts) = 0
+answer_count value (requests.GetPositionEnabled n) = 1
+answer_count value (requests.SetPositionEnabled n truth) = 0
+answer_count value requests.GetPositionEnableds = 1
+answer_count value (requests.SetPositionEnableds truths) = 0
+answer_count value requests.GetSetting = setting_count value
+answer_count value (requests.SetBoolean truth) = 0
+answer_count value (requests.SetNumber n) = 0
+
+-- ---- what each method changes
+
+abbrev pub mute_state : ℕ → MuteState
+mute_state n = if n == 1 then Muted else Unmuted
+
+abbrev pub polarity_state : ℕ → PolarityState
+polarity_state n = if n == 1 then NonInverted else Inverted
+
+abbrev pub changed_mute : MuteState → Request → MuteState
+changed_mute state (requests.SetState n) = mute_state n
+changed_mute state _ = state
+
+abbrev pub changed_polarity : PolarityState → Request → PolarityState
+changed_polarity state (requests.SetState n) = polarity_state n
+changed_polarity state _ = state
+
+abbrev pub changed_switch : Switch → Request → Switch
+changed_switch switch (requests.SetPosition n) = record switch { position = n }
+changed_switch switch (requests.SetPositionName n text) = record switch { names = record { items = slice_set switch.names.items n text } }
+changed_switch switch (requests.SetPositionNames texts) = record switch { names = texts }
+changed_switch switch (requests.SetPositionEnabled n truth) = record switch { enableds = record { items = slice_set switch.enableds.items n truth } }
+changed_switch switch (requests.SetPositionEnableds truths) = record switch { enableds = truths }
+changed_switch switch _ = switch
+
+abbrev pub changed_truth : Bool → Request → Bool
+changed_truth truth (requests.SetBoolean set) = set
+changed_truth truth _ = truth
+
+abbrev pub changed_range : Range → Request → Range
+changed_range range (requests.SetNumber n) = record range { setting = n }
+changed_range range _ = range
+
+-- the value with what was set
+unfoldable pub changed_value : Value → Request → Value
+changed_value values.Block request = values.Block
+changed_value (values.Mute state) request = values.Mute (changed_mute state request)
+changed_value (values.Polarity state) request = values.Polarity (changed_polarity state request)
+changed_value (values.Switch switch) request = values.Switch (changed_switch switch request)
+changed_value (values.Boolean truth) request = values.Boolean (changed_truth truth request)
+changed_value (values.Number range) request = values.Number (changed_range range request)
+
+-- the object with its lock, its label or whether it is enabled set, or else its value with what was set
+unfoldable pub changed : Object → Peer → Request → Object
+changed o peer requests.LockTotal = record o { lock = Some (record { kind = Total; holder = peer }) }
+changed o peer requests.LockReadonly = record o { lock = Some (record { kind = Readonly; holder = peer }) }
+changed o peer requests.Unlock = record o { lock = None }
+changed o peer (requests.SetEnabled truth) = record o { enabled = truth }
+changed o peer (requests.SetLabel text) = record o { label = text }
+changed o peer request = record o { value = changed_value o.value request }
+
+-- ---- the status
+
+-- what a command finds in a tree: its object, what the class of that knows of the method, and what is asked
+abbrev pub kind_at : Option Object → CommandFields → MethodKind
+kind_at None c = Unknown
+kind_at (Some o) c = method_kind (class_of o.value) (record { level = c.level; index = c.index })
+
+abbrev pub request_at : Option Object → MethodKind → CommandFields → Option Request
+request_at (Some o) (Known method access) c = request_of o.value method c.count c.params
+request_at _ _ c = None
+
+abbrev pub is_unknown : MethodKind → Bool
+is_unknown Unknown = true
+is_unknown _ = false
+
+abbrev pub is_left_out : MethodKind → Bool
+is_left_out LeftOut = true
+is_left_out _ = false
+
+-- whether a lock refuses the method
+abbrev pub is_locked : Option Object → MethodKind → Peer → Bool
+is_locked (Some o) (Known method access) peer = lock_refuses o.lock peer access
+is_locked _ _ peer = false
+
+-- a test of an object and what is asked of it
+abbrev pub on_both : (Object → Request → Bool) → Option Object → Option Request → Bool
+on_both test (Some o) (Some request) = test o request
+on_both test _ _ = false
+
+-- the status of the first line whose condition holds
+abbrev pub first_that_applies : List (Bool × Status) → Status
+first_that_applies [] = status.Ok
+first_that_applies (line ∷ lines) = if line.0 then line.1 else first_that_applies lines
+
+abbrev pub status_lines : List Object → Peer → Option Object → MethodKind → Option Request → List (Bool × Status)
+status_lines tree peer o method request =
+    (is_none o, status.BadOno)
+    ∷ (is_unknown method, status.BadMethod)
+    ∷ (is_left_out method, status.NotImplemented)
+    ∷ (is_locked o method peer, status.Locked)
+    ∷ (is_none request, status.ParameterError)
+    ∷ (on_both (λ o r. is_out_of_range o.value r) o request, status.ParameterOutOfRange)
+    ∷ (on_both (λ o r. is_invalid o.lockable o.lock r) o request, status.InvalidRequest)
+    ∷ (on_both (λ o r. nat_lt 1452 (length (answer tree o r))) o request, status.BufferOverflow)
+    ∷ []
+
+abbrev pub status_of : List Object → Peer → Option Object → CommandFields → Status
+status_of tree peer o c = first_that_applies (status_lines tree peer o (kind_at o c) (request_at o (kind_at o c) c))
+
+-- ---- the whole
+
+-- the tree after a command, and the status, the ParamCount and the parameters of the answer
+pub record Execution : Type 0 where
+  pub tree : List Object
+  pub status : Status
+  pub count : ℕ
+  pub parameters : List ℕ
+
+-- a refusal changes nothing and has no parameters
+abbrev pub refused : List Object → Status → Execution
+refused tree status = record { tree = tree; status = status; count = 0; parameters = [] }
+
+abbrev pub carried_out : List Object → Peer → Object → Request → Execution
+carried_out tree peer o r =
+    record { tree = with_object tree (changed o peer r); status = status.Ok; count = answer_count o.value r; parameters = answer tree o r }
+
+-- a command is carried out where its status is OK, and else refused
+abbrev pub by_status : List Object → Peer → Option Object → Option Request → Status → Execution
+by_status tree peer (Some o) (Some r) status.Ok = carried_out tree peer o r
+by_status tree peer _ _ status = refused tree status
+
+unfoldable pub execution : List Object → Peer → CommandFields → Execution
+execution tree peer c =
+    let o = object_of tree c.target in
+    by_status tree peer o (request_at o (kind_at o c) c) (status_of tree peer o c)

@@ -1,0 +1,11 @@
+pub mod Kinds
+pub mod Places
+pub mod Objects
+pub mod Locks
+pub mod Requests
+pub mod Execution
+pub mod Trees
+pub mod Building
+pub mod Bench
+pub mod Readers
+pub mod Inside

@@ -1,0 +1,38 @@
+-- Objects: their classes, their members, and the tree as the list of them in order of adding (AES70-1, AES70-2).
+use Rattle.std.specs.Prelude.{ℕ, ◌==◌, Bool, List, [], ◌∷◌, if◌then◌else◌, Option, length, map}
+use Rattle.std.specs.List.{find, filter}
+use Rattle.oca_types.specs.declared.class.Class.{Class}
+use Rattle.oca_types.specs.declared.class.Class.TheVariants as class
+use Rattle.oca_tree.specs.declared.object.Object.{Object}
+use Rattle.oca_tree.specs.declared.object.Value.{Value}
+use Rattle.oca_tree.specs.declared.object.Value.TheVariants.{Block, Mute, Polarity, Switch, Boolean, Number}
+use Rattle.oca_tree.specs.Kinds.{number_class}
+use Rattle.oca_tree.specs.Places.{places, reaches}
+
+unfoldable pub class_of : Value → Class
+class_of Block = class.Block
+class_of (Mute _) = class.Mute
+class_of (Polarity _) = class.Polarity
+class_of (Switch _) = class.Switch
+class_of (Boolean _) = class.Boolean
+class_of (Number range) = number_class range.kind
+
+abbrev pub has_number : ℕ → Object → Bool
+has_number number o = o.ono.0 == number
+
+-- the object of this number
+abbrev pub object_of : List Object → ℕ → Option Object
+object_of tree number = find (has_number number) tree
+
+-- the same tree with this object in the place of the one with its number
+abbrev pub with_object : List Object → Object → List Object
+with_object [] new = []
+with_object (o ∷ os) new = if o.ono.0 == new.ono.0 then new ∷ os else o ∷ with_object os new
+
+-- the objects whose container is the block, in order of adding
+abbrev pub members : List Object → ℕ → List Object
+members tree block = filter (λ o. o.container.0 == block) tree
+
+-- the objects whose chain of containers reaches the block, in order of adding
+abbrev pub descendants : List Object → ℕ → List Object
+descendants tree block = filter (λ o. reaches (places tree) block o.container.0) tree

@@ -1,0 +1,33 @@
+-- What is read of a tree.
+use Rattle.std.specs.Prelude.{ℕ, List, Option, Some, None, slice_get}
+use Rattle.std.specs.Option.{option_map, option_and_then}
+use Rattle.oca_tree.specs.declared.object.Object.{Object}
+use Rattle.oca_tree.specs.declared.object.Lock.{Lock}
+use Rattle.oca_tree.specs.declared.object.Value.{Value}
+use Rattle.oca_tree.specs.declared.object.Value.TheVariants as values
+use Rattle.oca_tree.specs.declared.tree.ObjectInfo.{ObjectInfo}
+use Rattle.oca_tree.specs.declared.tree.Setting.{Setting}
+use Rattle.oca_tree.specs.declared.tree.Setting.TheVariants.{State, Position, Truth, Number}
+use Rattle.oca_tree.specs.Objects.{class_of, object_of}
+use Rattle.oca_tree.specs.Execution.{mute_number, polarity_number}
+
+abbrev pub info_of : Object → ObjectInfo
+info_of o = record { ono = o.ono; class = class_of o.value; container = o.container; role = o.role }
+
+-- the object at this place, counted from 0 in order of adding
+abbrev pub info_at : List Object → ℕ → Option ObjectInfo
+info_at tree n = option_map info_of (slice_get tree n)
+
+abbrev pub lock_at : List Object → ℕ → Option Lock
+lock_at tree number = option_and_then (λ o. o.lock) (object_of tree number)
+
+unfoldable pub value_setting : Value → Option Setting
+value_setting values.Block = None
+value_setting (values.Mute state) = Some (State (mute_number state))
+value_setting (values.Polarity state) = Some (State (polarity_number state))
+value_setting (values.Switch switch) = Some (Position switch.position)
+value_setting (values.Boolean truth) = Some (Truth truth)
+value_setting (values.Number range) = Some (Number range.setting range.least range.greatest)
+
+abbrev pub setting_at : List Object → ℕ → Option Setting
+setting_at tree number = option_and_then (λ o. value_setting o.value) (object_of tree number)

@@ -1,0 +1,57 @@
+-- What holds of every tree.
+use Rattle.std.specs.Prelude.{◌≡◌, ℕ, ◌+◌, ◌≤◌, ◌<◌, true, List, [], ◌∷◌, ◌++◌, length, Option, Some, None, ℤ, ◌≤ℤ◌, IsTrue, Bool}
+use Rattle.std.specs.List.{All}
+use Rattle.oca_tree.specs.declared.object.Object.{Object}
+use Rattle.oca_tree.specs.declared.object.Lock.{Lock}
+use Rattle.oca_tree.specs.declared.object.Range.{Range}
+use Rattle.oca_tree.specs.declared.object.Switch.{Switch}
+use Rattle.oca_tree.specs.declared.object.Value.{Value}
+use Rattle.oca_tree.specs.declared.object.Value.TheVariants.{Block, Mute, Polarity, Switch as AsSwitch, Boolean, Number}
+use Rattle.oca_tree.specs.Kinds.{IsOfType}
+use Rattle.oca_tree.specs.Places.{Place, places, place_at, is_block_at, depth}
+
+-- A number's setting lies in its range, and all three are of its type.
+pub record IsSoundRange (range : Range) : Type 0 where
+  pub setting : IsOfType range.kind range.setting
+  pub least : IsOfType range.kind range.least
+  pub greatest : IsOfType range.kind range.greatest
+  pub above : range.least ≤ℤ range.setting
+  pub below : range.setting ≤ℤ range.greatest
+
+-- A switch has 1 to 16 positions, each with its name and enabled or not, and the current one is among them.
+pub record IsSoundSwitch (switch : Switch) : Type 0 where
+  pub few : length switch.names.items ≤ 16
+  pub both : length switch.enableds.items ≡ length switch.names.items
+  pub position : switch.position < length switch.names.items
+
+unfoldable pub IsSoundValue : Value → Type 0
+IsSoundValue (Number range) = IsSoundRange range
+IsSoundValue (AsSwitch switch) = IsSoundSwitch switch
+IsSoundValue _ = Unit {0}
+
+-- Only a lockable object has a lock.
+abbrev pub IsSoundLock : Bool → Option Lock → Type 0
+IsSoundLock lockable None = Unit {0}
+IsSoundLock lockable (Some _) = IsTrue lockable
+
+pub record IsSound (o : Object) : Type 0 where
+  pub value : IsSoundValue o.value
+  pub lock : IsSoundLock o.lockable o.lock
+
+-- An object can be added at this place: its number is free and none of those that are reserved, and its container is a block
+-- that stands before it and is at most at depth 7.
+pub record IsFree (ps : List Place) (p : Place) : Type 0 where
+  pub number : 4096 ≤ p.number
+  pub untaken : place_at ps p.number ≡ None
+  pub container : is_block_at ps p.container ≡ true
+  pub shallow : depth ps p.container < 8
+
+-- The first place is that of the root block, which has the number 100 and no container, and each other was free when it was taken.
+pub data IsBuilt : List Place → Type 0 where
+  root : IsBuilt (record { number = 100; container = 0; block = true } ∷ [])
+  next : (ps : List Place) (p : Place) → IsBuilt ps → IsFree ps p → IsBuilt (ps ++ p ∷ [])
+
+pub record IsTree (tree : List Object) : Type 0 where
+  pub built : IsBuilt (places tree)
+  pub objects : All IsSound tree
+  pub few : length tree ≤ 128

@@ -1,0 +1,269 @@
+//! Writing the parameters of an answer.
+ghost use Rattle.std.specs.Prelude.{◌≡◌, ◌==◌, ◌≤◌, ◌<◌, length, false};
+ghost use Rattle.std.specs.List.{flat_map, filter};
+ghost use Rattle.std.specs.Int.{w8};
+ghost use Rattle.oca_types.specs.Numbers.{bool_encoding};
+ghost use Rattle.oca_types.specs.Texts.{text_encoding};
+ghost use Rattle.oca_tree.specs.Requests.{is_out_of_range};
+ghost use Rattle.oca_tree.specs.Execution.{list_encoding, state_answer, position_answer, switch_answer, position_request_answer, setting_answer, answer, answer_count, mute_number, polarity_number};
+ghost use Rattle.oca_tree.specs.Requests.{is_bad_position};
+ghost use Rattle.oca_tree.specs.Trees.{IsSoundValue, IsSoundSwitch, IsSoundRange};
+ghost use Rattle.oca_tree.specs.Inside.{Puts, is_listed, item_encoding};
+ghost use Rattle.oca_tree.specs.declared.object.Value.TheVariants.{Number};
+
+use crate::object::{MuteState, Object, PolarityState, Range, Switch, Value};
+use crate::place::reaches;
+use crate::put::{put_bool, put_class, put_number, put_text, put_u8, put_u16, put_u32};
+use crate::request::Request;
+use oca_types::{Ono, Params, PutFault, Text};
+
+/// An object's number and class, and where all descendants are listed its container too.
+fn put_item(out: &mut Params, object: &Object, deep: bool) -> Result<(), PutFault>
+    ensures { Puts result out.old.items out.new.items (item_encoding deep object.now) }
+{
+    put_u32(out, object.ono.0)?;
+    put_class(out, object.class())?;
+    if deep {
+        put_u32(out, object.container.0)?;
+    }
+    Ok(())
+}
+
+fn is_listed(objects: &[Object], object: &Object, block: Ono, deep: bool) -> bool
+    ensures { result ≡ is_listed objects.now block.0 deep object.now }
+{
+    if deep {
+        reaches(objects, block, object.container)
+    } else {
+        object.container == block
+    }
+}
+
+#[tactic(auto, using(crate::proofs::Positions::counted))]
+fn listed_count(objects: &[Object], block: Ono, deep: bool) -> usize
+    ensures few { result ≤ length objects.now }
+    ensures count { result ≡ length (filter (is_listed objects.now block.0 deep) objects.now) }
+{
+    objects
+        .iter()
+        .filter(|object| is_listed(objects, object, block, deep))
+        .count()
+}
+
+fn put_items(
+    out: &mut Params,
+    objects: &[Object],
+    block: Ono,
+    deep: bool,
+) -> Result<(), PutFault>
+    ensures { Puts result out.old.items out.new.items (flat_map (item_encoding deep) (filter (is_listed objects.now block.0 deep) objects.now)) }
+{
+    for object in objects {
+        if is_listed(objects, object, block, deep) {
+            put_item(out, object, deep)?;
+        }
+    }
+    Ok(())
+}
+
+/// The members of a block, or all that lie in it however deep.
+fn put_members(
+    out: &mut Params,
+    objects: &[Object],
+    block: Ono,
+    deep: bool,
+) -> Result<(), PutFault>
+    requires { length objects.now ≤ 128 }
+    ensures { Puts result out.old.items out.new.items (list_encoding (item_encoding deep) (filter (is_listed objects.now block.0 deep) objects.now)) }
+{
+    put_u16(out, listed_count(objects, block, deep) as u16)?;
+    put_items(out, objects, block, deep)
+}
+
+fn mute_number(state: MuteState) -> u8
+    ensures { result ≡ mute_number state }
+{
+    state as u8
+}
+
+fn polarity_number(state: PolarityState) -> u8
+    ensures { result ≡ polarity_number state }
+{
+    state as u8
+}
+
+fn put_state(out: &mut Params, value: &Value) -> Result<(), PutFault>
+    ensures { Puts result out.old.items out.new.items (state_answer value.now) }
+{
+    match value {
+        Value::Mute(state) => put_u8(out, mute_number(*state)),
+        Value::Polarity(state) => put_u8(out, polarity_number(*state)),
+        _ => Ok(()),
+    }
+}
+
+/// The position, the least and the greatest.
+fn put_position(out: &mut Params, switch: &Switch) -> Result<(), PutFault>
+    requires { IsSoundSwitch switch.now }
+    ensures { Puts result out.old.items out.new.items (position_answer switch.now) }
+{
+    put_u16(out, switch.position)?;
+    put_u16(out, 0)?;
+    put_u16(out, (switch.names.len() - 1) as u16)
+}
+
+fn put_texts(out: &mut Params, texts: &[Text]) -> Result<(), PutFault>
+    ensures { Puts result out.old.items out.new.items (flat_map text_encoding texts.now) }
+{
+    for text in texts {
+        put_text(out, text)?;
+    }
+    Ok(())
+}
+
+fn put_bools(out: &mut Params, truths: &[bool]) -> Result<(), PutFault>
+    ensures { Puts result out.old.items out.new.items (flat_map bool_encoding truths.now) }
+{
+    for truth in truths {
+        put_bool(out, *truth)?;
+    }
+    Ok(())
+}
+
+fn put_text_list(out: &mut Params, texts: &[Text]) -> Result<(), PutFault>
+    requires { length texts.now ≤ 16 }
+    ensures { Puts result out.old.items out.new.items (list_encoding text_encoding texts.now) }
+{
+    put_u16(out, texts.len() as u16)?;
+    put_texts(out, texts)
+}
+
+fn put_bool_list(out: &mut Params, truths: &[bool]) -> Result<(), PutFault>
+    requires { length truths.now ≤ 16 }
+    ensures { Puts result out.old.items out.new.items (list_encoding bool_encoding truths.now) }
+{
+    put_u16(out, truths.len() as u16)?;
+    put_bools(out, truths)
+}
+
+fn put_switch_answer(
+    out: &mut Params,
+    switch: &Switch,
+    request: &Request,
+) -> Result<(), PutFault>
+    requires sound { IsSoundSwitch switch.now }
+    requires there { is_bad_position switch.now request.now ≡ false }
+    ensures { Puts result out.old.items out.new.items (switch_answer switch.now request.now) }
+{
+    match request {
+        Request::GetPosition => put_position(out, switch),
+        Request::GetPositionName(position) => {
+            put_text(out, &switch.names[usize::from(*position)])
+        }
+        Request::GetPositionNames => put_text_list(out, &switch.names),
+        Request::GetPositionEnabled(position) => {
+            put_bool(out, switch.enableds[usize::from(*position)])
+        }
+        Request::GetPositionEnableds => put_bool_list(out, &switch.enableds),
+        _ => Ok(()),
+    }
+}
+
+#[tactic(auto, unfolding(crate::specs::Requests::is_out_of_range, crate::specs::Trees::IsSoundValue))]
+fn put_position_answer(
+    out: &mut Params,
+    value: &Value,
+    request: &Request,
+) -> Result<(), PutFault>
+    requires sound { IsSoundValue value.now }
+    requires there { is_out_of_range value.now request.now ≡ false }
+    ensures { Puts result out.old.items out.new.items (position_request_answer value.now request.now) }
+{
+    match value {
+        Value::Switch(switch) => put_switch_answer(out, switch, request),
+        _ => Ok(()),
+    }
+}
+
+fn put_range(out: &mut Params, range: &Range) -> Result<(), PutFault>
+    requires { IsSoundRange range.now }
+    ensures { Puts result out.old.items out.new.items (setting_answer (Number range.now)) }
+{
+    put_number(out, range.kind, range.setting)?;
+    put_number(out, range.kind, range.least)?;
+    put_number(out, range.kind, range.greatest)
+}
+
+/// The setting, and of a number its least and its greatest too.
+#[tactic(auto, unfolding(crate::specs::Trees::IsSoundValue))]
+fn put_setting(out: &mut Params, value: &Value) -> Result<(), PutFault>
+    requires { IsSoundValue value.now }
+    ensures { Puts result out.old.items out.new.items (setting_answer value.now) }
+{
+    match value {
+        Value::Boolean(truth) => put_bool(out, *truth),
+        Value::Number(range) => put_range(out, range),
+        _ => Ok(()),
+    }
+}
+
+/// How many parameters the answer has.
+#[tactic(auto, unfolding(crate::specs::Execution::answer_count))]
+pub(crate) fn answer_count(value: &Value, request: &Request) -> u8
+    ensures { result ≡ answer_count value.now request.now }
+{
+    match request {
+        Request::GetClassIdentification
+        | Request::GetLockable
+        | Request::GetRole
+        | Request::GetEnabled
+        | Request::GetLabel
+        | Request::GetOwner
+        | Request::GetMembers
+        | Request::GetMembersRecursive
+        | Request::GetState
+        | Request::GetPositionName(_)
+        | Request::GetPositionNames
+        | Request::GetPositionEnabled(_)
+        | Request::GetPositionEnableds => 1,
+        Request::GetPosition => 3,
+        Request::GetSetting => match value {
+            Value::Number(_) => 3,
+            _ => 1,
+        },
+        _ => 0,
+    }
+}
+
+/// The parameters of the answer.
+#[tactic(auto, unfolding(crate::specs::Execution::answer))]
+pub(crate) fn put_answer(
+    out: &mut Params,
+    objects: &[Object],
+    object: &Object,
+    request: &Request,
+) -> Result<(), PutFault>
+    requires sound { IsSoundValue object.now.value }
+    requires range { is_out_of_range object.now.value request.now ≡ false }
+    requires few { length objects.now ≤ 128 }
+    ensures { Puts result out.old.items out.new.items (answer objects.now object.now request.now) }
+{
+    match request {
+        Request::GetClassIdentification => put_class(out, object.class()),
+        Request::GetLockable => put_bool(out, object.lockable),
+        Request::GetRole => put_text(out, &object.role),
+        Request::GetEnabled => put_bool(out, object.enabled),
+        Request::GetLabel => put_text(out, &object.label),
+        Request::GetOwner => put_u32(out, object.container.0),
+        Request::GetMembers => put_members(out, objects, object.ono, false),
+        Request::GetMembersRecursive => put_members(out, objects, object.ono, true),
+        Request::GetState => put_state(out, &object.value),
+        Request::GetPosition
+        | Request::GetPositionName(_)
+        | Request::GetPositionNames
+        | Request::GetPositionEnabled(_)
+        | Request::GetPositionEnableds => put_position_answer(out, &object.value, request),
+        Request::GetSetting => put_setting(out, &object.value),
+        _ => Ok(()),
+    }
+}

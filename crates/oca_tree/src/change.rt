@@ -1,0 +1,107 @@
+//! What a request changes in its object.
+ghost use Rattle.std.specs.Prelude.{◌≡◌, ◌<◌, length, slice_set, false};
+ghost use Rattle.oca_tree.specs.Requests.{is_out_of_range};
+ghost use Rattle.oca_tree.specs.Execution.{changed, changed_value, changed_switch, mute_state, polarity_state};
+ghost use Rattle.oca_tree.specs.Requests.{is_bad_position};
+ghost use Rattle.oca_tree.specs.Trees.{IsSoundValue, IsSoundSwitch};
+
+use crate::object::{Lock, LockKind, MuteState, Object, PolarityState, Switch, Value};
+use crate::request::Request;
+use oca_types::Peer;
+
+fn mute_state(state: u8) -> MuteState
+    ensures { result ≡ mute_state state }
+{
+    if state == 1 {
+        MuteState::Muted
+    } else {
+        MuteState::Unmuted
+    }
+}
+
+fn polarity_state(state: u8) -> PolarityState
+    ensures { result ≡ polarity_state state }
+{
+    if state == 1 {
+        PolarityState::NonInverted
+    } else {
+        PolarityState::Inverted
+    }
+}
+
+fn change_switch(switch: &mut Switch, request: Request)
+    requires sound { IsSoundSwitch switch.old }
+    requires there { is_bad_position switch.old request ≡ false }
+    ensures { switch.new ≡ changed_switch switch.old request }
+{
+    match request {
+        Request::SetPosition(position) => switch.position = position,
+        Request::SetPositionName(position, name) => switch.names[usize::from(position)] = name,
+        Request::SetPositionNames(names) => switch.names = names,
+        Request::SetPositionEnabled(position, truth) => {
+            switch.enableds[usize::from(position)] = truth;
+        }
+        Request::SetPositionEnableds(truths) => switch.enableds = truths,
+        _ => {}
+    }
+}
+
+/// Sets what a request sets of a value; any other leaves it.
+#[tactic(auto, unfolding(crate::specs::Execution::changed_value, crate::specs::Requests::is_out_of_range, crate::specs::Trees::IsSoundValue))]
+fn change_value(value: &mut Value, request: Request)
+    requires sound { IsSoundValue value.old }
+    requires there { is_out_of_range value.old request ≡ false }
+    ensures { value.new ≡ changed_value value.old request }
+{
+    match value {
+        Value::Mute(state) => {
+            if let Request::SetState(number) = request {
+                *state = mute_state(number);
+            }
+        }
+        Value::Polarity(state) => {
+            if let Request::SetState(number) = request {
+                *state = polarity_state(number);
+            }
+        }
+        Value::Switch(switch) => change_switch(switch, request),
+        Value::Boolean(truth) => {
+            if let Request::SetBoolean(set) = request {
+                *truth = set;
+            }
+        }
+        Value::Number(range) => {
+            if let Request::SetNumber(setting) = request {
+                range.setting = setting;
+            }
+        }
+        Value::Block => {}
+    }
+}
+
+/// Carries out what a request changes.
+#[tactic(auto, unfolding(crate::specs::Execution::changed))]
+pub(crate) fn change(object: &mut Object, peer: Peer, request: Request)
+    requires sound { IsSoundValue object.old.value }
+    requires range { is_out_of_range object.old.value request ≡ false }
+    ensures { object.new ≡ changed object.old peer request }
+{
+    match request {
+        Request::LockTotal => {
+            object.lock = Some(Lock {
+                kind: LockKind::Total,
+                holder: peer,
+            });
+        }
+        Request::LockReadonly => {
+            object.lock = Some(Lock {
+                kind: LockKind::Readonly,
+                holder: peer,
+            });
+        }
+        Request::Unlock => object.lock = None,
+        Request::SetEnabled(enabled) => object.enabled = enabled,
+        Request::SetLabel(label) => object.label = label,
+        other => change_value(&mut object.value, other),
+    }
+}

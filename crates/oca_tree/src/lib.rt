@@ -1,0 +1,21 @@
+//! The objects of a device (AES70-2): their tree, their ranges and their locks.
+//!
+//! Begin with [`TreeBuilder`], which adds objects one by one, and [`Tree::execute`], which carries a
+//! peer's command out. Once a tree is built nothing here takes memory, and nothing reads a clock.
+#![tactic(auto)]
+
+mod answer;
+mod builder;
+mod change;
+mod execute;
+mod object;
+mod place;
+mod put;
+mod request;
+mod take;
+mod tree;
+
+pub use builder::{AddFault, Kind, Spec, TreeBuilder};
+pub use object::{Lock, LockKind, MuteState, NumberKind, Object, PolarityState, Range, Switch, Value};
+pub use request::Request;
+pub use tree::{Done, ObjectInfo, Setting, Tree};

@@ -1,0 +1,116 @@
+//! The tree: executing commands, taking locks off, and reading its objects.
+ghost use Rattle.std.specs.Prelude.{◌≡◌, length, option_map};
+ghost use Rattle.oca_types.specs.Peers.{fields_of};
+ghost use Rattle.oca_tree.specs.Locks.{released};
+ghost use Rattle.oca_tree.specs.Trees.{IsTree};
+ghost use Rattle.oca_tree.specs.Execution.{execution};
+
+use crate::execute::carry_out;
+use crate::object::{Lock, Object, Value};
+use crate::place::place_of;
+use oca_types::{Class, Command, Ono, Params, Peer, Status, Text};
+use std::marker::Model;
+
+/// What executing a command gave: the status and the ParamCount of the answer.
+#[derive(Clone, Copy, Debug, PartialEq, Eq)]
+pub struct Done {
+    pub status: Status,
+    pub count: u8,
+}
+
+/// What an object is.
+#[derive(Drop)]
+pub struct ObjectInfo {
+    pub ono: Ono,
+    pub class: Class,
+    /// The number of the block that contains it, 0 for the root.
+    pub container: Ono,
+    pub role: Text,
+}
+
+/// How an object is set: by the number of a state, a position, a truth or a number with its limits.
+#[derive(Clone, Copy, Debug, PartialEq, Eq)]
+pub enum Setting {
+    State(u8),
+    Position(u16),
+    Truth(bool),
+    Number {
+        setting: i128,
+        least: i128,
+        greatest: i128,
+    },
+}
+
+/// The objects of a device. Contracts see the list of them in order of adding.
+#[derive(Drop)]
+pub struct Tree {
+    objects: Vec<Object>,
+}
+
+impl Model for Tree {
+    ghost use Rattle.std.specs.Prelude.{List};
+    ghost use Rattle.oca_tree.specs.declared.object.Object.{Object as Item};
+    ghost use Rattle.oca_tree.specs.Trees.{IsTree};
+
+    ghost Value = { List Item };
+
+    ghost view = { λ t. t.objects.items };
+
+    ghost invariant = { λ t. IsTree t.objects.items };
+}
+
+impl Tree {
+    /// The tree of these objects.
+    pub(crate) fn of(objects: Vec<Object>) -> Tree
+        requires { IsTree objects.items }
+        ensures { result ≡ objects.items }
+    {
+        Tree { objects }
+    }
+
+    /// Executes a command of the peer (AES70-2; the order of the statuses is the profile's). `out` is
+    /// emptied first; then it holds the answer's parameters, and none where the status is not OK. A
+    /// refusal changes no object.
+    pub fn execute(&mut self, peer: Peer, command: &Command<'_>, out: &mut Params) -> Done
+        ensures tree { self.new ≡ (execution self.old peer (fields_of command.now)).tree }
+        ensures status { result.status ≡ (execution self.old peer (fields_of command.now)).status }
+        ensures count { result.count ≡ (execution self.old peer (fields_of command.now)).count }
+        ensures parameters { out.new.items ≡ (execution self.old peer (fields_of command.now)).parameters }
+    {
+        out.clear();
+        match carry_out(&mut self.objects, peer, command, out) {
+            Ok(count) => Done {
+                status: Status::Ok,
+                count,
+            },
+            Err(status) => {
+                out.clear();
+                Done { status, count: 0 }
+            }
+        }
+    }
+
+    /// Takes every lock of the peer off.
+    pub fn release(&mut self, peer: Peer)
+        ensures { self.new ≡ released self.old peer }
+    {
+        release_all(&mut self.objects, peer);
+    }
+
+    /// How many objects there are, the root counted: 1 to 128.
+    pub fn len(&self) -> usize
+        ensures { result ≡ length self.now }
+    {
+        self.objects.len()
+    }
+}
+
+fn release_all(objects: &mut [Object], peer: Peer)
+    requires { IsTree objects.old }
+    ensures tree { IsTree objects.new }
+    ensures objects { objects.new ≡ released objects.old peer }
+{
+    for object in objects.iter_mut() {
+        object.release(peer);
+    }
+}
