@@ -1,0 +1,5 @@
+pub mod Events
+pub mod Notes
+pub mod States
+pub mod Answers
+pub mod Devices
