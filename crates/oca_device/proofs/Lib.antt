@@ -1,1 +1,5 @@
-
+pub mod Lists
+pub mod Peers
+pub mod Runs
+pub mod Opened
+pub mod Steps

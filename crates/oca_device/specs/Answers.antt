@@ -10,6 +10,7 @@ use Rattle.oca_pdu.specs.Encoding.{pdu_encoding}
 use Rattle.oca_pdu.specs.Reading.{read_datagram}
 use Rattle.oca_tree.specs.declared.object.Object.{Object}
 use Rattle.oca_session.specs.Accepted.{Judgement, Fresh, Duplicate, Old}
+use Rattle.oca_device.specs.declared.counts.Counts.{Counts}
 use Rattle.oca_device.specs.declared.verdict.Verdict.{Verdict}
 use Rattle.oca_device.specs.declared.verdict.Verdict.TheVariants as verdicts
 use Rattle.oca_device.specs.Events.{Event, Datagram, Tick}
@@ -73,11 +74,6 @@ packets w tree events e = packets_of (answers w tree events e)
 -- ---- the verdict
 
 -- numbers of executed commands, of duplicates and of old commands
-pub record Counts : Type 0 where
-  pub executed : ℕ
-  pub kept : ℕ
-  pub old : ℕ
-
 abbrev pub counts : ℕ → ℕ → ℕ → Counts
 counts executed kept old = record { executed = executed; kept = kept; old = old }
 

@@ -3,3 +3,5 @@ pub mod Notes
 pub mod States
 pub mod Answers
 pub mod Devices
+pub mod Outboxes
+pub mod Serving
