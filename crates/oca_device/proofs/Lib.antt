@@ -3,3 +3,4 @@ pub mod Peers
 pub mod Runs
 pub mod Opened
 pub mod Steps
+pub mod Bounds

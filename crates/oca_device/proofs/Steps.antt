@@ -1,6 +1,6 @@
 -- What each step of serving does to a device that is in a state.
 use Rattle.std.proofs.Common.{◌≡◌, ℕ, ◌+◌, ◌≤◌, ◌<◌, Bool, true, false, cond, List, [], ◌∷◌, ◌++◌, length, refl, sym, ap, ◌∙◌, subst, arith}
-use Rattle.std.specs.Prelude.{map, min, max, nat_lt, ◌||◌, IfSome, Option, Some, None, IsSome}
+use Rattle.std.specs.Prelude.{map, min, max, nat_lt, ◌||◌, IfSome, Option, Some, None, IsSome, Result, Ok}
 use Rattle.std.proofs.lemmas.Bool.Decides.{nat_tests}
 use Rattle.std.proofs.lemmas.List.{append_assoc, length-map, map-append}
 use Rattle.oca_types.specs.declared.words.Peer.{Peer}
@@ -9,12 +9,15 @@ use Rattle.oca_session.specs.declared.sessions.Heard.{Heard}
 use Rattle.oca_session.specs.declared.sessions.Heard.TheVariants as heard
 use Rattle.oca_session.specs.Accepted.{Entry, retained_of, Agrees, Judgement, Fresh, Duplicate, Old}
 use Rattle.oca_session.specs.Table.{Session, Table, session_of, changed, opened, heard_at, with_heartbeat, with_accepted, with_sessions, at_with, present, lapsed, staying, Hears, AgreesAt}
+use Rattle.oca_pdu.specs.declared.fault.PduFault.{PduFault}
+use Rattle.oca_pdu.specs.Reading.{read_datagram}
 use Rattle.oca_device.specs.declared.counts.Counts.{Counts}
+use Rattle.oca_device.specs.declared.verdict.Verdict.TheVariants as verdicts
 use Rattle.oca_device.specs.Notes.{What, Admitted, Heartbeat, Executed, Note, run, is_known, known, last_moment, heartbeat_of, accepted}
-use Rattle.oca_device.specs.States.{State, noted, moved_to, lapsed_at, admits, judged_in, reply_of, after_command, after_message, after_messages, time_of}
-use Rattle.oca_device.specs.Answers.{counts, plus, answer_to, answers_to_messages, packets_of, packet_of, count_of, counts_of_messages}
+use Rattle.oca_device.specs.States.{State, noted, moved_to, lapsed_at, admits, judged_in, reply_of, after_command, after_message, after_messages, after_reading, time_of}
+use Rattle.oca_device.specs.Answers.{counts, plus, answer_to, answers_to_messages, packets_of, packet_of, count_of, counts_of_messages, answers_to_reading, verdict_of_reading, served}
 use Rattle.oca_device.specs.Devices.{DeviceState, session_for, table_of, IsIn}
-use Rattle.oca_device.specs.Serving.{Serves}
+use Rattle.oca_device.specs.Serving.{Serves, ServesAll, Receives}
 use Rattle.oca_device.proofs.Runs.{table_moved, lapsed_moved, session_known, table_noted, table_opened, run_goes_on, run_begins, known_now}
 
 abbrev session_in : ℕ → Peer → ℕ → List Note → Session
@@ -228,4 +231,36 @@ one_further w p d d' m rest rest' ms s before out out' n k h step has t =
         ∙ sym (plus_assoc n (count_of w p m h.mid) (counts_of_messages w p rest' next))
         ∙ sym (ap (λ xs. plus n (counts_of_messages w p xs h.mid)) step)
         ∙ h.counts_are;
+    }
+
+-- ---- a datagram is taken
+
+abbrev admitted_state : Peer → List Msg → State → State
+admitted_state p ms s = noted p (Admitted ms) s
+
+pub refused_whole : (w : ℕ) (d : DeviceState) (p : Peer) (bytes : List ℕ) (ms : List Msg) (s : State) (after : List (List ℕ)) →
+    read_datagram bytes ≡ Ok ms → admits s p ≡ false → IsIn w d s → after ≡ [] → Receives w d p bytes s after verdicts.NoRoom
+refused_whole w d p bytes ms s after reads out h none =
+    record {
+      device = subst (λ (r : Result (List Msg) PduFault). IsIn w d (after_reading w p r s)) (sym reads)
+        (subst (λ (b : Bool). IsIn w d (cond b (after_messages w p ms (admitted_state p ms s)) s)) (sym out) h);
+      packets = none ∙ sym (ap packets_of (ap (λ (r : Result (List Msg) PduFault). answers_to_reading w p r s) reads
+        ∙ ap (λ (b : Bool). cond b (answers_to_messages w p ms (admitted_state p ms s)) []) out));
+      verdict_is = sym (ap (λ (r : Result (List Msg) PduFault). verdict_of_reading w p r s) reads
+        ∙ ap (λ (b : Bool). cond b (served (counts_of_messages w p ms (admitted_state p ms s))) verdicts.NoRoom) out);
+    }
+
+pub taken_whole : (w : ℕ) (d : DeviceState) (p : Peer) (bytes : List ℕ) (ms : List Msg) (s : State) (before after : List (List ℕ)) (n : Counts) →
+    read_datagram bytes ≡ Ok ms → admits s p ≡ true → before ≡ [] → ServesAll w d p ms (admitted_state p ms s) before after n →
+    Receives w d p bytes s after (verdicts.Served n.executed n.kept n.old)
+taken_whole w d p bytes ms s before after n reads let_in none t =
+    let all = admitted_state p ms s in
+    record {
+      device = subst (λ (r : Result (List Msg) PduFault). IsIn w d (after_reading w p r s)) (sym reads)
+        (subst (λ (b : Bool). IsIn w d (cond b (after_messages w p ms all) s)) (sym let_in) t.device);
+      packets = t.packets ∙ ap (λ xs. xs ++ packets_of (answers_to_messages w p ms all)) none
+        ∙ sym (ap packets_of (ap (λ (r : Result (List Msg) PduFault). answers_to_reading w p r s) reads
+        ∙ ap (λ (b : Bool). cond b (answers_to_messages w p ms all) []) let_in));
+      verdict_is = ap served t.counts ∙ sym (ap (λ (r : Result (List Msg) PduFault). verdict_of_reading w p r s) reads
+        ∙ ap (λ (b : Bool). cond b (served (counts_of_messages w p ms all)) verdicts.NoRoom) let_in);
     }
