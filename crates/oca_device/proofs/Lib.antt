@@ -1,0 +1,6 @@
+pub mod Lists
+pub mod Peers
+pub mod Runs
+pub mod Opened
+pub mod Steps
+pub mod Bounds

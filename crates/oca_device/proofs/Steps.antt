@@ -1,0 +1,266 @@
+-- What each step of serving does to a device that is in a state.
+use Rattle.std.proofs.Common.{◌≡◌, ℕ, ◌+◌, ◌≤◌, ◌<◌, Bool, true, false, cond, List, [], ◌∷◌, ◌++◌, length, refl, sym, ap, ◌∙◌, subst, arith}
+use Rattle.std.specs.Prelude.{map, min, max, nat_lt, ◌||◌, IfSome, Option, Some, None, IsSome, Result, Ok}
+use Rattle.std.proofs.lemmas.Bool.Decides.{nat_tests}
+use Rattle.std.proofs.lemmas.List.{append_assoc, length-map, map-append}
+use Rattle.oca_types.specs.declared.words.Peer.{Peer}
+use Rattle.oca_pdu.specs.Messages.{Msg, Command, Response, KeepAlive}
+use Rattle.oca_session.specs.declared.sessions.Heard.{Heard}
+use Rattle.oca_session.specs.declared.sessions.Heard.TheVariants as heard
+use Rattle.oca_session.specs.Accepted.{Entry, retained_of, Agrees, Judgement, Fresh, Duplicate, Old}
+use Rattle.oca_session.specs.Table.{Session, Table, session_of, changed, opened, heard_at, with_heartbeat, with_accepted, with_sessions, at_with, present, lapsed, staying, Hears, AgreesAt}
+use Rattle.oca_pdu.specs.declared.fault.PduFault.{PduFault}
+use Rattle.oca_pdu.specs.Reading.{read_datagram}
+use Rattle.oca_device.specs.declared.counts.Counts.{Counts}
+use Rattle.oca_device.specs.declared.verdict.Verdict.TheVariants as verdicts
+use Rattle.oca_device.specs.Notes.{What, Admitted, Heartbeat, Executed, Note, run, is_known, known, last_moment, heartbeat_of, accepted}
+use Rattle.oca_device.specs.States.{State, noted, moved_to, lapsed_at, admits, judged_in, reply_of, after_command, after_message, after_messages, after_reading, time_of}
+use Rattle.oca_device.specs.Answers.{counts, plus, answer_to, answers_to_messages, packets_of, packet_of, count_of, counts_of_messages, answers_to_reading, verdict_of_reading, served}
+use Rattle.oca_device.specs.Devices.{DeviceState, session_for, table_of, IsIn}
+use Rattle.oca_device.specs.Serving.{Serves, ServesAll, Receives}
+use Rattle.oca_device.proofs.Runs.{table_moved, lapsed_moved, session_known, table_noted, table_opened, run_goes_on, run_begins, known_now}
+
+abbrev session_in : ℕ → Peer → ℕ → List Note → Session
+session_in w p t own = record { peer = p; heard = t; heartbeat = heartbeat_of own; retained = retained_of w (accepted own) }
+
+abbrev table_at : ℕ → ℕ → List Session → Table
+table_at w t ss = record { window = w; moment = t; sessions = ss }
+
+-- ---- the clock moves
+
+max_above : (m now : ℕ) → m ≤ max m now
+max_above m now = omega arith
+
+pub clock_moved : (w now : ℕ) (s : State) (old new : Table) (peers : List Peer) → old ≡ table_of w s →
+    peers ≡ lapsed (present old now) old.sessions → new ≡ at_with old (present old now) (staying (present old now) old.sessions) →
+    (peers ≡ lapsed_at (max s.moment now) s) × (new ≡ table_of w (moved_to (max s.moment now) s))
+clock_moved w now s old new peers was gone is =
+    (gone ∙ ap (λ (t : Table). lapsed (present t now) t.sessions) was ∙ lapsed_moved w (max s.moment now) s,
+     is ∙ ap (λ (t : Table). at_with t (present t now) (staying (present t now) t.sessions)) was ∙ table_moved w (max s.moment now) s (max_above s.moment now))
+
+-- ---- what is known of the peers in the table
+
+some_known : {X : Type 0} (b : Bool) (x : X) → IsSome (cond b (Some x) None) → b ≡ true
+some_known true x h = refl
+some_known false x h = cc
+
+none_known : {X : Type 0} (b : Bool) (x : X) → cond b (Some x) None ≡ None → b ≡ false
+none_known true x h = cc
+none_known false x h = refl
+
+-- a peer with a session is known
+pub known_there : (w : ℕ) (s : State) (p : Peer) (old : Table) → old ≡ table_of w s → IsSome (session_of p old.sessions) → is_known s.moment s.notes p ≡ true
+known_there w s p old was h =
+    some_known (is_known s.moment s.notes p) (session_for w s.notes p)
+      (subst (λ (o : Option Session). IsSome o) (ap (λ (x : Table). session_of p x.sessions) was ∙ session_known w s p) h)
+
+new_there : (w : ℕ) (s : State) (p : Peer) (old : Table) → old ≡ table_of w s → session_of p old.sessions ≡ None → is_known s.moment s.notes p ≡ false
+new_there w s p old was h =
+    none_known (is_known s.moment s.notes p) (session_for w s.notes p) (sym (ap (λ (x : Table). session_of p x.sessions) was ∙ session_known w s p) ∙ h)
+
+-- the session of a known peer retains what is that of the accepted commands of its run
+pub agrees_there : (w : ℕ) (s : State) (p : Peer) (old : Table) → old ≡ table_of w s → is_known s.moment s.notes p ≡ true →
+    AgreesAt p w (accepted (run p s.notes)) old.sessions
+agrees_there w s p old was k =
+    let P : Option Session → Type 0 = λ o. IfSome o (λ x. Agrees w (accepted (run p s.notes)) x.retained) in
+    subst P (sym (ap (λ (x : Table). session_of p x.sessions) was ∙ session_known w s p ∙ ap (λ b. cond b (Some (session_for w s.notes p)) None) k)) refl
+
+-- ---- a peer is let in
+
+admitted_known : (w : ℕ) (s : State) (p : Peer) (ms : List Msg) → is_known s.moment s.notes p ≡ true →
+    at_with (table_of w s) s.moment (changed p (heard_at s.moment) (table_of w s).sessions) ≡ table_of w (noted p (Admitted ms) s)
+admitted_known w s p ms k =
+    let n : Note = record { peer = p; at = s.moment; what = Admitted ms } in
+    ap (table_at w s.moment) (table_noted w s p (Admitted ms) (heard_at s.moment) k
+      (ap (λ (own : List Note). session_in w p (last_moment own) own) (sym (run_goes_on n s.notes k))))
+
+admitted_new : (w : ℕ) (s : State) (p : Peer) (ms : List Msg) → is_known s.moment s.notes p ≡ false →
+    at_with (table_of w s) s.moment ((table_of w s).sessions ++ opened w p s.moment ∷ []) ≡ table_of w (noted p (Admitted ms) s)
+admitted_new w s p ms k = ap (table_at w s.moment) (table_opened w s p ms k)
+
+room : (a : ℕ) → a < 16 → nat_lt a 16 ≡ true
+room a h = grind (arith, nat_tests)
+
+no_room : (a : ℕ) → 16 ≤ a → nat_lt a 16 ≡ false
+no_room a h = grind (arith, nat_tests)
+
+count_known : (w : ℕ) (s : State) (old : Table) → old ≡ table_of w s → length old.sessions ≡ length (known s.moment s.notes)
+count_known w s old was = ap (λ (x : Table). length x.sessions) was ∙ length-map (known s.moment s.notes) (session_for w s.notes)
+
+-- a moment that is not later than the clock's
+pub present_is : (w : ℕ) (s : State) (old : Table) (now : ℕ) → old ≡ table_of w s → now ≤ old.moment → present old now ≡ s.moment
+present_is w s old now was le = not_later old.moment now s.moment le (ap (λ (x : Table). x.moment) was)
+  where
+    not_later : (m now n : ℕ) → now ≤ m → m ≡ n → max m now ≡ n
+    not_later m now n le e = omega arith
+
+-- hearing a peer answers whether it is let in
+answers_admitted : Heard → Bool
+answers_admitted heard.Known = true
+answers_admitted heard.Opened = true
+answers_admitted heard.NoRoom = false
+
+pub hears_known : (w : ℕ) (s : State) (p : Peer) (t : ℕ) (old new : Table) → old ≡ table_of w s → t ≡ s.moment → Hears p t old heard.Known new →
+    (true ≡ admits s p) × ((ms : List Msg) → new ≡ table_of w (noted p (Admitted ms) s))
+hears_known w s p t old new was now h =
+    let k = known_there w s p old was h.0 in
+    (sym (ap (λ b. b || nat_lt (length (known s.moment s.notes)) 16) k),
+     λ ms. h.1 ∙ ap (λ (u : ℕ). at_with old u (changed p (heard_at u) old.sessions)) now
+       ∙ ap (λ (x : Table). at_with x s.moment (changed p (heard_at s.moment) x.sessions)) was
+       ∙ admitted_known w s p ms k)
+
+pub hears_opened : (w : ℕ) (s : State) (p : Peer) (t : ℕ) (old new : Table) → old ≡ table_of w s → t ≡ s.moment → Hears p t old heard.Opened new →
+    (true ≡ admits s p) × ((ms : List Msg) → new ≡ table_of w (noted p (Admitted ms) s))
+hears_opened w s p t old new was now h =
+    let k = new_there w s p old was h.0 in
+    let few : length (known s.moment s.notes) < 16 = subst (λ (n : ℕ). n < 16) (count_known w s old was) h.1 in
+    (sym (ap (λ b. b || nat_lt (length (known s.moment s.notes)) 16) k ∙ room (length (known s.moment s.notes)) few),
+     λ ms. h.2 ∙ ap (λ (u : ℕ). at_with old u (old.sessions ++ opened old.window p u ∷ [])) now
+       ∙ ap (λ (x : Table). at_with x s.moment (x.sessions ++ opened x.window p s.moment ∷ [])) was
+       ∙ admitted_new w s p ms k)
+
+pub hears_no_room : (w : ℕ) (s : State) (p : Peer) (t : ℕ) (old new : Table) → old ≡ table_of w s → t ≡ s.moment → Hears p t old heard.NoRoom new →
+    (false ≡ admits s p) × (new ≡ table_of w s)
+hears_no_room w s p t old new was now h =
+    let k = new_there w s p old was h.0 in
+    let many : 16 ≤ length (known s.moment s.notes) = subst (λ (n : ℕ). 16 ≤ n) (count_known w s old was) h.1 in
+    (sym (ap (λ b. b || nat_lt (length (known s.moment s.notes)) 16) k ∙ no_room (length (known s.moment s.notes)) many),
+     h.2 ∙ ap (λ (u : ℕ). at_with old u old.sessions) now ∙ ap (λ (x : Table). at_with x s.moment x.sessions) was)
+
+-- a peer that was let in has the present moment as its last, and is known
+pub admitted_now : (s : State) (p : Peer) (ms : List Msg) → last_moment (run p (noted p (Admitted ms) s).notes) ≡ s.moment
+admitted_now s p ms = by_known (is_known s.moment s.notes p) refl
+  where
+    by_known : (b : Bool) → is_known s.moment s.notes p ≡ b → last_moment (run p (noted p (Admitted ms) s).notes) ≡ s.moment
+    by_known true k = ap last_moment (run_goes_on (record { peer = p; at = s.moment; what = Admitted ms }) s.notes k)
+    by_known false k = ap last_moment (run_begins (record { peer = p; at = s.moment; what = Admitted ms }) s.notes k)
+
+-- ---- a message is served
+
+-- a heartbeat was set
+pub heartbeat_there : (w ms : ℕ) (s : State) (p : Peer) (old new : Table) → old ≡ table_of w s → is_known s.moment s.notes p ≡ true → last_moment (run p s.notes) ≡ s.moment →
+    new ≡ with_sessions old (changed p (with_heartbeat ms) old.sessions) → new ≡ table_of w (noted p (Heartbeat ms) s)
+heartbeat_there w ms s p old new was k now is =
+    let n : Note = record { peer = p; at = s.moment; what = Heartbeat ms } in
+    let own = run p s.notes in
+    is ∙ ap (λ (x : Table). with_sessions x (changed p (with_heartbeat ms) x.sessions)) was
+      ∙ ap (table_at w s.moment) (table_noted w s p (Heartbeat ms) (with_heartbeat ms) k
+          (ap (λ (t : ℕ). let x : Session = record { peer = p; heard = t; heartbeat = max 250 (min ms 30000); retained = retained_of w (accepted own) } in x) now
+            ∙ ap (λ (run_now : List Note). session_in w p (last_moment run_now) run_now) (sym (run_goes_on n s.notes k))))
+
+-- a command was executed, and its reply kept
+pub executed_there : (w : ℕ) (s : State) (p : Peer) (what : What) (e : Entry) (old new : Table) → old ≡ table_of w s → is_known s.moment s.notes p ≡ true → last_moment (run p s.notes) ≡ s.moment →
+    ((own : List Note) (t : ℕ) → let n : Note = record { peer = p; at = t; what = what } in (heartbeat_of (n ∷ own) ≡ heartbeat_of own) × (accepted (n ∷ own) ≡ accepted own ++ e ∷ [])) →
+    new ≡ with_sessions old (changed p (with_accepted w (accepted (run p s.notes) ++ e ∷ [])) old.sessions) → new ≡ table_of w (noted p what s)
+executed_there w s p what e old new was k now says is =
+    let n : Note = record { peer = p; at = s.moment; what = what } in
+    let own = run p s.notes in
+    is ∙ ap (λ (x : Table). with_sessions x (changed p (with_accepted w (accepted own ++ e ∷ [])) x.sessions)) was
+      ∙ ap (table_at w s.moment) (table_noted w s p what (with_accepted w (accepted own ++ e ∷ [])) k
+          (ap (λ (t : ℕ). let x : Session = record { peer = p; heard = t; heartbeat = heartbeat_of own; retained = retained_of w (accepted own ++ e ∷ []) } in x) now
+            ∙ ap (λ (h : ℕ). let x : Session = record { peer = p; heard = s.moment; heartbeat = h; retained = retained_of w (accepted own ++ e ∷ []) } in x) (sym (says own s.moment).0)
+            ∙ ap (λ (A : List Entry). let x : Session = record { peer = p; heard = s.moment; heartbeat = heartbeat_of (n ∷ own); retained = retained_of w A } in x) (sym (says own s.moment).1)
+            ∙ ap (λ (run_now : List Note). session_in w p (last_moment run_now) run_now) (sym (run_goes_on n s.notes k))))
+
+-- ---- several messages are served
+
+-- after a message the run's last moment is still the present one
+pub message_now : (w : ℕ) (s : State) (p : Peer) (m : Msg) → is_known s.moment s.notes p ≡ true → last_moment (run p s.notes) ≡ s.moment →
+    last_moment (run p (after_message w p m s).notes) ≡ (after_message w p m s).moment
+message_now w s p (Command respond c) k now = by_judgement (judged_in w s p c.handle)
+  where
+    by_judgement : (j : Judgement) → last_moment (run p (after_command j p c s).notes) ≡ (after_command j p c s).moment
+    by_judgement Fresh = ap last_moment (run_goes_on (record { peer = p; at = s.moment; what = Executed s.tree c (reply_of s.tree p c) }) s.notes k)
+    by_judgement (Duplicate reply) = now
+    by_judgement Old = now
+message_now w s p (KeepAlive form) k now = ap last_moment (run_goes_on (record { peer = p; at = s.moment; what = Heartbeat (time_of form) }) s.notes k)
+message_now w s p (Response r) k now = now
+
+plus_assoc : (a b c : Counts) → plus a (plus b c) ≡ plus (plus a b) c
+plus_assoc a b c =
+    ap (λ (n : ℕ). counts n (a.kept + (b.kept + c.kept)) (a.old + (b.old + c.old))) (turned a.executed b.executed c.executed)
+    ∙ ap (λ (n : ℕ). counts (a.executed + b.executed + c.executed) n (a.old + (b.old + c.old))) (turned a.kept b.kept c.kept)
+    ∙ ap (λ (n : ℕ). counts (a.executed + b.executed + c.executed) (a.kept + b.kept + c.kept) n) (turned a.old b.old c.old)
+  where
+    turned : (x y z : ℕ) → x + (y + z) ≡ x + y + z
+    turned x y z = omega arith
+
+-- Part of the messages was served: the device is in a state from which the rest leads to where all lead from the first.
+pub record IsHalfway (w : ℕ) (p : Peer) (d : DeviceState) (rest ms : List Msg) (s : State) (before out : List (List ℕ)) (n : Counts) : Type 0 where
+  pub mid : State
+  pub device : IsIn w d mid
+  pub now : last_moment (run p mid.notes) ≡ mid.moment
+  pub state_is : after_messages w p rest mid ≡ after_messages w p ms s
+  pub packets_are : out ++ packets_of (answers_to_messages w p rest mid) ≡ before ++ packets_of (answers_to_messages w p ms s)
+  pub counts_are : plus n (counts_of_messages w p rest mid) ≡ counts_of_messages w p ms s
+
+pub none_served : (w : ℕ) (p : Peer) (d : DeviceState) (ms : List Msg) (s : State) (out : List (List ℕ)) → IsIn w d s → last_moment (run p s.notes) ≡ s.moment →
+    IsHalfway w p d ms ms s out out (counts 0 0 0)
+none_served w p d ms s out h now =
+    record { mid = s; device = h; now = now; state_is = refl; packets_are = refl; counts_are = zero_plus (counts_of_messages w p ms s) }
+  where
+    zero_plus : (n : Counts) → plus (counts 0 0 0) n ≡ n
+    zero_plus n =
+        ap (λ (x : ℕ). counts x (0 + n.kept) (0 + n.old)) (from_zero n.executed)
+        ∙ ap (λ (x : ℕ). counts n.executed x (0 + n.old)) (from_zero n.kept)
+        ∙ ap (λ (x : ℕ). counts n.executed n.kept x) (from_zero n.old)
+      where
+        from_zero : (x : ℕ) → 0 + x ≡ x
+        from_zero x = omega arith
+
+pub one_further : (w : ℕ) (p : Peer) (d d' : DeviceState) (m : Msg) (rest rest' ms : List Msg) (s : State) (before out out' : List (List ℕ)) (n k : Counts) →
+    (h : IsHalfway w p d rest ms s before out n) → rest ≡ m ∷ rest' → IsSome (session_of p d.sessions.sessions) →
+    Serves w d' p m h.mid out out' k →
+    IsHalfway w p d' rest' ms s before out' (plus n k)
+one_further w p d d' m rest rest' ms s before out out' n k h step has t =
+    let known = known_there w h.mid p d.sessions h.device.sessions has in
+    let next = after_message w p m h.mid in
+    record {
+      mid = next;
+      device = t.device;
+      now = message_now w h.mid p m known h.now;
+      state_is = sym (ap (λ xs. after_messages w p xs h.mid) step) ∙ h.state_is;
+      packets_are =
+        ap (λ xs. xs ++ packets_of (answers_to_messages w p rest' next)) t.packets
+        ∙ append_assoc out (packets_of (answer_to w p m h.mid)) (packets_of (answers_to_messages w p rest' next))
+        ∙ ap (λ xs. out ++ xs) (sym (map-append packet_of (answer_to w p m h.mid) (answers_to_messages w p rest' next)))
+        ∙ sym (ap (λ xs. out ++ packets_of (answers_to_messages w p xs h.mid)) step)
+        ∙ h.packets_are;
+      counts_are =
+        ap (λ x. plus (plus n x) (counts_of_messages w p rest' next)) t.counts
+        ∙ sym (plus_assoc n (count_of w p m h.mid) (counts_of_messages w p rest' next))
+        ∙ sym (ap (λ xs. plus n (counts_of_messages w p xs h.mid)) step)
+        ∙ h.counts_are;
+    }
+
+-- ---- a datagram is taken
+
+abbrev admitted_state : Peer → List Msg → State → State
+admitted_state p ms s = noted p (Admitted ms) s
+
+pub refused_whole : (w : ℕ) (d : DeviceState) (p : Peer) (bytes : List ℕ) (ms : List Msg) (s : State) (after : List (List ℕ)) →
+    read_datagram bytes ≡ Ok ms → admits s p ≡ false → IsIn w d s → after ≡ [] → Receives w d p bytes s after verdicts.NoRoom
+refused_whole w d p bytes ms s after reads out h none =
+    record {
+      device = subst (λ (r : Result (List Msg) PduFault). IsIn w d (after_reading w p r s)) (sym reads)
+        (subst (λ (b : Bool). IsIn w d (cond b (after_messages w p ms (admitted_state p ms s)) s)) (sym out) h);
+      packets = none ∙ sym (ap packets_of (ap (λ (r : Result (List Msg) PduFault). answers_to_reading w p r s) reads
+        ∙ ap (λ (b : Bool). cond b (answers_to_messages w p ms (admitted_state p ms s)) []) out));
+      verdict_is = sym (ap (λ (r : Result (List Msg) PduFault). verdict_of_reading w p r s) reads
+        ∙ ap (λ (b : Bool). cond b (served (counts_of_messages w p ms (admitted_state p ms s))) verdicts.NoRoom) out);
+    }
+
+pub taken_whole : (w : ℕ) (d : DeviceState) (p : Peer) (bytes : List ℕ) (ms : List Msg) (s : State) (before after : List (List ℕ)) (n : Counts) →
+    read_datagram bytes ≡ Ok ms → admits s p ≡ true → before ≡ [] → ServesAll w d p ms (admitted_state p ms s) before after n →
+    Receives w d p bytes s after (verdicts.Served n.executed n.kept n.old)
+taken_whole w d p bytes ms s before after n reads let_in none t =
+    let all = admitted_state p ms s in
+    record {
+      device = subst (λ (r : Result (List Msg) PduFault). IsIn w d (after_reading w p r s)) (sym reads)
+        (subst (λ (b : Bool). IsIn w d (cond b (after_messages w p ms all) s)) (sym let_in) t.device);
+      packets = t.packets ∙ ap (λ xs. xs ++ packets_of (answers_to_messages w p ms all)) none
+        ∙ sym (ap packets_of (ap (λ (r : Result (List Msg) PduFault). answers_to_reading w p r s) reads
+        ∙ ap (λ (b : Bool). cond b (answers_to_messages w p ms all) []) let_in));
+      verdict_is = ap served t.counts ∙ sym (ap (λ (r : Result (List Msg) PduFault). verdict_of_reading w p r s) reads
+        ∙ ap (λ (b : Bool). cond b (served (counts_of_messages w p ms all)) verdicts.NoRoom) let_in);
+    }

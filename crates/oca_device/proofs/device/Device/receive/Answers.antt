@@ -1,0 +1,37 @@
+use Rattle.std.proofs.Common.{◌≡◌, Bool, true, false, cond, ℕ, List, length, arith, ap, ◌∙◌, sym, refl, subst}
+use Rattle.oca_pdu.specs.Messages.{Msg}
+use Rattle.oca_pdu.specs.Datagrams.{datagram_messages}
+use Rattle.oca_device.specs.Notes.{Admitted}
+use Rattle.oca_device.specs.States.{State, noted}
+use Rattle.oca_device.specs.Devices.{IsIn}
+use Rattle.oca_device.specs.Serving.{most_answers, ServesAll}
+use Rattle.oca_device.proofs.Bounds.{answers_of_datagram}
+use Rattle.oca_device.proofs.Steps.{refused_whole, taken_whole, admitted_now}
+use Rattle.oca_device.proofs.device.Device.receive.Goals as goal
+
+pub serve_messages-counts-requires-clause-room : goal.serve_messages-counts-requires-clause-room
+serve_messages-counts-requires-clause-room c =
+    let found = c.in-Ok.ensures.found in
+    let few = answers_of_datagram found.0 c.args.bytes.now found.1 in
+    let messages = ap most_answers (c.messages.ensures ∙ found.2) in
+    let none = ap length c.requires.empty in
+    omega (arith, few, messages, none)
+
+pub returns-else-admit : goal.returns-else-admit
+returns-else-admit c = λ w s h.
+    let ms = datagram_messages c.in-Ok.datagram in
+    let out = sym (c.admit.ensures.admits w s h) ∙ c.if-admit.false in
+    let same = subst (λ (b : Bool). IsIn w c.admit.new.self (cond b (noted c.args.from (Admitted ms) s) s)) c.if-admit.false (c.admit.ensures.noted w s ms h) in
+    refused_whole w c.admit.new.self c.args.from c.args.bytes.now ms s c.args.outbox.now c.in-Ok.ensures.reads out same c.requires.empty
+
+pub returns-then-admit : goal.returns-then-admit
+returns-then-admit c = λ w s h.
+    let p = c.args.from in
+    let ms = datagram_messages c.in-Ok.datagram in
+    let let_in = sym (c.admit.ensures.admits w s h) ∙ c.if-admit.true in
+    let inside = subst (λ (b : Bool). IsIn w c.admit.new.self (cond b (noted p (Admitted ms) s) s)) c.if-admit.true (c.admit.ensures.noted w s ms h) in
+    let serves = c.serve_messages-counts.ensures w (noted p (Admitted ms) s) inside (admitted_now s p ms) in
+    taken_whole w c.serve_messages-counts.new.self p c.args.bytes.now ms s c.args.outbox.now c.serve_messages-counts.new.outbox c.serve_messages-counts.result
+      c.in-Ok.ensures.reads let_in c.requires.empty
+      (subst (λ (xs : List Msg). ServesAll w c.serve_messages-counts.new.self p xs (noted p (Admitted ms) s) c.args.outbox.now c.serve_messages-counts.new.outbox c.serve_messages-counts.result)
+        c.messages.ensures serves)

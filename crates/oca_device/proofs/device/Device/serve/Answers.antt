@@ -1,0 +1,32 @@
+use Rattle.std.proofs.Common.{ℕ, ap, ◌∙◌, sym, refl, subst}
+use Rattle.std.specs.Prelude.{IsSome}
+use Rattle.oca_session.specs.Table.{session_of, with_sessions, changed, with_heartbeat}
+use Rattle.oca_device.specs.Devices.{DeviceState}
+use Rattle.oca_device.specs.States.{State, noted, time_of}
+use Rattle.oca_device.proofs.Opened.{parts_in}
+use Rattle.oca_device.proofs.Peers.{still_has_session}
+use Rattle.oca_device.proofs.Steps.{heartbeat_there, known_there}
+use Rattle.oca_device.proofs.device.Device.serve.Goals as goal
+
+pub returns-in-KeepAlive-clause-serves : goal.returns-in-KeepAlive-clause-serves
+returns-in-KeepAlive-clause-serves c = λ w s h now.
+    let old = c.self.inside.sessions in
+    let p = c.args.from in
+    let form = c.in-KeepAlive.form in
+    let was = parts_in c.self.inside.tree old c.args.self.now w s c.self.view_is h in
+    let has = subst (λ (d : DeviceState). IsSome (session_of p d.sessions.sessions)) (sym c.self.view_is) c.requires.known in
+    rw c.in-KeepAlive.is (record {
+      device = record {
+        tree = was.tree;
+        sessions = heartbeat_there w (time_of form) s p old c.beat.new.self was.sessions (known_there w s p old was.sessions has) now
+            (c.beat.ensures.heartbeat ∙ ap (λ (m : ℕ). with_sessions old (changed p (with_heartbeat m) old.sessions)) c.time_of.ensures);
+      };
+      packets = c.return_keepalive.ensures;
+      counts = refl;
+    })
+
+pub returns-in-KeepAlive-clause-known : goal.returns-in-KeepAlive-clause-known
+returns-in-KeepAlive-clause-known c =
+    let p = c.args.from in
+    let has = subst (λ (d : DeviceState). IsSome (session_of p d.sessions.sessions)) (sym c.self.view_is) c.requires.known in
+    still_has_session p c.self.inside.sessions.sessions c.beat.new.self.sessions c.beat.ensures.peers has

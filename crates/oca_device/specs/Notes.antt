@@ -1,0 +1,94 @@
+-- Everything that is noted of the peers of a device. Nothing is ever taken away from the notes; a session is what the
+-- notes of its peer say (profile).
+use Rattle.std.specs.Prelude.{ℕ, ◌*◌, ◌-◌, ◌==◌, nat_le, nat_lt, max, min, Bool, true, false, not, if◌then◌else◌, List, [], ◌∷◌, ◌++◌, filter}
+use Rattle.oca_types.specs.declared.words.Peer.{Peer}
+use Rattle.oca_types.specs.declared.words.Reply.{Reply}
+use Rattle.oca_types.specs.Peers.{same_peer, CommandFields}
+use Rattle.oca_pdu.specs.Messages.{Msg}
+use Rattle.oca_tree.specs.declared.object.Object.{Object}
+use Rattle.oca_session.specs.Accepted.{Entry}
+
+-- What is noted of a peer: a datagram of these messages was admitted, a keep-alive set the heartbeat, or a command was
+-- executed on a tree and gave a reply.
+pub data What : Type 0 where
+  Admitted : (messages : List Msg) → What
+  Heartbeat : (ms : ℕ) → What
+  Executed : (tree : List Object) (request : CommandFields) (reply : Reply) → What
+
+-- A note: of which peer, at which moment, and what. In a list of notes the latest stands first.
+pub record Note : Type 0 where
+  pub peer : Peer
+  pub at : ℕ
+  pub what : What
+
+abbrev pub notes_of : Peer → List Note → List Note
+notes_of p notes = filter (λ n. same_peer n.peer p) notes
+
+-- a session is forgotten once its silence passes this many milliseconds
+abbrev pub longest_silence : ℕ
+longest_silence = 120000
+
+-- the latest of these notes lies at most the longest silence before the moment
+abbrev pub is_within : ℕ → List Note → Bool
+is_within t [] = false
+is_within t (n ∷ notes) = nat_le (t - n.at) longest_silence
+
+-- the longest run of notes, from the latest back, in which neighbours lie at most the longest silence apart
+abbrev pub unbroken : List Note → List Note
+unbroken [] = []
+unbroken (n ∷ notes) = n ∷ (if is_within n.at notes then unbroken notes else [])
+
+-- THE RUN OF A SESSION: the notes of its peer since the session was opened.
+abbrev pub run : Peer → List Note → List Note
+run p notes = unbroken (notes_of p notes)
+
+-- A peer is known at a moment where its silence then is at most the longest.
+abbrev pub is_known : ℕ → List Note → Peer → Bool
+is_known t notes p = is_within t (notes_of p notes)
+
+abbrev pub without : Peer → List Peer → List Peer
+without p peers = filter (λ q. not (same_peer q p)) peers
+
+-- every peer that was ever noted, in the order in which their latest sessions were opened
+abbrev pub opened : List Note → List Peer
+opened [] = []
+opened (n ∷ notes) = if is_known n.at notes n.peer then opened notes else without n.peer (opened notes) ++ n.peer ∷ []
+
+-- the peers known at a moment, in order of opening
+abbrev pub known : ℕ → List Note → List Peer
+known t notes = filter (is_known t notes) (opened notes)
+
+-- ---- of a session's run
+
+-- the moment of its last datagram (each later note of that datagram has the same moment)
+abbrev pub last_moment : List Note → ℕ
+last_moment [] = 0
+last_moment (n ∷ notes) = n.at
+
+abbrev pub heartbeat_after : What → ℕ → ℕ
+heartbeat_after (Admitted messages) heartbeat = heartbeat
+heartbeat_after (Heartbeat ms) heartbeat = max 250 (min ms 30000)
+heartbeat_after (Executed tree request reply) heartbeat = heartbeat
+
+-- The heartbeat is the time of the last keep-alive, raised to 250 or lowered to 30,000 ms where it is outside them, and
+-- 5,000 ms where there was none.
+abbrev pub heartbeat_of : List Note → ℕ
+heartbeat_of [] = 5000
+heartbeat_of (n ∷ notes) = heartbeat_after n.what (heartbeat_of notes)
+
+abbrev pub accepted_after : What → List Entry → List Entry
+accepted_after (Admitted messages) A = A
+accepted_after (Heartbeat ms) A = A
+accepted_after (Executed tree request reply) A = A ++ (record { handle = request.handle; reply = reply }) ∷ []
+
+-- The accepted commands with their replies, in order of arrival. They are never cut.
+abbrev pub accepted : List Note → List Entry
+accepted [] = []
+accepted (n ∷ notes) = accepted_after n.what (accepted notes)
+
+-- silence of more than three heartbeats, in a run
+abbrev pub has_lapsed_in : ℕ → List Note → Bool
+has_lapsed_in t own = nat_lt (3 * heartbeat_of own) (t - last_moment own)
+
+abbrev pub has_lapsed : ℕ → List Note → Peer → Bool
+has_lapsed t notes p = has_lapsed_in t (run p notes)

@@ -1,0 +1,106 @@
+-- The state after events: the objects, the clock, and the notes (profile; execution is AES70-2's).
+use Rattle.std.specs.Prelude.{ℕ, ◌*◌, nat_lt, max, Bool, ◌||◌, if◌then◌else◌, List, [], ◌∷◌, filter, length, Result, Ok, Err}
+use Rattle.oca_types.specs.declared.words.Peer.{Peer}
+use Rattle.oca_types.specs.declared.words.Reply.{Reply}
+use Rattle.oca_types.specs.Peers.{CommandFields}
+use Rattle.oca_pdu.specs.declared.fault.PduFault.{PduFault}
+use Rattle.oca_pdu.specs.declared.message.Form.{Form}
+use Rattle.oca_pdu.specs.declared.message.Form.TheVariants.{Seconds, Millis}
+use Rattle.oca_pdu.specs.Messages.{Msg, Command, Response, KeepAlive}
+use Rattle.oca_pdu.specs.Reading.{read_datagram}
+use Rattle.oca_tree.specs.declared.object.Object.{Object}
+use Rattle.oca_tree.specs.Execution.{execution}
+use Rattle.oca_tree.specs.Locks.{released}
+use Rattle.oca_session.specs.Accepted.{Judgement, Fresh, Duplicate, Old, judgement}
+use Rattle.oca_device.specs.Events.{Event, Datagram, Tick}
+use Rattle.oca_device.specs.Notes.{What, Admitted, Heartbeat, Executed, Note, run, is_known, known, accepted, has_lapsed}
+
+pub record State : Type 0 where
+  pub tree : List Object
+  pub moment : ℕ
+  pub notes : List Note
+
+abbrev pub noted : Peer → What → State → State
+noted p what s = record { tree = s.tree; moment = s.moment; notes = (record { peer = p; at = s.moment; what = what }) ∷ s.notes }
+
+-- ---- the clock moves
+
+abbrev pub released_all : List Peer → List Object → List Object
+released_all [] tree = tree
+released_all (p ∷ peers) tree = released_all peers (released tree p)
+
+-- the peers known in the state whose silence at t passes three of their heartbeats
+abbrev pub lapsed_at : ℕ → State → List Peer
+lapsed_at t s = filter (has_lapsed t s.notes) (known s.moment s.notes)
+
+-- The clock moves to t, and the locks of lapsed peers are taken off. (Who is known at t, and so which sessions are
+-- forgotten, follows from the notes.)
+abbrev pub moved_to : ℕ → State → State
+moved_to t s = record { tree = released_all (lapsed_at t s) s.tree; moment = t; notes = s.notes }
+
+-- ---- a datagram is admitted, and its messages are served in order
+
+-- there are at most so many sessions
+abbrev pub most_sessions : ℕ
+most_sessions = 16
+
+-- A datagram is admitted where its peer is known, or there is room for one more session.
+abbrev pub admits : State → Peer → Bool
+admits s p = is_known s.moment s.notes p || nat_lt (length (known s.moment s.notes)) most_sessions
+
+-- what the accepted commands of the peer's session say of a handle
+abbrev pub judged_in : ℕ → State → Peer → ℕ → Judgement
+judged_in w s p h = judgement w (accepted (run p s.notes)) h
+
+-- the reply that executing a command gives
+abbrev pub reply_of : List Object → Peer → CommandFields → Reply
+reply_of tree p c =
+    record {
+      status = (execution tree p c).status;
+      count = (execution tree p c).count;
+      params = record { items = (execution tree p c).parameters };
+    }
+
+-- A command that is fresh is executed, and its reply noted. A duplicate and an old command change nothing.
+abbrev pub after_command : Judgement → Peer → CommandFields → State → State
+after_command Fresh p c s =
+    noted p (Executed s.tree c (reply_of s.tree p c))
+      (record { tree = (execution s.tree p c).tree; moment = s.moment; notes = s.notes })
+after_command (Duplicate reply) p c s = s
+after_command Old p c s = s
+
+-- the time of a keep-alive, in milliseconds
+abbrev pub time_of : Form → ℕ
+time_of (Seconds n) = 1000 * n
+time_of (Millis n) = n
+
+-- Commands with and without response are served alike; responses are ignored.
+abbrev pub after_message : ℕ → Peer → Msg → State → State
+after_message w p (Command respond c) s = after_command (judged_in w s p c.handle) p c s
+after_message w p (KeepAlive form) s = noted p (Heartbeat (time_of form)) s
+after_message w p (Response r) s = s
+
+abbrev pub after_messages : ℕ → Peer → List Msg → State → State
+after_messages w p [] s = s
+after_messages w p (m ∷ messages) s = after_messages w p messages (after_message w p m s)
+
+-- A malformed datagram, and one for which there is no room, change nothing.
+abbrev pub after_reading : ℕ → Peer → Result (List Msg) PduFault → State → State
+after_reading w p (Err fault) s = s
+after_reading w p (Ok messages) s = if admits s p then after_messages w p messages (noted p (Admitted messages) s) else s
+
+-- ---- events
+
+-- the state when an event's datagram is looked at: the clock has moved
+abbrev pub present : Event → State → State
+present (Datagram from bytes now) s = moved_to (max s.moment now) s
+present (Tick now) s = moved_to (max s.moment now) s
+
+abbrev pub after_event : ℕ → Event → State → State
+after_event w (Datagram from bytes now) s = after_reading w from (read_datagram bytes) (moved_to (max s.moment now) s)
+after_event w (Tick now) s = moved_to (max s.moment now) s
+
+-- THE STATE AFTER EVENTS, from the opening tree on, with reply windows of size w.
+abbrev pub state_after : ℕ → List Object → List Event → State
+state_after w tree [] = record { tree = tree; moment = 0; notes = [] }
+state_after w tree (e ∷ events) = after_event w e (state_after w tree events)

@@ -1,0 +1,283 @@
+//! The device: it takes events, and puts its answers into an outbox.
+ghost use Rattle.std.specs.Prelude.{◌≡◌, ℕ, ◌+◌, ◌<◌, ◌≤◌, List, [], ◌∷◌, ◌++◌, length, max, IfOk, IsTrue, IsSome, if◌then◌else◌, Ok, Err};
+ghost use Rattle.oca_types.specs.Peers.{fields_of};
+ghost use Rattle.oca_pdu.specs.Messages.{Msg, Command as Commands, msg_of};
+ghost use Rattle.oca_pdu.specs.Datagrams.{messages_left};
+ghost use Rattle.oca_tree.specs.declared.object.Object.{Object};
+ghost use Rattle.oca_session.specs.Table.{session_of};
+ghost use Rattle.oca_device.specs.Events.{Event, Datagram as DatagramEvent, Tick};
+ghost use Rattle.oca_device.specs.Notes.{Admitted, run, last_moment};
+ghost use Rattle.oca_device.specs.States.{State, noted, moved_to, admits, released_all, reply_of, time_of};
+ghost use Rattle.oca_tree.specs.Execution.{execution};
+ghost use Rattle.oca_device.specs.Answers.{packets, verdict};
+
+use crate::counts::Counts;
+use crate::outbox::Outbox;
+use crate::verdict::Verdict;
+use oca_pdu::{Form, Message, Messages, check};
+use oca_session::{Heard, Judged, Sessions};
+use oca_tree::Tree;
+use oca_types::{Command, NoMemory, Params, Peer, Reply};
+use std::alloc::Global;
+use std::marker::Model;
+
+/// A device: a tree of objects, and the sessions of its peers.
+///
+/// What it is follows from the tree that it was made with and the events that it was given: datagrams and clock
+/// readings. Moments are in milliseconds; one that is earlier than a moment already seen counts as the one already seen.
+#[derive(Drop)]
+pub struct Device {
+    tree: Tree,
+    sessions: Sessions,
+}
+
+impl Model for Device {
+    ghost use Rattle.oca_device.specs.Devices.{DeviceState};
+
+    ghost Value = { DeviceState };
+
+    ghost view = { λ d. record { tree = d.tree; sessions = d.sessions } };
+}
+
+impl Device {
+    ghost use Rattle.oca_device.specs.Devices.{Represents, IsIn};
+    ghost use Rattle.oca_device.specs.Serving.{Serves, ServesAll, Receives, may_answer, most_answers};
+
+    /// A device of these objects, before any event. Takes all the memory that its sessions will need. Refusal: `NoMemory`.
+    pub fn new(alloc: Global, tree: Tree) -> Result<Device, NoMemory>
+        ensures { IfOk result (λ device. Represents 32 device tree []) }
+    {
+        let sessions = Sessions::new(alloc)?;
+        Ok(Device { tree, sessions })
+    }
+
+    /// Takes a datagram that came from a peer, and answers what became of it. Its answers are then in the outbox, all for
+    /// that peer.
+    ///
+    /// First the clock moves: locks of peers that are silent for more than three heartbeats are released, and sessions
+    /// that are silent for more than 120,000 ms forgotten. A malformed datagram, and one that finds no room for its
+    /// sender's session, change nothing else and get no answer. The messages of any other are served in order: a fresh
+    /// command is executed, a duplicate gets the retained reply, an old command is ignored, and a keep-alive sets the
+    /// heartbeat and is returned. (AES70-3; sessions and windows are the profile's.)
+    pub fn datagram(&mut self, from: Peer, bytes: &[u8], now: u64, outbox: &mut Outbox) -> Verdict
+        requires { outbox.old ≡ [] }
+        ensures represents {
+            (w : ℕ) (T : List Object) (E : List Event) → Represents w self.old T E →
+            Represents w self.new T (DatagramEvent from bytes.now now ∷ E)
+        }
+        ensures packets {
+            (w : ℕ) (T : List Object) (E : List Event) → Represents w self.old T E →
+            outbox.new ≡ packets w T E (DatagramEvent from bytes.now now)
+        }
+        ensures verdict {
+            (w : ℕ) (T : List Object) (E : List Event) → Represents w self.old T E →
+            result ≡ verdict w T E from bytes.now now
+        }
+    {
+        self.move_clock(now);
+        self.receive(from, bytes, now, outbox)
+    }
+
+    /// Takes a clock reading: locks of peers that are silent for more than three heartbeats are released, and sessions that
+    /// are silent for more than 120,000 ms forgotten.
+    pub fn tick(&mut self, now: u64)
+        ensures {
+            (w : ℕ) (T : List Object) (E : List Event) → Represents w self.old T E → Represents w self.new T (Tick now ∷ E)
+        }
+    {
+        self.move_clock(now);
+    }
+
+    /// The objects.
+    pub fn tree(&self) -> &Tree
+        ensures { result.now ≡ self.now.tree }
+    {
+        &self.tree
+    }
+
+    /// The number of sessions.
+    pub fn sessions(&self) -> usize
+        ensures { result ≡ length self.now.sessions.sessions }
+    {
+        self.sessions.len()
+    }
+
+    /// Moves the clock.
+    fn move_clock(&mut self, now: u64)
+        ensures moved { (w : ℕ) (s : State) → IsIn w self.old s → IsIn w self.new (moved_to (max s.moment now) s) }
+        ensures moment { now ≤ self.new.sessions.moment }
+    {
+        let lapsed = self.sessions.advance(now);
+        release_all(&mut self.tree, lapsed.as_slice());
+    }
+
+    /// Takes the datagram, at the present moment.
+    fn receive(&mut self, from: Peer, bytes: &[u8], now: u64, outbox: &mut Outbox) -> Verdict
+        requires moment { now ≤ self.old.sessions.moment }
+        requires empty { outbox.old ≡ [] }
+        ensures { (w : ℕ) (s : State) → IsIn w self.old s → Receives w self.new from bytes.now s outbox.new result }
+    {
+        match check(bytes) {
+            Ok(datagram) => {
+                if self.admit(from, now) {
+                    let counts = self.serve_messages(from, datagram.messages(), outbox);
+                    Verdict::Served {
+                        executed: counts.executed,
+                        kept: counts.kept,
+                        old: counts.old,
+                    }
+                } else {
+                    Verdict::NoRoom
+                }
+            }
+            Err(fault) => Verdict::Malformed(fault),
+        }
+    }
+
+    /// Lets a peer in, where it is known or there is room for its session.
+    fn admit(&mut self, from: Peer, now: u64) -> bool
+        requires { now ≤ self.old.sessions.moment }
+        ensures admits { (w : ℕ) (s : State) → IsIn w self.old s → result ≡ admits s from }
+        ensures noted {
+            (w : ℕ) (s : State) (messages : List Msg) → IsIn w self.old s →
+            IsIn w self.new (if result then noted from (Admitted messages) s else s)
+        }
+        ensures known { IsTrue result → IsSome (session_of from self.new.sessions.sessions) }
+    {
+        match self.sessions.hear(from, now) {
+            Heard::NoRoom => false,
+            Heard::Known => true,
+            Heard::Opened => true,
+        }
+    }
+
+    /// Serves the messages of a peer that was let in, in order.
+    fn serve_messages(&mut self, from: Peer, messages: Messages<'_>, outbox: &mut Outbox) -> Counts
+        requires known { IsSome (session_of from self.old.sessions.sessions) }
+        requires room { length outbox.old + most_answers (messages_left messages) ≤ 122 }
+        ensures {
+            (w : ℕ) (s : State) → IsIn w self.old s → last_moment (run from s.notes) ≡ s.moment →
+            ServesAll w self.new from (messages_left messages.entry) s outbox.old outbox.new result
+        }
+    {
+        let mut counts = Counts {
+            executed: 0,
+            kept: 0,
+            old: 0,
+        };
+        for message in messages {
+            let more = self.serve(from, message, outbox);
+            counts.executed += more.executed;
+            counts.kept += more.kept;
+            counts.old += more.old;
+        }
+        counts
+    }
+
+    /// Serves a message of a peer that was let in.
+    fn serve(&mut self, from: Peer, message: Message<'_>, outbox: &mut Outbox) -> Counts
+        requires known { IsSome (session_of from self.old.sessions.sessions) }
+        requires room { length outbox.old + may_answer (msg_of message) ≤ 122 }
+        ensures serves {
+            (w : ℕ) (s : State) → IsIn w self.old s → last_moment (run from s.notes) ≡ s.moment →
+            Serves w self.new from (msg_of message.entry) s outbox.old outbox.new result
+        }
+        ensures known { IsSome (session_of from self.new.sessions.sessions) }
+        ensures packets { length outbox.new ≤ length outbox.old + may_answer (msg_of message.entry) }
+        ensures commands { result.executed + result.kept + result.old ≤ may_answer (msg_of message.entry) }
+    {
+        match message {
+            Message::Command { respond, command } => self.serve_command(from, respond, &command, outbox),
+            Message::KeepAlive { form } => {
+                self.sessions.beat(from, time_of(form));
+                outbox.return_keepalive(form);
+                Counts {
+                    executed: 0,
+                    kept: 0,
+                    old: 0,
+                }
+            }
+            Message::Response { .. } => Counts {
+                executed: 0,
+                kept: 0,
+                old: 0,
+            },
+        }
+    }
+
+    /// Serves a command of a peer that was let in.
+    fn serve_command(&mut self, from: Peer, respond: bool, command: &Command, outbox: &mut Outbox) -> Counts
+        requires known { IsSome (session_of from self.old.sessions.sessions) }
+        requires room { length outbox.old < 122 }
+        ensures serves {
+            (w : ℕ) (s : State) → IsIn w self.old s → last_moment (run from s.notes) ≡ s.moment →
+            Serves w self.new from (Commands respond (fields_of command.now)) s outbox.old outbox.new result
+        }
+        ensures known { IsSome (session_of from self.new.sessions.sessions) }
+        ensures packets { length outbox.new ≤ length outbox.old + 1 }
+        ensures commands { result.executed + result.kept + result.old ≡ 1 }
+    {
+        match self.sessions.judge(from, command.handle) {
+            Judged::Fresh => {
+                let reply = execute(&mut self.tree, from, command);
+                if respond {
+                    outbox.respond(command.handle, &reply);
+                }
+                self.sessions.keep(from, command.handle, reply);
+                Counts {
+                    executed: 1,
+                    kept: 0,
+                    old: 0,
+                }
+            }
+            Judged::Kept(reply) => {
+                if respond {
+                    outbox.respond(command.handle, reply);
+                }
+                Counts {
+                    executed: 0,
+                    kept: 1,
+                    old: 0,
+                }
+            }
+            Judged::Old => Counts {
+                executed: 0,
+                kept: 0,
+                old: 1,
+            },
+        }
+    }
+}
+
+/// Takes the locks of these peers off.
+fn release_all(tree: &mut Tree, peers: &[Peer])
+    ensures { tree.new ≡ released_all peers.now tree.old }
+{
+    for peer in peers {
+        tree.release(*peer);
+    }
+}
+
+/// Executes a command of a peer.
+fn execute(tree: &mut Tree, peer: Peer, command: &Command) -> Reply
+    ensures tree { tree.new ≡ (execution tree.old peer (fields_of command.now)).tree }
+    ensures reply { result ≡ reply_of tree.old peer (fields_of command.now) }
+{
+    let mut params = Params::new();
+    let done = tree.execute(peer, command, &mut params);
+    Reply {
+        status: done.status,
+        count: done.count,
+        params,
+    }
+}
+
+/// The time of a keep-alive, in milliseconds.
+fn time_of(form: Form) -> u64
+    ensures { result ≡ time_of form }
+{
+    match form {
+        Form::Seconds(n) => 1000 * u64::from(n),
+        Form::Millis(n) => u64::from(n),
+    }
+}
