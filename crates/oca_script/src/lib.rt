@@ -19,3 +19,6 @@ pub mod text;
 pub use fault::{LineFault, ReplayFault, Stop, WriteFailed};
 pub use language::Language;
 pub use printing::Pending;
+
+#[cfg(test)]
+mod tests;
