@@ -21,7 +21,11 @@ pub enum PutFault {
 }
 
 const _: () = prove!(ReadFault::Short as u8 == 1);
+
 const _: () = prove!(ReadFault::NotUtf8 as u8 == 2);
+
 const _: () = prove!(ReadFault::TooLong as u8 == 3);
+
 const _: () = prove!(ReadFault::Trailing as u8 == 4);
+
 const _: () = prove!(PutFault::Full as u8 == 1);

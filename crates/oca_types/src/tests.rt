@@ -33,7 +33,11 @@ fn texts_of_the_worked_examples(rt: HostRuntime) {
     is_no_text(&rt, &[0, 1, 0xC3], ReadFault::Short);
     is_no_text(&rt, &[0, 1, 0xFF], ReadFault::NotUtf8);
     is_text(&rt, &[0, 5, 0x42, 0xC3, 0xBC, 0x68, 0x6E, 0x65], "Bühne", 0);
-    is_no_text(&rt, &[0, 6, 0x42, 0xC3, 0xBC, 0x68, 0x6E, 0x65], ReadFault::Short);
+    is_no_text(
+        &rt,
+        &[0, 6, 0x42, 0xC3, 0xBC, 0x68, 0x6E, 0x65],
+        ReadFault::Short,
+    );
 
     let mut most = [0x61; 66];
     most[0] = 0;
@@ -122,69 +126,93 @@ fn texts_of_64_bytes(rt: HostRuntime) {
 }
 
 #[test]
-fn numbers_are_put_and_taken(rt: HostRuntime) {
+fn unsigned_numbers_are_put(rt: HostRuntime) {
     let mut params = Params::new();
     assert_eq!(rt; put_u8(&mut params, 255), Ok(()));
     assert_eq!(rt; put_u16(&mut params, 0xFFFE), Ok(()));
     assert_eq!(rt; put_u32(&mut params, 0x01020304), Ok(()));
     assert_eq!(rt; put_u64(&mut params, u64::MAX), Ok(()));
+    let want = [
+        255, 255, 254, 1, 2, 3, 4, 255, 255, 255, 255, 255, 255, 255, 255,
+    ];
+    assert_eq!(rt; params.as_slice(), want.as_slice());
+}
+
+#[test]
+fn signed_numbers_are_put(rt: HostRuntime) {
+    let mut params = Params::new();
     assert_eq!(rt; put_i8(&mut params, -128), Ok(()));
-    assert_eq!(rt; put_i8(&mut params, 127), Ok(()));
     assert_eq!(rt; put_i16(&mut params, -600), Ok(()));
     assert_eq!(rt; put_i32(&mut params, -2), Ok(()));
     assert_eq!(rt; put_i64(&mut params, i64::MIN), Ok(()));
+    let want = [
+        0x80, 0xFD, 0xA8, 0xFF, 0xFF, 0xFF, 0xFE, 0x80, 0, 0, 0, 0, 0, 0, 0,
+    ];
+    assert_eq!(rt; params.as_slice(), want.as_slice());
+}
+
+#[test]
+fn other_values_are_put(rt: HostRuntime) {
+    let mut params = Params::new();
     assert_eq!(rt; put_bool(&mut params, false), Ok(()));
     assert_eq!(rt; put_bool(&mut params, true), Ok(()));
     let text = Text::new("Bühne").expect(&rt, "a short text");
     assert_eq!(rt; put_text(&mut params, &text), Ok(()));
     assert_eq!(rt; put_class_identification(&mut params, Class::Mute), Ok(()));
-
     let want = [
-        0xFF, 0xFF, 0xFE, 0x01, 0x02, 0x03, 0x04, 0xFF, 0xFF, 0xFF, 0xFF, 0xFF, 0xFF, 0xFF, 0xFF,
-        0x80, 0x7F, 0xFD, 0xA8, 0xFF, 0xFF, 0xFF, 0xFE, 0x80, 0, 0, 0, 0, 0, 0, 0, 0x00, 0x01, 0, 5,
-        0x42, 0xC3, 0xBC, 0x68, 0x6E, 0x65, 0, 4, 0, 1, 0, 1, 0, 1, 0, 2, 0, 2,
+        0, 1, 0, 5, 0x42, 0xC3, 0xBC, 0x68, 0x6E, 0x65, 0, 4, 0, 1, 0, 1, 0, 1, 0, 2, 0, 2,
     ];
     assert_eq!(rt; params.as_slice(), want.as_slice());
+}
 
-    let mut cursor = Cursor::new(&want);
+#[test]
+fn unsigned_numbers_are_taken(rt: HostRuntime) {
+    let bytes = [
+        255, 255, 254, 1, 2, 3, 4, 255, 255, 255, 255, 255, 255, 255, 255,
+    ];
+    let mut cursor = Cursor::new(&bytes);
     assert_eq!(rt; cursor.take_u8(), Ok(255));
     assert_eq!(rt; cursor.take_u16(), Ok(0xFFFE));
     assert_eq!(rt; cursor.take_u32(), Ok(0x01020304));
     assert_eq!(rt; cursor.take_u64(), Ok(u64::MAX));
-    assert_eq!(rt; cursor.take_i8(), Ok(-128));
-    assert_eq!(rt; cursor.take_i8(), Ok(127));
-    assert_eq!(rt; cursor.take_i16(), Ok(-600));
-    assert_eq!(rt; cursor.take_i32(), Ok(-2));
-    assert_eq!(rt; cursor.take_i64(), Ok(i64::MIN));
-    assert_eq!(rt; cursor.take_bool(), Ok(false));
-    assert_eq!(rt; cursor.take_bool(), Ok(true));
-    let text = cursor.take_text().ok().expect(&rt, "a text");
-    assert_eq!(rt; text.as_str(), "Bühne");
-    assert_eq!(rt; cursor.take_u64(), Ok(0x0004_0001_0001_0001));
-    assert_eq!(rt; cursor.take_u16(), Ok(2));
-    assert_eq!(rt; cursor.finish(), Err(ReadFault::Trailing));
-    assert_eq!(rt; cursor.take_u32(), Err(ReadFault::Short));
-    assert_eq!(rt; cursor.take_u16(), Ok(2));
     assert_eq!(rt; cursor.finish(), Ok(()));
 }
 
 #[test]
-fn cut_numbers_are_short(rt: HostRuntime) {
-    let mut cursor = Cursor::new(&[0x80; 7]);
+fn signed_numbers_are_taken(rt: HostRuntime) {
+    let bytes = [
+        0x80, 0xFD, 0xA8, 0xFF, 0xFF, 0xFF, 0xFE, 0x80, 0, 0, 0, 0, 0, 0, 0,
+    ];
+    let mut cursor = Cursor::new(&bytes);
+    assert_eq!(rt; cursor.take_i8(), Ok(-128));
+    assert_eq!(rt; cursor.take_i16(), Ok(-600));
+    assert_eq!(rt; cursor.take_i32(), Ok(-2));
+    assert_eq!(rt; cursor.take_i64(), Ok(i64::MIN));
+    assert_eq!(rt; cursor.finish(), Ok(()));
+}
+
+#[test]
+fn cut_unsigned_numbers_are_short(rt: HostRuntime) {
+    let mut cursor = Cursor::new(&[1, 2, 3]);
     assert_eq!(rt; cursor.take_u64(), Err(ReadFault::Short));
-    assert_eq!(rt; cursor.take_i64(), Err(ReadFault::Short));
-    assert_eq!(rt; cursor.take_u32(), Ok(0x80808080));
     assert_eq!(rt; cursor.take_u32(), Err(ReadFault::Short));
+    assert_eq!(rt; cursor.take_u16(), Ok(0x0102));
+    assert_eq!(rt; cursor.take_u16(), Err(ReadFault::Short));
+    assert_eq!(rt; cursor.finish(), Err(ReadFault::Trailing));
+    assert_eq!(rt; cursor.take_u8(), Ok(3));
+    assert_eq!(rt; cursor.take_u8(), Err(ReadFault::Short));
+}
+
+#[test]
+fn cut_signed_numbers_are_short(rt: HostRuntime) {
+    let mut cursor = Cursor::new(&[0x80, 0x80, 0x7F]);
+    assert_eq!(rt; cursor.take_i64(), Err(ReadFault::Short));
     assert_eq!(rt; cursor.take_i32(), Err(ReadFault::Short));
     assert_eq!(rt; cursor.take_i16(), Ok(-32640));
-    assert_eq!(rt; cursor.take_u16(), Err(ReadFault::Short));
     assert_eq!(rt; cursor.take_i16(), Err(ReadFault::Short));
-    assert_eq!(rt; cursor.finish(), Err(ReadFault::Trailing));
-    assert_eq!(rt; cursor.take_i8(), Ok(-128));
-    assert_eq!(rt; cursor.take_u8(), Err(ReadFault::Short));
+    assert_eq!(rt; cursor.take_i8(), Ok(127));
     assert_eq!(rt; cursor.take_i8(), Err(ReadFault::Short));
     assert_eq!(rt; cursor.take_bool(), Err(ReadFault::Short));
-    assert_eq!(rt; cursor.finish(), Ok(()));
 }
 
 #[test]
@@ -206,37 +234,62 @@ fn filled(length: u16) -> Params {
     params
 }
 
-#[test]
-fn parameters_have_1452_bytes(rt: HostRuntime) {
-    let full = Err(PutFault::Full);
-    let text = Text::new("ü").expect(&rt, "a short text");
+/// A put that was refused, and left the parameters as they were.
+fn is_full(rt: &impl Abort, put: Result<(), PutFault>, params: &Params, length: u16) {
+    assert_eq!(rt; put, Err(PutFault::Full));
+    assert_eq!(rt; params.as_slice(), filled(length).as_slice());
+}
 
+#[test]
+fn unsigned_numbers_have_room_up_to_1452(rt: HostRuntime) {
     let mut params = filled(1452);
-    assert_eq!(rt; params.len(), 1452);
-    assert_eq!(rt; put_u8(&mut params, 1), full);
-    assert_eq!(rt; put_i8(&mut params, 1), full);
-    assert_eq!(rt; put_bool(&mut params, true), full);
+    let put = put_u8(&mut params, 1);
+    is_full(&rt, put, &params, 1452);
     let mut params = filled(1451);
-    assert_eq!(rt; put_u16(&mut params, 1), full);
-    assert_eq!(rt; put_i16(&mut params, 1), full);
-    assert_eq!(rt; params.len(), 1451);
-    assert_eq!(rt; put_bool(&mut params, true), Ok(()));
-    assert_eq!(rt; params.len(), 1452);
+    let put = put_u16(&mut params, 1);
+    is_full(&rt, put, &params, 1451);
     let mut params = filled(1449);
-    assert_eq!(rt; put_u32(&mut params, 1), full);
-    assert_eq!(rt; put_i32(&mut params, 1), full);
-    assert_eq!(rt; put_text(&mut params, &text), full);
-    assert_eq!(rt; params.len(), 1449);
+    let put = put_u32(&mut params, 1);
+    is_full(&rt, put, &params, 1449);
+    let mut params = filled(1445);
+    let put = put_u64(&mut params, 1);
+    is_full(&rt, put, &params, 1445);
+    let mut params = filled(1444);
+    assert_eq!(rt; put_u64(&mut params, 1), Ok(()));
+    assert_eq!(rt; params.len(), 1452);
+}
+
+#[test]
+fn signed_numbers_have_room_up_to_1452(rt: HostRuntime) {
+    let mut params = filled(1452);
+    let put = put_i8(&mut params, 1);
+    is_full(&rt, put, &params, 1452);
+    let mut params = filled(1451);
+    let put = put_i16(&mut params, 1);
+    is_full(&rt, put, &params, 1451);
+    let mut params = filled(1449);
+    let put = put_i32(&mut params, 1);
+    is_full(&rt, put, &params, 1449);
+    let mut params = filled(1445);
+    let put = put_i64(&mut params, 1);
+    is_full(&rt, put, &params, 1445);
+}
+
+#[test]
+fn other_values_have_room_up_to_1452(rt: HostRuntime) {
+    let text = Text::new("ü").expect(&rt, "a short text");
+    let mut params = filled(1452);
+    let put = put_bool(&mut params, true);
+    is_full(&rt, put, &params, 1452);
+    let mut params = filled(1449);
+    let put = put_text(&mut params, &text);
+    is_full(&rt, put, &params, 1449);
     let mut params = filled(1448);
     assert_eq!(rt; put_text(&mut params, &text), Ok(()));
     assert_eq!(rt; params.len(), 1452);
-    let mut params = filled(1445);
-    assert_eq!(rt; put_u64(&mut params, 1), full);
-    assert_eq!(rt; put_i64(&mut params, 1), full);
-    assert_eq!(rt; params.len(), 1445);
     let mut params = filled(1441);
-    assert_eq!(rt; put_class_identification(&mut params, Class::Mute), full);
-    assert_eq!(rt; params.as_slice(), filled(1441).as_slice());
+    let put = put_class_identification(&mut params, Class::Mute);
+    is_full(&rt, put, &params, 1441);
     let mut params = filled(1440);
     assert_eq!(rt; put_class_identification(&mut params, Class::Mute), Ok(()));
     assert_eq!(rt; params.len(), 1452);
@@ -245,11 +298,26 @@ fn parameters_have_1452_bytes(rt: HostRuntime) {
 #[test]
 fn classes_have_these_fields(rt: HostRuntime) {
     assert_eq!(rt; class_fields(Class::Block).as_slice(), [1, 1, 3].as_slice());
-    assert_eq!(rt; class_fields(Class::Mute).as_slice(), [1, 1, 1, 2].as_slice());
-    assert_eq!(rt; class_fields(Class::Switch).as_slice(), [1, 1, 1, 4].as_slice());
-    assert_eq!(rt; class_fields(Class::Boolean).as_slice(), [1, 1, 1, 1, 1].as_slice());
-    assert_eq!(rt; class_fields(Class::Int16).as_slice(), [1, 1, 1, 1, 3].as_slice());
-    assert_eq!(rt; class_fields(Class::Uint64).as_slice(), [1, 1, 1, 1, 9].as_slice());
+    assert_eq!(rt;
+        class_fields(Class::Mute).as_slice(),
+        [1, 1, 1, 2].as_slice()
+    );
+    assert_eq!(rt;
+        class_fields(Class::Switch).as_slice(),
+        [1, 1, 1, 4].as_slice()
+    );
+    assert_eq!(rt;
+        class_fields(Class::Boolean).as_slice(),
+        [1, 1, 1, 1, 1].as_slice()
+    );
+    assert_eq!(rt;
+        class_fields(Class::Int16).as_slice(),
+        [1, 1, 1, 1, 3].as_slice()
+    );
+    assert_eq!(rt;
+        class_fields(Class::Uint64).as_slice(),
+        [1, 1, 1, 1, 9].as_slice()
+    );
 }
 
 #[test]
@@ -257,30 +325,65 @@ fn methods_of_the_classes(rt: HostRuntime) {
     let known = |method| MethodKind::Known(method, access_of(method));
     let rows = [
         (Class::Mute, 1, 1, known(Method::GetClassIdentification)),
-        (Class::Mute, 1, 6, MethodKind::Known(Method::LockReadonly, Access::Locking)),
+        (
+            Class::Mute,
+            1,
+            6,
+            MethodKind::Known(Method::LockReadonly, Access::Locking),
+        ),
         (Class::Mute, 1, 7, MethodKind::Unknown),
-        (Class::Block, 2, 1, MethodKind::Known(Method::GetEnabled, Access::Read)),
+        (
+            Class::Block,
+            2,
+            1,
+            MethodKind::Known(Method::GetEnabled, Access::Read),
+        ),
         (Class::Int16, 2, 3, MethodKind::LeftOut),
         (Class::Int16, 2, 7, MethodKind::LeftOut),
-        (Class::Int16, 2, 9, MethodKind::Known(Method::SetLabel, Access::Write)),
+        (
+            Class::Int16,
+            2,
+            9,
+            MethodKind::Known(Method::SetLabel, Access::Write),
+        ),
         (Class::Int16, 2, 13, MethodKind::LeftOut),
         (Class::Int16, 2, 14, MethodKind::Unknown),
         (Class::Block, 3, 0, MethodKind::Unknown),
         (Class::Block, 3, 1, MethodKind::LeftOut),
         (Class::Block, 3, 4, MethodKind::LeftOut),
-        (Class::Block, 3, 5, MethodKind::Known(Method::GetMembers, Access::Read)),
+        (
+            Class::Block,
+            3,
+            5,
+            MethodKind::Known(Method::GetMembers, Access::Read),
+        ),
         (Class::Block, 3, 7, MethodKind::LeftOut),
         (Class::Block, 3, 20, MethodKind::LeftOut),
         (Class::Block, 3, 21, MethodKind::Unknown),
         (Class::Mute, 3, 1, MethodKind::Unknown),
-        (Class::Mute, 4, 2, MethodKind::Known(Method::SetState, Access::Write)),
-        (Class::Polarity, 4, 1, MethodKind::Known(Method::GetState, Access::Read)),
+        (
+            Class::Mute,
+            4,
+            2,
+            MethodKind::Known(Method::SetState, Access::Write),
+        ),
+        (
+            Class::Polarity,
+            4,
+            1,
+            MethodKind::Known(Method::GetState, Access::Read),
+        ),
         (Class::Mute, 4, 3, MethodKind::Unknown),
         (Class::Switch, 4, 10, known(Method::SetPositionEnableds)),
         (Class::Switch, 4, 11, MethodKind::Unknown),
         (Class::Switch, 5, 1, MethodKind::Unknown),
         (Class::Int16, 4, 1, MethodKind::Unknown),
-        (Class::Uint64, 5, 2, MethodKind::Known(Method::SetSetting, Access::Write)),
+        (
+            Class::Uint64,
+            5,
+            2,
+            MethodKind::Known(Method::SetSetting, Access::Write),
+        ),
         (Class::Int16, 5, 3, MethodKind::Unknown),
         (Class::Int16, 6, 1, MethodKind::Unknown),
         (Class::Int16, 0, 1, MethodKind::Unknown),
