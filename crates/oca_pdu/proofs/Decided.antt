@@ -40,7 +40,7 @@ same_or_not m n = elim (cases_lt m n) [
     ]
   ]
 
-each-append : {X : Type 0} (P : X → Type 0) (xs ys : List X) → AllByRecursion P xs → AllByRecursion P ys → AllByRecursion P (xs ++ ys)
+pub each-append : {X : Type 0} (P : X → Type 0) (xs ys : List X) → AllByRecursion P xs → AllByRecursion P ys → AllByRecursion P (xs ++ ys)
 each-append P [] ys all more = more
 each-append P (x ∷ xs) ys all more = (all.0, each-append P xs ys all.1 more)
 
