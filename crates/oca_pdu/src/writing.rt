@@ -19,7 +19,11 @@ fn put(packet: &mut Packet, bytes: &[u8])
 
 /// Appends a PDU of one command (AES70-3), of type 1 where it asks for a response. Refusal: `TooLong` where the packet would
 /// pass 1,472 bytes, and the packet is unchanged.
-pub fn write_command(packet: &mut Packet, respond: bool, command: &Command) -> Result<(), WriteFault>
+pub fn write_command(
+    packet: &mut Packet,
+    respond: bool,
+    command: &Command,
+) -> Result<(), WriteFault>
     ensures room { let pdu = Commands respond (fields_of command.now ∷ []) in
         IsOk result ↔ (length packet.old.items + length (pdu_encoding pdu) ≤ 1472) }
     ensures ok { let pdu = Commands respond (fields_of command.now ∷ []) in
@@ -52,7 +56,32 @@ fn command_front(respond: bool, command: &Command) -> [u8; 27]
     let [l0, l1] = command.method.level.to_be_bytes();
     let [i0, i1] = command.method.index.to_be_bytes();
     [
-        0x3B, 0, 1, p0, p1, p2, p3, respond as u8, 0, 1, s0, s1, s2, s3, h0, h1, h2, h3, t0, t1, t2, t3, l0, l1, i0, i1,
+        0x3B,
+        0,
+        1,
+        p0,
+        p1,
+        p2,
+        p3,
+        respond as u8,
+        0,
+        1,
+        s0,
+        s1,
+        s2,
+        s3,
+        h0,
+        h1,
+        h2,
+        h3,
+        t0,
+        t1,
+        t2,
+        t3,
+        l0,
+        l1,
+        i0,
+        i1,
         command.count,
     ]
 }
@@ -89,7 +118,9 @@ fn response_front(handle: Handle, reply: &Reply) -> [u8; 20]
     let [p0, p1, p2, p3] = (9 + size).to_be_bytes();
     let [s0, s1, s2, s3] = size.to_be_bytes();
     let [h0, h1, h2, h3] = handle.to_be_bytes();
-    [0x3B, 0, 1, p0, p1, p2, p3, 3, 0, 1, s0, s1, s2, s3, h0, h1, h2, h3, status, count]
+    [
+        0x3B, 0, 1, p0, p1, p2, p3, 3, 0, 1, s0, s1, s2, s3, h0, h1, h2, h3, status, count,
+    ]
 }
 
 /// Appends a PDU of one keep-alive (AES70-3). Refusal: `TooLong` where the packet would pass 1,472 bytes, and the packet is
@@ -111,7 +142,9 @@ fn append(packet: &mut Packet, bytes: &[u8]) -> Result<(), WriteFault>
     ensures ok { OnOk result (packet.new.items ≡ packet.old.items ++ bytes.now) }
     ensures err { OnErr result (packet.new ≡ packet.old) }
 {
-    packet.try_extend_from_slice(bytes).map_err(|_| WriteFault::TooLong)
+    packet
+        .try_extend_from_slice(bytes)
+        .map_err(|_| WriteFault::TooLong)
 }
 
 fn seconds_pdu(seconds: u16) -> [u8; 12]
