@@ -113,15 +113,16 @@ command_found b fits long size =
     let a : to_be_bytes w32 (17 + length (drop 17 b)) ≡ take 4 b = ap (to_be_bytes w32) n ∙ quad 0 b fits (omega (arith, long)) in
     let last : drop 16 b ≡ slice_index b 16 ∷ drop 17 b = drop-cons b 16 0 (omega (arith, long)) in
     let whole : command_encoding c ≡ b = assemble6 _ (take 4 b) _ (take 4 (drop 4 b)) _ (take 4 (drop 8 b)) _ (take 2 (drop 12 b)) _ (take 2 (drop 14 b)) (slice_index b 16 ∷ drop 17 b) b (drop 4 b) (drop 8 b) (drop 12 b) (drop 14 b)
-        a (quad 4 b fits (omega (arith, long))) (quad 8 b fits (omega (arith, long))) (pair 12 b fits (omega (arith, long))) (pair 14 b fits (omega (arith, long)))
-        (cut 0 4 4 b refl) (cut 4 4 8 b refl) (cut 8 4 12 b refl) (cut 12 2 14 b refl) (cut 14 2 16 b refl ∙ ap (λ (x : List ℕ). take 2 (drop 14 b) ++ x) last) in
+    a (quad 4 b fits (omega (arith, long))) (quad 8 b fits (omega (arith, long))) (pair 12 b fits (omega (arith, long))) (pair 14 b fits (omega (arith, long)))
+    (cut 0 4 4 b refl) (cut 4 4 8 b refl) (cut 8 4 12 b refl) (cut 12 2 14 b refl) (cut 14 2 16 b refl ∙ ap (λ (x : List ℕ). take 2 (drop 14 b) ++ x) last) in
     let ok : CommandFits c = record {
       handle = below_w32 4 b fits;
       target = below_w32 8 b fits;
       level = below_w16 12 b fits;
       index = below_w16 14 b fits;
       count = fits 16;
-      size = omega (arith, n, below_w32 0 b fits) } in
+      size = omega (arith, n, below_w32 0 b fits);
+    } in
     (c, ok, whole)
 
 command_size : (c : CommandFields) → CommandFits c → number_at w32 0 (command_encoding c) ≡ length (command_encoding c)
@@ -152,7 +153,8 @@ response_found b fits long size =
       handle = below_w32 4 b fits;
       status = fits 8;
       count = fits 9;
-      size = omega (arith, n, below_w32 0 b fits) } in
+      size = omega (arith, n, below_w32 0 b fits);
+    } in
     (r, ok, whole)
 
 response_size : (r : ResponseFields) → ResponseFits r → number_at w32 0 (response_encoding r) ≡ length (response_encoding r)

@@ -33,14 +33,14 @@ positive (suc n) h = omega arith
 -- a number is another, or not
 same_or_not : (m n : ℕ) → (m ≡ n) ⊎ (m ≢ n)
 same_or_not m n = elim (cases_lt m n) [
+  | inl less ↦ inr (λ e. omega (arith, e, less))
+  | inr more ↦ elim (cases_lt n m) [
     | inl less ↦ inr (λ e. omega (arith, e, less))
-    | inr more ↦ elim (cases_lt n m) [
-      | inl less ↦ inr (λ e. omega (arith, e, less))
-      | inr le ↦ inl (omega (arith, more, le))
-    ]
+    | inr le ↦ inl (omega (arith, more, le))
   ]
+]
 
-each-append : {X : Type 0} (P : X → Type 0) (xs ys : List X) → AllByRecursion P xs → AllByRecursion P ys → AllByRecursion P (xs ++ ys)
+pub each-append : {X : Type 0} (P : X → Type 0) (xs ys : List X) → AllByRecursion P xs → AllByRecursion P ys → AllByRecursion P (xs ++ ys)
 each-append P [] ys all more = more
 each-append P (x ∷ xs) ys all more = (all.0, each-append P xs ys all.1 more)
 
@@ -70,8 +70,8 @@ module _ {X : Type 0} (kind : Kind) (encoding : X → List ℕ) (Fits : X → Ty
 
   front : (rest : List ℕ) → IsBytes rest → Front encoding Fits (least_size kind) rest
   front rest fits = elim (cases_lt (length rest) 4) [
-      | inl short ↦ IsShort short
-      | inr four ↦
+    | inl short ↦ IsShort short
+    | inr four ↦
         let size : ℕ = number_at w32 0 rest in
         let parts = front_w32 rest fits four in
         let below = below_w32 0 rest fits in
@@ -82,7 +82,7 @@ module _ {X : Type 0} (kind : Kind) (encoding : X → List ℕ) (Fits : X → Ty
             | inr inside ↦ whole rest size fits refl least inside
           ]
         ]
-    ]
+  ]
 
   abbrev AreMessages : ℕ → List ℕ → Type 0
   AreMessages count body = (xs : List X) × AllByRecursion Fits xs × (length xs ≡ count) × (body ≡ flat_map encoding xs)
@@ -90,20 +90,20 @@ module _ {X : Type 0} (kind : Kind) (encoding : X → List ℕ) (Fits : X → Ty
   go : (n count p : ℕ) (body : List ℕ) (xs : List X) (rest : List ℕ) → AllByRecursion Fits xs → body ≡ flat_map encoding xs ++ rest → length xs + n ≡ count → IsBytes rest
       → AreMessages count body ⊎ ((f : PduFault) × MessagesFail encoding Fits (least_size kind) count p body f)
   go zero count p body xs rest all parts are fits = elim (same_or_not (length rest) 0) [
-      | inl none ↦ inl (xs, all, omega (arith, are), parts ∙ ap (λ (l : List ℕ). flat_map encoding xs ++ l) (nil_from_length rest none) ∙ append-nil (flat_map encoding xs))
-      | inr some ↦ inr (at_fault Count (p + 8), BytesLeft xs rest all parts (omega (arith, are)) (positive _ some) (refl, refl))
-    ]
+    | inl none ↦ inl (xs, all, omega (arith, are), parts ∙ ap (λ (l : List ℕ). flat_map encoding xs ++ l) (nil_from_length rest none) ∙ append-nil (flat_map encoding xs))
+    | inr some ↦ inr (at_fault Count (p + 8), BytesLeft xs rest all parts (omega (arith, are)) (positive _ some) (refl, refl))
+  ]
   go (suc n) count p body xs rest all parts are fits = elim (same_or_not (length rest) 0) [
-      | inl none ↦ inr (at_fault Count (p + 8), MessagesMissing xs all (parts ∙ ap (λ (l : List ℕ). flat_map encoding xs ++ l) (nil_from_length rest none) ∙ append-nil (flat_map encoding xs)) (omega (arith, are)) (refl, refl))
-      | inr some ↦
+    | inl none ↦ inr (at_fault Count (p + 8), MessagesMissing xs all (parts ∙ ap (λ (l : List ℕ). flat_map encoding xs ++ l) (nil_from_length rest none) ∙ append-nil (flat_map encoding xs)) (omega (arith, are)) (refl, refl))
+    | inr some ↦
         let m : ℕ = p + 10 + length (flat_map encoding xs) in
         elim (front rest fits) [
           | IsShort short ↦ inr (at_fault MessageSize m, MessageCutOff xs rest all parts (omega (arith, are)) (positive _ some) short (refl, refl))
           | IsWrong size behind begins below wrong ↦ inr (at_fault MessageSize m, MessageOfWrongSize xs rest size behind all parts (omega (arith, are)) begins below wrong (refl, refl))
           | IsWhole x behind ok begins more ↦
-            go n count p body (xs ++ x ∷ []) behind (each-append Fits xs (x ∷ []) all (ok, tt)) (moved encoding xs x body rest behind parts begins) (omega (arith, are, length-append xs (x ∷ []))) more
+              go n count p body (xs ++ x ∷ []) behind (each-append Fits xs (x ∷ []) all (ok, tt)) (moved encoding xs x body rest behind parts begins) (omega (arith, are, length-append xs (x ∷ []))) more
         ]
-    ]
+  ]
 
   pub messages_decided : (count p : ℕ) (body : List ℕ) → IsBytes body → AreMessages count body ⊎ ((f : PduFault) × MessagesFail encoding Fits (least_size kind) count p body f)
   messages_decided count p body fits = go count count p body [] body tt refl (omega arith) fits
@@ -161,8 +161,8 @@ framed size more rest fits parts below least within =
 
 by_size : (p : ℕ) (after rest : List ℕ) → IsBytes after → rest ≡ 0x3B ∷ to_be_bytes w16 1 ++ after → FrameOrFault p rest
 by_size p after rest fits parts = elim (cases_lt (length after) 4) [
-    | inl short ↦ inr (at_fault Truncated (p + 3), SizeCutOff after parts short (refl, refl))
-    | inr four ↦
+  | inl short ↦ inr (at_fault Truncated (p + 3), SizeCutOff after parts short (refl, refl))
+  | inr four ↦
       let size : ℕ = number_at w32 0 after in
       let more : List ℕ = drop 4 after in
       let below = below_w32 0 after fits in
@@ -174,26 +174,26 @@ by_size p after rest fits parts = elim (cases_lt (length after) 4) [
           | inr within ↦ inl (framed size more rest (IsBytes-drop 4 after fits) begins below least (omega (arith, ap length begins, within, least)))
         ]
       ]
-  ]
+]
 
 by_version : (p : ℕ) (after rest : List ℕ) → IsBytes after → rest ≡ 0x3B ∷ after → FrameOrFault p rest
 by_version p after rest fits parts = elim (cases_lt (length after) 2) [
-    | inl short ↦ inr (at_fault Truncated (p + 1), VersionCutOff after parts short (refl, refl))
-    | inr two ↦
+  | inl short ↦ inr (at_fault Truncated (p + 1), VersionCutOff after parts short (refl, refl))
+  | inr two ↦
       let version : ℕ = number_at w16 0 after in
       let begins : rest ≡ 0x3B ∷ to_be_bytes w16 version ++ drop 2 after = parts ∙ ap (λ (l : List ℕ). 0x3B ∷ l) (front_w16 after fits two) in
       elim (same_or_not version 1) [
         | inl one ↦ by_size p (drop 2 after) rest (IsBytes-drop 2 after fits) (begins ∙ ap (λ (v : ℕ). 0x3B ∷ to_be_bytes w16 v ++ drop 2 after) one)
         | inr other ↦ inr (at_fault Version (p + 1), WrongVersion version (drop 2 after) begins (below_w16 0 after fits) other (refl, refl))
       ]
-  ]
+]
 
 frame_decided : (p : ℕ) (rest : List ℕ) → IsBytes rest → 0 < length rest → FrameOrFault p rest
 frame_decided p [] fits some = absurd (omega (arith, some))
 frame_decided p (first ∷ after) fits some = elim (same_or_not first 0x3B) [
-    | inl sync ↦ by_version p after (first ∷ after) (λ i. fits (suc i)) (ap (λ (b : ℕ). b ∷ after) sync)
-    | inr other ↦ inr (at_fault Sync p, WrongSync first after refl other (refl, refl))
-  ]
+  | inl sync ↦ by_version p after (first ∷ after) (λ i. fits (suc i)) (ap (λ (b : ℕ). b ∷ after) sync)
+  | inr other ↦ inr (at_fault Sync p, WrongSync first after refl other (refl, refl))
+]
 
 -- ---- one PDU
 
@@ -211,12 +211,12 @@ commands_decided : (respond : Bool) (p count : ℕ) (body behind rest : List ℕ
 commands_decided respond p count body behind rest frame fits behind_fits some =
     elim (messages_decided (command_kind respond) command_encoding CommandFits (λ c. Command respond c) (command_codec respond) count p body fits) [
       | inl are ↦ inl (record {
-          pdu = Commands respond are.0;
-          behind = behind;
-          fits = (omega (arith, are.2, positive count some), omega (arith, are.2, frame.count_fits), are.1, omega (arith, ap length are.3, frame.size_fits));
-          parts = frame.parts ∙ ap (λ (n : ℕ). pdu_frame (command_type respond) n body ++ behind) (sym are.2) ∙ ap (λ (b : List ℕ). pdu_frame (command_type respond) (length are.0) b ++ behind) are.3;
-          behind_fits = behind_fits;
-        })
+        pdu = Commands respond are.0;
+        behind = behind;
+        fits = (omega (arith, are.2, positive count some), omega (arith, are.2, frame.count_fits), are.1, omega (arith, ap length are.3, frame.size_fits));
+        parts = frame.parts ∙ ap (λ (n : ℕ). pdu_frame (command_type respond) n body ++ behind) (sym are.2) ∙ ap (λ (b : List ℕ). pdu_frame (command_type respond) (length are.0) b ++ behind) are.3;
+        behind_fits = behind_fits;
+      })
       | inr fail ↦ inr (fail.0, InCommands respond count body behind frame some (subst (λ (n : ℕ). MessagesFail command_encoding CommandFits n count p body fail.0) (least_command respond) fail.1))
     ]
 
@@ -224,12 +224,12 @@ responses_decided : (p count : ℕ) (body behind rest : List ℕ) → BeginsWith
 responses_decided p count body behind rest frame fits behind_fits some =
     elim (messages_decided kinds.Response response_encoding ResponseFits (λ r. Response r) response_codec count p body fits) [
       | inl are ↦ inl (record {
-          pdu = Responses are.0;
-          behind = behind;
-          fits = (omega (arith, are.2, positive count some), omega (arith, are.2, frame.count_fits), are.1, omega (arith, ap length are.3, frame.size_fits));
-          parts = frame.parts ∙ ap (λ (n : ℕ). pdu_frame 3 n body ++ behind) (sym are.2) ∙ ap (λ (b : List ℕ). pdu_frame 3 (length are.0) b ++ behind) are.3;
-          behind_fits = behind_fits;
-        })
+        pdu = Responses are.0;
+        behind = behind;
+        fits = (omega (arith, are.2, positive count some), omega (arith, are.2, frame.count_fits), are.1, omega (arith, ap length are.3, frame.size_fits));
+        parts = frame.parts ∙ ap (λ (n : ℕ). pdu_frame 3 n body ++ behind) (sym are.2) ∙ ap (λ (b : List ℕ). pdu_frame 3 (length are.0) b ++ behind) are.3;
+        behind_fits = behind_fits;
+      })
       | inr fail ↦ inr (fail.0, InResponses count body behind frame some fail.1)
     ]
 
@@ -237,14 +237,14 @@ keep_alive_is : (p : ℕ) (body behind rest : List ℕ) → BeginsWithFrame 4 1 
 keep_alive_is p body behind rest frame fits behind_fits =
     elim (same_or_not (length body) 2) [
       | inl two ↦
-        let is : body ≡ to_be_bytes w16 (from_be_bytes w16 body) = sym (be_bytes_2 body _ two fits refl) in
-        let below : from_be_bytes w16 body < 2 ^ 16 = omega (arith, fits 0, fits 1) in
-        inl (record { pdu = OneKeepAlive (Seconds (from_be_bytes w16 body)); behind = behind; fits = below; parts = frame.parts ∙ ap (λ (b : List ℕ). pdu_frame 4 1 b ++ behind) is; behind_fits = behind_fits })
+          let is : body ≡ to_be_bytes w16 (from_be_bytes w16 body) = sym (be_bytes_2 body _ two fits refl) in
+          let below : from_be_bytes w16 body < 2 ^ 16 = omega (arith, fits 0, fits 1) in
+          inl (record { pdu = OneKeepAlive (Seconds (from_be_bytes w16 body)); behind = behind; fits = below; parts = frame.parts ∙ ap (λ (b : List ℕ). pdu_frame 4 1 b ++ behind) is; behind_fits = behind_fits })
       | inr a ↦ elim (same_or_not (length body) 4) [
         | inl four ↦
-          let is : body ≡ to_be_bytes w32 (from_be_bytes w32 body) = sym (be_bytes_4 body _ four fits refl) in
-          let below : from_be_bytes w32 body < 2 ^ 32 = omega (arith, fits 0, fits 1, fits 2, fits 3) in
-          inl (record { pdu = OneKeepAlive (Millis (from_be_bytes w32 body)); behind = behind; fits = below; parts = frame.parts ∙ ap (λ (b : List ℕ). pdu_frame 4 1 b ++ behind) is; behind_fits = behind_fits })
+            let is : body ≡ to_be_bytes w32 (from_be_bytes w32 body) = sym (be_bytes_4 body _ four fits refl) in
+            let below : from_be_bytes w32 body < 2 ^ 32 = omega (arith, fits 0, fits 1, fits 2, fits 3) in
+            inl (record { pdu = OneKeepAlive (Millis (from_be_bytes w32 body)); behind = behind; fits = below; parts = frame.parts ∙ ap (λ (b : List ℕ). pdu_frame 4 1 b ++ behind) is; behind_fits = behind_fits })
         | inr b ↦ inr (at_fault MessageSize (p + 10), WrongKeepAliveSize body behind frame (λ e. a (omega (arith, e))) (λ e. b (omega (arith, e))) (refl, refl))
       ]
     ]
@@ -267,33 +267,33 @@ by_type p type count body behind rest frame fits behind_fits some (inr (inr (inr
 
 known : (type : ℕ) → IsType type ⊎ ((type ≢ 0) × (type ≢ 1) × (type ≢ 3) × (type ≢ 4))
 known type = elim (same_or_not type 0) [
-    | inl e ↦ inl (inl e)
-    | inr a ↦ elim (same_or_not type 1) [
-      | inl e ↦ inl (inr (inl e))
-      | inr b ↦ elim (same_or_not type 3) [
-        | inl e ↦ inl (inr (inr (inl e)))
-        | inr c ↦ elim (same_or_not type 4) [
-          | inl e ↦ inl (inr (inr (inr e)))
-          | inr d ↦ inr (a, b, c, d)
-        ]
+  | inl e ↦ inl (inl e)
+  | inr a ↦ elim (same_or_not type 1) [
+    | inl e ↦ inl (inr (inl e))
+    | inr b ↦ elim (same_or_not type 3) [
+      | inl e ↦ inl (inr (inr (inl e)))
+      | inr c ↦ elim (same_or_not type 4) [
+        | inl e ↦ inl (inr (inr (inr e)))
+        | inr d ↦ inr (a, b, c, d)
       ]
     ]
   ]
+]
 
 in_frame : (p : ℕ) (rest : List ℕ) → HasFrame rest → PduOrFault p rest
 in_frame p rest h = elim (known h.type) [
-    | inl type ↦ elim (same_or_not h.count 0) [
-      | inl none ↦ inr (at_fault Count (p + 8), NoMessages h.type h.body h.behind (subst (λ (n : ℕ). BeginsWithFrame h.type n h.body h.behind rest) none h.begins) type (refl, refl))
-      | inr some ↦ by_type p h.type h.count h.body h.behind rest h.begins h.body_fits h.behind_fits some type
-    ]
-    | inr other ↦ inr (at_fault PduType (p + 7), WrongType h.type h.count h.body h.behind h.begins other.0 other.1 other.2 other.3 (refl, refl))
+  | inl type ↦ elim (same_or_not h.count 0) [
+    | inl none ↦ inr (at_fault Count (p + 8), NoMessages h.type h.body h.behind (subst (λ (n : ℕ). BeginsWithFrame h.type n h.body h.behind rest) none h.begins) type (refl, refl))
+    | inr some ↦ by_type p h.type h.count h.body h.behind rest h.begins h.body_fits h.behind_fits some type
   ]
+  | inr other ↦ inr (at_fault PduType (p + 7), WrongType h.type h.count h.body h.behind h.begins other.0 other.1 other.2 other.3 (refl, refl))
+]
 
 pdu_decided : (p : ℕ) (rest : List ℕ) → IsBytes rest → 0 < length rest → PduOrFault p rest
 pdu_decided p rest fits some = elim (frame_decided p rest fits some) [
-    | inl frame ↦ in_frame p rest frame
-    | inr fail ↦ inr fail
-  ]
+  | inl frame ↦ in_frame p rest frame
+  | inr fail ↦ inr fail
+]
 
 -- ---- a datagram
 
@@ -312,21 +312,21 @@ is_datagram bytes qs rest some short all parts none =
 go_on : (n : ℕ) (bytes : List ℕ) (qs : List Pdu) (rest : List ℕ) → 0 < length bytes → length bytes ≤ 1472 → AllByRecursion PduFits qs → bytes ≡ flat_map pdu_encoding qs ++ rest → length rest ≤ n → IsBytes rest → DatagramOrFault bytes
 go_on zero bytes qs rest some short all parts le fits = is_datagram bytes qs rest some short all parts (omega (arith, le))
 go_on (suc n) bytes qs rest some short all parts le fits = elim (same_or_not (length rest) 0) [
-    | inl none ↦ is_datagram bytes qs rest some short all parts none
-    | inr more ↦
+  | inl none ↦ is_datagram bytes qs rest some short all parts none
+  | inr more ↦
       elim (pdu_decided (length (flat_map pdu_encoding qs)) rest fits (positive _ more)) [
         | inl first ↦
-          go_on n bytes (qs ++ first.pdu ∷ []) first.behind some short (each-append PduFits qs (first.pdu ∷ []) all (first.fits, tt)) (moved pdu_encoding qs first.pdu bytes rest first.behind parts first.parts)
+            go_on n bytes (qs ++ first.pdu ∷ []) first.behind some short (each-append PduFits qs (first.pdu ∷ []) all (first.fits, tt)) (moved pdu_encoding qs first.pdu bytes rest first.behind parts first.parts)
             (omega (arith, le, ap length first.parts, length-append (pdu_encoding first.pdu) first.behind, pdu_some first.pdu)) first.behind_fits
         | inr fail ↦ inr (fail.0, InPdu qs rest short all parts (positive _ more) fail.1)
       ]
-  ]
+]
 
 pub datagram_decided : (bytes : List ℕ) → IsBytes bytes → DatagramOrFault bytes
 datagram_decided bytes fits = elim (same_or_not (length bytes) 0) [
-    | inl none ↦ inr (at_fault Empty 0, NoBytes (nil_from_length bytes none) (refl, refl))
-    | inr some ↦ elim (cases_lt 1472 (length bytes)) [
-      | inl many ↦ inr (at_fault TooLong 1472, TooManyBytes many (refl, refl))
-      | inr short ↦ go_on (length bytes) bytes [] bytes (positive _ some) short tt refl (omega arith) fits
-    ]
+  | inl none ↦ inr (at_fault Empty 0, NoBytes (nil_from_length bytes none) (refl, refl))
+  | inr some ↦ elim (cases_lt 1472 (length bytes)) [
+    | inl many ↦ inr (at_fault TooLong 1472, TooManyBytes many (refl, refl))
+    | inr short ↦ go_on (length bytes) bytes [] bytes (positive _ some) short tt refl (omega arith) fits
   ]
+]

@@ -34,7 +34,7 @@ module _ {X : Type 0} (kind : Kind) (encoding : X → List ℕ) (Fits : X → Ty
   some x = omega (arith, codec.long x, least_four kind)
 
   one_read : (x : X) (k p m : ℕ) (more : List ℕ) → Fits x
-    → messages_at kind (suc k) p m (encoding x ++ more) ≡ (messages_at kind k p (m + length (encoding x)) more >>= λ others. Ok (say x ∷ others))
+      → messages_at kind (suc k) p m (encoding x ++ more) ≡ (messages_at kind k p (m + length (encoding x)) more >>= λ others. Ok (say x ∷ others))
   unfolding messages_at
   one_read x k p m more fits =
       let there : eqb (length (encoding x ++ more)) 0 ≡ false = longer (encoding x) more (some x) in
@@ -42,7 +42,7 @@ module _ {X : Type 0} (kind : Kind) (encoding : X → List ℕ) (Fits : X → Ty
       rw (there, message_again kind encoding Fits say codec x m more fits, at) refl
 
   pub messages_before : (xs : List X) (n k p m : ℕ) (rest : List ℕ) → AllByRecursion Fits xs → k ≡ length xs + n
-    → messages_at kind k p m (flat_map encoding xs ++ rest) ≡ with_front (map say xs) (messages_at kind n p (m + length (flat_map encoding xs)) rest)
+      → messages_at kind k p m (flat_map encoding xs ++ rest) ≡ with_front (map say xs) (messages_at kind n p (m + length (flat_map encoding xs)) rest)
   messages_before [] n k p m rest fits e =
       let same : k ≡ n = omega (arith, e) in
       let at : m + 0 ≡ m = omega arith in
@@ -54,7 +54,7 @@ module _ {X : Type 0} (kind : Kind) (encoding : X → List ℕ) (Fits : X → Ty
       let at : m + length (encoding x) + length (flat_map encoding xs) ≡ m + length (flat_map encoding (x ∷ xs)) = omega (arith, ap length (flat_map-cons encoding x xs), length-append (encoding x) (flat_map encoding xs)) in
       let others = messages_before xs n (length xs + n) p (m + length (encoding x)) rest fits.1 refl in
       let step : messages_at kind k p m (flat_map encoding (x ∷ xs) ++ rest) ≡ (messages_at kind (length xs + n) p (m + length (encoding x)) more >>= λ others. Ok (say x ∷ others))
-          = ap (λ (j : ℕ). messages_at kind j p m (flat_map encoding (x ∷ xs) ++ rest)) next ∙ ap (messages_at kind (suc (length xs + n)) p m) bytes ∙ one_read x (length xs + n) p m more fits.0 in
+      = ap (λ (j : ℕ). messages_at kind j p m (flat_map encoding (x ∷ xs) ++ rest)) next ∙ ap (messages_at kind (suc (length xs + n)) p m) bytes ∙ one_read x (length xs + n) p m more fits.0 in
       step ∙ ap (λ (r : Result (List Msg) PduFault). r >>= λ others. Ok (say x ∷ others)) others
       ∙ cons_front (say x) (map say xs) (messages_at kind n p (m + length (encoding x) + length (flat_map encoding xs)) rest)
       ∙ ap (λ (a : ℕ). with_front (map say (x ∷ xs)) (messages_at kind n p a rest)) at
@@ -186,11 +186,14 @@ pdus_before (q ∷ qs) (suc n) p rest fits le =
     let bytes : flat_map pdu_encoding (q ∷ qs) ++ rest ≡ pdu_encoding q ++ more = ap (λ (l : List ℕ). l ++ rest) (flat_map-cons pdu_encoding q qs) ∙ append_assoc (pdu_encoding q) (flat_map pdu_encoding qs) rest in
     let less : length more ≤ n = omega (arith, le, ap length bytes, length-append (pdu_encoding q) more, pdu_some q) in
     let others = pdus_before qs n (p + length (pdu_encoding q)) rest fits.1 less in
-    let at : p + length (pdu_encoding q) + length (flat_map pdu_encoding qs) ≡ p + length (flat_map pdu_encoding (q ∷ qs)) = omega (arith, ap length (flat_map-cons pdu_encoding q qs), length-append (pdu_encoding q) (flat_map pdu_encoding qs)) in
-    (others.0, others.1, ap (pdus_at (suc n) p) bytes ∙ one_pdu_read q n p more fits.0 ∙ ap (λ (r : Result (List Msg) PduFault). r >>= λ others. Ok (messages_of q ++ others)) others.2
-      ∙ append_front (messages_of q) (flat_map messages_of qs) (pdus_at others.0 (p + length (pdu_encoding q) + length (flat_map pdu_encoding qs)) rest)
-      ∙ ap (λ (a : ℕ). with_front (messages_of q ++ flat_map messages_of qs) (pdus_at others.0 a rest)) at
-      ∙ ap (λ (ms : List Msg). with_front ms (pdus_at others.0 (p + length (flat_map pdu_encoding (q ∷ qs))) rest)) (sym (flat_map-cons messages_of q qs)))
+    let at : p + length (pdu_encoding q) + length (flat_map pdu_encoding qs) ≡ p + length (flat_map pdu_encoding (q ∷ qs)) = omega (arith, ap length (flat_map-cons pdu_encoding q qs), length-append (pdu_encoding q) (flat_map pdu_encoding qs)) in (
+      others.0,
+      others.1,
+      ap (pdus_at (suc n) p) bytes ∙ one_pdu_read q n p more fits.0 ∙ ap (λ (r : Result (List Msg) PduFault). r >>= λ others. Ok (messages_of q ++ others)) others.2
+          ∙ append_front (messages_of q) (flat_map messages_of qs) (pdus_at others.0 (p + length (pdu_encoding q) + length (flat_map pdu_encoding qs)) rest)
+          ∙ ap (λ (a : ℕ). with_front (messages_of q ++ flat_map messages_of qs) (pdus_at others.0 a rest)) at
+          ∙ ap (λ (ms : List Msg). with_front ms (pdus_at others.0 (p + length (flat_map pdu_encoding (q ∷ qs))) rest)) (sym (flat_map-cons messages_of q qs)),
+    )
 
 no_pdus : (k p : ℕ) → pdus_at k p [] ≡ Ok []
 unfolding pdus_at

@@ -45,15 +45,15 @@ IsBytes-each (b ∷ bytes) all (suc i) = IsBytes-each bytes all.1 i
 
 pub is_found : (bytes : List ℕ) (ms : List Msg) → IsBytes bytes → read_datagram bytes ≡ Ok ms → (ps : List Pdu) × IsDatagram ps bytes × (flat_map messages_of ps ≡ ms)
 is_found bytes ms fits e = elim (datagram_decided bytes fits) [
-    | inl are ↦ (are.0, are.1, ok_is (flat_map messages_of are.0) ms (sym (datagram_again are.0 bytes are.1) ∙ e))
-    | inr fail ↦ not_both (read_datagram bytes) ms fail.0 e (datagram_refused bytes fail.0 fail.1)
-  ]
+  | inl are ↦ (are.0, are.1, ok_is (flat_map messages_of are.0) ms (sym (datagram_again are.0 bytes are.1) ∙ e))
+  | inr fail ↦ not_both (read_datagram bytes) ms fail.0 e (datagram_refused bytes fail.0 fail.1)
+]
 
 pub is_fault : (bytes : List ℕ) (f : PduFault) → IsBytes bytes → read_datagram bytes ≡ Err f → IsFirstFault bytes f
 is_fault bytes f fits e = elim (datagram_decided bytes fits) [
-    | inl are ↦ not_both (read_datagram bytes) (flat_map messages_of are.0) f (datagram_again are.0 bytes are.1) e
-    | inr fail ↦ subst (IsFirstFault bytes) (err_is fail.0 f (sym (datagram_refused bytes fail.0 fail.1) ∙ e)) fail.1
-  ]
+  | inl are ↦ not_both (read_datagram bytes) (flat_map messages_of are.0) f (datagram_again are.0 bytes are.1) e
+  | inr fail ↦ subst (IsFirstFault bytes) (err_is fail.0 f (sym (datagram_refused bytes fail.0 fail.1) ∙ e)) fail.1
+]
 
 is_messages : (bytes : List ℕ) (ms : List Msg) → (ps : List Pdu) × IsDatagram ps bytes × (flat_map messages_of ps ≡ ms) → read_datagram bytes ≡ Ok ms
 is_messages bytes ms (ps, are, same) = datagram_again ps bytes are ∙ ap (λ (l : List Msg). Ok l) same

@@ -7,3 +7,4 @@ pub mod Refused
 pub mod Decided
 pub mod Exact
 pub mod Walking
+pub mod Adding

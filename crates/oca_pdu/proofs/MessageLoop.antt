@@ -48,7 +48,7 @@ unfolding messages_at
 goes_by kind count i p m m' rest first after front total lt some h e so_far =
     let k : count - i ≡ suc (count - (i + 1)) = omega arith in
     let one : with_front front (messages_at kind (count - i) p m rest) ≡ with_front (front ++ first ∷ []) (messages_at kind (count - (i + 1)) p m' after)
-        = rw (k, some, h, e) (regroup front first (messages_at kind (count - (i + 1)) p (m + (length rest - length after)) after)) in
+    = rw (k, some, h, e) (regroup front first (messages_at kind (count - (i + 1)) p (m + (length rest - length after)) after)) in
     sym one ∙ so_far
 
 pub goes_on : (kind : Kind) (count i p m m' : ℕ) (rest after : List ℕ) (total : Result (List Msg) PduFault) → i < count → eqb (length rest) 0 ≡ false → behind (message_at kind m rest) ≡ Ok after → m' ≡ m + (length rest - length after)

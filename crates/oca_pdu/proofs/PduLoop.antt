@@ -27,7 +27,7 @@ unfolding pdus_at
 goes_by n i p p' rest after these front total lt some h e so_far =
     let k : n - i ≡ suc (n - (i + 1)) = omega arith in
     let one : with_front front (pdus_at (n - i) p rest) ≡ with_front (front ++ these) (pdus_at (n - (i + 1)) p' after)
-        = rw (k, some, h, e) (regroup front these (pdus_at (n - (i + 1)) (p + (length rest - length after)) after)) in
+    = rw (k, some, h, e) (regroup front these (pdus_at (n - (i + 1)) (p + (length rest - length after)) after)) in
     sym one ∙ so_far
 
 pub goes_on : (n i p p' : ℕ) (rest after : List ℕ) (total : Result (List Msg) PduFault) → i < n → eqb (length rest) 0 ≡ false → behind (pdu_at p rest) ≡ Ok after → p' ≡ p + (length rest - length after)

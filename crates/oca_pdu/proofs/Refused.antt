@@ -82,23 +82,23 @@ module _ {X : Type 0} (kind : Kind) (encoding : X → List ℕ) (Fits : X → Ty
   messages_refused least count p body f le (MessagesMissing xs fits parts lt is) =
       let k = above (length xs) count lt in
       fails_behind xs count (suc k.0) p body [] f fits (parts ∙ sym (append-nil (flat_map encoding xs))) k.1
-        (missing k.0 p (p + 10 + length (flat_map encoding xs)) ∙ is_fault f Count (p + 8) is)
+      (missing k.0 p (p + 10 + length (flat_map encoding xs)) ∙ is_fault f Count (p + 8) is)
   messages_refused least count p body f le (MessageCutOff xs rest fits parts lt some short is) =
       let k = above (length xs) count lt in
       let m : ℕ = p + 10 + length (flat_map encoding xs) in
       fails_behind xs count (suc k.0) p body rest f fits parts k.1
-        (first_fails k.0 p m rest f some (message_cut_off kind m rest short ∙ is_fault f MessageSize m is))
+      (first_fails k.0 p m rest f some (message_cut_off kind m rest short ∙ is_fault f MessageSize m is))
   messages_refused least count p body f le (MessageOfWrongSize xs rest size behind fits parts lt front small bad is) =
       let k = above (length xs) count lt in
       let m : ℕ = p + 10 + length (flat_map encoding xs) in
       let some : 0 < length rest = omega (arith, ap length front) in
       let wrong : (size < least_size kind) ⊎ (length rest < size) = rw le bad in
       fails_behind xs count (suc k.0) p body rest f fits parts k.1
-        (first_fails k.0 p m rest f some (wrong_size kind m size rest behind front small wrong ∙ is_fault f MessageSize m is))
+      (first_fails k.0 p m rest f some (wrong_size kind m size rest behind front small wrong ∙ is_fault f MessageSize m is))
   messages_refused least count p body f le (BytesLeft xs rest fits parts all some is) =
       let k : count ≡ length xs + 0 = omega (arith, all) in
       fails_behind xs count 0 p body rest f fits parts k
-        (left_over p (p + 10 + length (flat_map encoding xs)) rest some ∙ is_fault f Count (p + 8) is)
+      (left_over p (p + 10 + length (flat_map encoding xs)) rest some ∙ is_fault f Count (p + 8) is)
 
 -- ---- one PDU
 
@@ -210,11 +210,11 @@ pdu_refused p rest f (WrongKeepAliveSize body behind frame a b is) =
     content_fails p 4 1 body behind rest f frame (keep_alive_content p body ∙ wrong_keep_alive p body a b ∙ is_fault f MessageSize (p + 10) is)
 pdu_refused p rest f (InCommands respond count body behind frame some fails) =
     content_fails p (command_type respond) count body behind rest f frame
-      (ap (λ (o : Option Content). content_at o count p body) (command_content respond) ∙ messages_content (command_kind respond) count p body some
-        ∙ messages_refused (command_kind respond) command_encoding CommandFits (λ c. Command respond c) (command_codec respond) 17 count p body f (least_command respond) fails)
+    (ap (λ (o : Option Content). content_at o count p body) (command_content respond) ∙ messages_content (command_kind respond) count p body some
+    ∙ messages_refused (command_kind respond) command_encoding CommandFits (λ c. Command respond c) (command_codec respond) 17 count p body f (least_command respond) fails)
 pdu_refused p rest f (InResponses count body behind frame some fails) =
     content_fails p 3 count body behind rest f frame
-      (messages_content kinds.Response count p body some ∙ messages_refused kinds.Response response_encoding ResponseFits (λ r. Response r) response_codec 10 count p body f refl fails)
+    (messages_content kinds.Response count p body some ∙ messages_refused kinds.Response response_encoding ResponseFits (λ r. Response r) response_codec 10 count p body f refl fails)
 
 -- ---- a datagram
 
@@ -236,5 +236,5 @@ datagram_refused bytes f (InPdu before rest short fits parts some fails) =
     let all = pdus_before before (length bytes) 0 rest fits (omega (arith, ap length parts)) in
     let at : 0 + length (flat_map pdu_encoding before) ≡ length (flat_map pdu_encoding before) = omega arith in
     let there : pdus_at all.0 (0 + length (flat_map pdu_encoding before)) rest ≡ Err f
-        = ap (λ (p : ℕ). pdus_at all.0 p rest) at ∙ pdu_fails_first all.0 (length (flat_map pdu_encoding before)) rest f some all.1 (pdu_refused (length (flat_map pdu_encoding before)) rest f fails) in
+    = ap (λ (p : ℕ). pdus_at all.0 p rest) at ∙ pdu_fails_first all.0 (length (flat_map pdu_encoding before)) rest f some all.1 (pdu_refused (length (flat_map pdu_encoding before)) rest f fails) in
     rw (a, b) (ap (pdus_at (length bytes) 0) parts ∙ all.2 ∙ ap (with_front (flat_map messages_of before)) there)

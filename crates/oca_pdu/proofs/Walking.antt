@@ -59,16 +59,16 @@ message_same : (kind : Kind) (m m' : ℕ) (bytes : List ℕ) → result_ok (mess
 unfolding message_at
 message_same kind m m' bytes =
     same_guard (ltb (length bytes) 4) (at_fault MessageSize m) (at_fault MessageSize m') _ _
-      (same_guard (ltb (number_at w32 0 bytes) (least_size kind) || ltb (length bytes) (number_at w32 0 bytes)) (at_fault MessageSize m) (at_fault MessageSize m') _ _ refl)
+    (same_guard (ltb (number_at w32 0 bytes) (least_size kind) || ltb (length bytes) (number_at w32 0 bytes)) (at_fault MessageSize m) (at_fault MessageSize m') _ _ refl)
 
 messages_same : (kind : Kind) (n p m p' m' : ℕ) (bytes : List ℕ) → result_ok (messages_at kind n p m bytes) ≡ result_ok (messages_at kind n p' m' bytes)
 unfolding messages_at
 messages_same kind zero p m p' m' bytes = same_else (eqb (length bytes) 0) (at_fault Count (p + 8)) (at_fault Count (p' + 8)) (Ok []) (Ok []) refl
 messages_same kind (suc n) p m p' m' bytes =
     same_guard (eqb (length bytes) 0) (at_fault Count (p + 8)) (at_fault Count (p' + 8)) _ _
-      (same_bind (message_at kind m bytes) (message_at kind m' bytes) _ _ (message_same kind m m' bytes) (λ first e.
-        same_bind (messages_at kind n p (m + (length bytes - length first.1)) first.1) (messages_at kind n p' (m' + (length bytes - length first.1)) first.1) _ _
-          (messages_same kind n p (m + (length bytes - length first.1)) p' (m' + (length bytes - length first.1)) first.1) (λ others e. refl)))
+    (same_bind (message_at kind m bytes) (message_at kind m' bytes) _ _ (message_same kind m m' bytes) (λ first e.
+    same_bind (messages_at kind n p (m + (length bytes - length first.1)) first.1) (messages_at kind n p' (m' + (length bytes - length first.1)) first.1) _ _
+    (messages_same kind n p (m + (length bytes - length first.1)) p' (m' + (length bytes - length first.1)) first.1) (λ others e. refl)))
 
 keep_alive_same : (p p' : ℕ) (bytes : List ℕ) → result_ok (keep_alive_at p bytes) ≡ result_ok (keep_alive_at p' bytes)
 unfolding keep_alive_at
@@ -154,7 +154,7 @@ messages_open_by kind n bytes ms e =
     let first : message_in kind (take size bytes) ≡ a.0.0 = ap (λ (y : Msg × List ℕ). y.0) o.is in
     let k : suc n - 1 ≡ n = omega arith in
     let same : result_ok (messages_at kind (suc n - 1) 0 0 (drop size bytes)) ≡ result_ok (messages_at kind n 0 (0 + (length bytes - length a.0.1)) a.0.1)
-        = rw k (ap (λ (l : List ℕ). result_ok (messages_at kind n 0 0 l)) behind ∙ messages_same kind n 0 0 0 (0 + (length bytes - length a.0.1)) a.0.1) in
+    = rw k (ap (λ (l : List ℕ). result_ok (messages_at kind n 0 0 l)) behind ∙ messages_same kind n 0 0 0 (0 + (length bytes - length a.0.1)) a.0.1) in
     let others : read_or_none (messages_at kind (suc n - 1) 0 0 (drop size bytes)) ≡ b.0 = same_or_none _ _ same ∙ ap read_or_none b.1 in
     record {
       four = o.four;
@@ -207,12 +207,12 @@ pdus_same (suc n) zero p p' bytes le le' =
     rw none refl
 pdus_same (suc n) (suc n') p p' bytes le le' =
     same_choice (eqb (length bytes) 0) _ _ _
-      (same_bind (pdu_at p bytes) (pdu_at p' bytes) _ _ (pdu_same p p' bytes) (λ first e.
-        let o = pdu_opens p bytes first e in
-        let less : length first.1 ≤ n = omega (arith, le, ap length o.behind, length-drop (1 + number_at w32 3 bytes) bytes, o.within) in
-        let less' : length first.1 ≤ n' = omega (arith, le', ap length o.behind, length-drop (1 + number_at w32 3 bytes) bytes, o.within) in
-        same_bind (pdus_at n (p + (length bytes - length first.1)) first.1) (pdus_at n' (p' + (length bytes - length first.1)) first.1) _ _
-          (pdus_same n n' (p + (length bytes - length first.1)) (p' + (length bytes - length first.1)) first.1 less less') (λ others e. refl)))
+    (same_bind (pdu_at p bytes) (pdu_at p' bytes) _ _ (pdu_same p p' bytes) (λ first e.
+    let o = pdu_opens p bytes first e in
+    let less : length first.1 ≤ n = omega (arith, le, ap length o.behind, length-drop (1 + number_at w32 3 bytes) bytes, o.within) in
+    let less' : length first.1 ≤ n' = omega (arith, le', ap length o.behind, length-drop (1 + number_at w32 3 bytes) bytes, o.within) in
+    same_bind (pdus_at n (p + (length bytes - length first.1)) first.1) (pdus_at n' (p' + (length bytes - length first.1)) first.1) _ _
+    (pdus_same n n' (p + (length bytes - length first.1)) (p' + (length bytes - length first.1)) first.1 less less') (λ others e. refl)))
 
 -- the first PDU, and the others
 pub record PdusOpen (bytes : List ℕ) : Type 0 where

@@ -12,7 +12,7 @@ use Rattle.oca_pdu.specs.Messages.{ResponseFields, Pdu, Commands, Responses, One
 -- MethodIndex, ParamCount, parameters
 abbrev pub command_encoding : CommandFields → List ℕ
 command_encoding c = unsigned_encoding w32 (17 + length c.params) ++ unsigned_encoding w32 c.handle ++ unsigned_encoding w32 c.target
-  ++ unsigned_encoding w16 c.level ++ unsigned_encoding w16 c.index ++ c.count ∷ c.params
+    ++ unsigned_encoding w16 c.level ++ unsigned_encoding w16 c.index ++ c.count ∷ c.params
 
 -- a response: ResponseSize, which counts all its bytes (10 of the fields and the parameters), handle, status, ParamCount, parameters
 abbrev pub response_encoding : ResponseFields → List ℕ

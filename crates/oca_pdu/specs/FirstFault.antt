@@ -16,19 +16,19 @@ use Rattle.oca_pdu.specs.Encoding.{command_encoding, response_encoding, pdu_fram
 pub data MessagesFail {X : Type 0} (encoding : X → List ℕ) (Fits : X → Type 0) (least count p : ℕ) (body : List ℕ) (f : PduFault) : Type 0 where
   -- the PDU ends, and messages are still to come
   MessagesMissing : (before : List X) → AllByRecursion Fits before → body ≡ flat_map encoding before → length before < count
-    → IsFaultAt f Count (p + 8) → MessagesFail encoding Fits least count p body f
+      → IsFaultAt f Count (p + 8) → MessagesFail encoding Fits least count p body f
   -- fewer than 4 bytes are left for a message's size
   MessageCutOff : (before : List X) (rest : List ℕ) → AllByRecursion Fits before → body ≡ flat_map encoding before ++ rest → length before < count
-    → 0 < length rest → length rest < 4
-    → IsFaultAt f MessageSize (p + 10 + length (flat_map encoding before)) → MessagesFail encoding Fits least count p body f
+      → 0 < length rest → length rest < 4
+      → IsFaultAt f MessageSize (p + 10 + length (flat_map encoding before)) → MessagesFail encoding Fits least count p body f
   -- the message's size is below the least, or the message would end behind the PDU
   MessageOfWrongSize : (before : List X) (rest : List ℕ) (size : ℕ) (behind : List ℕ) → AllByRecursion Fits before → body ≡ flat_map encoding before ++ rest → length before < count
-    → rest ≡ unsigned_encoding w32 size ++ behind → size < 2 ^ 32 → (size < least) ⊎ (length rest < size)
-    → IsFaultAt f MessageSize (p + 10 + length (flat_map encoding before)) → MessagesFail encoding Fits least count p body f
+      → rest ≡ unsigned_encoding w32 size ++ behind → size < 2 ^ 32 → (size < least) ⊎ (length rest < size)
+      → IsFaultAt f MessageSize (p + 10 + length (flat_map encoding before)) → MessagesFail encoding Fits least count p body f
   -- behind the last message, the PDU goes on
   BytesLeft : (before : List X) (rest : List ℕ) → AllByRecursion Fits before → body ≡ flat_map encoding before ++ rest → length before ≡ count
-    → 0 < length rest
-    → IsFaultAt f Count (p + 8) → MessagesFail encoding Fits least count p body f
+      → 0 < length rest
+      → IsFaultAt f Count (p + 8) → MessagesFail encoding Fits least count p body f
 
 -- The rest begins with the frame of a PDU: sync, ProtocolVersion and PduSize hold, and the PDU ends within the datagram.
 pub record BeginsWithFrame (type count : ℕ) (body behind rest : List ℕ) : Type 0 where
@@ -41,48 +41,48 @@ pub record BeginsWithFrame (type count : ℕ) (body behind rest : List ℕ) : Ty
 pub data PduFails (p : ℕ) (rest : List ℕ) (f : PduFault) : Type 0 where
   -- the byte at p is not 3B
   WrongSync : (first : ℕ) (behind : List ℕ) → rest ≡ first ∷ behind → first ≢ 0x3B
-    → IsFaultAt f Sync p → PduFails p rest f
+      → IsFaultAt f Sync p → PduFails p rest f
   -- ProtocolVersion is not wholly inside the datagram
   VersionCutOff : (behind : List ℕ) → rest ≡ 0x3B ∷ behind → length behind < 2
-    → IsFaultAt f Truncated (p + 1) → PduFails p rest f
+      → IsFaultAt f Truncated (p + 1) → PduFails p rest f
   -- ProtocolVersion is not 1
   WrongVersion : (version : ℕ) (behind : List ℕ) → rest ≡ 0x3B ∷ unsigned_encoding w16 version ++ behind → version < 2 ^ 16 → version ≢ 1
-    → IsFaultAt f Version (p + 1) → PduFails p rest f
+      → IsFaultAt f Version (p + 1) → PduFails p rest f
   -- PduSize is not wholly inside the datagram
   SizeCutOff : (behind : List ℕ) → rest ≡ 0x3B ∷ unsigned_encoding w16 1 ++ behind → length behind < 4
-    → IsFaultAt f Truncated (p + 3) → PduFails p rest f
+      → IsFaultAt f Truncated (p + 3) → PduFails p rest f
   -- PduSize is below 11
   SizeTooSmall : (size : ℕ) (behind : List ℕ) → rest ≡ 0x3B ∷ unsigned_encoding w16 1 ++ unsigned_encoding w32 size ++ behind → size < 11
-    → IsFaultAt f PduSize (p + 3) → PduFails p rest f
+      → IsFaultAt f PduSize (p + 3) → PduFails p rest f
   -- the PDU, which has the sync and PduSize bytes, ends behind the datagram
   PduCutOff : (size : ℕ) (behind : List ℕ) → rest ≡ 0x3B ∷ unsigned_encoding w16 1 ++ unsigned_encoding w32 size ++ behind → size < 2 ^ 32 → 11 ≤ size → length rest < 1 + size
-    → IsFaultAt f Truncated (p + 3) → PduFails p rest f
+      → IsFaultAt f Truncated (p + 3) → PduFails p rest f
   -- PduType is not 0, 1, 3 or 4
   WrongType : (type count : ℕ) (body behind : List ℕ) → BeginsWithFrame type count body behind rest → type ≢ 0 → type ≢ 1 → type ≢ 3 → type ≢ 4
-    → IsFaultAt f PduType (p + 7) → PduFails p rest f
+      → IsFaultAt f PduType (p + 7) → PduFails p rest f
   -- MessageCount is 0
   NoMessages : (type : ℕ) (body behind : List ℕ) → BeginsWithFrame type 0 body behind rest → (type ≡ 0) ⊎ (type ≡ 1) ⊎ (type ≡ 3) ⊎ (type ≡ 4)
-    → IsFaultAt f Count (p + 8) → PduFails p rest f
+      → IsFaultAt f Count (p + 8) → PduFails p rest f
   -- MessageCount of a keep-alive PDU is not 1
   WrongKeepAliveCount : (count : ℕ) (body behind : List ℕ) → BeginsWithFrame 4 count body behind rest → count ≢ 1
-    → IsFaultAt f Count (p + 8) → PduFails p rest f
+      → IsFaultAt f Count (p + 8) → PduFails p rest f
   -- PduSize of a keep-alive PDU is not 11 or 13
   WrongKeepAliveSize : (body behind : List ℕ) → BeginsWithFrame 4 1 body behind rest → 9 + length body ≢ 11 → 9 + length body ≢ 13
-    → IsFaultAt f MessageSize (p + 10) → PduFails p rest f
+      → IsFaultAt f MessageSize (p + 10) → PduFails p rest f
   -- the commands fail
   InCommands : (respond : Bool) (count : ℕ) (body behind : List ℕ) → BeginsWithFrame (command_type respond) count body behind rest → count ≢ 0
-    → MessagesFail command_encoding CommandFits 17 count p body f → PduFails p rest f
+      → MessagesFail command_encoding CommandFits 17 count p body f → PduFails p rest f
   -- the responses fail
   InResponses : (count : ℕ) (body behind : List ℕ) → BeginsWithFrame 3 count body behind rest → count ≢ 0
-    → MessagesFail response_encoding ResponseFits 10 count p body f → PduFails p rest f
+      → MessagesFail response_encoding ResponseFits 10 count p body f → PduFails p rest f
 
 pub data IsFirstFault (bytes : List ℕ) (f : PduFault) : Type 0 where
   -- there are no bytes
   NoBytes : bytes ≡ []
-    → IsFaultAt f Empty 0 → IsFirstFault bytes f
+      → IsFaultAt f Empty 0 → IsFirstFault bytes f
   -- there are more than 1,472 bytes
   TooManyBytes : 1472 < length bytes
-    → IsFaultAt f TooLong 1472 → IsFirstFault bytes f
+      → IsFaultAt f TooLong 1472 → IsFirstFault bytes f
   -- the bytes are the encodings of PDUs, none or more, and a rest, and the PDU with which the rest begins fails
   InPdu : (before : List Pdu) (rest : List ℕ) → length bytes ≤ 1472 → AllByRecursion PduFits before → bytes ≡ flat_map pdu_encoding before ++ rest → 0 < length rest
-    → PduFails (length (flat_map pdu_encoding before)) rest f → IsFirstFault bytes f
+      → PduFails (length (flat_map pdu_encoding before)) rest f → IsFirstFault bytes f

@@ -39,7 +39,8 @@ command_in respond bytes = Command respond (record {
   level = number_at w16 12 bytes;
   index = number_at w16 14 bytes;
   count = slice_index bytes 16;
-  params = drop 17 bytes })
+  params = drop 17 bytes;
+})
 
 abbrev pub message_in : Kind → List ℕ → Msg
 message_in kinds.Command bytes = command_in false bytes
@@ -48,7 +49,8 @@ message_in kinds.Response bytes = Response (record {
   handle = number_at w32 4 bytes;
   status = slice_index bytes 8;
   count = slice_index bytes 9;
-  params = drop 10 bytes })
+  params = drop 10 bytes;
+})
 
 -- the message at m, and what is behind it in its PDU
 unfoldable pub message_at : Kind → ℕ → List ℕ → Result (Msg × List ℕ) PduFault

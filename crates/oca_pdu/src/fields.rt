@@ -53,10 +53,27 @@ pub fn message(kind: Kind, bytes: &[u8]) -> Message<'_>
 {
     let handle = Handle(u32_in(&bytes[4..8]));
     if let Kind::Response = kind {
-        return Message::Response { handle, status: bytes[8], count: bytes[9], params: &bytes[10..] };
+        return Message::Response {
+            handle,
+            status: bytes[8],
+            count: bytes[9],
+            params: &bytes[10..],
+        };
     }
     let target = Ono(u32_in(&bytes[8..12]));
-    let method = MethodId { level: u16_in(&bytes[12..14]), index: u16_in(&bytes[14..16]) };
-    let command = Command { handle, target, method, count: bytes[16], params: &bytes[17..] };
-    Message::Command { respond: matches!(kind, Kind::CommandWithResponse), command }
+    let method = MethodId {
+        level: u16_in(&bytes[12..14]),
+        index: u16_in(&bytes[14..16]),
+    };
+    let command = Command {
+        handle,
+        target,
+        method,
+        count: bytes[16],
+        params: &bytes[17..],
+    };
+    Message::Command {
+        respond: matches!(kind, Kind::CommandWithResponse),
+        command,
+    }
 }

@@ -4,29 +4,24 @@ ghost use Rattle.oca_pdu.specs.Laws.{OneListOfMessages, OneFirstFault, NoFaultOf
 /// Bytes are the encodings of one list of messages at most.
 pub fn law_one_list_of_messages()
     ensures { OneListOfMessages }
-{
-}
+{}
 
 /// Bytes have one first fault at most.
 pub fn law_one_first_fault()
     ensures { OneFirstFault }
-{
-}
+{}
 
 /// No bytes are a datagram and have a first fault.
 pub fn law_no_fault_of_a_datagram()
     ensures { NoFaultOfADatagram }
-{
-}
+{}
 
 /// Reading gives exactly the messages of a datagram, and exactly the first fault of other bytes.
 pub fn law_reading()
     ensures { ReadingIsExact }
-{
-}
+{}
 
 /// What a writer appends to an empty packet is read back as its message.
 pub fn law_written_is_read_back()
     ensures { WrittenIsReadBack }
-{
-}
+{}

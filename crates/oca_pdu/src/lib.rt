@@ -20,8 +20,12 @@ pub use checking::check;
 pub use datagram::Datagram;
 pub use fault::{PduFault, PduFaultKind, WriteFault};
 pub use laws::{
-    law_no_fault_of_a_datagram, law_one_first_fault, law_one_list_of_messages, law_reading, law_written_is_read_back,
+    law_no_fault_of_a_datagram, law_one_first_fault, law_one_list_of_messages, law_reading,
+    law_written_is_read_back,
 };
 pub use message::{Form, Message};
 pub use messages::Messages;
 pub use writing::{write_command, write_keepalive, write_response};
+
+#[cfg(test)]
+mod tests;

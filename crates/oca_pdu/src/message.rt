@@ -12,11 +12,21 @@ pub enum Form {
 #[derive(Clone, Copy)]
 pub enum Message<'a> {
     /// A command, and whether it asks for a response.
-    Command { respond: bool, command: Command<'a> },
+    Command {
+        respond: bool,
+        command: Command<'a>,
+    },
     /// A response: the handle of its command, the number of its status, its ParamCount and its parameters.
-    Response { handle: Handle, status: u8, count: u8, params: &'a [u8] },
+    Response {
+        handle: Handle,
+        status: u8,
+        count: u8,
+        params: &'a [u8],
+    },
     /// A keep-alive.
-    KeepAlive { form: Form },
+    KeepAlive {
+        form: Form,
+    },
 }
 
 /// What the messages of a PDU are, other than a keep-alive.

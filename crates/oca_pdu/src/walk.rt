@@ -14,7 +14,12 @@ fn over(bytes: &[u8]) -> Messages<'_>
     requires { IsTrue (is_ok (pdus_at (length bytes.now) 0 bytes.now)) }
     ensures { messages_left result ≡ read_or_none (pdus_at (length bytes.now) 0 bytes.now) }
 {
-    Messages { kind: Kind::Command, left: 0, inside: &[], rest: bytes }
+    Messages {
+        kind: Kind::Command,
+        left: 0,
+        inside: &[],
+        rest: bytes,
+    }
 }
 
 /// At the first message of a well-formed datagram.
@@ -27,7 +32,12 @@ pub fn start(bytes: &[u8]) -> Messages<'_>
 }
 
 /// The first message of the PDU that was begun, and what is left after it.
-pub fn inside<'a>(kind: Kind, left: u16, inside: &'a [u8], rest: &'a [u8]) -> (Message<'a>, Messages<'a>)
+pub fn inside<'a>(
+    kind: Kind,
+    left: u16,
+    inside: &'a [u8],
+    rest: &'a [u8],
+) -> (Message<'a>, Messages<'a>)
     requires some { 0 < left }
     requires messages { IsTrue (is_ok (messages_at kind left 0 0 inside.now)) }
     requires pdus { IsTrue (is_ok (pdus_at (length rest.now) 0 rest.now)) }
@@ -35,7 +45,15 @@ pub fn inside<'a>(kind: Kind, left: u16, inside: &'a [u8], rest: &'a [u8]) -> (M
 {
     let size = fields::u32_in(&inside[..4]) as usize;
     let (first, others) = inside.split_at(size);
-    (fields::message(kind, first), Messages { kind, left: left - 1, inside: others, rest })
+    (
+        fields::message(kind, first),
+        Messages {
+            kind,
+            left: left - 1,
+            inside: others,
+            rest,
+        },
+    )
 }
 
 /// The time of a keep-alive.
@@ -43,11 +61,20 @@ fn form(bytes: &[u8]) -> Form
     requires { IsTrue (is_ok (keep_alive_at 0 bytes.now)) }
     ensures { keep_alive_at 0 bytes.now ≡ Ok (msg_of (Message.KeepAlive result) ∷ []) }
 {
-    if bytes.len() == 2 { Form::Seconds(fields::u16_in(bytes)) } else { Form::Millis(fields::u32_in(bytes)) }
+    if bytes.len() == 2 {
+        Form::Seconds(fields::u16_in(bytes))
+    } else {
+        Form::Millis(fields::u32_in(bytes))
+    }
 }
 
 /// The first message of a PDU's content, and what is left after it.
-fn begun<'a>(content: Content, count: u16, body: &'a [u8], rest: &'a [u8]) -> (Message<'a>, Messages<'a>)
+fn begun<'a>(
+    content: Content,
+    count: u16,
+    body: &'a [u8],
+    rest: &'a [u8],
+) -> (Message<'a>, Messages<'a>)
     requires content { IsTrue (is_ok (content_at (Some content) count 0 body.now)) }
     requires pdus { IsTrue (is_ok (pdus_at (length rest.now) 0 rest.now)) }
     ensures { read_or_none (content_at (Some content) count 0 body.now) ++ read_or_none (pdus_at (length rest.now) 0 rest.now) ≡ msg_of result.0 ∷ messages_left result.1 }

@@ -3,7 +3,7 @@ ghost use Rattle.std.specs.Prelude.{◌≡◌, ◌+◌, ◌≤◌, ◌∷◌, �
 ghost use Rattle.arrayvec.specs.ArrayVec.{array_vec_len};
 ghost use Rattle.oca_types.specs.Peers.{fields_of};
 ghost use Rattle.oca_pdu.specs.Messages.{Commands, Responses, OneKeepAlive, response_with};
-ghost use Rattle.oca_pdu.specs.Encoding.{pdu_encoding};
+ghost use Rattle.oca_pdu.specs.Encoding.{pdu_encoding, CommandFits, ResponseFits, FormFits};
 ghost use Rattle.oca_pdu.specs.Writing.{AddsPdu};
 
 use crate::fault::WriteFault;
@@ -19,7 +19,11 @@ fn put(packet: &mut Packet, bytes: &[u8])
 
 /// Appends a PDU of one command (AES70-3), of type 1 where it asks for a response. Refusal: `TooLong` where the packet would
 /// pass 1,472 bytes, and the packet is unchanged.
-pub fn write_command(packet: &mut Packet, respond: bool, command: &Command) -> Result<(), WriteFault>
+pub fn write_command(
+    packet: &mut Packet,
+    respond: bool,
+    command: &Command,
+) -> Result<(), WriteFault>
     ensures room { let pdu = Commands respond (fields_of command.now ∷ []) in
         IsOk result ↔ (length packet.old.items + length (pdu_encoding pdu) ≤ 1472) }
     ensures ok { let pdu = Commands respond (fields_of command.now ∷ []) in
@@ -29,21 +33,57 @@ pub fn write_command(packet: &mut Packet, respond: bool, command: &Command) -> R
     ensures err { OnErr result (packet.new ≡ packet.old) }
 {
     let params = command.params;
-    if packet.len() + 27 > 1472 || 1472 - 27 - packet.len() < params.len() {
+    let room = 1472 - packet.len();
+    if room < 27 || room - 27 < params.len() {
         return Err(WriteFault::TooLong);
     }
-    let size = 17 + params.len() as u32;
-    put(packet, &[0x3B, 0, 1]);
-    put(packet, &(size + 9).to_be_bytes());
-    put(packet, &[respond as u8, 0, 1]);
-    put(packet, &size.to_be_bytes());
-    put(packet, &command.handle.0.to_be_bytes());
-    put(packet, &command.target.0.to_be_bytes());
-    put(packet, &command.method.level.to_be_bytes());
-    put(packet, &command.method.index.to_be_bytes());
-    put(packet, &[command.count]);
+    put(packet, &command_front(respond, command));
     put(packet, params);
     Ok(())
+}
+
+/// The header of a PDU of this command, and the command up to its parameters.
+fn command_front(respond: bool, command: &Command) -> [u8; 27]
+    requires { length command.now.params.now ≤ 1472 }
+    ensures bytes { result ++ command.now.params.now ≡ pdu_encoding (Commands respond (fields_of command.now ∷ [])) }
+    ensures fits { CommandFits (fields_of command.now) }
+{
+    let size = 17 + command.params.len() as u32;
+    let [p0, p1, p2, p3] = (9 + size).to_be_bytes();
+    let [s0, s1, s2, s3] = size.to_be_bytes();
+    let [h0, h1, h2, h3] = command.handle.0.to_be_bytes();
+    let [t0, t1, t2, t3] = command.target.0.to_be_bytes();
+    let [l0, l1] = command.method.level.to_be_bytes();
+    let [i0, i1] = command.method.index.to_be_bytes();
+    [
+        0x3B,
+        0,
+        1,
+        p0,
+        p1,
+        p2,
+        p3,
+        respond as u8,
+        0,
+        1,
+        s0,
+        s1,
+        s2,
+        s3,
+        h0,
+        h1,
+        h2,
+        h3,
+        t0,
+        t1,
+        t2,
+        t3,
+        l0,
+        l1,
+        i0,
+        i1,
+        command.count,
+    ]
 }
 
 /// Appends a PDU of one response (AES70-3). Refusal: `TooLong` where the packet would pass 1,472 bytes, and the packet is
@@ -58,18 +98,29 @@ pub fn write_response(packet: &mut Packet, handle: Handle, reply: &Reply) -> Res
     ensures err { OnErr result (packet.new ≡ packet.old) }
 {
     let params = reply.params.as_slice();
-    if packet.len() + 20 > 1472 || 1472 - 20 - packet.len() < params.len() {
+    let room = 1472 - packet.len();
+    if room < 20 || room - 20 < params.len() {
         return Err(WriteFault::TooLong);
     }
-    let size = 10 + params.len() as u32;
-    put(packet, &[0x3B, 0, 1]);
-    put(packet, &(size + 9).to_be_bytes());
-    put(packet, &[3, 0, 1]);
-    put(packet, &size.to_be_bytes());
-    put(packet, &handle.0.to_be_bytes());
-    put(packet, &[reply.status.number(), reply.count]);
+    put(packet, &response_front(handle, reply));
     put(packet, params);
     Ok(())
+}
+
+/// The header of a PDU of this response, and the response up to its parameters.
+fn response_front(handle: Handle, reply: &Reply) -> [u8; 20]
+    ensures bytes { result ++ reply.now.params.items ≡ pdu_encoding (Responses (response_with handle reply.now ∷ [])) }
+    ensures fits { ResponseFits (response_with handle reply.now) }
+{
+    let Handle(handle) = handle;
+    let (status, count) = (reply.status.number(), reply.count);
+    let size = 10 + reply.params.len() as u32;
+    let [p0, p1, p2, p3] = (9 + size).to_be_bytes();
+    let [s0, s1, s2, s3] = size.to_be_bytes();
+    let [h0, h1, h2, h3] = handle.to_be_bytes();
+    [
+        0x3B, 0, 1, p0, p1, p2, p3, 3, 0, 1, s0, s1, s2, s3, h0, h1, h2, h3, status, count,
+    ]
 }
 
 /// Appends a PDU of one keep-alive (AES70-3). Refusal: `TooLong` where the packet would pass 1,472 bytes, and the packet is
@@ -80,22 +131,33 @@ pub fn write_keepalive(packet: &mut Packet, form: Form) -> Result<(), WriteFault
     ensures adds { OnOk result (AddsPdu (OneKeepAlive form) packet.old.items packet.new.items) }
     ensures err { OnErr result (packet.new ≡ packet.old) }
 {
-    let fits = match form {
-        Form::Seconds(seconds) => packet.try_extend_from_slice(&seconds_pdu(seconds)),
-        Form::Millis(millis) => packet.try_extend_from_slice(&millis_pdu(millis)),
-    };
-    fits.map_err(|_| WriteFault::TooLong)
+    match form {
+        Form::Seconds(seconds) => append(packet, &seconds_pdu(seconds)),
+        Form::Millis(millis) => append(packet, &millis_pdu(millis)),
+    }
+}
+
+fn append(packet: &mut Packet, bytes: &[u8]) -> Result<(), WriteFault>
+    ensures room { IsOk result ↔ (length packet.old.items + length bytes.now ≤ 1472) }
+    ensures ok { OnOk result (packet.new.items ≡ packet.old.items ++ bytes.now) }
+    ensures err { OnErr result (packet.new ≡ packet.old) }
+{
+    packet
+        .try_extend_from_slice(bytes)
+        .map_err(|_| WriteFault::TooLong)
 }
 
 fn seconds_pdu(seconds: u16) -> [u8; 12]
-    ensures { result ≡ pdu_encoding (OneKeepAlive (Form.Seconds seconds)) }
+    ensures bytes { result ≡ pdu_encoding (OneKeepAlive (Form.Seconds seconds)) }
+    ensures fits { FormFits (Form.Seconds seconds) }
 {
     let [a, b] = seconds.to_be_bytes();
     [0x3B, 0, 1, 0, 0, 0, 11, 4, 0, 1, a, b]
 }
 
 fn millis_pdu(millis: u32) -> [u8; 14]
-    ensures { result ≡ pdu_encoding (OneKeepAlive (Form.Millis millis)) }
+    ensures bytes { result ≡ pdu_encoding (OneKeepAlive (Form.Millis millis)) }
+    ensures fits { FormFits (Form.Millis millis) }
 {
     let [a, b, c, d] = millis.to_be_bytes();
     [0x3B, 0, 1, 0, 0, 0, 13, 4, 0, 1, a, b, c, d]

@@ -30,4 +30,4 @@ pub returns-in-KeepAlive : goal.returns-in-KeepAlive
 returns-in-KeepAlive c =
     let o = keep_alive_is c.args.count c.args.body.now (rw c.in-KeepAlive.is at c.requires.content) in
     rw c.in-KeepAlive.is (ap (λ (r : Result (List Msg) PduFault). read_or_none r ++ read_or_none (pdus_at (length c.args.rest.now) 0 c.args.rest.now)) (o.all ∙ c.form.ensures)
-      ∙ ap (λ (l : List Msg). KeepAlive c.form.result ∷ l) (sym c.over.ensures))
+    ∙ ap (λ (l : List Msg). KeepAlive c.form.result ∷ l) (sym c.over.ensures))
