@@ -21,3 +21,6 @@ pub use builder::{AddFault, Kind, Spec, TreeBuilder};
 pub use object::{Lock, LockKind, MuteState, NumberKind, Object, PolarityState, Range, Switch, Value};
 pub use request::Request;
 pub use tree::{Done, ObjectInfo, Setting, Tree};
+
+#[cfg(test)]
+mod tests;
