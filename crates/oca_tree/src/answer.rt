@@ -80,13 +80,13 @@ fn put_members(
     put_items(out, objects, block, deep)
 }
 
-fn mute_number(state: MuteState) -> u8
+pub(crate) fn mute_number(state: MuteState) -> u8
     ensures { result ≡ mute_number state }
 {
     state as u8
 }
 
-fn polarity_number(state: PolarityState) -> u8
+pub(crate) fn polarity_number(state: PolarityState) -> u8
     ensures { result ≡ polarity_number state }
 {
     state as u8

@@ -5,6 +5,7 @@
 #![tactic(auto)]
 
 mod answer;
+mod bench_tree;
 mod builder;
 mod change;
 mod execute;
@@ -15,7 +16,11 @@ mod request;
 mod take;
 mod tree;
 
+pub use bench_tree::bench;
 pub use builder::{AddFault, Kind, Spec, TreeBuilder};
 pub use object::{Lock, LockKind, MuteState, NumberKind, Object, PolarityState, Range, Switch, Value};
 pub use request::Request;
 pub use tree::{Done, ObjectInfo, Setting, Tree};
+
+#[cfg(test)]
+mod tests;

@@ -1,10 +1,12 @@
 //! The tree: executing commands, taking locks off, and reading its objects.
-ghost use Rattle.std.specs.Prelude.{◌≡◌, length, option_map};
+ghost use Rattle.std.specs.Prelude.{◌≡◌, length};
 ghost use Rattle.oca_types.specs.Peers.{fields_of};
 ghost use Rattle.oca_tree.specs.Locks.{released};
 ghost use Rattle.oca_tree.specs.Trees.{IsTree};
 ghost use Rattle.oca_tree.specs.Execution.{execution};
+ghost use Rattle.oca_tree.specs.Readers.{info_of, info_at, lock_at, value_setting, setting_at};
 
+use crate::answer::{mute_number, polarity_number};
 use crate::execute::carry_out;
 use crate::object::{Lock, Object, Value};
 use crate::place::place_of;
@@ -102,6 +104,77 @@ impl Tree {
         ensures { result ≡ length self.now }
     {
         self.objects.len()
+    }
+
+    /// The object at this place, counted from 0 at the root in order of adding.
+    pub fn object_at(&self, place: usize) -> Option<ObjectInfo>
+        ensures { result ≡ info_at self.now place }
+    {
+        match self.objects.get(place) {
+            Some(object) => Some(info_of(object)),
+            None => None,
+        }
+    }
+
+    /// The lock of the object with this number, where it is there and locked.
+    pub fn lock_of(&self, ono: Ono) -> Option<Lock>
+        ensures { result ≡ lock_at self.now ono.0 }
+    {
+        lock_in(&self.objects, ono)
+    }
+
+    /// How the object with this number is set; nothing for a block and where it is not there.
+    pub fn setting_of(&self, ono: Ono) -> Option<Setting>
+        ensures { result ≡ setting_at self.now ono.0 }
+    {
+        setting_in(&self.objects, ono)
+    }
+}
+
+fn info_of(object: &Object) -> ObjectInfo
+    ensures { result ≡ info_of object.now }
+{
+    ObjectInfo {
+        ono: object.ono,
+        class: object.class(),
+        container: object.container,
+        role: object.role.copied(),
+    }
+}
+
+fn lock_in(objects: &[Object], ono: Ono) -> Option<Lock>
+    ensures { result ≡ lock_at objects.now ono.0 }
+{
+    match place_of(objects, ono) {
+        Some(at) => objects[at].lock,
+        None => None,
+    }
+}
+
+#[tactic(auto, unfolding(crate::specs::Readers::value_setting))]
+fn value_setting(value: &Value) -> Option<Setting>
+    ensures { result ≡ value_setting value.now }
+{
+    match value {
+        Value::Block => None,
+        Value::Mute(state) => Some(Setting::State(mute_number(*state))),
+        Value::Polarity(state) => Some(Setting::State(polarity_number(*state))),
+        Value::Switch(switch) => Some(Setting::Position(switch.position)),
+        Value::Boolean(truth) => Some(Setting::Truth(*truth)),
+        Value::Number(range) => Some(Setting::Number {
+            setting: range.setting,
+            least: range.least,
+            greatest: range.greatest,
+        }),
+    }
+}
+
+fn setting_in(objects: &[Object], ono: Ono) -> Option<Setting>
+    ensures { result ≡ setting_at objects.now ono.0 }
+{
+    match place_of(objects, ono) {
+        Some(at) => value_setting(&objects[at].value),
+        None => None,
     }
 }
 

@@ -1,17 +1,25 @@
-use Rattle.std.proofs.Common.{◌≡◌, ◌≤◌, ◌<◌, sym, length, arith, false, true, cc}
-use Rattle.std.specs.Prelude.{◌==◌}
+use Rattle.std.proofs.Common.{◌≡◌, ◌≤◌, ◌<◌, refl, sym, length, arith, false, true, rules, get_or}
+use Rattle.std.specs.Prelude.{◌==◌, None, nat_lt}
 use Rattle.oca_tree.specs.declared.object.Object.{Object}
-use Rattle.oca_tree.specs.Building.{is_bad_value, value_of}
-use Rattle.oca_tree.specs.Places.{places, is_block_at}
+use Rattle.oca_tree.specs.Building.{is_bad_value, value_of, has_bad_name}
+use Rattle.oca_tree.specs.Places.{places, is_block_at, depth}
 use Rattle.oca_tree.specs.Trees.{IsSound}
 use Rattle.oca_tree.proofs.Adding.{no_fault, first_object, added_tree}
 use Rattle.oca_tree.proofs.builder.object_for.Goals as goal
 
 pub returns : goal.returns
 returns c =
+    let few : length c.args.objects.now < 128 = omega arith in
+    let number : 4096 ≤ c.args.ono.0 = omega arith in
     let free = sym c.if-contains.ensures in
-    let block : is_block_at (places c.args.objects.now) c.args.container.0 ≡ true = ? in
-    let shallow = ? in
-    let short : length c.args.spec.now.role.now ≤ 64 = ? in
-    let sound : IsSound (record { ono = c.args.ono; container = c.args.container; lockable = c.args.spec.now.lockable; role = c.in-Some.role; label = c.default.result; enabled = true; value = c.in-Some-value_of.value; lock = Rattle.std.specs.Prelude.None }) = record { value = c.in-Some-value_of.ensures.2; lock = tt } in
-    ?
+    let block : is_block_at (places c.args.objects.now) c.args.container.0 ≡ true = grind arith in
+    let shallow : depth (places c.args.objects.now) c.args.container.0 < 8 = omega arith in
+    let full : (length c.args.spec.now.role.now == 0) ≡ false = grind arith in
+    let names : has_bad_name c.args.spec.now.kind ≡ false = sym c.if-has_bad_name.ensures in
+    let short : length c.args.spec.now.role.now ≤ 64 = c.in-Some.ensures.variant.0 refl in
+    let range : is_bad_value (value_of c.args.spec.now.kind) ≡ false = c.in-Some-value_of.ensures.1 in
+    let o : Object = record { ono = c.args.ono; container = c.args.container; lockable = c.args.spec.now.lockable; role = c.in-Some.role; label = c.default.result; enabled = true; value = c.in-Some-value_of.value; lock = None } in
+    let sound : IsSound o = record { value = c.in-Some-value_of.ensures.2; lock = tt } in
+    (no_fault c.args.objects.now c.args.container.0 c.args.ono.0 c.args.spec.now few number free block shallow full names short range,
+     first_object c.args.container.0 c.args.ono.0 c.args.spec.now c.in-Some.role c.default.result c.in-Some-value_of.value c.in-Some.ensures.value c.default.ensures c.in-Some-value_of.ensures.0,
+     added_tree c.args.objects.now o few number free block shallow sound c.requires)

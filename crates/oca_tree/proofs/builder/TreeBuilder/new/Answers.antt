@@ -1,4 +1,8 @@
+use Rattle.std.proofs.Common.{◌≡◌, [], ◌∷◌, arith}
+use Rattle.std.proofs.lemmas.Grind.{common_steps}
+use Rattle.oca_tree.specs.Building.{root}
+use Rattle.oca_tree.proofs.Adding.{root_tree}
 use Rattle.oca_tree.proofs.builder.TreeBuilder.new.Goals as goal
 
 pub invariant_of-result : goal.invariant_of-result
-invariant_of-result c = let h = c.push.ensures.items in let n = c.with_capacity.ensures in let m = c.in_ok-objects.ensures in ?
+invariant_of-result c = let e : c.push.new.self.items ≡ root ∷ [] = grind (arith, common_steps) in rw e root_tree

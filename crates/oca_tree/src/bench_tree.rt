@@ -1,0 +1,92 @@
+//! The bench device (profile): a desk with one object of each form.
+ghost use Rattle.std.specs.Prelude.{◌≡◌, [], ◌∷◌, ◌++◌, None, OnOk, IfOk, IfErr};
+ghost use Rattle.oca_tree.specs.Bench.{bench_objects};
+ghost use Rattle.oca_tree.specs.Building.{add_fault, object_of_spec};
+ghost use Rattle.oca_tree.specs.declared.builder.AddFault.TheVariants.{NoMemory};
+
+use crate::builder::{AddFault, Kind, Spec, TreeBuilder};
+use crate::object::{MuteState, PolarityState};
+use crate::tree::Tree;
+use oca_types::Ono;
+use std::alloc::Global;
+
+/// Adds an object that nothing refuses.
+fn add(
+    builder: &mut TreeBuilder,
+    container: Ono,
+    ono: Ono,
+    spec: &Spec<'_>,
+) -> Result<(), AddFault>
+    requires { add_fault builder.old container.0 ono.0 spec.now ≡ None }
+    ensures ok { OnOk result (builder.new ≡ builder.old ++ object_of_spec container.0 ono.0 spec.now ∷ []) }
+    ensures err { IfErr result (λ e. e ≡ NoMemory) }
+{
+    builder.add(container, ono, spec)
+}
+
+/// The bench device: under the root the block 4096 `desk`, and in it the mute 4097, the polarity 4098,
+/// the switch 4099 with the positions Line, Mic and Off, the Int16 4100 of 0 in -600 to 600, the Boolean
+/// 4101 and the Uint8 4102 of 10 in 0 to 100. All are lockable but 4102. Refusal: `NoMemory`, where that
+/// was refused.
+pub fn bench(alloc: Global) -> Result<Tree, AddFault>
+    ensures ok { IfOk result (λ tree. tree ≡ bench_objects) }
+    ensures err { IfErr result (λ e. e ≡ NoMemory) }
+{
+    let mut builder = TreeBuilder::new(alloc)?;
+    let root = Ono(100);
+    let desk = Ono(4096);
+    let desk_spec = Spec {
+        role: "desk",
+        lockable: true,
+        kind: Kind::Block,
+    };
+    add(&mut builder, root, desk, &desk_spec)?;
+    let mute_spec = Spec {
+        role: "mute",
+        lockable: true,
+        kind: Kind::Mute(MuteState::Muted),
+    };
+    add(&mut builder, desk, Ono(4097), &mute_spec)?;
+    let polarity_spec = Spec {
+        role: "polarity",
+        lockable: true,
+        kind: Kind::Polarity(PolarityState::NonInverted),
+    };
+    add(&mut builder, desk, Ono(4098), &polarity_spec)?;
+    let input_spec = Spec {
+        role: "input",
+        lockable: true,
+        kind: Kind::Switch {
+            names: &["Line", "Mic", "Off"],
+            position: 0,
+        },
+    };
+    add(&mut builder, desk, Ono(4099), &input_spec)?;
+    let trim_spec = Spec {
+        role: "trim",
+        lockable: true,
+        kind: Kind::Int16 {
+            setting: 0,
+            least: -600,
+            greatest: 600,
+        },
+    };
+    add(&mut builder, desk, Ono(4100), &trim_spec)?;
+    let lamp_spec = Spec {
+        role: "lamp",
+        lockable: true,
+        kind: Kind::Boolean(false),
+    };
+    add(&mut builder, desk, Ono(4101), &lamp_spec)?;
+    let dim_spec = Spec {
+        role: "dim",
+        lockable: false,
+        kind: Kind::Uint8 {
+            setting: 10,
+            least: 0,
+            greatest: 100,
+        },
+    };
+    add(&mut builder, desk, Ono(4102), &dim_spec)?;
+    Ok(builder.finish())
+}
