@@ -1,17 +1,22 @@
 -- Deliveries, replies and reports of one turn and of several.
-use Rattle.std.proofs.Common.{◌≡◌, ℕ, ◌+◌, ◌<◌, true, false, List, [], ◌∷◌, ◌++◌, length, refl, sym, ap, ◌∙◌, subst, arith, length-append}
-use Rattle.std.specs.Prelude.{take, slice_index_or}
+use Rattle.std.proofs.Common.{◌≡◌, ℕ, ◌+◌, ◌≤◌, ◌<◌, Bool, true, false, cond, List, [], ◌∷◌, ◌++◌, length, refl, sym, ap, ◌∙◌, subst, arith, length-append}
+use Rattle.std.specs.Prelude.{nat_le, take, slice_index_or}
+use Rattle.std.proofs.lemmas.Bool.Decides.{nat_tests}
 use Rattle.std.proofs.lemmas.List.{append_assoc, append-nil, map-append, take_more}
 use Rattle.oca_types.specs.declared.words.Peer.{Peer}
-use Rattle.oca_net.specs.Deliveries.{Delivery, Sent}
-use Rattle.oca_net.specs.Ends.{taken_after}
+use Rattle.oca_net.specs.Deliveries.{Delivery, Datagram, Quiet, Failed, Sent}
+use Rattle.oca_net.specs.Ends.{taken_after, one_more, last_u64}
 use Rattle.oca_tree.specs.declared.object.Object.{Object}
 use Rattle.oca_device.specs.declared.report.Report.{Report}
+use Rattle.oca_device.specs.declared.verdict.Verdict.{Verdict}
+use Rattle.oca_device.specs.declared.verdict.Verdict.TheVariants as verdicts
 use Rattle.oca_device.specs.Events.{Event}
+use Rattle.oca_device.specs.Events as event
+use Rattle.oca_device.specs.Answers.{packets, verdict}
 use Rattle.oca_device.specs.Devices.{DeviceState, Represents}
-use Rattle.oca_device.specs.Reports.{no_turns, added, turn_report, events_after, events_after_all, report_of}
+use Rattle.oca_device.specs.Reports.{no_turns, one_turn, verdict_turn, added, turn_report, events_after, events_after_all, report_of}
 use Rattle.oca_device.specs.Replies.{Lacks, none, taken, missing, TakesReplies, ServesDeliveries, replies, replies_to, sent_to}
-use Rattle.oca_device.specs.Totals.{IsUnchanged}
+use Rattle.oca_device.specs.Totals.{IsWithin, IsUnchanged}
 
 -- ---- lists without some of their members
 
@@ -187,3 +192,114 @@ failed_further p i k packets old took took' h t e =
       grew = e ∙ t.grew;
       part = subst (λ (ys : List Sent). Lacks (k + 1) t.sent ys) (sym (further p i packets h)) (lacks_last k t.sent (first_sent p i packets) x t.part);
     }
+
+-- ---- one turn
+
+-- a report is known but for the sends that failed
+pub but_for_failed_sends : (r x : Report) → r ≡ x → r ≡ record x { failed_sends = r.failed_sends }
+but_for_failed_sends r x e = e ∙ ap (λ (n : ℕ). let y : Report = record x { failed_sends = n } in y) (sym (ap (λ (q : Report). q.failed_sends) e))
+
+within : (n : ℕ) → n ≤ 1472 → nat_le n 1472 ≡ true
+within n h = grind (arith, nat_tests)
+
+beyond : (n : ℕ) → 1472 < n → nat_le n 1472 ≡ false
+beyond n h = grind (arith, nat_tests)
+
+-- a verdict is that of one turn
+verdict_one : (v : Verdict) → (verdict_turn v).turns ≡ 1
+verdict_one (verdicts.Served executed kept old) = refl
+verdict_one (verdicts.Malformed fault) = refl
+verdict_one verdicts.NoRoom = refl
+
+pub verdict_turns : (v : Verdict) (r : Report) → r ≡ verdict_turn v → r.turns ≡ 1
+verdict_turns v r e = ap (λ (q : Report). q.turns) e ∙ verdict_one v
+
+-- nothing is sent
+no_replies : (k : ℕ) (took took' all : List Sent) → k ≡ 0 → took' ≡ took → all ≡ [] → TakesReplies k took took' all
+no_replies k took took' all e same nothing =
+    record {
+      sent = [];
+      grew = same ∙ sym (append-nil took);
+      part = subst (λ (n : ℕ). Lacks n [] all) (sym e) (subst (λ (ys : List Sent). Lacks 0 [] ys) (sym nothing) none);
+    }
+
+module _ (old new : DeviceState) (delivered delivered' : List Delivery) (took took' : List Sent) (r : Report) where
+  pub quiet_turn : (now : ℕ) → delivered' ≡ delivered ++ Quiet now ∷ [] → took' ≡ took → r ≡ record one_turn { quiet = 1 } →
+      ((w : ℕ) (tree : List Object) (events : List Event) → Represents w old tree events → Represents w new tree (event.Tick now ∷ events)) →
+      ServesDeliveries old new delivered delivered' took took' r
+  quiet_turn now grew same e h =
+      one_delivery (Quiet now) old new delivered delivered' took took' r grew (ap (λ (q : Report). q.turns) e) h
+        (λ w tree events _. no_replies r.failed_sends took took' [] (ap (λ (q : Report). q.failed_sends) e) same refl)
+        (λ w tree events _. but_for_failed_sends r (record one_turn { quiet = 1 }) e)
+
+  pub oversize_turn : (from : Peer) (long : List ℕ) (now : ℕ) → 1472 < length long → delivered' ≡ delivered ++ Datagram from long now ∷ [] → took' ≡ took → r ≡ record one_turn { oversize = 1 } →
+      ((w : ℕ) (tree : List Object) (events : List Event) → Represents w old tree events → Represents w new tree (event.Tick now ∷ events)) →
+      ServesDeliveries old new delivered delivered' took took' r
+  oversize_turn from long now above grew same e h =
+      let no_datagram = beyond (length long) above in
+      one_delivery (Datagram from long now) old new delivered delivered' took took' r grew (ap (λ (q : Report). q.turns) e)
+        (λ w tree events rep. subst (λ (b : Bool). Represents w new tree (cond b (event.Datagram from long now ∷ events) (event.Tick now ∷ events))) (sym no_datagram) (h w tree events rep))
+        (λ w tree events _. no_replies r.failed_sends took took' _ (ap (λ (q : Report). q.failed_sends) e) same
+          (ap (λ b. cond b (sent_to from (packets w tree events (event.Datagram from long now))) []) no_datagram))
+        (λ w tree events _. but_for_failed_sends r (turn_report w tree events (Datagram from long now))
+          (e ∙ sym (ap (λ b. cond b (verdict_turn (verdict w tree events from long now)) (record one_turn { oversize = 1 })) no_datagram)))
+
+  pub failed_turn : delivered' ≡ delivered ++ Failed ∷ [] → took' ≡ took → r ≡ record one_turn { failed_receives = 1 } → new ≡ old →
+      ServesDeliveries old new delivered delivered' took took' r
+  failed_turn grew same e h =
+      one_delivery Failed old new delivered delivered' took took' r grew (ap (λ (q : Report). q.turns) e)
+        (λ w tree events rep. subst (λ (d : DeviceState). Represents w d tree events) (sym h) rep)
+        (λ w tree events _. no_replies r.failed_sends took took' [] (ap (λ (q : Report). q.failed_sends) e) same refl)
+        (λ w tree events _. but_for_failed_sends r (record one_turn { failed_receives = 1 }) e)
+
+  pub datagram_turn : (from : Peer) (bytes : List ℕ) (now : ℕ) (v : Verdict) (out : List (List ℕ)) (q : Report) → length bytes ≤ 1472 → delivered' ≡ delivered ++ Datagram from bytes now ∷ [] →
+      r ≡ record q { failed_sends = r.failed_sends } → q ≡ verdict_turn v → q.turns ≡ 1 →
+      ((w : ℕ) (tree : List Object) (events : List Event) → Represents w old tree events → Represents w new tree (event.Datagram from bytes now ∷ events)) →
+      ((w : ℕ) (tree : List Object) (events : List Event) → Represents w old tree events → out ≡ packets w tree events (event.Datagram from bytes now)) →
+      ((w : ℕ) (tree : List Object) (events : List Event) → Represents w old tree events → v ≡ verdict w tree events from bytes now) →
+      TakesReplies r.failed_sends took took' (sent_to from out) →
+      ServesDeliveries old new delivered delivered' took took' r
+  datagram_turn from bytes now v out q short grew e f one represents packets_are verdict_is sent =
+      let fits = within (length bytes) short in
+      one_delivery (Datagram from bytes now) old new delivered delivered' took took' r grew (ap (λ (x : Report). x.turns) e ∙ one)
+        (λ w tree events rep. subst (λ (b : Bool). Represents w new tree (cond b (event.Datagram from bytes now ∷ events) (event.Tick now ∷ events))) (sym fits) (represents w tree events rep))
+        (λ w tree events rep. subst (λ (xs : List Sent). TakesReplies r.failed_sends took took' xs)
+          (ap (sent_to from) (packets_are w tree events rep) ∙ sym (ap (λ b. cond b (sent_to from (packets w tree events (event.Datagram from bytes now))) []) fits)) sent)
+        (λ w tree events rep. e ∙ ap (λ (x : Report). let y : Report = record x { failed_sends = r.failed_sends } in y)
+          (f ∙ ap verdict_turn (verdict_is w tree events rep)
+            ∙ sym (ap (λ b. cond b (verdict_turn (verdict w tree events from bytes now)) (record one_turn { oversize = 1 })) fits)))
+
+-- ---- counts of failures, short of their last value
+
+-- a call failed once more
+pub failure_counted : (a b c k : ℕ) → c ≡ one_more b → (b < last_u64 → b ≡ a + k) → c < last_u64 → c ≡ a + (k + 1)
+failure_counted a b c k e h below =
+    let stepped : c ≡ b + 1 = omega arith in
+    let before : b < last_u64 = omega arith in
+    omega (arith, h before)
+
+-- a call did not fail
+pub no_failure_counted : (a b c k : ℕ) → c ≡ b → (b < last_u64 → b ≡ a + k) → c < last_u64 → c ≡ a + k
+no_failure_counted a b c k e h below = e ∙ h (subst (λ (n : ℕ). n < last_u64) e below)
+
+-- ---- numbers of reports
+
+pub none_within : (r : Report) (m : ℕ) → r ≡ no_turns → IsWithin m r
+none_within r m e =
+    let here : IsWithin m no_turns = record { turns = omega arith; executed = omega arith; kept = omega arith; old = omega arith; malformed = omega arith; no_room = omega arith; oversize = omega arith; quiet = omega arith; failed_receives = omega arith; failed_sends = omega arith } in
+    subst (λ (x : Report). IsWithin m x) (sym e) here
+
+pub more_within : (m k n : ℕ) (a b r : Report) → r ≡ added a b → IsWithin m a → IsWithin k b → m + k ≤ n → IsWithin n r
+more_within m k n a b r e x y le =
+    let both : IsWithin n (added a b) = record { turns = omega (arith, x.turns, y.turns); executed = omega (arith, x.executed, y.executed); kept = omega (arith, x.kept, y.kept); old = omega (arith, x.old, y.old); malformed = omega (arith, x.malformed, y.malformed); no_room = omega (arith, x.no_room, y.no_room); oversize = omega (arith, x.oversize, y.oversize); quiet = omega (arith, x.quiet, y.quiet); failed_receives = omega (arith, x.failed_receives, y.failed_receives); failed_sends = omega (arith, x.failed_sends, y.failed_sends) } in
+    subst (λ (q : Report). IsWithin n q) (sym e) both
+
+pub wider : (m n : ℕ) (r : Report) → IsWithin m r → m ≤ n → IsWithin n r
+wider m n r x le = record { turns = omega (arith, x.turns); executed = omega (arith, x.executed); kept = omega (arith, x.kept); old = omega (arith, x.old); malformed = omega (arith, x.malformed); no_room = omega (arith, x.no_room); oversize = omega (arith, x.oversize); quiet = omega (arith, x.quiet); failed_receives = omega (arith, x.failed_receives); failed_sends = omega (arith, x.failed_sends) }
+
+-- failures of the turns so far and of one more
+pub failures_so_far : (a b c fr fs tr ts : ℕ) → (b < last_u64 → b ≡ a + (fr + fs)) → (c < last_u64 → c ≡ b + (tr + ts)) → c < last_u64 → c ≡ a + (fr + tr + (fs + ts))
+failures_so_far a b c fr fs tr ts h k below =
+    let now = k below in
+    let before : b < last_u64 = omega arith in
+    omega (arith, h before, now)
