@@ -4,3 +4,4 @@ pub mod Runs
 pub mod Opened
 pub mod Steps
 pub mod Bounds
+pub mod Turns

@@ -5,3 +5,6 @@ pub mod Answers
 pub mod Devices
 pub mod Outboxes
 pub mod Serving
+pub mod Reports
+pub mod Replies
+pub mod Totals

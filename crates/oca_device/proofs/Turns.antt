@@ -1,0 +1,305 @@
+-- Deliveries, replies and reports of one turn and of several.
+use Rattle.std.proofs.Common.{◌≡◌, ℕ, ◌+◌, ◌≤◌, ◌<◌, Bool, true, false, cond, List, [], ◌∷◌, ◌++◌, length, refl, sym, ap, ◌∙◌, subst, arith, length-append}
+use Rattle.std.specs.Prelude.{nat_le, take, slice_index_or}
+use Rattle.std.proofs.lemmas.Bool.Decides.{nat_tests}
+use Rattle.std.proofs.lemmas.List.{append_assoc, append-nil, map-append, take_more}
+use Rattle.oca_types.specs.declared.words.Peer.{Peer}
+use Rattle.oca_net.specs.Deliveries.{Delivery, Datagram, Quiet, Failed, Sent}
+use Rattle.oca_net.specs.Ends.{taken_after, one_more, last_u64}
+use Rattle.oca_tree.specs.declared.object.Object.{Object}
+use Rattle.oca_device.specs.declared.report.Report.{Report}
+use Rattle.oca_device.specs.declared.verdict.Verdict.{Verdict}
+use Rattle.oca_device.specs.declared.verdict.Verdict.TheVariants as verdicts
+use Rattle.oca_device.specs.Events.{Event}
+use Rattle.oca_device.specs.Events as event
+use Rattle.oca_device.specs.Answers.{packets, verdict}
+use Rattle.oca_device.specs.Devices.{DeviceState, Represents}
+use Rattle.oca_device.specs.Reports.{no_turns, one_turn, verdict_turn, added, turn_report, events_after, events_after_all, report_of}
+use Rattle.oca_device.specs.Replies.{Lacks, none, taken, missing, TakesReplies, ServesDeliveries, replies, replies_to, sent_to}
+use Rattle.oca_device.specs.Totals.{IsWithin, IsUnchanged}
+
+-- ---- lists without some of their members
+
+pub lacks_both : {X : Type 0} (k j : ℕ) (xs ys us vs : List X) → Lacks k xs ys → Lacks j us vs → Lacks (k + j) (xs ++ us) (ys ++ vs)
+lacks_both k j xs ys us vs none b = subst (λ (n : ℕ). Lacks n us vs) (from_zero j) b
+  where
+    from_zero : (n : ℕ) → n ≡ 0 + n
+    from_zero n = omega arith
+lacks_both k j xs ys us vs (taken x a) b = taken x (lacks_both _ j _ _ us vs a b)
+lacks_both k j xs ys us vs (missing {k = i} y a) b = subst (λ (n : ℕ). Lacks n (xs ++ us) (ys ++ vs)) (one_later i j) (missing y (lacks_both i j xs _ us vs a b))
+  where
+    one_later : (i j : ℕ) → i + j + 1 ≡ i + 1 + j
+    one_later i j = omega arith
+
+-- ---- sums of reports
+
+added_none : (r : Report) → added r no_turns ≡ r
+added_none r = sums r.turns r.executed r.kept r.old r.malformed r.no_room r.oversize r.quiet r.failed_receives r.failed_sends
+  where
+    sums : (a b c d e f g h i j : ℕ) →
+        let x : Report = record { turns = a + 0; executed = b + 0; kept = c + 0; old = d + 0; malformed = e + 0; no_room = f + 0; oversize = g + 0; quiet = h + 0; failed_receives = i + 0; failed_sends = j + 0 } in
+        let y : Report = record { turns = a; executed = b; kept = c; old = d; malformed = e; no_room = f; oversize = g; quiet = h; failed_receives = i; failed_sends = j } in x ≡ y
+    sums a b c d e f g h i j = simp to_zero
+      where
+        to_zero : (n : ℕ) → n + 0 ≡ n
+        to_zero n = omega arith
+
+none_added : (r : Report) → added no_turns r ≡ r
+none_added r = sums r.turns r.executed r.kept r.old r.malformed r.no_room r.oversize r.quiet r.failed_receives r.failed_sends
+  where
+    sums : (a b c d e f g h i j : ℕ) →
+        let x : Report = record { turns = 0 + a; executed = 0 + b; kept = 0 + c; old = 0 + d; malformed = 0 + e; no_room = 0 + f; oversize = 0 + g; quiet = 0 + h; failed_receives = 0 + i; failed_sends = 0 + j } in
+        let y : Report = record { turns = a; executed = b; kept = c; old = d; malformed = e; no_room = f; oversize = g; quiet = h; failed_receives = i; failed_sends = j } in x ≡ y
+    sums a b c d e f g h i j = simp from_zero
+      where
+        from_zero : (n : ℕ) → 0 + n ≡ n
+        from_zero n = omega arith
+
+added_assoc : (q r s : Report) → added (added q r) s ≡ added q (added r s)
+added_assoc q r s = simp turned
+  where
+    turned : (x y z : ℕ) → x + y + z ≡ x + (y + z)
+    turned x y z = omega arith
+
+-- ---- deliveries one after another
+
+later_events : (ds es : List Delivery) (events : List Event) → events_after_all (ds ++ es) events ≡ events_after_all es (events_after_all ds events)
+later_events [] es events = refl
+later_events (d ∷ ds) es events = later_events ds es (events_after d events)
+
+module _ (w : ℕ) (tree : List Object) where
+  later_replies : (ds es : List Delivery) (events : List Event) →
+      replies w tree events (ds ++ es) ≡ replies w tree events ds ++ replies w tree (events_after_all ds events) es
+  later_replies [] es events = refl
+  later_replies (d ∷ ds) es events =
+      ap (λ xs. replies_to w tree events d ++ xs) (later_replies ds es (events_after d events))
+      ∙ sym (append_assoc (replies_to w tree events d) (replies w tree (events_after d events) ds) (replies w tree (events_after_all ds (events_after d events)) es))
+
+  later_reports : (ds es : List Delivery) (events : List Event) →
+      report_of w tree events (ds ++ es) ≡ added (report_of w tree events ds) (report_of w tree (events_after_all ds events) es)
+  later_reports [] es events = sym (none_added (report_of w tree events es))
+  later_reports (d ∷ ds) es events =
+      ap (added (turn_report w tree events d)) (later_reports ds es (events_after d events))
+      ∙ sym (added_assoc (turn_report w tree events d) (report_of w tree (events_after d events) ds) (report_of w tree (events_after_all ds (events_after d events)) es))
+
+-- ---- what a device serves
+
+pub no_deliveries : (d : DeviceState) (delivered : List Delivery) (took : List Sent) → ServesDeliveries d d delivered delivered took took no_turns
+no_deliveries d delivered took =
+    record {
+      deliveries = [];
+      grew = sym (append-nil delivered);
+      turns = refl;
+      represents = λ w tree events h. h;
+      replied = λ w tree events h. record { sent = []; grew = sym (append-nil took); part = none };
+      reported = λ w tree events h. refl;
+    }
+
+pub one_delivery : (x : Delivery) (old new : DeviceState) (delivered delivered' : List Delivery) (took took' : List Sent) (r : Report) →
+    delivered' ≡ delivered ++ x ∷ [] → r.turns ≡ 1 →
+    ((w : ℕ) (tree : List Object) (events : List Event) → Represents w old tree events → Represents w new tree (events_after x events)) →
+    ((w : ℕ) (tree : List Object) (events : List Event) → Represents w old tree events → TakesReplies r.failed_sends took took' (replies_to w tree events x)) →
+    ((w : ℕ) (tree : List Object) (events : List Event) → Represents w old tree events → r ≡ record (turn_report w tree events x) { failed_sends = r.failed_sends }) →
+    ServesDeliveries old new delivered delivered' took took' r
+one_delivery x old new delivered delivered' took took' r grew turns represents replied reported =
+    record {
+      deliveries = x ∷ [];
+      grew = grew;
+      turns = turns;
+      represents = represents;
+      replied = λ w tree events h. subst (λ (xs : List Sent). TakesReplies r.failed_sends took took' xs) (sym (append-nil (replies_to w tree events x))) (replied w tree events h);
+      reported = λ w tree events h.
+        reported w tree events h
+        ∙ ap (λ (q : Report). let z : Report = record q { failed_sends = r.failed_sends } in z) (sym (added_none (turn_report w tree events x)));
+    }
+
+pub one_more_turn : (a b c : DeviceState) (d1 d2 d3 : List Delivery) (t1 t2 t3 : List Sent) (r s : Report) →
+    ServesDeliveries a b d1 d2 t1 t2 r → ServesDeliveries b c d2 d3 t2 t3 s → ServesDeliveries a c d1 d3 t1 t3 (added r s)
+one_more_turn a b c d1 d2 d3 t1 t2 t3 r s f g =
+    record {
+      deliveries = f.deliveries ++ g.deliveries;
+      grew = g.grew ∙ ap (λ xs. xs ++ g.deliveries) f.grew ∙ append_assoc d1 f.deliveries g.deliveries;
+      turns = omega (arith, f.turns, g.turns, length-append f.deliveries g.deliveries);
+      represents = λ w tree events h.
+        subst (λ (es : List Event). Represents w c tree es) (sym (later_events f.deliveries g.deliveries events))
+          (g.represents w tree (events_after_all f.deliveries events) (f.represents w tree events h));
+      replied = λ w tree events h.
+        let x = f.replied w tree events h in
+        let y = g.replied w tree (events_after_all f.deliveries events) (f.represents w tree events h) in
+        record {
+          sent = x.sent ++ y.sent;
+          grew = y.grew ∙ ap (λ xs. xs ++ y.sent) x.grew ∙ append_assoc t1 x.sent y.sent;
+          part = subst (λ (xs : List Sent). Lacks (r.failed_sends + s.failed_sends) (x.sent ++ y.sent) xs) (sym (later_replies w tree f.deliveries g.deliveries events))
+            (lacks_both r.failed_sends s.failed_sends _ _ _ _ x.part y.part);
+        };
+      reported = λ w tree events h.
+        let x = f.reported w tree events h in
+        let y = g.reported w tree (events_after_all f.deliveries events) (f.represents w tree events h) in
+        let k = r.failed_sends + s.failed_sends in
+        ap (λ q. added q s) x ∙ ap (added (record (report_of w tree events f.deliveries) { failed_sends = r.failed_sends })) y
+          ∙ ap (λ (q : Report). let z : Report = record q { failed_sends = k } in z) (sym (later_reports w tree f.deliveries g.deliveries events));
+    }
+
+pub unchanged_after : (a b c : DeviceState) (d1 d2 d3 : List Delivery) (t1 t2 t3 : List Sent) (r : Report) →
+    ServesDeliveries a b d1 d2 t1 t2 r → IsUnchanged b c d2 d3 t2 t3 → ServesDeliveries a c d1 d3 t1 t3 r
+unchanged_after a b c d1 d2 d3 t1 t2 t3 r f u =
+    subst (λ (x : DeviceState). ServesDeliveries a x d1 d3 t1 t3 r) (sym u.device)
+      (subst (λ (x : List Delivery). ServesDeliveries a b d1 x t1 t3 r) (sym u.delivered_is)
+        (subst (λ (x : List Sent). ServesDeliveries a b d1 d2 t1 x r) (sym u.taken_is) f))
+
+-- ---- the packets of one datagram are sent
+
+lacks_no_last : {X : Type 0} (k : ℕ) (xs ys : List X) (x : X) → Lacks k xs ys → Lacks k (xs ++ x ∷ []) (ys ++ x ∷ [])
+lacks_no_last k xs ys x a = subst (λ (n : ℕ). Lacks n (xs ++ x ∷ []) (ys ++ x ∷ [])) (to_zero k) (lacks_both k 0 xs ys (x ∷ []) (x ∷ []) a (taken x none))
+  where
+    to_zero : (n : ℕ) → n + 0 ≡ n
+    to_zero n = omega arith
+
+lacks_last : {X : Type 0} (k : ℕ) (xs ys : List X) (y : X) → Lacks k xs ys → Lacks (k + 1) xs (ys ++ y ∷ [])
+lacks_last {X} k xs ys y a = subst (λ (us : List X). Lacks (k + 1) us (ys ++ y ∷ [])) (append-nil xs) (lacks_both k 1 xs ys [] (y ∷ []) a (missing y none))
+
+-- the first packets, as they are sent to a peer
+abbrev pub first_sent : Peer → ℕ → List (List ℕ) → List Sent
+first_sent p i packets = sent_to p (take i packets)
+
+further : (p : Peer) (i : ℕ) (packets : List (List ℕ)) → i < length packets →
+    first_sent p (i + 1) packets ≡ first_sent p i packets ++ (record { to = p; bytes = slice_index_or packets i [] }) ∷ []
+further p i packets h =
+    ap (sent_to p) (take_more packets i [] h)
+    ∙ map-append (λ (bytes : List ℕ). let x : Sent = record { to = p; bytes = bytes } in x) (take i packets) (slice_index_or packets i [] ∷ [])
+
+pub nothing_sent : (p : Peer) (packets : List (List ℕ)) (took : List Sent) → TakesReplies 0 took took (first_sent p 0 packets)
+nothing_sent p packets took = record { sent = []; grew = sym (append-nil took); part = none }
+
+pub sent_further : (p : Peer) (i k : ℕ) (packets : List (List ℕ)) (old took took' : List Sent) → i < length packets →
+    TakesReplies k old took (first_sent p i packets) → took' ≡ taken_after true p (slice_index_or packets i []) took →
+    TakesReplies k old took' (first_sent p (i + 1) packets)
+sent_further p i k packets old took took' h t e =
+    let x : Sent = record { to = p; bytes = slice_index_or packets i [] } in
+    record {
+      sent = t.sent ++ x ∷ [];
+      grew = e ∙ ap (λ xs. xs ++ x ∷ []) t.grew ∙ append_assoc old t.sent (x ∷ []);
+      part = subst (λ (ys : List Sent). Lacks k (t.sent ++ x ∷ []) ys) (sym (further p i packets h)) (lacks_no_last k t.sent (first_sent p i packets) x t.part);
+    }
+
+pub failed_further : (p : Peer) (i k : ℕ) (packets : List (List ℕ)) (old took took' : List Sent) → i < length packets →
+    TakesReplies k old took (first_sent p i packets) → took' ≡ taken_after false p (slice_index_or packets i []) took →
+    TakesReplies (k + 1) old took' (first_sent p (i + 1) packets)
+failed_further p i k packets old took took' h t e =
+    let x : Sent = record { to = p; bytes = slice_index_or packets i [] } in
+    record {
+      sent = t.sent;
+      grew = e ∙ t.grew;
+      part = subst (λ (ys : List Sent). Lacks (k + 1) t.sent ys) (sym (further p i packets h)) (lacks_last k t.sent (first_sent p i packets) x t.part);
+    }
+
+-- ---- one turn
+
+-- a report is known but for the sends that failed
+pub but_for_failed_sends : (r x : Report) → r ≡ x → r ≡ record x { failed_sends = r.failed_sends }
+but_for_failed_sends r x e = e ∙ ap (λ (n : ℕ). let y : Report = record x { failed_sends = n } in y) (sym (ap (λ (q : Report). q.failed_sends) e))
+
+within : (n : ℕ) → n ≤ 1472 → nat_le n 1472 ≡ true
+within n h = grind (arith, nat_tests)
+
+beyond : (n : ℕ) → 1472 < n → nat_le n 1472 ≡ false
+beyond n h = grind (arith, nat_tests)
+
+-- a verdict is that of one turn
+verdict_one : (v : Verdict) → (verdict_turn v).turns ≡ 1
+verdict_one (verdicts.Served executed kept old) = refl
+verdict_one (verdicts.Malformed fault) = refl
+verdict_one verdicts.NoRoom = refl
+
+pub verdict_turns : (v : Verdict) (r : Report) → r ≡ verdict_turn v → r.turns ≡ 1
+verdict_turns v r e = ap (λ (q : Report). q.turns) e ∙ verdict_one v
+
+-- nothing is sent
+no_replies : (k : ℕ) (took took' all : List Sent) → k ≡ 0 → took' ≡ took → all ≡ [] → TakesReplies k took took' all
+no_replies k took took' all e same nothing =
+    record {
+      sent = [];
+      grew = same ∙ sym (append-nil took);
+      part = subst (λ (n : ℕ). Lacks n [] all) (sym e) (subst (λ (ys : List Sent). Lacks 0 [] ys) (sym nothing) none);
+    }
+
+module _ (old new : DeviceState) (delivered delivered' : List Delivery) (took took' : List Sent) (r : Report) where
+  pub quiet_turn : (now : ℕ) → delivered' ≡ delivered ++ Quiet now ∷ [] → took' ≡ took → r ≡ record one_turn { quiet = 1 } →
+      ((w : ℕ) (tree : List Object) (events : List Event) → Represents w old tree events → Represents w new tree (event.Tick now ∷ events)) →
+      ServesDeliveries old new delivered delivered' took took' r
+  quiet_turn now grew same e h =
+      one_delivery (Quiet now) old new delivered delivered' took took' r grew (ap (λ (q : Report). q.turns) e) h
+        (λ w tree events _. no_replies r.failed_sends took took' [] (ap (λ (q : Report). q.failed_sends) e) same refl)
+        (λ w tree events _. but_for_failed_sends r (record one_turn { quiet = 1 }) e)
+
+  pub oversize_turn : (from : Peer) (long : List ℕ) (now : ℕ) → 1472 < length long → delivered' ≡ delivered ++ Datagram from long now ∷ [] → took' ≡ took → r ≡ record one_turn { oversize = 1 } →
+      ((w : ℕ) (tree : List Object) (events : List Event) → Represents w old tree events → Represents w new tree (event.Tick now ∷ events)) →
+      ServesDeliveries old new delivered delivered' took took' r
+  oversize_turn from long now above grew same e h =
+      let no_datagram = beyond (length long) above in
+      one_delivery (Datagram from long now) old new delivered delivered' took took' r grew (ap (λ (q : Report). q.turns) e)
+        (λ w tree events rep. subst (λ (b : Bool). Represents w new tree (cond b (event.Datagram from long now ∷ events) (event.Tick now ∷ events))) (sym no_datagram) (h w tree events rep))
+        (λ w tree events _. no_replies r.failed_sends took took' _ (ap (λ (q : Report). q.failed_sends) e) same
+          (ap (λ b. cond b (sent_to from (packets w tree events (event.Datagram from long now))) []) no_datagram))
+        (λ w tree events _. but_for_failed_sends r (turn_report w tree events (Datagram from long now))
+          (e ∙ sym (ap (λ b. cond b (verdict_turn (verdict w tree events from long now)) (record one_turn { oversize = 1 })) no_datagram)))
+
+  pub failed_turn : delivered' ≡ delivered ++ Failed ∷ [] → took' ≡ took → r ≡ record one_turn { failed_receives = 1 } → new ≡ old →
+      ServesDeliveries old new delivered delivered' took took' r
+  failed_turn grew same e h =
+      one_delivery Failed old new delivered delivered' took took' r grew (ap (λ (q : Report). q.turns) e)
+        (λ w tree events rep. subst (λ (d : DeviceState). Represents w d tree events) (sym h) rep)
+        (λ w tree events _. no_replies r.failed_sends took took' [] (ap (λ (q : Report). q.failed_sends) e) same refl)
+        (λ w tree events _. but_for_failed_sends r (record one_turn { failed_receives = 1 }) e)
+
+  pub datagram_turn : (from : Peer) (bytes : List ℕ) (now : ℕ) (v : Verdict) (out : List (List ℕ)) (q : Report) → length bytes ≤ 1472 → delivered' ≡ delivered ++ Datagram from bytes now ∷ [] →
+      r ≡ record q { failed_sends = r.failed_sends } → q ≡ verdict_turn v → q.turns ≡ 1 →
+      ((w : ℕ) (tree : List Object) (events : List Event) → Represents w old tree events → Represents w new tree (event.Datagram from bytes now ∷ events)) →
+      ((w : ℕ) (tree : List Object) (events : List Event) → Represents w old tree events → out ≡ packets w tree events (event.Datagram from bytes now)) →
+      ((w : ℕ) (tree : List Object) (events : List Event) → Represents w old tree events → v ≡ verdict w tree events from bytes now) →
+      TakesReplies r.failed_sends took took' (sent_to from out) →
+      ServesDeliveries old new delivered delivered' took took' r
+  datagram_turn from bytes now v out q short grew e f one represents packets_are verdict_is sent =
+      let fits = within (length bytes) short in
+      one_delivery (Datagram from bytes now) old new delivered delivered' took took' r grew (ap (λ (x : Report). x.turns) e ∙ one)
+        (λ w tree events rep. subst (λ (b : Bool). Represents w new tree (cond b (event.Datagram from bytes now ∷ events) (event.Tick now ∷ events))) (sym fits) (represents w tree events rep))
+        (λ w tree events rep. subst (λ (xs : List Sent). TakesReplies r.failed_sends took took' xs)
+          (ap (sent_to from) (packets_are w tree events rep) ∙ sym (ap (λ b. cond b (sent_to from (packets w tree events (event.Datagram from bytes now))) []) fits)) sent)
+        (λ w tree events rep. e ∙ ap (λ (x : Report). let y : Report = record x { failed_sends = r.failed_sends } in y)
+          (f ∙ ap verdict_turn (verdict_is w tree events rep)
+            ∙ sym (ap (λ b. cond b (verdict_turn (verdict w tree events from bytes now)) (record one_turn { oversize = 1 })) fits)))
+
+-- ---- counts of failures, short of their last value
+
+-- a call failed once more
+pub failure_counted : (a b c k : ℕ) → c ≡ one_more b → (b < last_u64 → b ≡ a + k) → c < last_u64 → c ≡ a + (k + 1)
+failure_counted a b c k e h below =
+    let stepped : c ≡ b + 1 = omega arith in
+    let before : b < last_u64 = omega arith in
+    omega (arith, h before)
+
+-- a call did not fail
+pub no_failure_counted : (a b c k : ℕ) → c ≡ b → (b < last_u64 → b ≡ a + k) → c < last_u64 → c ≡ a + k
+no_failure_counted a b c k e h below = e ∙ h (subst (λ (n : ℕ). n < last_u64) e below)
+
+-- ---- numbers of reports
+
+pub none_within : (r : Report) (m : ℕ) → r ≡ no_turns → IsWithin m r
+none_within r m e =
+    let here : IsWithin m no_turns = record { turns = omega arith; executed = omega arith; kept = omega arith; old = omega arith; malformed = omega arith; no_room = omega arith; oversize = omega arith; quiet = omega arith; failed_receives = omega arith; failed_sends = omega arith } in
+    subst (λ (x : Report). IsWithin m x) (sym e) here
+
+pub more_within : (m k n : ℕ) (a b r : Report) → r ≡ added a b → IsWithin m a → IsWithin k b → m + k ≤ n → IsWithin n r
+more_within m k n a b r e x y le =
+    let both : IsWithin n (added a b) = record { turns = omega (arith, x.turns, y.turns); executed = omega (arith, x.executed, y.executed); kept = omega (arith, x.kept, y.kept); old = omega (arith, x.old, y.old); malformed = omega (arith, x.malformed, y.malformed); no_room = omega (arith, x.no_room, y.no_room); oversize = omega (arith, x.oversize, y.oversize); quiet = omega (arith, x.quiet, y.quiet); failed_receives = omega (arith, x.failed_receives, y.failed_receives); failed_sends = omega (arith, x.failed_sends, y.failed_sends) } in
+    subst (λ (q : Report). IsWithin n q) (sym e) both
+
+pub wider : (m n : ℕ) (r : Report) → IsWithin m r → m ≤ n → IsWithin n r
+wider m n r x le = record { turns = omega (arith, x.turns); executed = omega (arith, x.executed); kept = omega (arith, x.kept); old = omega (arith, x.old); malformed = omega (arith, x.malformed); no_room = omega (arith, x.no_room); oversize = omega (arith, x.oversize); quiet = omega (arith, x.quiet); failed_receives = omega (arith, x.failed_receives); failed_sends = omega (arith, x.failed_sends) }
+
+-- failures of the turns so far and of one more
+pub failures_so_far : (a b c fr fs tr ts : ℕ) → (b < last_u64 → b ≡ a + (fr + fs)) → (c < last_u64 → c ≡ b + (tr + ts)) → c < last_u64 → c ≡ a + (fr + tr + (fs + ts))
+failures_so_far a b c fr fs tr ts h k below =
+    let now = k below in
+    let before : b < last_u64 = omega arith in
+    omega (arith, h before, now)

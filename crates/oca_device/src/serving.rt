@@ -1,0 +1,198 @@
+//! The loop that serves an end of a link.
+ghost use Rattle.std.specs.Prelude.{◌≡◌, ◌+◌, ◌<◌, ◌≤◌, ◌^◌, ℕ, List, [], ◌∷◌, ◌++◌, IsTrue, IfSome, IfNone, length, ◌-◌, slice_index_or};
+ghost use Rattle.oca_net.specs.Ends.{last_u64};
+ghost use Rattle.oca_device.specs.Reports.{added, no_turns, one_turn, verdict_turn};
+ghost use Rattle.oca_device.specs.Replies.{ServesDeliveries, TakesReplies, sent_to};
+ghost use Rattle.oca_net.specs.Ends.{failures_sent, taken_after};
+ghost use Rattle.oca_device.specs.Totals.{IsWithin, ServesTurn};
+
+use crate::device::Device;
+use crate::outbox::Outbox;
+use crate::report::Report;
+use crate::verdict::Verdict;
+use oca_net::{End, Heard};
+use oca_types::{Packet, Peer};
+
+/// Serves an end for at most so many turns, with this outbox, and answers what was done.
+///
+/// A turn receives once. A datagram goes to the device, and its answers are sent to its sender, in order; where a send
+/// fails, it is counted, and the next packet is sent. Silence and an oversize datagram move the clock. A failed receive
+/// does nothing. The loop ends at Closed, which is no turn, or after the turns. The outbox is emptied at first and after
+/// each turn.
+pub fn serve<E: End>(device: &mut Device, end: &mut E, outbox: &mut Outbox, turns: u32) -> Report
+    ensures telling {
+        IsTrue (E.tells end.old) →
+        ServesDeliveries device.old device.new (E.delivered end.old) (E.delivered end.new) (E.taken end.old) (E.taken end.new) result
+    }
+    ensures turns { result.turns ≤ turns }
+    ensures closed { result.turns < turns → IsTrue (E.closed end.new) }
+    ensures failures {
+        E.failures end.new < last_u64 →
+        E.failures end.new ≡ E.failures end.old + (result.failed_receives + result.failed_sends)
+    }
+    ensures outbox { outbox.new ≡ [] }
+{
+    outbox.clear();
+    let mut report = nothing();
+    let mut packet = Packet::new();
+    for _turn in 0..turns {
+        match take_turn(device, end, outbox, &mut packet) {
+            Some(turn) => report = sum(report, turn),
+            None => return report,
+        }
+    }
+    report
+}
+
+/// Receives once, and does what there is to do. Answers what it did, or nothing at Closed.
+fn take_turn<E: End>(device: &mut Device, end: &mut E, outbox: &mut Outbox, packet: &mut Packet) -> Option<Report>
+    requires { outbox.old ≡ [] }
+    ensures telling { E.tells end.new ≡ E.tells end.old }
+    ensures turn {
+        IsTrue (E.tells end.old) →
+        ServesTurn device.old device.new (E.delivered end.old) (E.delivered end.new) (E.taken end.old) (E.taken end.new) result
+    }
+    ensures one { IfSome result (λ turn. turn.turns ≡ 1) }
+    ensures fits { IfSome result (IsWithin 4294967295) }
+    ensures closed { IfNone result (IsTrue (E.closed end.new)) }
+    ensures failed {
+        IfSome result (λ turn. E.failures end.new < last_u64 →
+            E.failures end.new ≡ E.failures end.old + (turn.failed_receives + turn.failed_sends))
+    }
+    ensures none_failed { IfNone result (E.failures end.new ≡ E.failures end.old) }
+    ensures outbox { outbox.new ≡ [] }
+{
+    match end.receive(packet) {
+        Heard::Datagram { from, now } => {
+            let verdict = device.datagram(from, packet.as_slice(), now, outbox);
+            let failed_sends = send_all(end, from, outbox);
+            outbox.clear();
+            Some(Report {
+                failed_sends,
+                ..of_verdict(verdict)
+            })
+        }
+        Heard::Quiet { now } => {
+            device.tick(now);
+            Some(Report {
+                quiet: 1,
+                ..a_turn()
+            })
+        }
+        Heard::Oversize { now } => {
+            device.tick(now);
+            Some(Report {
+                oversize: 1,
+                ..a_turn()
+            })
+        }
+        Heard::Failed => Some(Report {
+            failed_receives: 1,
+            ..a_turn()
+        }),
+        Heard::Closed => None,
+    }
+}
+
+/// Sends the packets to a peer, in order, and answers how many sends failed.
+fn send_all<E: End>(end: &mut E, to: Peer, outbox: &Outbox) -> u64
+    ensures telling { E.tells end.new ≡ E.tells end.old }
+    ensures delivered { IsTrue (E.tells end.old) → E.delivered end.new ≡ E.delivered end.old }
+    ensures taken { IsTrue (E.tells end.old) → TakesReplies result (E.taken end.old) (E.taken end.new) (sent_to to outbox.now) }
+    ensures closed { E.closed end.new ≡ E.closed end.old }
+    ensures failures { E.failures end.new < last_u64 → E.failures end.new ≡ E.failures end.old + result }
+    ensures few { result ≤ 122 }
+{
+    let mut failed = 0;
+    for i in 0..outbox.len() {
+        if !send_one(end, to, outbox, i) {
+            failed += 1;
+        }
+    }
+    failed
+}
+
+/// Sends the packet of this number.
+fn send_one<E: End>(end: &mut E, to: Peer, outbox: &Outbox, i: usize) -> bool
+    requires { i < length outbox.now }
+    ensures telling { E.tells end.new ≡ E.tells end.old }
+    ensures delivered { IsTrue (E.tells end.old) → E.delivered end.new ≡ E.delivered end.old }
+    ensures taken { IsTrue (E.tells end.old) → E.taken end.new ≡ taken_after result to (slice_index_or outbox.now i []) (E.taken end.old) }
+    ensures closed { E.closed end.new ≡ E.closed end.old }
+    ensures failures { E.failures end.new ≡ failures_sent result (E.failures end.old) }
+{
+    match outbox.get(i) {
+        Some(packet) => end.send(to, packet.as_slice()),
+        None => unreachable!(),
+    }
+}
+
+/// What both did.
+fn sum(a: Report, b: Report) -> Report
+    requires a { IsWithin (2 ^ 64 - 2 ^ 32) a }
+    requires b { IsWithin (2 ^ 32 - 1) b }
+    ensures { result ≡ added a b }
+{
+    Report {
+        turns: a.turns + b.turns,
+        executed: a.executed + b.executed,
+        kept: a.kept + b.kept,
+        old: a.old + b.old,
+        malformed: a.malformed + b.malformed,
+        no_room: a.no_room + b.no_room,
+        oversize: a.oversize + b.oversize,
+        quiet: a.quiet + b.quiet,
+        failed_receives: a.failed_receives + b.failed_receives,
+        failed_sends: a.failed_sends + b.failed_sends,
+    }
+}
+
+/// No turns.
+fn nothing() -> Report
+    ensures { result ≡ no_turns }
+{
+    Report {
+        turns: 0,
+        executed: 0,
+        kept: 0,
+        old: 0,
+        malformed: 0,
+        no_room: 0,
+        oversize: 0,
+        quiet: 0,
+        failed_receives: 0,
+        failed_sends: 0,
+    }
+}
+
+/// One turn.
+fn a_turn() -> Report
+    ensures { result ≡ one_turn }
+{
+    Report {
+        turns: 1,
+        ..nothing()
+    }
+}
+
+/// A turn with this verdict.
+fn of_verdict(verdict: Verdict) -> Report
+    ensures { result ≡ verdict_turn verdict }
+{
+    match verdict {
+        Verdict::Served { executed, kept, old } => Report {
+            executed: u64::from(executed),
+            kept: u64::from(kept),
+            old: u64::from(old),
+            ..a_turn()
+        },
+        Verdict::Malformed(_) => Report {
+            malformed: 1,
+            ..a_turn()
+        },
+        Verdict::NoRoom => Report {
+            no_room: 1,
+            ..a_turn()
+        },
+    }
+}
