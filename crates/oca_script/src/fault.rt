@@ -2,6 +2,8 @@
 ghost use Rattle.std.specs.Prelude.{◌≡◌};
 ghost use Rattle.oca_script.specs.Faults.{fault_word};
 
+use std::fmt;
+
 /// What is wrong with a line. Each kind is looked for in the whole line before the next.
 #[derive(Clone, Copy, PartialEq, Eq, Debug)]
 pub enum LineFault {
@@ -21,17 +23,23 @@ pub enum LineFault {
 
 impl LineFault {
     /// The word that is printed for the fault.
-    pub fn word(self) -> &'static [u8]
+    pub fn word(self) -> &'static str
         ensures { result.now ≡ fault_word self }
     {
         match self {
-            LineFault::TooLong => b"too long",
-            LineFault::Form => b"form",
-            LineFault::Moment => b"moment",
-            LineFault::Number => b"number",
-            LineFault::Peer => b"peer",
-            LineFault::Hex => b"hex",
+            LineFault::TooLong => "too long",
+            LineFault::Form => "form",
+            LineFault::Moment => "moment",
+            LineFault::Number => "number",
+            LineFault::Peer => "peer",
+            LineFault::Hex => "hex",
         }
+    }
+}
+
+impl fmt::Display for LineFault {
+    fn fmt<W: fmt::Write>(&self, f: &mut fmt::Formatter<W>) -> fmt::Result {
+        f.write_str(self.word())
     }
 }
 

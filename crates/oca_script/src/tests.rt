@@ -260,7 +260,7 @@ fn printed_lines(rt: HostRuntime) {
     assert!(rt; line.len() < 64);
     put_number(&mut line, u64::MAX);
     assert!(rt; line.as_slice() == b"> 3bfa-18446744073709551615".as_slice());
-    assert!(rt; LineFault::TooLong.word() == b"too long".as_slice());
+    assert_eq!(rt; LineFault::TooLong.word(), "too long");
 }
 
 #[test]
