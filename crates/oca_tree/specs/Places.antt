@@ -1,5 +1,5 @@
 -- Where the objects of a tree stand: their numbers, and the blocks that contain them (AES70-1). No command changes it.
-use Rattle.std.specs.Prelude.{ℕ, zero, suc, ◌+◌, ◌==◌, Bool, false, List, [], ◌∷◌, length, map, Option, Some, None}
+use Rattle.std.specs.Prelude.{◌≡◌, ℕ, zero, suc, ◌+◌, ◌==◌, Bool, false, List, [], ◌∷◌, length, map, Option, Some, None}
 use Rattle.std.specs.Option.{option_map_or}
 use Rattle.std.specs.List.{find, list_any}
 use Rattle.oca_tree.specs.declared.object.Object.{Object}
@@ -44,6 +44,12 @@ chain ps number = chain_within (length ps) ps number
 abbrev pub depth : List Place → ℕ → ℕ
 depth ps number = length (chain ps number)
 
--- whether the chain of containers that begins with this one reaches the block
+-- The chain of containers that begins with this number reaches the block: the number is the block's, or the chain of the
+-- object's container reaches it.
+pub data ChainReaches (ps : List Place) (block : ℕ) : ℕ → Type 0 where
+  here : (p : Place) → place_at ps block ≡ Some p → ChainReaches ps block block
+  above : (number : ℕ) (p : Place) → place_at ps number ≡ Some p → ChainReaches ps block p.container → ChainReaches ps block number
+
+-- whether it does; in every tree this is the relation above
 abbrev pub reaches : List Place → ℕ → ℕ → Bool
 reaches ps block container = list_any (λ number. number == block) (chain ps container)

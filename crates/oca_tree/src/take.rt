@@ -155,8 +155,8 @@ pub(crate) fn texts(number: usize, count: u8, params: &[u8]) -> Option<ArrayVec<
         return None;
     }
     let mut cursor = Cursor::new(params);
-    let items = cursor.take_u16().ok()?;
-    if usize::from(items) != number {
+    let listed = cursor.take_u16().ok()?;
+    if usize::from(listed) != number {
         return None;
     }
     let texts = take_texts(&mut cursor, number)?;

@@ -383,25 +383,31 @@ fn a_builder_refuses(rt: HostRuntime) -> Result<(), Fail> {
     Ok(())
 }
 
+/// The builder refuses a switch of these names and this position.
+fn refuses_a_switch<'a>(
+    rt: &impl Abort,
+    builder: &mut TreeBuilder,
+    names: &'a [&'a str],
+    position: u16,
+    want: AddFault,
+) {
+    let spec = Spec {
+        role: "switch",
+        lockable: true,
+        kind: Kind::Switch { names, position },
+    };
+    let added = builder.add(Ono(100), Ono(4096), &spec);
+    assert_eq!(rt; added, Err(want), "{position} of {names:?}");
+}
+
 #[test]
 fn a_switch_needs_its_positions(rt: HostRuntime) -> Result<(), Fail> {
     let mut builder = TreeBuilder::new(rt.alloc())?;
     let long = "aaaaaaaaaaaaaaaaaaaaaaaaaaaaaaaaaaaaaaaaaaaaaaaaaaaaaaaaaaaaaaaaa";
-    let many = ["a"; 17];
-    let bad: [(&[&str], u16, AddFault); 4] = [
-        (&[], 0, AddFault::BadRange),
-        (&["a"], 1, AddFault::BadRange),
-        (&many, 0, AddFault::BadRange),
-        (&[long], 1, AddFault::BadText),
-    ];
-    for (names, position, want) in bad {
-        let spec = Spec {
-            role: "switch",
-            lockable: true,
-            kind: Kind::Switch { names, position },
-        };
-        assert_eq!(rt; builder.add(Ono(100), Ono(4096), &spec), Err(want), "{names:?}");
-    }
+    refuses_a_switch(&rt, &mut builder, &[], 0, AddFault::BadRange);
+    refuses_a_switch(&rt, &mut builder, &["a"], 1, AddFault::BadRange);
+    refuses_a_switch(&rt, &mut builder, &["a"; 17], 0, AddFault::BadRange);
+    refuses_a_switch(&rt, &mut builder, &["a", long], 2, AddFault::BadText);
     let spec = Spec {
         role: "switch",
         lockable: true,
