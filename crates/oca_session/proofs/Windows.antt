@@ -2,6 +2,7 @@
 use Rattle.std.proofs.Common.{◌≡◌, ℕ, ◌+◌, ◌-◌, ◌<◌, ◌≤◌, Bool, true, false, cond, List, [], ◌∷◌, ◌++◌, length, take, drop, Option, Some, None, refl, sym, ap, ◌∙◌, arith, append_assoc, length-append, length-drop, ◌⊎◌, inl, inr}
 use Rattle.std.specs.Prelude.{is_some, nat_eq, nat_lt, max, not, ◌&&◌, ◌||◌}
 use Rattle.std.specs.List.{list_any, list_all}
+use Rattle.std.specs.Option.{option_or}
 use Rattle.std.proofs.lemmas.List.{take-append-drop}
 use Rattle.std.proofs.lemmas.List.Folds.{list_any-append}
 use Rattle.std.proofs.lemmas.Bool.Decides.{nat_tests}
@@ -157,3 +158,13 @@ retained_after-retained_of w A e =
 
 pub retained_after_agreed : (w : ℕ) (A : List Entry) (k : Retained) (e : Entry) → Agrees w A k → Agrees w (A ++ e ∷ []) (retained_after k e)
 retained_after_agreed w A k e h = ap (λ x. retained_after x e) h ∙ retained_after-retained_of w A e
+
+-- what is found in two parts
+pub found_in_parts : (h : ℕ) (es fs : List Entry) → entry_under h (es ++ fs) ≡ option_or (entry_under h es) (entry_under h fs)
+found_in_parts h [] fs = refl
+found_in_parts h (e ∷ es) fs = by_test (has_handle h e) (found_in_parts h es fs)
+  where
+    by_test : (b : Bool) → entry_under h (es ++ fs) ≡ option_or (entry_under h es) (entry_under h fs) →
+        cond b (Some e) (entry_under h (es ++ fs)) ≡ option_or (cond b (Some e) (entry_under h es)) (entry_under h fs)
+    by_test true found = refl
+    by_test false found = found

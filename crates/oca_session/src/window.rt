@@ -4,6 +4,7 @@ ghost use Rattle.std.specs.Option.{option_copied};
 ghost use Rattle.oca_session.specs.Accepted.{Entry, retained_of, Agrees, judgement, Fresh, higher_of, entry_under, has_handle};
 ghost use Rattle.oca_session.specs.Judging.{judgement_of, judgement_from, retained_after};
 
+use circular_buffer::HeapCircularBuffer;
 use oca_types::{Handle, Reply};
 use std::alloc::{AllocError, Global};
 use std::marker::Model;
@@ -58,21 +59,19 @@ impl RetainedReply {
 /// pushed out of the window.
 #[derive(Drop)]
 pub struct Window {
-    size: usize,
-    entries: Vec<RetainedReply>,
+    entries: HeapCircularBuffer<RetainedReply>,
     floor: Option<u32>,
 }
 
 impl Model for Window {
     ghost use Rattle.std.specs.Prelude.{◌<◌, ◌≤◌, length};
-    ghost use Rattle.std.specs.Vec.{vec_capacity};
     ghost use Rattle.oca_session.specs.Accepted.{Retained};
 
     ghost Value = { Retained };
 
-    ghost view = { λ a. record { size = a.size; entries = a.entries.items; floor = a.floor } };
+    ghost view = { λ a. record { size = a.entries.capacity; entries = a.entries.items; floor = a.floor } };
 
-    ghost invariant = { λ a. (0 < a.size) × (length a.entries.items ≤ a.size) × (a.size ≤ vec_capacity a.entries) };
+    ghost invariant = { λ a. (0 < a.entries.capacity) × (length a.entries.items ≤ a.entries.capacity) };
 }
 
 impl Window {
@@ -81,9 +80,8 @@ impl Window {
         requires { 0 < size }
         ensures { IfOk result (λ k. k ≡ retained_of size []) }
     {
-        let entries = Vec::with_capacity(alloc, size)?;
+        let entries = HeapCircularBuffer::with_capacity(alloc, size)?;
         Ok(Window {
-            size,
             entries,
             floor: None,
         })
@@ -105,10 +103,22 @@ impl Window {
         self.judge_retained(handle)
     }
 
+    /// What is retained under a handle.
+    #[tactic(auto, using(crate::proofs::Windows::found_in_parts))]
+    fn find(&self, handle: Handle) -> Option<&RetainedReply>
+        ensures { option_copied result ≡ entry_under handle.0 self.now.entries }
+    {
+        let (front, back) = self.entries.as_slices();
+        match entry_of(front, handle) {
+            Some(entry) => Some(entry),
+            None => entry_of(back, handle),
+        }
+    }
+
     fn judge_retained(&self, handle: Handle) -> Judged<'_>
         ensures { judgement_of result ≡ judgement_from self.now handle.0 }
     {
-        if let Some(entry) = entry_of(&self.entries, handle) {
+        if let Some(entry) = self.find(handle) {
             return Judged::Kept(entry.reply());
         }
         match self.floor {
@@ -130,18 +140,13 @@ impl Window {
     fn put(&mut self, entry: RetainedReply)
         ensures { self.new ≡ retained_after self.old entry }
     {
-        if self.entries.len() == self.size {
-            let oldest = self.entries.remove(0);
+        if let Some(oldest) = self.entries.push_back(entry) {
             self.floor = Some(raised_floor(self.floor, oldest.handle()));
-        }
-        match self.entries.push(entry) {
-            Ok(()) => {}
-            Err(_) => unreachable!(),
         }
     }
 }
 
-/// What is retained under a handle.
+/// The entry of a handle among these.
 fn entry_of(entries: &[RetainedReply], handle: Handle) -> Option<&RetainedReply>
     ensures { option_copied result ≡ entry_under handle.0 entries.now }
 {
