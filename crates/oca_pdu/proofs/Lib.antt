@@ -8,3 +8,4 @@ pub mod Decided
 pub mod Exact
 pub mod Walking
 pub mod Adding
+pub mod Limited

@@ -8,5 +8,6 @@ pub mod FirstFault
 pub mod Reading
 pub mod Checking
 pub mod Datagrams
+pub mod Limits
 pub mod Writing
 pub mod Laws

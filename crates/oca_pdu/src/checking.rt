@@ -19,16 +19,13 @@ fn check_message(kind: Kind, at: u16, bytes: &[u8]) -> Result<&[u8], PduFault>
     ensures exact { Leaves (λ x. x.now) result (message_at kind at bytes.now) }
     ensures shorter { IfOk result (λ x. length x.now < length bytes.now) }
 {
-    let fault = PduFault {
-        kind: PduFaultKind::MessageSize,
-        at,
-    };
+    let wrong_size = PduFaultKind::MessageSize.at(at);
     if bytes.len() < 4 {
-        return Err(fault);
+        return Err(wrong_size);
     }
     let size = fields::u32_in(&bytes[..4]) as usize;
     if size < fields::least(kind) || bytes.len() < size {
-        return Err(fault);
+        return Err(wrong_size);
     }
     Ok(&bytes[size..])
 }
@@ -38,19 +35,20 @@ fn check_messages(kind: Kind, count: u16, pdu: u16, bytes: &[u8]) -> Result<(), 
     requires { pdu + 10 + length bytes.now ≤ 1472 }
     ensures { Agrees result (messages_at kind count pdu (pdu + 10) bytes.now) }
 {
-    let fault = PduFault {
-        kind: PduFaultKind::Count,
-        at: pdu + 8,
-    };
+    let wrong_count = PduFaultKind::Count.at(pdu + 8);
     let mut rest = bytes;
     for _ in 0..count {
         if rest.is_empty() {
-            return Err(fault);
+            return Err(wrong_count);
         }
         let at = pdu + 10 + (bytes.len() - rest.len()) as u16;
         rest = check_message(kind, at, rest)?;
     }
-    if rest.is_empty() { Ok(()) } else { Err(fault) }
+    if rest.is_empty() {
+        Ok(())
+    } else {
+        Err(wrong_count)
+    }
 }
 
 #[tactic(auto, unfolding(crate::specs::Reading::keep_alive_at))]
@@ -60,10 +58,7 @@ fn check_keep_alive(pdu: u16, bytes: &[u8]) -> Result<(), PduFault>
 {
     match bytes.len() {
         2 | 4 => Ok(()),
-        _ => Err(PduFault {
-            kind: PduFaultKind::MessageSize,
-            at: pdu + 10,
-        }),
+        _ => Err(PduFaultKind::MessageSize.at(pdu + 10)),
     }
 }
 
@@ -75,17 +70,11 @@ fn check_inside(pdu: u16, bytes: &[u8]) -> Result<(), PduFault>
     ensures { Agrees result (inside_at pdu bytes.now) }
 {
     let Some(content) = fields::content(bytes[7]) else {
-        return Err(PduFault {
-            kind: PduFaultKind::PduType,
-            at: pdu + 7,
-        });
+        return Err(PduFaultKind::PduType.at(pdu + 7));
     };
     let count = fields::u16_in(&bytes[8..10]);
     let body = &bytes[10..];
-    let wrong_count = PduFault {
-        kind: PduFaultKind::Count,
-        at: pdu + 8,
-    };
+    let wrong_count = PduFaultKind::Count.at(pdu + 8);
     match content {
         Content::Messages(_) if count == 0 => Err(wrong_count),
         Content::Messages(kind) => check_messages(kind, count, pdu, body),
@@ -103,41 +92,23 @@ fn check_pdu(pdu: u16, bytes: &[u8]) -> Result<&[u8], PduFault>
     ensures shorter { IfOk result (λ x. length x.now < length bytes.now) }
 {
     if bytes[0] != 0x3B {
-        return Err(PduFault {
-            kind: PduFaultKind::Sync,
-            at: pdu,
-        });
+        return Err(PduFaultKind::Sync.at(pdu));
     }
     if bytes.len() < 3 {
-        return Err(PduFault {
-            kind: PduFaultKind::Truncated,
-            at: pdu + 1,
-        });
+        return Err(PduFaultKind::Truncated.at(pdu + 1));
     }
     if fields::u16_in(&bytes[1..3]) != 1 {
-        return Err(PduFault {
-            kind: PduFaultKind::Version,
-            at: pdu + 1,
-        });
+        return Err(PduFaultKind::Version.at(pdu + 1));
     }
     if bytes.len() < 7 {
-        return Err(PduFault {
-            kind: PduFaultKind::Truncated,
-            at: pdu + 3,
-        });
+        return Err(PduFaultKind::Truncated.at(pdu + 3));
     }
     let size = fields::u32_in(&bytes[3..7]) as usize;
     if size < 11 {
-        return Err(PduFault {
-            kind: PduFaultKind::PduSize,
-            at: pdu + 3,
-        });
+        return Err(PduFaultKind::PduSize.at(pdu + 3));
     }
     if bytes.len() < 1 + size {
-        return Err(PduFault {
-            kind: PduFaultKind::Truncated,
-            at: pdu + 3,
-        });
+        return Err(PduFaultKind::Truncated.at(pdu + 3));
     }
     let (inside, rest) = bytes.split_at(1 + size);
     check_inside(pdu, inside)?;
@@ -164,16 +135,10 @@ fn check_all(bytes: &[u8]) -> Result<(), PduFault>
     ensures { Agrees result (read_datagram bytes.now) }
 {
     if bytes.is_empty() {
-        return Err(PduFault {
-            kind: PduFaultKind::Empty,
-            at: 0,
-        });
+        return Err(PduFaultKind::Empty.at(0));
     }
     if bytes.len() > 1472 {
-        return Err(PduFault {
-            kind: PduFaultKind::TooLong,
-            at: 1472,
-        });
+        return Err(PduFaultKind::TooLong.at(1472));
     }
     check_pdus(bytes)
 }

@@ -32,6 +32,13 @@ impl PduFaultKind {
     {
         self as u8
     }
+
+    /// This fault at an offset.
+    pub(crate) fn at(self, at: u16) -> PduFault
+        ensures { result ≡ record { kind = self; at = at } }
+    {
+        PduFault { kind: self, at }
+    }
 }
 
 /// The first check of a datagram that fails, and the offset in bytes at which it does.

@@ -3,6 +3,7 @@ ghost use Rattle.std.specs.Prelude.{◌≡◌, ◌<◌, ◌∷◌, ◌++◌, [],
 ghost use Rattle.oca_pdu.specs.Messages.{msg_of};
 ghost use Rattle.oca_pdu.specs.Reading.{messages_at, pdus_at, keep_alive_at, content_at, read_datagram};
 ghost use Rattle.oca_pdu.specs.Datagrams.{messages_left, read_or_none};
+ghost use Rattle.oca_pdu.specs.Limits.{IsWithinLimits};
 
 use crate::fields;
 use crate::message::{Content, Form, Kind, Message};
@@ -26,7 +27,8 @@ fn over(bytes: &[u8]) -> Messages<'_>
 #[tactic(auto, unfolding(crate::specs::Reading::read_datagram))]
 pub fn start(bytes: &[u8]) -> Messages<'_>
     requires { IsTrue (is_ok (read_datagram bytes.now)) }
-    ensures { messages_left result ≡ read_or_none (read_datagram bytes.now) }
+    ensures all { messages_left result ≡ read_or_none (read_datagram bytes.now) }
+    ensures limits { IsWithinLimits (read_or_none (read_datagram bytes.now)) }
 {
     over(bytes)
 }

@@ -4,7 +4,7 @@ use Rattle.oca_pdu.proofs.MessageLoop.{goes_on, ends, ends_early, ends_late, is_
 use Rattle.oca_pdu.proofs.checking.check_messages.Goals as goal
 
 pub returns-then-is_empty : goal.returns-then-is_empty
-returns-then-is_empty c = ends_early c.args.kind c.args.count c.loop.counter c.args.pdu _ c.loop.rest.now _ c.loop-test.true (sym c.is_empty.ensures ∙ c.if-is_empty.true) c.loop.invariant.1
+returns-then-is_empty c = rw c.at-wrong_count.ensures (ends_early c.args.kind c.args.count c.loop.counter c.args.pdu _ c.loop.rest.now _ c.loop-test.true (sym c.is_empty.ensures ∙ c.if-is_empty.true) c.loop.invariant.1)
 
 pub returns-in_err-rest : goal.returns-in_err-rest
 returns-in_err-rest c =
@@ -21,4 +21,4 @@ pub returns-then-is_empty-2 : goal.returns-then-is_empty-2
 returns-then-is_empty-2 c = is_done c.args.kind c.args.count c.loop.counter c.args.pdu _ c.loop.rest.now _ c.loop-test.false (sym c.is_empty-2.ensures ∙ c.if-is_empty-2.true) c.loop.invariant.1
 
 pub returns-else-is_empty-2 : goal.returns-else-is_empty-2
-returns-else-is_empty-2 c = ends_late c.args.kind c.args.count c.loop.counter c.args.pdu _ c.loop.rest.now _ c.loop-test.false (sym c.is_empty-2.ensures ∙ c.if-is_empty-2.false) c.loop.invariant.1
+returns-else-is_empty-2 c = rw c.at-wrong_count.ensures (ends_late c.args.kind c.args.count c.loop.counter c.args.pdu _ c.loop.rest.now _ c.loop-test.false (sym c.is_empty-2.ensures ∙ c.if-is_empty-2.false) c.loop.invariant.1)
