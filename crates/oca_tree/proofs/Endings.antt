@@ -48,11 +48,13 @@ closed _ (trees.next ps p built free) n q e = by (place_at ps n) (closed ps buil
     new : (b : Bool) → cond b (Some p) None ≡ Some q → (q.container ≡ 0) ⊎ (is_some (place_at (ps ++ p ∷ []) q.container) ≡ true)
     new true h = let same : p ≡ q = cc in inr (kept ps p q.container (subst (λ (x : Place). is_some (place_at ps x.container) ≡ true) same (block_there ps p.container free.container)))
     new false h = cc
+
     grow : (q.container ≡ 0) ⊎ (is_some (place_at ps q.container) ≡ true) → (q.container ≡ 0) ⊎ (is_some (place_at (ps ++ p ∷ []) q.container) ≡ true)
     grow (inl z) = inl z
     grow (inr s) = inr (kept ps p q.container s)
+
     by : (o : Option Place) → ((x : Place) → o ≡ Some x → (x.container ≡ 0) ⊎ (is_some (place_at ps x.container) ≡ true)) → option_or o (single p n) ≡ Some q
-      → (q.container ≡ 0) ⊎ (is_some (place_at (ps ++ p ∷ []) q.container) ≡ true)
+        → (q.container ≡ 0) ⊎ (is_some (place_at (ps ++ p ∷ []) q.container) ≡ true)
     by None before h = new (p.number == n) h
     by (Some x) before h = let same : x ≡ q = cc in grow (before q (ap Some same))
 
@@ -86,8 +88,9 @@ chain_push (suc k) ps p built free n e = by (place_at ps n) refl (chain_push k p
     apart_from : (q : Place) → (q.container ≡ 0) ⊎ (is_some (place_at ps q.container) ≡ true) → (p.number == q.container) ≡ false
     apart_from q (inl z) = let big = free.number in grind arith
     apart_from q (inr s) = apart ps p free q.container s
+
     by : (o : Option Place) → place_at ps n ≡ o → ((m : ℕ) → (p.number == m) ≡ false → chain_within k (ps ++ p ∷ []) m ≡ chain_within k ps m)
-      → chain_within (suc k) (ps ++ p ∷ []) n ≡ chain_within (suc k) ps n
+        → chain_within (suc k) (ps ++ p ∷ []) n ≡ chain_within (suc k) ps n
     by None t fewer = chain_absent (suc k) (ps ++ p ∷ []) n (other ps p n e ∙ t) ∙ sym (chain_absent (suc k) ps n t)
     by (Some q) t fewer =
         chain_there k (ps ++ p ∷ []) n q (other ps p n e ∙ t) ∙ ap (λ c. n ∷ c) (fewer q.container (apart_from q (closed ps built n q t))) ∙ sym (chain_there k ps n q t)
@@ -118,10 +121,12 @@ ends _ (trees.next ps p built free) n =
   where
     push : (k m : ℕ) → (p.number == m) ≡ false → chain_within k (ps ++ p ∷ []) m ≡ chain_within k ps m
     push k m e = chain_push k ps p built free m e
+
     gone : (p.number == n) ≡ true → place_at ps n ≡ None
     gone t = subst (λ (x : ℕ). place_at ps x ≡ None) (eqb-true p.number n t) free.untaken
+
     by : (b : Bool) → (p.number == n) ≡ b → ((m : ℕ) → chain_within (suc (length ps)) ps m ≡ chain_within (length ps) ps m)
-      → chain_within (suc (suc (length ps))) (ps ++ p ∷ []) n ≡ chain_within (suc (length ps)) (ps ++ p ∷ []) n
+        → chain_within (suc (suc (length ps))) (ps ++ p ∷ []) n ≡ chain_within (suc (length ps)) (ps ++ p ∷ []) n
     by false t same = push (suc (suc (length ps))) n t ∙ once_more (length ps) ps same n ∙ sym (push (suc (length ps)) n t)
     by true t same =
         let there : place_at (ps ++ p ∷ []) n ≡ Some p = looked_up ps p n ∙ ap (λ o. option_or o (single p n)) (gone t) ∙ ap (λ b. cond b (Some p) None) t in
@@ -144,11 +149,12 @@ module _ (ps : List Place) (block : ℕ) where
   found (suc k) n h = by (place_at ps n) refl (found k) h
     where
       test : (p : Place) → place_at ps n ≡ Some p → (b : Bool) → (n == block) ≡ b → b || found_in (chain_within k ps p.container) ≡ true
-        → ((m : ℕ) → found_in (chain_within k ps m) ≡ true → ChainReaches ps block m) → ChainReaches ps block n
+          → ((m : ℕ) → found_in (chain_within k ps m) ≡ true → ChainReaches ps block m) → ChainReaches ps block n
       test p e true t h fewer = there_is n t p e
       test p e false t h fewer = places.above n p e (fewer p.container h)
+
       by : (o : Option Place) → place_at ps n ≡ o → ((m : ℕ) → found_in (chain_within k ps m) ≡ true → ChainReaches ps block m)
-        → found_in (option_map_or (λ p. n ∷ chain_within k ps p.container) o []) ≡ true → ChainReaches ps block n
+          → found_in (option_map_or (λ p. n ∷ chain_within k ps p.container) o []) ≡ true → ChainReaches ps block n
       by None e fewer h = cc
       by (Some p) e fewer h = test p e (n == block) refl h fewer
 
