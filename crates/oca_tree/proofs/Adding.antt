@@ -24,7 +24,7 @@ none_there None e = refl
 none_there (Some x) e = cc
 
 pub added_tree : (tree : List Object) (o : Object) → length tree < 128 → 4096 ≤ o.ono.0 → is_some (object_of tree o.ono.0) ≡ false → is_block_at (places tree) o.container.0 ≡ true
-  → depth (places tree) o.container.0 < 8 → IsSound o → IsTree tree → IsTree (tree ++ o ∷ [])
+    → depth (places tree) o.container.0 < 8 → IsSound o → IsTree tree → IsTree (tree ++ o ∷ [])
 added_tree tree o few number free block shallow sound h = record {
   built = rw (places_push tree o) (trees.next (places tree) (place_of o) h.built (record {
     number = number;
@@ -44,15 +44,15 @@ pub root_tree : IsTree (root ∷ [])
 root_tree = record { built = trees.root; objects = All-push IsSound [] root (λ k d h. absurd (omega arith)) root_sound; few = omega arith }
 
 pub first_object : (container ono : ℕ) (spec : Spec) (role label : List ℕ) (value : Value) → role ≡ spec.role.now → label ≡ [] → value ≡ value_of spec.kind
-  → record (new_object ono container spec.lockable role value) { label = label } ≡ object_of_spec container ono spec
+    → record (new_object ono container spec.lockable role value) { label = label } ≡ object_of_spec container ono spec
 first_object container ono spec role label value a b d =
     ap (λ (x : List ℕ). record (new_object ono container spec.lockable x value) { label = label }) a
     ∙ ap (λ (x : List ℕ). record (new_object ono container spec.lockable spec.role.now value) { label = x }) b
     ∙ ap (λ (x : Value). new_object ono container spec.lockable spec.role.now x) d
 
 pub no_fault : (tree : List Object) (container ono : ℕ) (spec : Spec) → length tree < 128 → 4096 ≤ ono → is_some (object_of tree ono) ≡ false → is_block_at (places tree) container ≡ true
-  → depth (places tree) container < 8 → (length spec.role.now == 0) ≡ false → has_bad_name spec.kind ≡ false → length spec.role.now ≤ 64 → is_bad_value (value_of spec.kind) ≡ false
-  → add_fault tree container ono spec ≡ None
+    → depth (places tree) container < 8 → (length spec.role.now == 0) ≡ false → has_bad_name spec.kind ≡ false → length spec.role.now ≤ 64 → is_bad_value (value_of spec.kind) ≡ false
+    → add_fault tree container ono spec ≡ None
 unfolding add_fault
 no_fault tree container ono spec few number free block shallow full names short range =
     let a : nat_le 128 (length tree) ≡ false = grind arith in

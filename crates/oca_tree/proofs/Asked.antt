@@ -43,7 +43,7 @@ module _ {X : Type 0} where
 module _ {X : Type 0} (item : List ℕ → Option (X × List ℕ)) where
   -- what one reads after the first item has as many as were asked for less one
   one_more : (n : ℕ) (first : X) (o : Option (List X × List ℕ)) (xs : List X) (rest : List ℕ) → ((ys : List X) (after : List ℕ) → o ≡ Some (ys, after) → length ys ≡ n)
-    → with_first first o ≡ Some (xs, rest) → length xs ≡ suc n
+      → with_first first o ≡ Some (xs, rest) → length xs ≡ suc n
   one_more n first None xs rest h e = cc
   one_more n first (Some y) xs rest h e = let same : first ∷ y.0 ≡ xs = ap (front_or []) e in sym (ap length same) ∙ ap suc (h y.0 y.1 refl)
 
@@ -53,7 +53,7 @@ module _ {X : Type 0} (item : List ℕ → Option (X × List ℕ)) where
   items_length (suc n) bytes xs rest e = by (item bytes) (items_length n) e
     where
       by : (o : Option (X × List ℕ)) → ((after : List ℕ) (ys : List X) (last : List ℕ) → items_at item n after ≡ Some (ys, last) → length ys ≡ n)
-        → option_and_then (λ x. with_first x.0 (items_at item n x.1)) o ≡ Some (xs, rest) → length xs ≡ suc n
+          → option_and_then (λ x. with_first x.0 (items_at item n x.1)) o ≡ Some (xs, rest) → length xs ≡ suc n
       by None fewer h = cc
       by (Some x) fewer h = one_more n x.0 (items_at item n x.1) xs rest (fewer x.1) h
 
@@ -63,6 +63,7 @@ module _ {X : Type 0} (item : List ℕ → Option (X × List ℕ)) where
       test : (b : Bool) (after : List ℕ) → cond b (items_at item n after) None ≡ Some (xs, rest) → length xs ≡ n
       test true after h = items_length n after xs rest h
       test false after h = cc
+
       by : (o : Option (ℕ × List ℕ)) → option_and_then (λ x. cond (x.0 == n) (items_at item n x.1) None) o ≡ Some (xs, rest) → length xs ≡ n
       by None h = cc
       by (Some x) h = test (x.0 == n) x.1 h
@@ -73,12 +74,13 @@ module _ {X : Type 0} (item : List ℕ → Option (X × List ℕ)) where
   whole_length n (Some (ys, b ∷ rest)) xs h e = cc
 
   asked_list : (value : Value) (f : List X → Request) → ((xs : List X) → length xs ≡ positions value → FitsPositions value (f xs)) → (count : ℕ) (params : List ℕ) (r : Request)
-    → option_map f (exactly 1 (list_at item (positions value)) count params) ≡ Some r → FitsPositions value r
+      → option_map f (exactly 1 (list_at item (positions value)) count params) ≡ Some r → FitsPositions value r
   asked_list value f fits count params r e = by (count == 1) e
     where
       found : (o : Option (List X)) → ((xs : List X) → o ≡ Some xs → length xs ≡ positions value) → option_map f o ≡ Some r → FitsPositions value r
       found None h t = cc
       found (Some xs) h t = let same : f xs ≡ r = cc in subst (FitsPositions value) same (fits xs (h xs refl))
+
       by : (b : Bool) → option_map f (cond b (whole (list_at item (positions value) params)) None) ≡ Some r → FitsPositions value r
       by true h = found (whole (list_at item (positions value) params)) (λ xs t. whole_length (positions value) (list_at item (positions value) params) xs (list_length (positions value) params) t) h
       by false h = cc

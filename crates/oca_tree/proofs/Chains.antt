@@ -14,7 +14,7 @@ place_at_places [] number = refl
 place_at_places (o ∷ os) number = by_test (o.ono.0 == number) refl (place_at_places os number)
   where
     by_test : (b : Bool) → (o.ono.0 == number) ≡ b → place_at (places os) number ≡ option_map place_of (object_of os number)
-      → place_at (places (o ∷ os)) number ≡ option_map place_of (object_of (o ∷ os) number)
+        → place_at (places (o ∷ os)) number ≡ option_map place_of (object_of (o ∷ os) number)
     by_test true e rest = rw e refl
     by_test false e rest = rw e rest
 

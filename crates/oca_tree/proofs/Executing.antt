@@ -24,8 +24,8 @@ use Rattle.oca_tree.proofs.Asked.{request_fits}
 use Rattle.oca_tree.proofs.Sound.{changed_place, changed_ono, changed_sound, written_tree}
 
 pub understood_ok : (o : Object) (peer : Peer) (c : CommandFields) (method : Method) (access : Access) (r : Request) → kind_at (Some o) c ≡ Known method access
-  → lock_refuses o.lock peer access ≡ false → request_of o.value method c.count c.params ≡ Some r → is_out_of_range o.value r ≡ false → is_invalid o.lockable o.lock r ≡ false
-  → Understood (Ok r) o peer c
+    → lock_refuses o.lock peer access ≡ false → request_of o.value method c.count c.params ≡ Some r → is_out_of_range o.value r ≡ false → is_invalid o.lockable o.lock r ≡ false
+    → Understood (Ok r) o peer c
 understood_ok o peer c method access r kind free asked within valid =
     (rw kind asked, within, valid, λ tree. rw (kind, free, asked, within, valid) refl)
 
@@ -63,8 +63,8 @@ same_element : (tree : List Object) (i : ℕ) (d e : Object) → i < length tree
 same_element tree i d e h = let a = slice_get-get_or tree i d h in let b = slice_get-get_or tree i e h in cc
 
 pub answered_lem : (tree : List Object) (peer : Peer) (c : CommandFields) (i : ℕ) (o : Object) (r : Request) (out : List ℕ)
-  → Some i ≡ position (has_number c.target) tree → o ≡ get_or tree i o → Understood (Ok r) o peer c → out ≡ answer tree o r → length out ≤ 1452 → IsTree tree
-  → Answered (Ok (i, r)) tree out peer c
+    → Some i ≡ position (has_number c.target) tree → o ≡ get_or tree i o → Understood (Ok r) o peer c → out ≡ answer tree o r → length out ≤ 1452 → IsTree tree
+    → Answered (Ok (i, r)) tree out peer c
 answered_lem tree peer c i o r out place here asked is short sound =
     let found : object_of tree c.target ≡ Some o = find_some (has_number c.target) tree i o place ∙ ap Some (sym here) in
     let within : i < length tree = (place_found (has_number c.target) tree i place).0 in
@@ -75,9 +75,14 @@ answered_lem tree peer c i o r out place here asked is short sound =
     let sound_here : IsSound o = rw (← here) at (sound.objects i o within) in
     let fits = request_fits o (kind_at (Some o) c) c r asked.0 in
     let changed_here : IsSound (changed o peer r) = changed_sound o peer r sound_here asked.1 asked.2 fits in
-    let after : IsTree (set tree i (changed o peer r)) = written_tree tree i o (changed o peer r) within here (changed_place o peer r) changed_here sound in
-    (within, λ d.
-      let at_d : get_or tree i d ≡ o = same_element tree i d o within ∙ sym here in
-      rw at_d (done ∙ ap (λ t. record { tree = t; status = statuses.Ok; count = answer_count o.value r; parameters = answer tree o r }) placed
-          ∙ ap (λ xs. record { tree = set tree i (changed o peer r); status = statuses.Ok; count = answer_count o.value r; parameters = xs }) (sym is),
-        asked.1, after))
+    let after : IsTree (set tree i (changed o peer r)) = written_tree tree i o (changed o peer r) within here (changed_place o peer r) changed_here sound in (
+      within,
+      λ d.
+          let at_d : get_or tree i d ≡ o = same_element tree i d o within ∙ sym here in
+          rw at_d (
+            done ∙ ap (λ t. record { tree = t; status = statuses.Ok; count = answer_count o.value r; parameters = answer tree o r }) placed
+                ∙ ap (λ xs. record { tree = set tree i (changed o peer r); status = statuses.Ok; count = answer_count o.value r; parameters = xs }) (sym is),
+            asked.1,
+            after,
+          ),
+    )

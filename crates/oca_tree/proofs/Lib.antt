@@ -7,3 +7,4 @@ pub mod Asked
 pub mod Sound
 pub mod Adding
 pub mod Executing
+pub mod Endings

@@ -29,7 +29,6 @@ module _ {X : Type 0} (p : X → Bool) where
       let found = place_found xs i e in
       find_at p xs ∙ ap (slice_get xs) (sym found.1) ∙ slice_get_at xs i d found.0
 
-
 -- a write at the place
 pub with_object_from : (xs : List Object) (new : Object) → position_or_len (has_number new.ono.0) xs < length xs → with_object xs new ≡ set xs (position_or_len (has_number new.ono.0) xs) new
 with_object_from [] new h = refl

@@ -14,10 +14,10 @@ bench_objects =
     ∷ new_object 4097 4096 true (codes "mute") (Mute Muted)
     ∷ new_object 4098 4096 true (codes "polarity") (Polarity NonInverted)
     ∷ new_object 4099 4096 true (codes "input") (Switch (record {
-        names = record { items = codes "Line" ∷ codes "Mic" ∷ codes "Off" ∷ [] };
-        enableds = record { items = true ∷ true ∷ true ∷ [] };
-        position = 0;
-      }))
+      names = record { items = codes "Line" ∷ codes "Mic" ∷ codes "Off" ∷ [] };
+      enableds = record { items = true ∷ true ∷ true ∷ [] };
+      position = 0;
+    }))
     ∷ new_object 4100 4096 true (codes "trim") (number Int16 (pos 0) (negsuc 599) (pos 600))
     ∷ new_object 4101 4096 true (codes "lamp") (Boolean false)
     ∷ new_object 4102 4096 false (codes "dim") (number Uint8 (pos 10) (pos 0) (pos 100))

@@ -45,7 +45,7 @@ Answered (Ok found) tree out peer c = (found.0 < length tree) × ((d : Object) �
     × (is_out_of_range o.value found.1 ≡ false) × IsTree (slice_set tree found.0 (changed o peer found.1)))
 Answered (Err s) tree out peer c = execution tree peer c ≡ refused tree s
 
--- A command was carried out as it means, or refused as it means.
+-- A command was carried out, or refused with nothing changed, as its execution says.
 abbrev pub Executes : Result ℕ Status → List Object → List Object → List ℕ → Peer → CommandFields → Type 0
 Executes (Ok count) old new out peer c = execution old peer c ≡ record { tree = new; status = status.Ok; count = count; parameters = out }
 Executes (Err s) old new out peer c = (execution old peer c ≡ refused old s) × (new ≡ old)

@@ -50,12 +50,7 @@ fn listed_count(objects: &[Object], block: Ono, deep: bool) -> usize
         .count()
 }
 
-fn put_items(
-    out: &mut Params,
-    objects: &[Object],
-    block: Ono,
-    deep: bool,
-) -> Result<(), PutFault>
+fn put_items(out: &mut Params, objects: &[Object], block: Ono, deep: bool) -> Result<(), PutFault>
     ensures { Puts result out.old.items out.new.items (flat_map (item_encoding deep) (filter (is_listed objects.now block.0 deep) objects.now)) }
 {
     for object in objects {
@@ -67,12 +62,7 @@ fn put_items(
 }
 
 /// The members of a block, or all that lie in it however deep.
-fn put_members(
-    out: &mut Params,
-    objects: &[Object],
-    block: Ono,
-    deep: bool,
-) -> Result<(), PutFault>
+fn put_members(out: &mut Params, objects: &[Object], block: Ono, deep: bool) -> Result<(), PutFault>
     requires { length objects.now ≤ 128 }
     ensures { Puts result out.old.items out.new.items (list_encoding (item_encoding deep) (filter (is_listed objects.now block.0 deep) objects.now)) }
 {
@@ -146,11 +136,7 @@ fn put_bool_list(out: &mut Params, truths: &[bool]) -> Result<(), PutFault>
     put_bools(out, truths)
 }
 
-fn put_switch_answer(
-    out: &mut Params,
-    switch: &Switch,
-    request: &Request,
-) -> Result<(), PutFault>
+fn put_switch_answer(out: &mut Params, switch: &Switch, request: &Request) -> Result<(), PutFault>
     requires sound { IsSoundSwitch switch.now }
     requires there { is_bad_position switch.now request.now ≡ false }
     ensures { Puts result out.old.items out.new.items (switch_answer switch.now request.now) }
@@ -170,11 +156,7 @@ fn put_switch_answer(
 }
 
 #[tactic(auto, unfolding(crate::specs::Requests::is_out_of_range, crate::specs::Trees::IsSoundValue))]
-fn put_position_answer(
-    out: &mut Params,
-    value: &Value,
-    request: &Request,
-) -> Result<(), PutFault>
+fn put_position_answer(out: &mut Params, value: &Value, request: &Request) -> Result<(), PutFault>
     requires sound { IsSoundValue value.now }
     requires there { is_out_of_range value.now request.now ≡ false }
     ensures { Puts result out.old.items out.new.items (position_request_answer value.now request.now) }

@@ -11,12 +11,7 @@ use oca_types::Ono;
 use std::alloc::Global;
 
 /// Adds an object that nothing refuses.
-fn add(
-    builder: &mut TreeBuilder,
-    container: Ono,
-    ono: Ono,
-    spec: &Spec<'_>,
-) -> Result<(), AddFault>
+fn add(builder: &mut TreeBuilder, container: Ono, ono: Ono, spec: &Spec<'_>) -> Result<(), AddFault>
     requires { add_fault builder.old container.0 ono.0 spec.now ≡ None }
     ensures ok { OnOk result (builder.new ≡ builder.old ++ object_of_spec container.0 ono.0 spec.now ∷ []) }
     ensures err { IfErr result (λ e. e ≡ NoMemory) }

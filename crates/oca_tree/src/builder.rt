@@ -51,16 +51,51 @@ pub enum Kind<'a> {
     Block,
     Mute(MuteState),
     Polarity(PolarityState),
-    Switch { names: &'a [&'a str], position: u16 },
+    Switch {
+        names: &'a [&'a str],
+        position: u16,
+    },
     Boolean(bool),
-    Int8 { setting: i8, least: i8, greatest: i8 },
-    Int16 { setting: i16, least: i16, greatest: i16 },
-    Int32 { setting: i32, least: i32, greatest: i32 },
-    Int64 { setting: i64, least: i64, greatest: i64 },
-    Uint8 { setting: u8, least: u8, greatest: u8 },
-    Uint16 { setting: u16, least: u16, greatest: u16 },
-    Uint32 { setting: u32, least: u32, greatest: u32 },
-    Uint64 { setting: u64, least: u64, greatest: u64 },
+    Int8 {
+        setting: i8,
+        least: i8,
+        greatest: i8,
+    },
+    Int16 {
+        setting: i16,
+        least: i16,
+        greatest: i16,
+    },
+    Int32 {
+        setting: i32,
+        least: i32,
+        greatest: i32,
+    },
+    Int64 {
+        setting: i64,
+        least: i64,
+        greatest: i64,
+    },
+    Uint8 {
+        setting: u8,
+        least: u8,
+        greatest: u8,
+    },
+    Uint16 {
+        setting: u16,
+        least: u16,
+        greatest: u16,
+    },
+    Uint32 {
+        setting: u32,
+        least: u32,
+        greatest: u32,
+    },
+    Uint64 {
+        setting: u64,
+        least: u64,
+        greatest: u64,
+    },
 }
 
 fn has_long(names: &[&str]) -> bool

@@ -18,8 +18,7 @@ mod tree;
 
 pub use bench_tree::bench;
 pub use builder::{AddFault, Kind, Spec, TreeBuilder};
-pub use object::{Lock, LockKind, MuteState, NumberKind, Object, PolarityState, Range, Switch, Value};
-pub use request::Request;
+pub use object::{Lock, LockKind, MuteState, PolarityState};
 pub use tree::{Done, ObjectInfo, Setting, Tree};
 
 #[cfg(test)]

@@ -5,7 +5,6 @@ ghost use Rattle.oca_tree.specs.Objects.{class_of};
 ghost use Rattle.oca_tree.specs.Locks.{lock_refuses, without_lock_of};
 ghost use Rattle.oca_tree.specs.Places.{is_block_value};
 
-
 use arrayvec::ArrayVec;
 use oca_types::{Access, Class, Ono, Peer, Text};
 
@@ -151,7 +150,9 @@ impl Object {
     pub(crate) fn release(&mut self, peer: Peer)
         ensures { self.new ≡ without_lock_of peer self.old }
     {
-        if let Some(lock) = self.lock && lock.holder == peer {
+        if let Some(lock) = self.lock
+            && lock.holder == peer
+        {
             self.lock = None;
         }
     }

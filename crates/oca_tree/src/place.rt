@@ -1,9 +1,10 @@
 //! Where objects stand: found by their number, and the chain of containers above them.
-ghost use Rattle.std.specs.Prelude.{◌≡◌, ◌==◌, ◌≤◌, length, slice_index_or, is_some, IfNone, IfSome, Some, None};
+ghost use Rattle.std.specs.Prelude.{◌≡◌, ◌==◌, ◌≤◌, length, slice_index_or, is_some, IsTrue, ◌↔◌, IfNone, IfSome, Some, None};
 ghost use Rattle.std.specs.Option.{option_map};
 ghost use Rattle.std.specs.List.{position};
 ghost use Rattle.oca_tree.specs.Objects.{has_number, object_of};
-ghost use Rattle.oca_tree.specs.Places.{places, place_at, is_block_at, depth, reaches};
+ghost use Rattle.oca_tree.specs.Places.{places, place_at, is_block_at, depth, reaches, ChainReaches};
+ghost use Rattle.oca_tree.specs.Trees.{IsTree};
 ghost use Rattle.oca_tree.specs.declared.object.Object.{Object};
 
 use crate::object::Object;
@@ -68,8 +69,7 @@ pub(crate) fn depth(objects: &[Object], ono: Ono) -> usize
     depth
 }
 
-/// Whether the chain of containers that begins with this one reaches the block.
-pub(crate) fn reaches(objects: &[Object], block: Ono, container: Ono) -> bool
+fn walk_reaches(objects: &[Object], block: Ono, container: Ono) -> bool
     ensures { result ≡ reaches (places objects.now) block.0 container.0 }
 {
     let mut current = container;
@@ -83,4 +83,12 @@ pub(crate) fn reaches(objects: &[Object], block: Ono, container: Ono) -> bool
         current = above;
     }
     false
+}
+
+/// Whether the chain of containers that begins with this one reaches the block.
+pub(crate) fn reaches(objects: &[Object], block: Ono, container: Ono) -> bool
+    ensures reaches { result ≡ reaches (places objects.now) block.0 container.0 }
+    ensures chain { IsTree objects.now → (IsTrue result ↔ ChainReaches (places objects.now) block.0 container.0) }
+{
+    walk_reaches(objects, block, container)
 }

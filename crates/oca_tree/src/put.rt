@@ -48,11 +48,7 @@ pub(crate) fn put_class(out: &mut Params, class: Class) -> Result<(), PutFault>
 
 /// A number in the encoding of its type.
 #[tactic(auto, unfolding(crate::specs::Kinds::number_encoding))]
-pub(crate) fn put_number(
-    out: &mut Params,
-    kind: NumberKind,
-    value: i128,
-) -> Result<(), PutFault>
+pub(crate) fn put_number(out: &mut Params, kind: NumberKind, value: i128) -> Result<(), PutFault>
     requires { IsOfType kind value }
     ensures { Puts result out.old.items out.new.items (number_encoding kind value) }
 {

@@ -19,7 +19,8 @@ returns c =
     let short : length c.args.spec.now.role.now ≤ 64 = c.in-Some.ensures.variant.0 refl in
     let range : is_bad_value (value_of c.args.spec.now.kind) ≡ false = c.in-Some-value_of.ensures.1 in
     let o : Object = record { ono = c.args.ono; container = c.args.container; lockable = c.args.spec.now.lockable; role = c.in-Some.role; label = c.default.result; enabled = true; value = c.in-Some-value_of.value; lock = None } in
-    let sound : IsSound o = record { value = c.in-Some-value_of.ensures.2; lock = tt } in
-    (no_fault c.args.objects.now c.args.container.0 c.args.ono.0 c.args.spec.now few number free block shallow full names short range,
-     first_object c.args.container.0 c.args.ono.0 c.args.spec.now c.in-Some.role c.default.result c.in-Some-value_of.value c.in-Some.ensures.value c.default.ensures c.in-Some-value_of.ensures.0,
-     added_tree c.args.objects.now o few number free block shallow sound c.requires)
+    let sound : IsSound o = record { value = c.in-Some-value_of.ensures.2; lock = tt } in (
+      no_fault c.args.objects.now c.args.container.0 c.args.ono.0 c.args.spec.now few number free block shallow full names short range,
+      first_object c.args.container.0 c.args.ono.0 c.args.spec.now c.in-Some.role c.default.result c.in-Some-value_of.value c.in-Some.ensures.value c.default.ensures c.in-Some-value_of.ensures.0,
+      added_tree c.args.objects.now o few number free block shallow sound c.requires,
+    )
