@@ -1,5 +1,5 @@
 -- The laws.
-use Rattle.std.proofs.Common.{◌≡◌, ℕ, zero, suc, ◌<◌, true, List, [], ◌∷◌, Result, Ok, Err, refl, sym, ap, subst, ◌∙◌, inl, inr, arith, get_or}
+use Rattle.std.proofs.Common.{◌≡◌, ℕ, zero, suc, true, List, [], ◌∷◌, Result, Ok, Err, refl, sym, ap, subst, ◌∙◌, inl, inr, arith}
 use Rattle.std.specs.Prelude.{is_ok}
 use Rattle.std.specs.List.{flat_map}
 use Rattle.oca_pdu.specs.declared.fault.PduFault.{PduFault}
@@ -8,7 +8,7 @@ use Rattle.oca_pdu.specs.Encoding.{IsDatagram, pdu_encoding}
 use Rattle.oca_pdu.specs.Datagrams.{read_or_none}
 use Rattle.std.proofs.lemmas.List.{append-nil}
 use Rattle.oca_pdu.specs.Reading.{read_datagram}
-use Rattle.oca_pdu.specs.Laws.{OneListOfMessages, OneFirstFault, NoFaultOfADatagram, ReadsExactly, ReadingIsExact, WrittenIsReadBack, AreBytes}
+use Rattle.oca_pdu.specs.Laws.{OneListOfMessages, OneFirstFault, NoFaultOfADatagram, ReadingIsExact, WrittenIsReadBack, AreBytes}
 use Rattle.oca_pdu.proofs.MessageLoop.{ok_is}
 use Rattle.oca_pdu.specs.FirstFault.{IsFirstFault}
 use Rattle.oca_pdu.proofs.Refused.{datagram_refused}

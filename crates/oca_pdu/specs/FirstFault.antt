@@ -6,11 +6,10 @@ use Rattle.std.specs.Prelude.{◌≡◌, ◌≢◌, ℕ, ◌+◌, ◌<◌, ◌�
 use Rattle.std.specs.List.{flat_map, AllByRecursion}
 use Rattle.std.specs.Int.{w16, w32}
 use Rattle.oca_types.specs.Numbers.{unsigned_encoding}
-use Rattle.oca_types.specs.Peers.{CommandFields}
 use Rattle.oca_pdu.specs.declared.fault.PduFault.{PduFault}
 use Rattle.oca_pdu.specs.declared.fault.PduFaultKind.TheVariants.{Empty, TooLong, Sync, Version, PduSize, PduType, Count, MessageSize, Truncated}
 use Rattle.oca_pdu.specs.Faults.{IsFaultAt}
-use Rattle.oca_pdu.specs.Messages.{ResponseFields, Pdu}
+use Rattle.oca_pdu.specs.Messages.{Pdu}
 use Rattle.oca_pdu.specs.Encoding.{command_encoding, response_encoding, pdu_frame, command_type, pdu_encoding, CommandFits, ResponseFits, PduFits}
 
 -- The messages of the PDU at p fail. They lie in body, from p + 10 to the PDU's end, and are to be `count`; `before` are those

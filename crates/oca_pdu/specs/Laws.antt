@@ -1,10 +1,9 @@
 -- What holds of the encodings and of reading, for every list of bytes.
-use Rattle.std.specs.Prelude.{◌≡◌, ℕ, ◌<◌, ◌↔◌, List, [], ◌∷◌, Result, Ok, Err, Bool}
+use Rattle.std.specs.Prelude.{◌≡◌, ℕ, ◌<◌, ◌↔◌, List, [], ◌∷◌, Ok, Err}
 use Rattle.std.specs.List.{flat_map, AllByRecursion}
-use Rattle.oca_types.specs.Peers.{CommandFields}
 use Rattle.oca_pdu.specs.declared.fault.PduFault.{PduFault}
 use Rattle.oca_pdu.specs.Messages.{Msg, Pdu, messages_of}
-use Rattle.oca_pdu.specs.Encoding.{IsDatagram, PduFits, pdu_encoding}
+use Rattle.oca_pdu.specs.Encoding.{IsDatagram, pdu_encoding}
 use Rattle.oca_pdu.specs.FirstFault.{IsFirstFault}
 use Rattle.oca_pdu.specs.Reading.{read_datagram}
 
