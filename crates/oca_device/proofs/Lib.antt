@@ -7,3 +7,4 @@ pub mod Bounds
 pub mod Turns
 pub mod Joins
 pub mod Histories
+pub mod Answering
