@@ -14,9 +14,11 @@ use Rattle.oca_pdu.specs.Reading.{read_datagram}
 use Rattle.oca_device.specs.declared.counts.Counts.{Counts}
 use Rattle.oca_device.specs.declared.verdict.Verdict.TheVariants as verdicts
 use Rattle.oca_device.specs.Notes.{What, Admitted, Heartbeat, Executed, Note, run, is_known, known, last_moment, heartbeat_of, accepted}
-use Rattle.oca_device.specs.States.{State, noted, moved_to, lapsed_at, admits, judged_in, reply_of, after_command, after_message, after_messages, after_reading, time_of}
+use Rattle.oca_device.specs.States.{State, noted, moved_to, lapsed_at, admits, judged_in, reply_of, after_command, after_message, after_messages, after_reading, time_of, state_after, known_after}
 use Rattle.oca_device.specs.Answers.{counts, plus, answer_to, answers_to_messages, packets_of, packet_of, count_of, counts_of_messages, answers_to_reading, verdict_of_reading, served}
-use Rattle.oca_device.specs.Devices.{DeviceState, session_for, table_of, IsIn}
+use Rattle.oca_tree.specs.declared.object.Object.{Object}
+use Rattle.oca_device.specs.Events.{Event}
+use Rattle.oca_device.specs.Devices.{DeviceState, session_for, table_of, IsIn, Represents}
 use Rattle.oca_device.specs.Serving.{Serves, ServesAll, Receives}
 use Rattle.oca_device.proofs.Runs.{table_moved, lapsed_moved, session_known, table_noted, table_opened, run_goes_on, run_begins, known_now}
 
@@ -87,18 +89,17 @@ no_room a h = grind (arith, nat_tests)
 count_known : (w : ℕ) (s : State) (old : Table) → old ≡ table_of w s → length old.sessions ≡ length (known s.moment s.notes)
 count_known w s old was = ap (λ (x : Table). length x.sessions) was ∙ length-map (known s.moment s.notes) (session_for w s.notes)
 
+-- the sessions of a device are as many as the peers that are known
+pub known_counted : (w : ℕ) (d : DeviceState) (tree : List Object) (events : List Event) → Represents w d tree events →
+    length d.sessions.sessions ≡ length (known_after (state_after w tree events))
+known_counted w d tree events h = count_known w (state_after w tree events) d.sessions h.sessions
+
 -- a moment that is not later than the clock's
 pub present_is : (w : ℕ) (s : State) (old : Table) (now : ℕ) → old ≡ table_of w s → now ≤ old.moment → present old now ≡ s.moment
 present_is w s old now was le = not_later old.moment now s.moment le (ap (λ (x : Table). x.moment) was)
   where
     not_later : (m now n : ℕ) → now ≤ m → m ≡ n → max m now ≡ n
     not_later m now n le e = omega arith
-
--- hearing a peer answers whether it is let in
-answers_admitted : Heard → Bool
-answers_admitted heard.Known = true
-answers_admitted heard.Opened = true
-answers_admitted heard.NoRoom = false
 
 pub hears_known : (w : ℕ) (s : State) (p : Peer) (t : ℕ) (old new : Table) → old ≡ table_of w s → t ≡ s.moment → Hears p t old heard.Known new →
     (true ≡ admits s p) × ((ms : List Msg) → new ≡ table_of w (noted p (Admitted ms) s))
@@ -193,20 +194,6 @@ pub record IsHalfway (w : ℕ) (p : Peer) (d : DeviceState) (rest ms : List Msg)
   pub state_is : after_messages w p rest mid ≡ after_messages w p ms s
   pub packets_are : out ++ packets_of (answers_to_messages w p rest mid) ≡ before ++ packets_of (answers_to_messages w p ms s)
   pub counts_are : plus n (counts_of_messages w p rest mid) ≡ counts_of_messages w p ms s
-
-pub none_served : (w : ℕ) (p : Peer) (d : DeviceState) (ms : List Msg) (s : State) (out : List (List ℕ)) → IsIn w d s → last_moment (run p s.notes) ≡ s.moment →
-    IsHalfway w p d ms ms s out out (counts 0 0 0)
-none_served w p d ms s out h now =
-    record { mid = s; device = h; now = now; state_is = refl; packets_are = refl; counts_are = zero_plus (counts_of_messages w p ms s) }
-  where
-    zero_plus : (n : Counts) → plus (counts 0 0 0) n ≡ n
-    zero_plus n =
-        ap (λ (x : ℕ). counts x (0 + n.kept) (0 + n.old)) (from_zero n.executed)
-        ∙ ap (λ (x : ℕ). counts n.executed x (0 + n.old)) (from_zero n.kept)
-        ∙ ap (λ (x : ℕ). counts n.executed n.kept x) (from_zero n.old)
-      where
-        from_zero : (x : ℕ) → 0 + x ≡ x
-        from_zero x = omega arith
 
 pub one_further : (w : ℕ) (p : Peer) (d d' : DeviceState) (m : Msg) (rest rest' ms : List Msg) (s : State) (before out out' : List (List ℕ)) (n k : Counts) →
     (h : IsHalfway w p d rest ms s before out n) → rest ≡ m ∷ rest' → IsSome (session_of p d.sessions.sessions) →

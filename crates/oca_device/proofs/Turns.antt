@@ -15,8 +15,8 @@ use Rattle.oca_device.specs.Events as event
 use Rattle.oca_device.specs.Answers.{packets, verdict}
 use Rattle.oca_device.specs.Devices.{DeviceState, Represents}
 use Rattle.oca_device.specs.Reports.{no_turns, one_turn, verdict_turn, added, turn_report, events_after, events_after_all, report_of}
-use Rattle.oca_device.specs.Replies.{Lacks, none, taken, missing, TakesReplies, ServesDeliveries, replies, replies_to, sent_to}
-use Rattle.oca_device.specs.Totals.{IsWithin, IsUnchanged}
+use Rattle.oca_device.specs.Replies.{Lacks, none, taken, missing, TakesReplies, ServesDeliveries, GoesOn, replies, replies_to, sent_to}
+use Rattle.oca_device.specs.Totals.{IsWithin}
 
 -- ---- lists without some of their members
 
@@ -139,13 +139,6 @@ one_more_turn a b c d1 d2 d3 t1 t2 t3 r s f g =
         ap (λ q. added q s) x ∙ ap (added (record (report_of w tree events f.deliveries) { failed_sends = r.failed_sends })) y
           ∙ ap (λ (q : Report). let z : Report = record q { failed_sends = k } in z) (sym (later_reports w tree f.deliveries g.deliveries events));
     }
-
-pub unchanged_after : (a b c : DeviceState) (d1 d2 d3 : List Delivery) (t1 t2 t3 : List Sent) (r : Report) →
-    ServesDeliveries a b d1 d2 t1 t2 r → IsUnchanged b c d2 d3 t2 t3 → ServesDeliveries a c d1 d3 t1 t3 r
-unchanged_after a b c d1 d2 d3 t1 t2 t3 r f u =
-    subst (λ (x : DeviceState). ServesDeliveries a x d1 d3 t1 t3 r) (sym u.device)
-      (subst (λ (x : List Delivery). ServesDeliveries a b d1 x t1 t3 r) (sym u.delivered_is)
-        (subst (λ (x : List Sent). ServesDeliveries a b d1 d2 t1 x r) (sym u.taken_is) f))
 
 -- ---- the packets of one datagram are sent
 
@@ -294,12 +287,26 @@ more_within m k n a b r e x y le =
     let both : IsWithin n (added a b) = record { turns = omega (arith, x.turns, y.turns); executed = omega (arith, x.executed, y.executed); kept = omega (arith, x.kept, y.kept); old = omega (arith, x.old, y.old); malformed = omega (arith, x.malformed, y.malformed); no_room = omega (arith, x.no_room, y.no_room); oversize = omega (arith, x.oversize, y.oversize); quiet = omega (arith, x.quiet, y.quiet); failed_receives = omega (arith, x.failed_receives, y.failed_receives); failed_sends = omega (arith, x.failed_sends, y.failed_sends) } in
     subst (λ (q : Report). IsWithin n q) (sym e) both
 
-pub wider : (m n : ℕ) (r : Report) → IsWithin m r → m ≤ n → IsWithin n r
-wider m n r x le = record { turns = omega (arith, x.turns); executed = omega (arith, x.executed); kept = omega (arith, x.kept); old = omega (arith, x.old); malformed = omega (arith, x.malformed); no_room = omega (arith, x.no_room); oversize = omega (arith, x.oversize); quiet = omega (arith, x.quiet); failed_receives = omega (arith, x.failed_receives); failed_sends = omega (arith, x.failed_sends) }
-
 -- failures of the turns so far and of one more
 pub failures_so_far : (a b c fr fs tr ts : ℕ) → (b < last_u64 → b ≡ a + (fr + fs)) → (c < last_u64 → c ≡ b + (tr + ts)) → c < last_u64 → c ≡ a + (fr + tr + (fs + ts))
 failures_so_far a b c fr fs tr ts h k below =
     let now = k below in
     let before : b < last_u64 = omega arith in
     omega (arith, h before, now)
+
+-- ---- a device goes on by some events
+
+pub stays : (a : DeviceState) → GoesOn a a
+stays a = record { more = []; represents = λ w tree events h. h }
+
+pub goes_on_by : (a b : DeviceState) (e : Event) →
+    ((w : ℕ) (tree : List Object) (events : List Event) → Represents w a tree events → Represents w b tree (e ∷ events)) → GoesOn a b
+goes_on_by a b e h = record { more = e ∷ []; represents = h }
+
+pub goes_further : (a b c : DeviceState) → GoesOn a b → GoesOn b c → GoesOn a c
+goes_further a b c f g =
+    record {
+      more = g.more ++ f.more;
+      represents = λ w tree events h.
+        subst (λ (es : List Event). Represents w c tree es) (sym (append_assoc g.more f.more events)) (g.represents w tree (f.more ++ events) (f.represents w tree events h));
+    }

@@ -1,6 +1,6 @@
 -- What happens to a device: datagrams, of any bytes and from any peer, and clock readings (profile).
 -- Moments are in milliseconds. In a list of events the latest stands first.
-use Rattle.std.specs.Prelude.{ℕ, max, List, [], ◌∷◌, reverse}
+use Rattle.std.specs.Prelude.{ℕ, max, List, [], ◌∷◌}
 use Rattle.oca_types.specs.declared.words.Peer.{Peer}
 
 pub data Event : Type 0 where
@@ -17,7 +17,3 @@ moment_of (Tick now) = now
 abbrev pub clock_after : List Event → ℕ
 clock_after [] = 0
 clock_after (e ∷ events) = max (clock_after events) (moment_of e)
-
--- events in the order in which they happened, as a list with the latest first
-abbrev pub events_in_order : List Event → List Event
-events_in_order events = reverse events

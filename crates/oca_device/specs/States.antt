@@ -91,14 +91,13 @@ after_reading w p (Ok messages) s = if admits s p then after_messages w p messag
 
 -- ---- events
 
--- the state when an event's datagram is looked at: the clock has moved
-abbrev pub present : Event → State → State
-present (Datagram from bytes now) s = moved_to (max s.moment now) s
-present (Tick now) s = moved_to (max s.moment now) s
-
 abbrev pub after_event : ℕ → Event → State → State
 after_event w (Datagram from bytes now) s = after_reading w from (read_datagram bytes) (moved_to (max s.moment now) s)
 after_event w (Tick now) s = moved_to (max s.moment now) s
+
+-- the peers known in a state, in order of opening
+abbrev pub known_after : State → List Peer
+known_after s = known s.moment s.notes
 
 -- THE STATE AFTER EVENTS, from the opening tree on, with reply windows of size w.
 abbrev pub state_after : ℕ → List Object → List Event → State

@@ -7,7 +7,7 @@ ghost use Rattle.oca_tree.specs.declared.object.Object.{Object};
 ghost use Rattle.oca_session.specs.Table.{session_of};
 ghost use Rattle.oca_device.specs.Events.{Event, Datagram as DatagramEvent, Tick};
 ghost use Rattle.oca_device.specs.Notes.{Admitted, run, last_moment};
-ghost use Rattle.oca_device.specs.States.{State, noted, moved_to, admits, released_all, reply_of, time_of};
+ghost use Rattle.oca_device.specs.States.{State, state_after, known_after, noted, moved_to, admits, released_all, reply_of, time_of};
 ghost use Rattle.oca_tree.specs.Execution.{execution};
 ghost use Rattle.oca_device.specs.Answers.{packets, verdict};
 
@@ -17,7 +17,7 @@ use crate::verdict::Verdict;
 use oca_pdu::{Form, Message, Messages, check};
 use oca_session::{Heard, Judged, Sessions};
 use oca_tree::Tree;
-use oca_types::{Command, NoMemory, Params, Peer, Reply};
+use oca_types::{Command, NoMemory, Params, Peer, Reply, Status};
 use std::alloc::Global;
 use std::marker::Model;
 
@@ -82,14 +82,19 @@ impl Device {
 
     /// The objects.
     pub fn tree(&self) -> &Tree
-        ensures { result.now ≡ self.now.tree }
+        ensures tree { result.now ≡ self.now.tree }
+        ensures represented { (w : ℕ) (T : List Object) (E : List Event) → Represents w self.now T E →
+            result.now ≡ (state_after w T E).tree }
     {
         &self.tree
     }
 
-    /// The number of sessions.
+    /// The number of sessions: of the peers that are known at the present moment.
+    #[tactic(auto, using(crate::proofs::Steps::known_counted))]
     pub fn sessions(&self) -> usize
-        ensures { result ≡ length self.now.sessions.sessions }
+        ensures sessions { result ≡ length self.now.sessions.sessions }
+        ensures represented { (w : ℕ) (T : List Object) (E : List Event) → Represents w self.now T E →
+            result ≡ length (known_after (state_after w T E)) }
     {
         self.sessions.len()
     }
@@ -255,13 +260,15 @@ fn execute(tree: &mut Tree, peer: Peer, command: &Command) -> Reply
     ensures tree { tree.new ≡ (execution tree.old peer (fields_of command.now)).tree }
     ensures reply { result ≡ reply_of tree.old peer (fields_of command.now) }
 {
-    let mut params = Params::new();
-    let done = tree.execute(peer, command, &mut params);
-    Reply {
-        status: done.status,
-        count: done.count,
-        params,
-    }
+    let mut reply = Reply {
+        status: Status::Ok,
+        count: 0,
+        params: Params::new(),
+    };
+    let done = tree.execute(peer, command, &mut reply.params);
+    reply.status = done.status;
+    reply.count = done.count;
+    reply
 }
 
 /// The time of a keep-alive, in milliseconds.

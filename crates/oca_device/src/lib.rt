@@ -1,4 +1,9 @@
-//! The core of a device: what it answers to datagrams, and the loop that serves an end.
+//! The core of an OCA device: what it answers to datagrams and clock readings, and the loop that serves an end of a link.
+//!
+//! Begin with [`Device`]. It opens no socket and reads no clock: the caller hands it each datagram with its sender and its
+//! moment, and finds the answers in an [`Outbox`]. [`serve`] does so for any end. What a device is after a list of events is
+//! a function of its opening tree and of these, and [`law_of_executions`] says what follows for every list. All memory is
+//! taken in `Device::new` and `Outbox::new`.
 #![tactic(auto)]
 
 mod counts;

@@ -56,6 +56,12 @@ fn put(packet: &mut Packet, bytes: &[u8]) {
     let _ = packet.try_extend_from_slice(bytes);
 }
 
+fn pack(bytes: &[u8]) -> Packet {
+    let mut packet = Packet::new();
+    put(&mut packet, bytes);
+    packet
+}
+
 /// A PDU of a command of this type: handle, target, DefLevel and MethodIndex, and one parameter at most.
 fn command(kind: u8, handle: u32, target: u32, method: (u8, u8), params: &[u8]) -> Packet {
     let len = params.len().min(64) as u8;
@@ -153,28 +159,33 @@ impl Bench {
     }
 
     /// Takes a datagram, and compares the verdict and the reply, if one is wanted.
-    fn takes(
-        &mut self,
-        rt: &impl Abort,
-        port: u16,
-        now: u64,
-        bytes: &[u8],
-        verdict: Verdict,
-        reply: Option<&[u8]>,
-    ) {
+    fn takes(&mut self, rt: &impl Abort, port: u16, now: u64, bytes: Packet, verdict: Verdict, reply: Option<Packet>) {
         self.outbox.clear();
-        assert_eq!(rt;
-            self.device
-                .datagram(peer(port), bytes, now, &mut self.outbox),
-            verdict,
-            "at {now}"
-        );
-        assert_eq!(rt; self.outbox.len(), usize::from(reply.is_some()), "at {now}");
-        assert_eq!(rt;
-            self.outbox.get(0).map(|packet| packet.as_slice()),
-            reply,
-            "at {now}"
-        );
+        let outcome = self.device.datagram(peer(port), bytes.as_slice(), now, &mut self.outbox);
+        assert_eq!(rt; outcome, verdict, "at {now}");
+        match reply {
+            Some(reply) => {
+                assert_eq!(rt; self.outbox.len(), 1, "at {now}");
+                self.holds(rt, 0, &reply);
+            }
+            None => assert_eq!(rt; self.outbox.len(), 0, "at {now}"),
+        }
+    }
+
+    /// Takes a datagram of A, compares the verdict, and answers the number of replies.
+    fn answers(&mut self, rt: &impl Abort, bytes: &[u8], verdict: Verdict) -> usize {
+        self.outbox.clear();
+        let outcome = self.device.datagram(peer(A), bytes, 0, &mut self.outbox);
+        assert_eq!(rt; outcome, verdict);
+        self.outbox.len()
+    }
+
+    /// The packet of this number is the one that is wanted.
+    fn holds(&self, rt: &impl Abort, i: usize, want: &Packet) {
+        match self.outbox.get(i) {
+            Some(packet) => assert_eq!(rt; packet.as_slice(), want.as_slice(), "packet {i}"),
+            None => assert!(rt; false, "no packet {i}"),
+        }
     }
 }
 
@@ -182,25 +193,25 @@ impl Bench {
 fn answers_and_repeats(rt: HostRuntime) -> Result<(), Fail> {
     let mut bench = Bench::new(rt.alloc())?;
     assert!(rt; bench.outbox.is_empty());
-    bench.takes(&rt, A, 0, &GET, EXECUTED, Some(&MUTED));
-    bench.takes(&rt, A, 0, &GET, KEPT, Some(&MUTED));
-    bench.takes(&rt, A, 0, &MUTE, EXECUTED, Some(&MUTE_DONE));
+    bench.takes(&rt, A, 0, pack(&GET), EXECUTED, Some(pack(&MUTED)));
+    bench.takes(&rt, A, 0, pack(&GET), KEPT, Some(pack(&MUTED)));
+    bench.takes(&rt, A, 0, pack(&MUTE), EXECUTED, Some(pack(&MUTE_DONE)));
     bench.takes(
         &rt,
         A,
         0,
-        set_state(3, 2).as_slice(),
+        set_state(3, 2),
         EXECUTED,
-        Some(done(3).as_slice()),
+        Some(done(3)),
     );
-    bench.takes(&rt, A, 0, &MUTE, KEPT, Some(&MUTE_DONE));
+    bench.takes(&rt, A, 0, pack(&MUTE), KEPT, Some(pack(&MUTE_DONE)));
     bench.takes(
         &rt,
         A,
         0,
-        get_state(4).as_slice(),
+        get_state(4),
         EXECUTED,
-        Some(state(4, 2).as_slice()),
+        Some(state(4, 2)),
     );
     assert_eq!(rt; bench.device.sessions(), 1);
     assert_eq!(rt; bench.device.tree().len(), 8);
@@ -220,18 +231,18 @@ fn refuses_out_of_range(rt: HostRuntime) -> Result<(), Fail> {
             &rt,
             A,
             0,
-            set.as_slice(),
+            set,
             EXECUTED,
-            Some(response(handle, status, 0, &[]).as_slice()),
+            Some(response(handle, status, 0, &[])),
         );
     }
     bench.takes(
         &rt,
         A,
         0,
-        command(1, 9, 4100, (5, 1), &[]).as_slice(),
+        command(1, 9, 4100, (5, 1), &[]),
         EXECUTED,
-        Some(&SETTING),
+        Some(pack(&SETTING)),
     );
     Ok(())
 }
@@ -244,21 +255,21 @@ fn keeps_the_last_replies(rt: HostRuntime) -> Result<(), Fail> {
             &rt,
             A,
             0,
-            get_state(handle).as_slice(),
+            get_state(handle),
             EXECUTED,
-            Some(state(handle, 1).as_slice()),
+            Some(state(handle, 1)),
         );
     }
-    bench.takes(&rt, A, 0, get_state(1).as_slice(), OLD, None);
+    bench.takes(&rt, A, 0, get_state(1), OLD, None);
     bench.takes(
         &rt,
         A,
         0,
-        get_state(2).as_slice(),
+        get_state(2),
         KEPT,
-        Some(state(2, 1).as_slice()),
+        Some(state(2, 1)),
     );
-    bench.takes(&rt, A, 0, get_state(0).as_slice(), OLD, None);
+    bench.takes(&rt, A, 0, get_state(0), OLD, None);
 
     let mut bench = Bench::new(rt.alloc())?;
     for handle in 6..39u32 {
@@ -266,19 +277,19 @@ fn keeps_the_last_replies(rt: HostRuntime) -> Result<(), Fail> {
             &rt,
             A,
             0,
-            get_state(handle).as_slice(),
+            get_state(handle),
             EXECUTED,
-            Some(state(handle, 1).as_slice()),
+            Some(state(handle, 1)),
         );
     }
-    bench.takes(&rt, A, 0, set_state(5, 2).as_slice(), OLD, None);
+    bench.takes(&rt, A, 0, set_state(5, 2), OLD, None);
     bench.takes(
         &rt,
         A,
         0,
-        get_state(39).as_slice(),
+        get_state(39),
         EXECUTED,
-        Some(state(39, 1).as_slice()),
+        Some(state(39, 1)),
     );
     Ok(())
 }
@@ -291,18 +302,18 @@ fn executes_in_order_of_arrival(rt: HostRuntime) -> Result<(), Fail> {
             &rt,
             A,
             0,
-            set_state(handle, to).as_slice(),
+            set_state(handle, to),
             EXECUTED,
-            Some(done(handle).as_slice()),
+            Some(done(handle)),
         );
     }
     bench.takes(
         &rt,
         A,
         0,
-        get_state(5).as_slice(),
+        get_state(5),
         EXECUTED,
-        Some(state(5, 1).as_slice()),
+        Some(state(5, 1)),
     );
     Ok(())
 }
@@ -318,20 +329,9 @@ fn takes_full_datagrams(rt: HostRuntime) -> Result<(), Fail> {
         put(&mut commands, &[0, 0, 0x10, 1, 0, 4, 0, 1, 0]);
     }
     assert_eq!(rt; commands.len(), 1472);
-    assert_eq!(rt;
-        bench
-            .device
-            .datagram(peer(A), commands.as_slice(), 0, &mut bench.outbox),
-        served(86, 0, 0)
-    );
-    assert_eq!(rt; bench.outbox.len(), 86);
+    assert_eq!(rt; bench.answers(&rt, commands.as_slice(), served(86, 0, 0)), 86);
     for i in 0..86usize {
-        let want = state(i as u32 + 1, 1);
-        assert_eq!(rt;
-            bench.outbox.get(i).map(|packet| packet.as_slice()),
-            Some(want.as_slice()),
-            "packet {i}"
-        );
+        bench.holds(&rt, i, &state(i as u32 + 1, 1));
     }
     let mut longer = commands.as_slice().to_vec(rt.alloc())?;
     longer.push(0)?;
@@ -339,7 +339,7 @@ fn takes_full_datagrams(rt: HostRuntime) -> Result<(), Fail> {
         kind: PduFaultKind::TooLong,
         at: 1472,
     });
-    bench.takes(&rt, A, 0, &longer, too_long, None);
+    assert_eq!(rt; bench.answers(&rt, &longer, too_long), 0);
 
     let mut responses = Packet::new();
     put(&mut responses, &[0x3b, 0, 1, 0, 0, 5, 0xbd, 3, 0, 146]);
@@ -347,20 +347,13 @@ fn takes_full_datagrams(rt: HostRuntime) -> Result<(), Fail> {
         put(&mut responses, &[0, 0, 0, 10, 0, 0, 0, 1, 0, 0]);
     }
     assert_eq!(rt; responses.len(), 1470);
-    bench.takes(&rt, A, 0, responses.as_slice(), NOTHING, None);
+    bench.takes(&rt, A, 0, responses, NOTHING, None);
 
     let mut keep_alives = Packet::new();
     for _ in 0..122 {
         put(&mut keep_alives, &ONE_SECOND);
     }
-    bench.outbox.clear();
-    assert_eq!(rt;
-        bench
-            .device
-            .datagram(peer(A), keep_alives.as_slice(), 0, &mut bench.outbox),
-        NOTHING
-    );
-    assert_eq!(rt; bench.outbox.len(), 122);
+    assert_eq!(rt; bench.answers(&rt, keep_alives.as_slice(), NOTHING), 122);
     Ok(())
 }
 
@@ -374,47 +367,47 @@ fn ignores_malformed_datagrams(rt: HostRuntime) -> Result<(), Fail> {
         kind: PduFaultKind::Truncated,
         at: 30,
     });
-    bench.takes(&rt, A, 0, cut.as_slice(), truncated, None);
+    bench.takes(&rt, A, 0, cut, truncated, None);
     assert_eq!(rt; bench.device.sessions(), 0);
-    bench.takes(&rt, A, 0, &GET, EXECUTED, Some(&MUTED));
+    bench.takes(&rt, A, 0, pack(&GET), EXECUTED, Some(pack(&MUTED)));
     let empty = Verdict::Malformed(PduFault {
         kind: PduFaultKind::Empty,
         at: 0,
     });
-    bench.takes(&rt, A, 500, &[], empty, None);
-    bench.takes(&rt, A, 100, &GET, KEPT, Some(&MUTED));
+    bench.takes(&rt, A, 500, Packet::new(), empty, None);
+    bench.takes(&rt, A, 100, pack(&GET), KEPT, Some(pack(&MUTED)));
     Ok(())
 }
 
 #[test]
 fn returns_keep_alives(rt: HostRuntime) -> Result<(), Fail> {
     let mut bench = Bench::new(rt.alloc())?;
-    bench.takes(&rt, A, 0, &ONE_SECOND, NOTHING, Some(&ONE_SECOND));
-    bench.takes(&rt, A, 0, &MILLIS, NOTHING, Some(&MILLIS));
-    bench.takes(&rt, A, 0, &NO_SECONDS, NOTHING, Some(&NO_SECONDS));
+    bench.takes(&rt, A, 0, pack(&ONE_SECOND), NOTHING, Some(pack(&ONE_SECOND)));
+    bench.takes(&rt, A, 0, pack(&MILLIS), NOTHING, Some(pack(&MILLIS)));
+    bench.takes(&rt, A, 0, pack(&NO_SECONDS), NOTHING, Some(pack(&NO_SECONDS)));
     bench.takes(
         &rt,
         A,
         0,
-        command(1, 1, 4097, (1, 3), &[]).as_slice(),
+        command(1, 1, 4097, (1, 3), &[]),
         EXECUTED,
-        Some(done(1).as_slice()),
+        Some(done(1)),
     );
     bench.takes(
         &rt,
         B,
         750,
-        set_state(1, 2).as_slice(),
+        set_state(1, 2),
         EXECUTED,
-        Some(response(1, 3, 0, &[]).as_slice()),
+        Some(response(1, 3, 0, &[])),
     );
     bench.takes(
         &rt,
         B,
         751,
-        set_state(2, 2).as_slice(),
+        set_state(2, 2),
         EXECUTED,
-        Some(done(2).as_slice()),
+        Some(done(2)),
     );
     Ok(())
 }
@@ -422,48 +415,47 @@ fn returns_keep_alives(rt: HostRuntime) -> Result<(), Fail> {
 #[test]
 fn releases_locks_and_keeps_replies(rt: HostRuntime) -> Result<(), Fail> {
     let mut bench = Bench::new(rt.alloc())?;
-    let lock = command(1, 1, 4097, (1, 3), &[]);
-    bench.takes(&rt, A, 0, &ONE_SECOND, NOTHING, Some(&ONE_SECOND));
+    bench.takes(&rt, A, 0, pack(&ONE_SECOND), NOTHING, Some(pack(&ONE_SECOND)));
     bench.takes(
         &rt,
         A,
         0,
-        lock.as_slice(),
+        command(1, 1, 4097, (1, 3), &[]),
         EXECUTED,
-        Some(done(1).as_slice()),
+        Some(done(1)),
     );
     bench.takes(
         &rt,
         B,
         3000,
-        command(1, 1, 4097, (1, 5), &[]).as_slice(),
+        command(1, 1, 4097, (1, 5), &[]),
         EXECUTED,
-        Some(response(1, 3, 0, &[]).as_slice()),
+        Some(response(1, 3, 0, &[])),
     );
     let role = response(2, 0, 1, &[0, 4, b'm', b'u', b't', b'e']);
     bench.takes(
         &rt,
         B,
         3001,
-        command(1, 2, 4097, (1, 5), &[]).as_slice(),
+        command(1, 2, 4097, (1, 5), &[]),
         EXECUTED,
-        Some(role.as_slice()),
+        Some(role),
     );
     bench.takes(
         &rt,
         A,
         3002,
-        lock.as_slice(),
+        command(1, 1, 4097, (1, 3), &[]),
         KEPT,
-        Some(done(1).as_slice()),
+        Some(done(1)),
     );
     bench.takes(
         &rt,
         B,
         3003,
-        get_state(3).as_slice(),
+        get_state(3),
         EXECUTED,
-        Some(state(3, 1).as_slice()),
+        Some(state(3, 1)),
     );
     Ok(())
 }
@@ -475,17 +467,17 @@ fn forgets_silent_sessions(rt: HostRuntime) -> Result<(), Fail> {
         &rt,
         A,
         0,
-        set_state(1, 2).as_slice(),
+        set_state(1, 2),
         EXECUTED,
-        Some(done(1).as_slice()),
+        Some(done(1)),
     );
     bench.takes(
         &rt,
         A,
         120_000,
-        set_state(1, 2).as_slice(),
+        set_state(1, 2),
         KEPT,
-        Some(done(1).as_slice()),
+        Some(done(1)),
     );
     bench.device.tick(240_000);
     assert_eq!(rt; bench.device.sessions(), 1);
@@ -495,9 +487,9 @@ fn forgets_silent_sessions(rt: HostRuntime) -> Result<(), Fail> {
         &rt,
         A,
         240_001,
-        set_state(1, 2).as_slice(),
+        set_state(1, 2),
         EXECUTED,
-        Some(done(1).as_slice()),
+        Some(done(1)),
     );
     Ok(())
 }
@@ -506,40 +498,39 @@ fn forgets_silent_sessions(rt: HostRuntime) -> Result<(), Fail> {
 fn has_room_for_16_sessions(rt: HostRuntime) -> Result<(), Fail> {
     let mut bench = Bench::new(rt.alloc())?;
     for port in 9001..9017u16 {
-        bench.takes(&rt, port, 0, &GET, EXECUTED, Some(&MUTED));
+        bench.takes(&rt, port, 0, pack(&GET), EXECUTED, Some(pack(&MUTED)));
     }
-    bench.takes(&rt, 9017, 1, &GET, Verdict::NoRoom, None);
+    bench.takes(&rt, 9017, 1, pack(&GET), Verdict::NoRoom, None);
     for port in 9002..9017u16 {
-        bench.takes(&rt, port, 60_000, &GET, KEPT, Some(&MUTED));
+        bench.takes(&rt, port, 60_000, pack(&GET), KEPT, Some(pack(&MUTED)));
     }
     assert_eq!(rt; bench.device.sessions(), 16);
-    bench.takes(&rt, 9017, 120_001, &GET, EXECUTED, Some(&MUTED));
+    bench.takes(&rt, 9017, 120_001, pack(&GET), EXECUTED, Some(pack(&MUTED)));
     assert_eq!(rt; bench.device.sessions(), 16);
-    bench.takes(&rt, A, 120_001, &GET, Verdict::NoRoom, None);
+    bench.takes(&rt, A, 120_001, pack(&GET), Verdict::NoRoom, None);
     Ok(())
 }
 
 #[test]
 fn retains_replies_that_were_not_sent(rt: HostRuntime) -> Result<(), Fail> {
     let mut bench = Bench::new(rt.alloc())?;
-    let quiet = command(0, 1, 4097, (4, 2), &[2]);
-    bench.takes(&rt, A, 0, quiet.as_slice(), EXECUTED, None);
-    bench.takes(&rt, A, 0, quiet.as_slice(), KEPT, None);
+    bench.takes(&rt, A, 0, command(0, 1, 4097, (4, 2), &[2]), EXECUTED, None);
+    bench.takes(&rt, A, 0, command(0, 1, 4097, (4, 2), &[2]), KEPT, None);
     bench.takes(
         &rt,
         A,
         0,
-        set_state(1, 2).as_slice(),
+        set_state(1, 2),
         KEPT,
-        Some(done(1).as_slice()),
+        Some(done(1)),
     );
     bench.takes(
         &rt,
         A,
         0,
-        get_state(2).as_slice(),
+        get_state(2),
         EXECUTED,
-        Some(state(2, 2).as_slice()),
+        Some(state(2, 2)),
     );
     Ok(())
 }

@@ -2,7 +2,7 @@ use Rattle.std.proofs.Common.{◌≡◌, ℕ, ◌+◌, ap, ◌∙◌, sym, refl,
 use Rattle.std.specs.Prelude.{IsTrue}
 use Rattle.oca_device.specs.declared.report.Report.{Report}
 use Rattle.oca_device.specs.Replies.{ServesDeliveries}
-use Rattle.oca_device.proofs.Turns.{no_deliveries, one_more_turn, none_within, more_within, failures_so_far}
+use Rattle.oca_device.proofs.Turns.{no_deliveries, one_more_turn, none_within, more_within, failures_so_far, stays, goes_further}
 use Rattle.oca_device.proofs.serving.serve.Goals as goal
 
 pub loop-turn-init : goal.loop-turn-init
@@ -14,6 +14,7 @@ loop-turn-init g c =
       telling = refl;
       served = λ _. subst (λ (r : Report). ServesDeliveries c.args.device.now c.args.device.now delivered delivered taken taken r) (sym c.nothing-report.ensures)
         (no_deliveries c.args.device.now delivered taken);
+      goes_on = stays c.args.device.now;
       turns = ap (λ (r : Report). r.turns) c.nothing-report.ensures;
       within = none_within c.nothing-report.result _ c.nothing-report.ensures;
       failures = λ _. sym (ap (λ (r : Report). g.E.End.failures c.args.end.now + (r.failed_receives + r.failed_sends)) c.nothing-report.ensures ∙ plus_nothing (g.E.End.failures c.args.end.now));
@@ -36,6 +37,7 @@ loop-turn-preserved g c =
       served = λ h. subst (λ (r : Report). ServesDeliveries c.args.device.now c.take_turn.new.device delivered delivered' taken taken' r) (sym c.sum-report.ensures)
         (one_more_turn c.args.device.now c.loop-turn.device c.take_turn.new.device delivered (g.E.End.delivered c.loop-turn.end) delivered' taken (g.E.End.taken c.loop-turn.end) taken'
           c.loop-turn.report c.in-Some.turn (inv.served h) (one.turn (inv.telling ∙ h)));
+      goes_on = goes_further c.args.device.now c.loop-turn.device c.take_turn.new.device inv.goes_on one.any_end;
       turns = ap (λ (r : Report). r.turns) c.sum-report.ensures ∙ ap (λ (n : ℕ). n + c.in-Some.turn.turns) inv.turns ∙ ap (λ (n : ℕ). c.loop-turn._turn + n) one.one;
       within = more_within _ 4294967295 _ c.loop-turn.report c.in-Some.turn c.sum-report.result c.sum-report.ensures inv.within one.fits (omega arith);
       failures = λ below.
@@ -43,3 +45,7 @@ loop-turn-preserved g c =
           c.loop-turn.report.failed_receives c.loop-turn.report.failed_sends c.in-Some.turn.failed_receives c.in-Some.turn.failed_sends inv.failures one.failed below
         ∙ sym (ap (λ (r : Report). g.E.End.failures c.args.end.now + (r.failed_receives + r.failed_sends)) c.sum-report.ensures);
     }
+
+pub returns-in-None-clause-any_end : goal.returns-in-None-clause-any_end
+returns-in-None-clause-any_end g c =
+    goes_further c.args.device.now c.loop-turn.device c.take_turn.new.device c.loop-turn.invariant.goes_on c.in-None.ensures.any_end

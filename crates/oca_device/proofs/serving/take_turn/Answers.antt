@@ -2,7 +2,8 @@ use Rattle.std.proofs.Common.{◌≡◌, ℕ, List, [], ◌∷◌, ◌++◌, ap,
 use Rattle.oca_net.specs.Deliveries.{Datagram, Sent}
 use Rattle.oca_device.specs.Replies.{TakesReplies, sent_to}
 use Rattle.oca_device.specs.declared.report.Report.{Report}
-use Rattle.oca_device.proofs.Turns.{quiet_turn, oversize_turn, failed_turn, datagram_turn, verdict_turns}
+use Rattle.oca_device.proofs.Turns.{quiet_turn, oversize_turn, failed_turn, datagram_turn, verdict_turns, stays, goes_on_by}
+use Rattle.oca_device.specs.Events as event
 use Rattle.oca_device.proofs.serving.take_turn.Goals as goal
 
 pub returns-in-Quiet-clause-turn : goal.returns-in-Quiet-clause-turn
@@ -37,3 +38,18 @@ returns-in-Datagram-clause-turn g c = λ tells.
     datagram_turn c.args.device.now c.datagram-verdict.new.self heard _ _ _ _ p bytes now c.datagram-verdict.result c.datagram-verdict.new.outbox c.of_verdict.result
       c.as_slice.ensures.fits (c.send_all-failed_sends.ensures.delivered still ∙ heard') refl c.of_verdict.ensures (verdict_turns c.datagram-verdict.result c.of_verdict.result c.of_verdict.ensures)
       c.datagram-verdict.ensures.represents c.datagram-verdict.ensures.packets c.datagram-verdict.ensures.verdict took
+
+pub returns-in-Datagram-clause-any_end : goal.returns-in-Datagram-clause-any_end
+returns-in-Datagram-clause-any_end g c = goes_on_by c.args.device.now c.datagram-verdict.new.self (event.Datagram c.in-Datagram.from c.as_slice.result.now c.in-Datagram.now) c.datagram-verdict.ensures.represents
+
+pub returns-in-Quiet-clause-any_end : goal.returns-in-Quiet-clause-any_end
+returns-in-Quiet-clause-any_end g c = goes_on_by c.args.device.now c.tick.new.self (event.Tick c.in-Quiet.now) c.tick.ensures
+
+pub returns-in-Oversize-clause-any_end : goal.returns-in-Oversize-clause-any_end
+returns-in-Oversize-clause-any_end g c = goes_on_by c.args.device.now c.tick-in-Oversize.new.self (event.Tick c.in-Oversize.now) c.tick-in-Oversize.ensures
+
+pub returns-in-Failed-clause-any_end : goal.returns-in-Failed-clause-any_end
+returns-in-Failed-clause-any_end g c = stays c.args.device.now
+
+pub returns-in-Closed-clause-any_end : goal.returns-in-Closed-clause-any_end
+returns-in-Closed-clause-any_end g c = stays c.args.device.now

@@ -1,21 +1,17 @@
 use Rattle.std.proofs.Common.{◌≡◌, Bool, true, false, cond, ℕ, List, length, arith, ap, ◌∙◌, sym, refl, subst}
 use Rattle.oca_pdu.specs.Messages.{Msg}
-use Rattle.oca_pdu.specs.Datagrams.{datagram_messages}
+use Rattle.oca_pdu.specs.Datagrams.{datagram_messages, messages_left}
 use Rattle.oca_device.specs.Notes.{Admitted}
 use Rattle.oca_device.specs.States.{State, noted}
 use Rattle.oca_device.specs.Devices.{IsIn}
-use Rattle.oca_device.specs.Serving.{most_answers, ServesAll}
-use Rattle.oca_device.proofs.Bounds.{answers_of_datagram}
+use Rattle.oca_device.specs.Serving.{ServesAll}
+use Rattle.oca_device.proofs.Bounds.{answers_counted}
 use Rattle.oca_device.proofs.Steps.{refused_whole, taken_whole, admitted_now}
 use Rattle.oca_device.proofs.device.Device.receive.Goals as goal
 
 pub serve_messages-counts-requires-clause-room : goal.serve_messages-counts-requires-clause-room
 serve_messages-counts-requires-clause-room c =
-    let found = c.in-Ok.ensures.found in
-    let few = answers_of_datagram found.0 c.args.bytes.now found.1 in
-    let messages = ap most_answers (c.messages.ensures.all ∙ found.2) in
-    let none = ap length c.requires.empty in
-    omega (arith, few, messages, none)
+    omega (arith, answers_counted (messages_left c.messages.result), c.messages.ensures.limits.no_responses, ap length c.requires.empty)
 
 pub returns-else-admit : goal.returns-else-admit
 returns-else-admit c = λ w s h.
