@@ -1,5 +1,5 @@
 -- A device that is in a state, seen as its parts.
-use Rattle.std.proofs.Common.{◌≡◌, ℕ, List, ap, ◌∙◌, sym, subst}
+use Rattle.std.proofs.Common.{◌≡◌, ℕ, List, sym, subst}
 use Rattle.oca_tree.specs.declared.object.Object.{Object}
 use Rattle.oca_session.specs.Table.{Table}
 use Rattle.oca_device.specs.States.{State}

@@ -1,7 +1,7 @@
 -- Lists of peers, and the session of a peer.
-use Rattle.std.proofs.Common.{◌≡◌, ℕ, Bool, true, false, cond, List, [], ◌∷◌, ◌++◌, refl, sym, ap, ◌∙◌, subst, arith}
-use Rattle.std.specs.Prelude.{map, filter, not, ◌&&◌, ◌||◌, nat_eq, Option, Some, None, IsSome, is_some, IsTrue}
-use Rattle.std.specs.List.{list_any, find}
+use Rattle.std.proofs.Common.{◌≡◌, ℕ, Bool, true, false, cond, List, [], ◌∷◌, refl, sym, ap, ◌∙◌, arith}
+use Rattle.std.specs.Prelude.{map, filter, ◌&&◌, ◌||◌, nat_eq, Some, None, IsSome, is_some}
+use Rattle.std.specs.List.{list_any}
 use Rattle.std.proofs.lemmas.Bool.Decides.{nat_tests}
 use Rattle.oca_types.specs.declared.words.Peer.{Peer}
 use Rattle.oca_types.specs.Peers.{same_peer}
@@ -48,10 +48,12 @@ in_filtered f p (q ∷ ps) = by_same (same_peer q p) refl (in_filtered f p ps)
         is_in p (cond b (q ∷ filter f ps) (filter f ps)) ≡ (b && true)
     here true s e h = ap (λ x. x || is_in p (filter f ps)) s
     here false s e h = h ∙ ap (λ x. x && is_in p ps) (sym e)
+
     there : (b : Bool) → same_peer q p ≡ false → is_in p (filter f ps) ≡ (f p && is_in p ps) →
         is_in p (cond b (q ∷ filter f ps) (filter f ps)) ≡ (f p && is_in p ps)
     there true s h = ap (λ x. x || is_in p (filter f ps)) s ∙ h
     there false s h = h
+
     by_same : (same : Bool) → same_peer q p ≡ same → is_in p (filter f ps) ≡ (f p && is_in p ps) →
         is_in p (cond (f q) (q ∷ filter f ps) (filter f ps)) ≡ (f p && (same_peer q p || is_in p ps))
     by_same true s h =

@@ -1,6 +1,6 @@
 -- Everything that is noted of the peers of a device. Nothing is ever taken away from the notes; a session is what the
 -- notes of its peer say (profile).
-use Rattle.std.specs.Prelude.{ℕ, ◌*◌, ◌-◌, ◌==◌, nat_le, nat_lt, max, min, Bool, true, false, not, if◌then◌else◌, List, [], ◌∷◌, ◌++◌, filter}
+use Rattle.std.specs.Prelude.{ℕ, ◌*◌, ◌-◌, nat_le, nat_lt, max, min, Bool, false, not, if◌then◌else◌, List, [], ◌∷◌, ◌++◌, filter}
 use Rattle.oca_types.specs.declared.words.Peer.{Peer}
 use Rattle.oca_types.specs.declared.words.Reply.{Reply}
 use Rattle.oca_types.specs.Peers.{same_peer, CommandFields}

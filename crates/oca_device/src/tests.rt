@@ -159,9 +159,19 @@ impl Bench {
     }
 
     /// Takes a datagram, and compares the verdict and the reply, if one is wanted.
-    fn takes(&mut self, rt: &impl Abort, port: u16, now: u64, bytes: Packet, verdict: Verdict, reply: Option<Packet>) {
+    fn takes(
+        &mut self,
+        rt: &impl Abort,
+        port: u16,
+        now: u64,
+        bytes: Packet,
+        verdict: Verdict,
+        reply: Option<Packet>,
+    ) {
         self.outbox.clear();
-        let outcome = self.device.datagram(peer(port), bytes.as_slice(), now, &mut self.outbox);
+        let outcome = self
+            .device
+            .datagram(peer(port), bytes.as_slice(), now, &mut self.outbox);
         assert_eq!(rt; outcome, verdict, "at {now}");
         match reply {
             Some(reply) => {
@@ -196,23 +206,9 @@ fn answers_and_repeats(rt: HostRuntime) -> Result<(), Fail> {
     bench.takes(&rt, A, 0, pack(&GET), EXECUTED, Some(pack(&MUTED)));
     bench.takes(&rt, A, 0, pack(&GET), KEPT, Some(pack(&MUTED)));
     bench.takes(&rt, A, 0, pack(&MUTE), EXECUTED, Some(pack(&MUTE_DONE)));
-    bench.takes(
-        &rt,
-        A,
-        0,
-        set_state(3, 2),
-        EXECUTED,
-        Some(done(3)),
-    );
+    bench.takes(&rt, A, 0, set_state(3, 2), EXECUTED, Some(done(3)));
     bench.takes(&rt, A, 0, pack(&MUTE), KEPT, Some(pack(&MUTE_DONE)));
-    bench.takes(
-        &rt,
-        A,
-        0,
-        get_state(4),
-        EXECUTED,
-        Some(state(4, 2)),
-    );
+    bench.takes(&rt, A, 0, get_state(4), EXECUTED, Some(state(4, 2)));
     assert_eq!(rt; bench.device.sessions(), 1);
     assert_eq!(rt; bench.device.tree().len(), 8);
     Ok(())
@@ -261,14 +257,7 @@ fn keeps_the_last_replies(rt: HostRuntime) -> Result<(), Fail> {
         );
     }
     bench.takes(&rt, A, 0, get_state(1), OLD, None);
-    bench.takes(
-        &rt,
-        A,
-        0,
-        get_state(2),
-        KEPT,
-        Some(state(2, 1)),
-    );
+    bench.takes(&rt, A, 0, get_state(2), KEPT, Some(state(2, 1)));
     bench.takes(&rt, A, 0, get_state(0), OLD, None);
 
     let mut bench = Bench::new(rt.alloc())?;
@@ -283,14 +272,7 @@ fn keeps_the_last_replies(rt: HostRuntime) -> Result<(), Fail> {
         );
     }
     bench.takes(&rt, A, 0, set_state(5, 2), OLD, None);
-    bench.takes(
-        &rt,
-        A,
-        0,
-        get_state(39),
-        EXECUTED,
-        Some(state(39, 1)),
-    );
+    bench.takes(&rt, A, 0, get_state(39), EXECUTED, Some(state(39, 1)));
     Ok(())
 }
 
@@ -307,14 +289,7 @@ fn executes_in_order_of_arrival(rt: HostRuntime) -> Result<(), Fail> {
             Some(done(handle)),
         );
     }
-    bench.takes(
-        &rt,
-        A,
-        0,
-        get_state(5),
-        EXECUTED,
-        Some(state(5, 1)),
-    );
+    bench.takes(&rt, A, 0, get_state(5), EXECUTED, Some(state(5, 1)));
     Ok(())
 }
 
@@ -329,7 +304,10 @@ fn takes_full_datagrams(rt: HostRuntime) -> Result<(), Fail> {
         put(&mut commands, &[0, 0, 0x10, 1, 0, 4, 0, 1, 0]);
     }
     assert_eq!(rt; commands.len(), 1472);
-    assert_eq!(rt; bench.answers(&rt, commands.as_slice(), served(86, 0, 0)), 86);
+    assert_eq!(rt;
+        bench.answers(&rt, commands.as_slice(), served(86, 0, 0)),
+        86
+    );
     for i in 0..86usize {
         bench.holds(&rt, i, &state(i as u32 + 1, 1));
     }
@@ -382,9 +360,23 @@ fn ignores_malformed_datagrams(rt: HostRuntime) -> Result<(), Fail> {
 #[test]
 fn returns_keep_alives(rt: HostRuntime) -> Result<(), Fail> {
     let mut bench = Bench::new(rt.alloc())?;
-    bench.takes(&rt, A, 0, pack(&ONE_SECOND), NOTHING, Some(pack(&ONE_SECOND)));
+    bench.takes(
+        &rt,
+        A,
+        0,
+        pack(&ONE_SECOND),
+        NOTHING,
+        Some(pack(&ONE_SECOND)),
+    );
     bench.takes(&rt, A, 0, pack(&MILLIS), NOTHING, Some(pack(&MILLIS)));
-    bench.takes(&rt, A, 0, pack(&NO_SECONDS), NOTHING, Some(pack(&NO_SECONDS)));
+    bench.takes(
+        &rt,
+        A,
+        0,
+        pack(&NO_SECONDS),
+        NOTHING,
+        Some(pack(&NO_SECONDS)),
+    );
     bench.takes(
         &rt,
         A,
@@ -401,21 +393,21 @@ fn returns_keep_alives(rt: HostRuntime) -> Result<(), Fail> {
         EXECUTED,
         Some(response(1, 3, 0, &[])),
     );
-    bench.takes(
-        &rt,
-        B,
-        751,
-        set_state(2, 2),
-        EXECUTED,
-        Some(done(2)),
-    );
+    bench.takes(&rt, B, 751, set_state(2, 2), EXECUTED, Some(done(2)));
     Ok(())
 }
 
 #[test]
 fn releases_locks_and_keeps_replies(rt: HostRuntime) -> Result<(), Fail> {
     let mut bench = Bench::new(rt.alloc())?;
-    bench.takes(&rt, A, 0, pack(&ONE_SECOND), NOTHING, Some(pack(&ONE_SECOND)));
+    bench.takes(
+        &rt,
+        A,
+        0,
+        pack(&ONE_SECOND),
+        NOTHING,
+        Some(pack(&ONE_SECOND)),
+    );
     bench.takes(
         &rt,
         A,
@@ -449,48 +441,20 @@ fn releases_locks_and_keeps_replies(rt: HostRuntime) -> Result<(), Fail> {
         KEPT,
         Some(done(1)),
     );
-    bench.takes(
-        &rt,
-        B,
-        3003,
-        get_state(3),
-        EXECUTED,
-        Some(state(3, 1)),
-    );
+    bench.takes(&rt, B, 3003, get_state(3), EXECUTED, Some(state(3, 1)));
     Ok(())
 }
 
 #[test]
 fn forgets_silent_sessions(rt: HostRuntime) -> Result<(), Fail> {
     let mut bench = Bench::new(rt.alloc())?;
-    bench.takes(
-        &rt,
-        A,
-        0,
-        set_state(1, 2),
-        EXECUTED,
-        Some(done(1)),
-    );
-    bench.takes(
-        &rt,
-        A,
-        120_000,
-        set_state(1, 2),
-        KEPT,
-        Some(done(1)),
-    );
+    bench.takes(&rt, A, 0, set_state(1, 2), EXECUTED, Some(done(1)));
+    bench.takes(&rt, A, 120_000, set_state(1, 2), KEPT, Some(done(1)));
     bench.device.tick(240_000);
     assert_eq!(rt; bench.device.sessions(), 1);
     bench.device.tick(240_001);
     assert_eq!(rt; bench.device.sessions(), 0);
-    bench.takes(
-        &rt,
-        A,
-        240_001,
-        set_state(1, 2),
-        EXECUTED,
-        Some(done(1)),
-    );
+    bench.takes(&rt, A, 240_001, set_state(1, 2), EXECUTED, Some(done(1)));
     Ok(())
 }
 
@@ -516,22 +480,8 @@ fn retains_replies_that_were_not_sent(rt: HostRuntime) -> Result<(), Fail> {
     let mut bench = Bench::new(rt.alloc())?;
     bench.takes(&rt, A, 0, command(0, 1, 4097, (4, 2), &[2]), EXECUTED, None);
     bench.takes(&rt, A, 0, command(0, 1, 4097, (4, 2), &[2]), KEPT, None);
-    bench.takes(
-        &rt,
-        A,
-        0,
-        set_state(1, 2),
-        KEPT,
-        Some(done(1)),
-    );
-    bench.takes(
-        &rt,
-        A,
-        0,
-        get_state(2),
-        EXECUTED,
-        Some(state(2, 2)),
-    );
+    bench.takes(&rt, A, 0, set_state(1, 2), KEPT, Some(done(1)));
+    bench.takes(&rt, A, 0, get_state(2), EXECUTED, Some(state(2, 2)));
     Ok(())
 }
 

@@ -1,5 +1,4 @@
 use Rattle.std.proofs.Common.{◌≡◌, ℕ, ◌+◌, ap, ◌∙◌, sym, refl, subst, arith}
-use Rattle.std.specs.Prelude.{IsTrue}
 use Rattle.oca_device.specs.declared.report.Report.{Report}
 use Rattle.oca_device.specs.Replies.{ServesDeliveries}
 use Rattle.oca_device.proofs.Turns.{no_deliveries, one_more_turn, none_within, more_within, failures_so_far, stays, goes_further}
@@ -13,7 +12,7 @@ loop-turn-init g c =
       empty = c.clear.ensures;
       telling = refl;
       served = λ _. subst (λ (r : Report). ServesDeliveries c.args.device.now c.args.device.now delivered delivered taken taken r) (sym c.nothing-report.ensures)
-        (no_deliveries c.args.device.now delivered taken);
+          (no_deliveries c.args.device.now delivered taken);
       goes_on = stays c.args.device.now;
       turns = ap (λ (r : Report). r.turns) c.nothing-report.ensures;
       within = none_within c.nothing-report.result _ c.nothing-report.ensures;
@@ -35,15 +34,15 @@ loop-turn-preserved g c =
       empty = one.outbox;
       telling = one.telling ∙ inv.telling;
       served = λ h. subst (λ (r : Report). ServesDeliveries c.args.device.now c.take_turn.new.device delivered delivered' taken taken' r) (sym c.sum-report.ensures)
-        (one_more_turn c.args.device.now c.loop-turn.device c.take_turn.new.device delivered (g.E.End.delivered c.loop-turn.end) delivered' taken (g.E.End.taken c.loop-turn.end) taken'
+          (one_more_turn c.args.device.now c.loop-turn.device c.take_turn.new.device delivered (g.E.End.delivered c.loop-turn.end) delivered' taken (g.E.End.taken c.loop-turn.end) taken'
           c.loop-turn.report c.in-Some.turn (inv.served h) (one.turn (inv.telling ∙ h)));
       goes_on = goes_further c.args.device.now c.loop-turn.device c.take_turn.new.device inv.goes_on one.any_end;
       turns = ap (λ (r : Report). r.turns) c.sum-report.ensures ∙ ap (λ (n : ℕ). n + c.in-Some.turn.turns) inv.turns ∙ ap (λ (n : ℕ). c.loop-turn._turn + n) one.one;
       within = more_within _ 4294967295 _ c.loop-turn.report c.in-Some.turn c.sum-report.result c.sum-report.ensures inv.within one.fits (omega arith);
       failures = λ below.
-        failures_so_far (g.E.End.failures c.args.end.now) (g.E.End.failures c.loop-turn.end) (g.E.End.failures c.take_turn.new.end)
+          failures_so_far (g.E.End.failures c.args.end.now) (g.E.End.failures c.loop-turn.end) (g.E.End.failures c.take_turn.new.end)
           c.loop-turn.report.failed_receives c.loop-turn.report.failed_sends c.in-Some.turn.failed_receives c.in-Some.turn.failed_sends inv.failures one.failed below
-        ∙ sym (ap (λ (r : Report). g.E.End.failures c.args.end.now + (r.failed_receives + r.failed_sends)) c.sum-report.ensures);
+          ∙ sym (ap (λ (r : Report). g.E.End.failures c.args.end.now + (r.failed_receives + r.failed_sends)) c.sum-report.ensures);
     }
 
 pub returns-in-None-clause-any_end : goal.returns-in-None-clause-any_end

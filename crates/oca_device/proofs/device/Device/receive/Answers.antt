@@ -1,8 +1,8 @@
-use Rattle.std.proofs.Common.{◌≡◌, Bool, true, false, cond, ℕ, List, length, arith, ap, ◌∙◌, sym, refl, subst}
+use Rattle.std.proofs.Common.{Bool, cond, List, length, arith, ap, ◌∙◌, sym, subst}
 use Rattle.oca_pdu.specs.Messages.{Msg}
 use Rattle.oca_pdu.specs.Datagrams.{datagram_messages, messages_left}
 use Rattle.oca_device.specs.Notes.{Admitted}
-use Rattle.oca_device.specs.States.{State, noted}
+use Rattle.oca_device.specs.States.{noted}
 use Rattle.oca_device.specs.Devices.{IsIn}
 use Rattle.oca_device.specs.Serving.{ServesAll}
 use Rattle.oca_device.proofs.Bounds.{answers_counted}
@@ -28,6 +28,6 @@ returns-then-admit c = λ w s h.
     let inside = subst (λ (b : Bool). IsIn w c.admit.new.self (cond b (noted p (Admitted ms) s) s)) c.if-admit.true (c.admit.ensures.noted w s ms h) in
     let serves = c.serve_messages-counts.ensures w (noted p (Admitted ms) s) inside (admitted_now s p ms) in
     taken_whole w c.serve_messages-counts.new.self p c.args.bytes.now ms s c.args.outbox.now c.serve_messages-counts.new.outbox c.serve_messages-counts.result
-      c.in-Ok.ensures.reads let_in c.requires.empty
-      (subst (λ (xs : List Msg). ServesAll w c.serve_messages-counts.new.self p xs (noted p (Admitted ms) s) c.args.outbox.now c.serve_messages-counts.new.outbox c.serve_messages-counts.result)
-        c.messages.ensures.all serves)
+    c.in-Ok.ensures.reads let_in c.requires.empty
+    (subst (λ (xs : List Msg). ServesAll w c.serve_messages-counts.new.self p xs (noted p (Admitted ms) s) c.args.outbox.now c.serve_messages-counts.new.outbox c.serve_messages-counts.result)
+    c.messages.ensures.all serves)

@@ -2,7 +2,7 @@ use Rattle.std.proofs.Common.{ℕ, ap, ◌∙◌, sym, refl, subst}
 use Rattle.std.specs.Prelude.{IsSome}
 use Rattle.oca_session.specs.Table.{session_of, with_sessions, changed, with_heartbeat}
 use Rattle.oca_device.specs.Devices.{DeviceState}
-use Rattle.oca_device.specs.States.{State, noted, time_of}
+use Rattle.oca_device.specs.States.{time_of}
 use Rattle.oca_device.proofs.Opened.{parts_in}
 use Rattle.oca_device.proofs.Peers.{still_has_session}
 use Rattle.oca_device.proofs.Steps.{heartbeat_there, known_there}
