@@ -5,7 +5,7 @@ use super::field::{first_field, hex_bytes, moment, number, peer};
 use super::language::Language;
 use super::printing::{Pending, print};
 use super::replay::replay;
-use super::text::{TextLine, put, put_hex, put_number};
+use super::text::{put, put_hex, put_number};
 use super::{LineFault, ReplayFault, Stop, WriteFailed};
 use oca_types::Peer;
 use std::io::Write;
@@ -252,7 +252,7 @@ fn fields_of_a_line(rt: HostRuntime) {
 
 #[test]
 fn printed_lines(rt: HostRuntime) {
-    let mut line = TextLine::new();
+    let mut line = Pending::new();
     put(&mut line, b"> ");
     put_hex(&mut line, b"\x3b\xfA");
     assert!(rt; line.len() < 64);

@@ -44,3 +44,21 @@ packets-less r e g u a b c p q s t f xs i x found is h k =
       ∙ ap (λ (l : List ℕ). l ++ flat_map f (drop (i + 1) xs)) (flat_map-more f xs i x found) in
     rw all (prints-less r e g a c p s t (flat_map f (take i xs) ++ f x) (flat_map f (drop (i + 1) xs)) is
       (prints-then (Err g) u a b c p q s (flat_map f (take i xs)) (f x) h k))
+
+-- room was made, and then a text is held
+pub printed-held : (u : Unit {0}) (a b : Option (List ℕ)) (p q s text : List ℕ) → s ≡ q ++ text → Prints (Ok u) a p b q [] → Prints (Ok tt) a p b s text
+printed-held u a b p q s text held h = record {
+  sent = h.sent;
+  appends = h.appends;
+  whole = ap (λ (l : List ℕ). l ++ text) (sym (append-nil p) ∙ h.whole) ∙ append_assoc h.sent q text ∙ ap (λ (l : List ℕ). h.sent ++ l) (sym held);
+}
+
+-- no room was made, and the text is lost too
+pub printed-lost : (r : Result Unit WriteFailed) (e f : WriteFailed) (a b : Option (List ℕ)) (p q s text : List ℕ) → r ≡ Err e → Prints (Err f) a p b q [] → Prints r a p b s text
+printed-lost r e f a b p q s text is h =
+    subst (λ (z : Result Unit WriteFailed). Prints z a p b s text) (sym is)
+    (h.0 ++ text, record {
+      sent = h.1.sent;
+      appends = h.1.appends;
+      whole = ap (λ (l : List ℕ). l ++ text) (sym (append-nil p) ∙ h.1.whole) ∙ append_assoc h.1.sent h.0 text;
+    })

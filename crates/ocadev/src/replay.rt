@@ -6,13 +6,13 @@ ghost use Rattle.oca_tree.specs.declared.object.Object.{Object};
 ghost use Rattle.oca_device.specs.Devices.{Represents};
 ghost use Rattle.oca_device.specs.Events.{Event, Datagram as DatagramEvent, Tick as TickEvent};
 ghost use Rattle.ocadev.specs.Requests.{asked_event, event_of};
-ghost use Rattle.ocadev.specs.Printing.{packet_text};
+ghost use Rattle.ocadev.specs.Printing.{packet_text, verdict_text};
 ghost use Rattle.ocadev.specs.Replaying.{Serves, ServesAndPrints, Outcome, Replays};
 
-use super::answer::{packet_line, verdict_line};
+use super::answer::{PACKET_ROOM, VERDICT_ROOM, put_packet, put_verdict};
 use super::request::{MOST_BYTES, Request, asked_by};
-use oca_device::{Device, Outbox};
-use oca_script::printing::print;
+use oca_device::{Device, Outbox, Verdict};
+use oca_script::printing::{make_room, print};
 use oca_script::{Language, Pending, ReplayFault, Stop, WriteFailed};
 use oca_types::Peer;
 use std::io::{Read, Write};
@@ -83,8 +83,29 @@ fn datagram<W: Write>(
 {
     outbox.clear();
     let verdict = device.datagram(from, bytes, now, outbox);
-    print(pending, writer, verdict_line(verdict).as_slice())?;
+    print_verdict(verdict, pending, writer)?;
     print_packets(outbox, pending, writer)
+}
+
+/// Prints what became of a datagram.
+fn print_verdict<W: Write>(verdict: Verdict, pending: &mut Pending, writer: &mut W) -> Result<(), WriteFailed>
+    ensures { Prints result (W.contents writer.old) pending.old.items (W.contents writer.new) pending.new.items
+        (verdict_text verdict) }
+{
+    make_room(pending, writer, VERDICT_ROOM)?;
+    put_verdict(pending, verdict);
+    Ok(())
+}
+
+/// Prints a packet.
+fn print_packet<W: Write>(packet: &[u8], pending: &mut Pending, writer: &mut W) -> Result<(), WriteFailed>
+    requires { length packet.now ≤ 1472 }
+    ensures { Prints result (W.contents writer.old) pending.old.items (W.contents writer.new) pending.new.items
+        (packet_text packet.now) }
+{
+    make_room(pending, writer, PACKET_ROOM)?;
+    put_packet(pending, packet);
+    Ok(())
 }
 
 /// Prints each packet.
@@ -96,7 +117,7 @@ fn print_packets<W: Write>(outbox: &Outbox, pending: &mut Pending, writer: &mut 
         let Some(packet) = outbox.get(i) else {
             return Ok(());
         };
-        print(pending, writer, packet_line(packet.as_slice()).as_slice())?;
+        print_packet(packet.as_slice(), pending, writer)?;
     }
     Ok(())
 }
