@@ -47,8 +47,8 @@ pub record ServesDeliveries (old new : DeviceState) (delivered delivered' : List
   pub grew : delivered' ≡ delivered ++ deliveries
   pub turns : report.turns ≡ length deliveries
   pub represents : (w : ℕ) (tree : List Object) (events : List Event) → Represents w old tree events →
-    Represents w new tree (events_after_all deliveries events)
+      Represents w new tree (events_after_all deliveries events)
   pub replied : (w : ℕ) (tree : List Object) (events : List Event) → Represents w old tree events →
-    TakesReplies report.failed_sends taken taken' (replies w tree events deliveries)
+      TakesReplies report.failed_sends taken taken' (replies w tree events deliveries)
   pub reported : (w : ℕ) (tree : List Object) (events : List Event) → Represents w old tree events →
-    report ≡ record (report_of w tree events deliveries) { failed_sends = report.failed_sends }
+      report ≡ record (report_of w tree events deliveries) { failed_sends = report.failed_sends }

@@ -14,7 +14,16 @@ use Rattle.oca_device.specs.Answers.{verdict}
 abbrev pub no_turns : Report
 no_turns =
     record {
-      turns = 0; executed = 0; kept = 0; old = 0; malformed = 0; no_room = 0; oversize = 0; quiet = 0; failed_receives = 0; failed_sends = 0;
+      turns = 0;
+      executed = 0;
+      kept = 0;
+      old = 0;
+      malformed = 0;
+      no_room = 0;
+      oversize = 0;
+      quiet = 0;
+      failed_receives = 0;
+      failed_sends = 0;
     }
 
 -- first the one, then the other

@@ -65,7 +65,7 @@ reply_of tree p c =
 abbrev pub after_command : Judgement → Peer → CommandFields → State → State
 after_command Fresh p c s =
     noted p (Executed s.tree c (reply_of s.tree p c))
-      (record { tree = (execution s.tree p c).tree; moment = s.moment; notes = s.notes })
+    (record { tree = (execution s.tree p c).tree; moment = s.moment; notes = s.notes })
 after_command (Duplicate reply) p c s = s
 after_command Old p c s = s
 

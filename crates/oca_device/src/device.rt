@@ -61,18 +61,12 @@ impl Device {
     /// heartbeat and is returned. (AES70-3; sessions and windows are the profile's.)
     pub fn datagram(&mut self, from: Peer, bytes: &[u8], now: u64, outbox: &mut Outbox) -> Verdict
         requires { outbox.old ≡ [] }
-        ensures represents {
-            (w : ℕ) (T : List Object) (E : List Event) → Represents w self.old T E →
-            Represents w self.new T (DatagramEvent from bytes.now now ∷ E)
-        }
-        ensures packets {
-            (w : ℕ) (T : List Object) (E : List Event) → Represents w self.old T E →
-            outbox.new ≡ packets w T E (DatagramEvent from bytes.now now)
-        }
-        ensures verdict {
-            (w : ℕ) (T : List Object) (E : List Event) → Represents w self.old T E →
-            result ≡ verdict w T E from bytes.now now
-        }
+        ensures represents { (w : ℕ) (T : List Object) (E : List Event) → Represents w self.old T E →
+            Represents w self.new T (DatagramEvent from bytes.now now ∷ E) }
+        ensures packets { (w : ℕ) (T : List Object) (E : List Event) → Represents w self.old T E →
+            outbox.new ≡ packets w T E (DatagramEvent from bytes.now now) }
+        ensures verdict { (w : ℕ) (T : List Object) (E : List Event) → Represents w self.old T E →
+            result ≡ verdict w T E from bytes.now now }
     {
         self.move_clock(now);
         self.receive(from, bytes, now, outbox)
@@ -81,9 +75,7 @@ impl Device {
     /// Takes a clock reading: locks of peers that are silent for more than three heartbeats are released, and sessions that
     /// are silent for more than 120,000 ms forgotten.
     pub fn tick(&mut self, now: u64)
-        ensures {
-            (w : ℕ) (T : List Object) (E : List Event) → Represents w self.old T E → Represents w self.new T (Tick now ∷ E)
-        }
+        ensures { (w : ℕ) (T : List Object) (E : List Event) → Represents w self.old T E → Represents w self.new T (Tick now ∷ E) }
     {
         self.move_clock(now);
     }
@@ -138,10 +130,8 @@ impl Device {
     fn admit(&mut self, from: Peer, now: u64) -> bool
         requires { now ≤ self.old.sessions.moment }
         ensures admits { (w : ℕ) (s : State) → IsIn w self.old s → result ≡ admits s from }
-        ensures noted {
-            (w : ℕ) (s : State) (messages : List Msg) → IsIn w self.old s →
-            IsIn w self.new (if result then noted from (Admitted messages) s else s)
-        }
+        ensures noted { (w : ℕ) (s : State) (messages : List Msg) → IsIn w self.old s →
+            IsIn w self.new (if result then noted from (Admitted messages) s else s) }
         ensures known { IsTrue result → IsSome (session_of from self.new.sessions.sessions) }
     {
         match self.sessions.hear(from, now) {
@@ -155,10 +145,8 @@ impl Device {
     fn serve_messages(&mut self, from: Peer, messages: Messages<'_>, outbox: &mut Outbox) -> Counts
         requires known { IsSome (session_of from self.old.sessions.sessions) }
         requires room { length outbox.old + most_answers (messages_left messages) ≤ 122 }
-        ensures {
-            (w : ℕ) (s : State) → IsIn w self.old s → last_moment (run from s.notes) ≡ s.moment →
-            ServesAll w self.new from (messages_left messages.entry) s outbox.old outbox.new result
-        }
+        ensures { (w : ℕ) (s : State) → IsIn w self.old s → last_moment (run from s.notes) ≡ s.moment →
+            ServesAll w self.new from (messages_left messages.entry) s outbox.old outbox.new result }
     {
         let mut counts = Counts {
             executed: 0,
@@ -178,16 +166,16 @@ impl Device {
     fn serve(&mut self, from: Peer, message: Message<'_>, outbox: &mut Outbox) -> Counts
         requires known { IsSome (session_of from self.old.sessions.sessions) }
         requires room { length outbox.old + may_answer (msg_of message) ≤ 122 }
-        ensures serves {
-            (w : ℕ) (s : State) → IsIn w self.old s → last_moment (run from s.notes) ≡ s.moment →
-            Serves w self.new from (msg_of message.entry) s outbox.old outbox.new result
-        }
+        ensures serves { (w : ℕ) (s : State) → IsIn w self.old s → last_moment (run from s.notes) ≡ s.moment →
+            Serves w self.new from (msg_of message.entry) s outbox.old outbox.new result }
         ensures known { IsSome (session_of from self.new.sessions.sessions) }
         ensures packets { length outbox.new ≤ length outbox.old + may_answer (msg_of message.entry) }
         ensures commands { result.executed + result.kept + result.old ≤ may_answer (msg_of message.entry) }
     {
         match message {
-            Message::Command { respond, command } => self.serve_command(from, respond, &command, outbox),
+            Message::Command { respond, command } => self.serve_command(
+                from, respond, &command, outbox,
+            ),
             Message::KeepAlive { form } => {
                 self.sessions.beat(from, time_of(form));
                 outbox.return_keepalive(form);
@@ -206,13 +194,17 @@ impl Device {
     }
 
     /// Serves a command of a peer that was let in.
-    fn serve_command(&mut self, from: Peer, respond: bool, command: &Command, outbox: &mut Outbox) -> Counts
+    fn serve_command(
+        &mut self,
+        from: Peer,
+        respond: bool,
+        command: &Command,
+        outbox: &mut Outbox,
+    ) -> Counts
         requires known { IsSome (session_of from self.old.sessions.sessions) }
         requires room { length outbox.old < 122 }
-        ensures serves {
-            (w : ℕ) (s : State) → IsIn w self.old s → last_moment (run from s.notes) ≡ s.moment →
-            Serves w self.new from (Commands respond (fields_of command.now)) s outbox.old outbox.new result
-        }
+        ensures serves { (w : ℕ) (s : State) → IsIn w self.old s → last_moment (run from s.notes) ≡ s.moment →
+            Serves w self.new from (Commands respond (fields_of command.now)) s outbox.old outbox.new result }
         ensures known { IsSome (session_of from self.new.sessions.sessions) }
         ensures packets { length outbox.new ≤ length outbox.old + 1 }
         ensures commands { result.executed + result.kept + result.old ≡ 1 }

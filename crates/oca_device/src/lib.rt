@@ -13,3 +13,6 @@ pub use outbox::Outbox;
 pub use report::Report;
 pub use serving::serve;
 pub use verdict::Verdict;
+
+#[cfg(test)]
+mod tests;

@@ -51,21 +51,21 @@ impl Outbox {
         ensures len { result ≡ length self.now }
         ensures most { result ≤ 122 }
     {
-        self.count
+        self.packets().len()
     }
 
     /// Whether there is no packet.
     pub fn is_empty(&self) -> bool
         ensures { result ≡ (length self.now == 0) }
     {
-        self.count == 0
+        self.packets().is_empty()
     }
 
     /// The packet number `i`, counted from 0, where there is one.
     pub fn get(&self, i: usize) -> Option<&Packet>
         ensures { option_map (λ p. p.now.items) result ≡ slice_get self.now i }
     {
-        self.places[..self.count].get(i)
+        self.packets().get(i)
     }
 
     /// Takes all packets out.
@@ -73,6 +73,14 @@ impl Outbox {
         ensures { self.new ≡ [] }
     {
         self.count = 0;
+    }
+
+    /// The packets.
+    fn packets(&self) -> &[Packet]
+        ensures packets { bytes_of result.now ≡ self.now }
+        ensures most { length result.now ≤ 122 }
+    {
+        &self.places[..self.count]
     }
 
     /// Adds the packet of a response.

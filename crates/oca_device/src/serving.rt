@@ -20,16 +20,13 @@ use oca_types::{Packet, Peer};
 /// does nothing. The loop ends at Closed, which is no turn, or after the turns. The outbox is emptied at first and after
 /// each turn.
 pub fn serve<E: End>(device: &mut Device, end: &mut E, outbox: &mut Outbox, turns: u32) -> Report
-    ensures telling {
-        IsTrue (E.tells end.old) →
-        ServesDeliveries device.old device.new (E.delivered end.old) (E.delivered end.new) (E.taken end.old) (E.taken end.new) result
-    }
+    ensures telling { IsTrue (E.tells end.old) →
+        ServesDeliveries device.old device.new (E.delivered end.old) (E.delivered end.new) (E.taken end.old) (E.taken end.new) result }
+    ensures tells { E.tells end.new ≡ E.tells end.old }
     ensures turns { result.turns ≤ turns }
     ensures closed { result.turns < turns → IsTrue (E.closed end.new) }
-    ensures failures {
-        E.failures end.new < last_u64 →
-        E.failures end.new ≡ E.failures end.old + (result.failed_receives + result.failed_sends)
-    }
+    ensures failures { E.failures end.new < last_u64 →
+        E.failures end.new ≡ E.failures end.old + (result.failed_receives + result.failed_sends) }
     ensures outbox { outbox.new ≡ [] }
 {
     outbox.clear();
@@ -45,20 +42,21 @@ pub fn serve<E: End>(device: &mut Device, end: &mut E, outbox: &mut Outbox, turn
 }
 
 /// Receives once, and does what there is to do. Answers what it did, or nothing at Closed.
-fn take_turn<E: End>(device: &mut Device, end: &mut E, outbox: &mut Outbox, packet: &mut Packet) -> Option<Report>
+fn take_turn<E: End>(
+    device: &mut Device,
+    end: &mut E,
+    outbox: &mut Outbox,
+    packet: &mut Packet,
+) -> Option<Report>
     requires { outbox.old ≡ [] }
     ensures telling { E.tells end.new ≡ E.tells end.old }
-    ensures turn {
-        IsTrue (E.tells end.old) →
-        ServesTurn device.old device.new (E.delivered end.old) (E.delivered end.new) (E.taken end.old) (E.taken end.new) result
-    }
+    ensures turn { IsTrue (E.tells end.old) →
+        ServesTurn device.old device.new (E.delivered end.old) (E.delivered end.new) (E.taken end.old) (E.taken end.new) result }
     ensures one { IfSome result (λ turn. turn.turns ≡ 1) }
     ensures fits { IfSome result (IsWithin 4294967295) }
     ensures closed { IfNone result (IsTrue (E.closed end.new)) }
-    ensures failed {
-        IfSome result (λ turn. E.failures end.new < last_u64 →
-            E.failures end.new ≡ E.failures end.old + (turn.failed_receives + turn.failed_sends))
-    }
+    ensures failed { IfSome result (λ turn. E.failures end.new < last_u64 →
+        E.failures end.new ≡ E.failures end.old + (turn.failed_receives + turn.failed_sends)) }
     ensures none_failed { IfNone result (E.failures end.new ≡ E.failures end.old) }
     ensures outbox { outbox.new ≡ [] }
 {
@@ -180,7 +178,11 @@ fn of_verdict(verdict: Verdict) -> Report
     ensures { result ≡ verdict_turn verdict }
 {
     match verdict {
-        Verdict::Served { executed, kept, old } => Report {
+        Verdict::Served {
+            executed,
+            kept,
+            old,
+        } => Report {
             executed: u64::from(executed),
             kept: u64::from(kept),
             old: u64::from(old),

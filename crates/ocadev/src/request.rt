@@ -1,0 +1,103 @@
+//! What a line of a script asks the device for.
+ghost use Rattle.std.specs.Prelude.{◌≡◌, ◌≤◌, ◌*◌, length};
+ghost use Rattle.std.specs.Option.{ok_or};
+ghost use Rattle.oca_script.specs.Fields.{fields, moment_of};
+ghost use Rattle.ocadev.specs.Requests.{AreFields, FieldsWithin, is_quiet as quiet_word, tick_of, datagram_of, asked_event, event_asked};
+
+use oca_script::LineFault;
+use oca_script::field::{first_field, hex_bytes, peer};
+use oca_types::Peer;
+
+/// Room for the bytes of a datagram in a script.
+pub const MOST_BYTES: usize = 2048;
+
+/// What a line asks for.
+#[derive(Clone, Copy)]
+pub enum Request<'a> {
+    Tick { now: u64 },
+    Datagram { now: u64, from: Peer, bytes: &'a [u8] },
+}
+
+/// The fields of a line, where there are two or three.
+#[derive(Clone, Copy)]
+pub enum Fields<'a> {
+    Two(&'a [u8], &'a [u8]),
+    Three(&'a [u8], &'a [u8], &'a [u8]),
+    Other,
+}
+
+fn fields_of(line: &[u8]) -> Fields<'_>
+    ensures value { AreFields result (fields line.now) }
+    ensures within { FieldsWithin result (length line.now) }
+{
+    let (first, rest) = first_field(line);
+    let Some(rest) = rest else {
+        return Fields::Other;
+    };
+    let (second, rest) = first_field(rest);
+    let Some(rest) = rest else {
+        return Fields::Two(first, second);
+    };
+    let (third, rest) = first_field(rest);
+    match rest {
+        None => Fields::Three(first, second, third),
+        Some(_) => Fields::Other,
+    }
+}
+
+fn is_quiet(word: &[u8]) -> bool
+    ensures { result ≡ quiet_word word.now }
+{
+    word == b"quiet".as_slice()
+}
+
+fn moment(text: &[u8]) -> Result<u64, LineFault>
+    ensures { result ≡ ok_or (moment_of text.now) LineFault.Moment }
+{
+    oca_script::field::moment(text).ok_or(LineFault::Moment)
+}
+
+#[tactic(auto, unfolding(crate::specs::Requests::tick_of))]
+fn tick<'a>(now: &[u8]) -> Result<Request<'a>, LineFault>
+    ensures { event_asked result ≡ tick_of now.now }
+{
+    let now = moment(now)?;
+    Ok(Request::Tick { now })
+}
+
+#[tactic(auto, unfolding(crate::specs::Requests::datagram_of))]
+fn datagram<'a>(now: &[u8], sender: &[u8], text: &[u8], room: &'a mut [u8]) -> Result<Request<'a>, LineFault>
+    requires { length text.now ≤ 2 * length room.old }
+    ensures { event_asked result ≡ datagram_of now.now sender.now text.now }
+{
+    let now = moment(now)?;
+    let from = peer(sender).ok_or(LineFault::Peer)?;
+    let Some(bytes) = hex_bytes(text, room) else {
+        return Err(LineFault::Hex);
+    };
+    Ok(Request::Datagram { now, from, bytes })
+}
+
+/// What the fields of the line ask for. The bytes of a datagram are put into `room`.
+pub fn asked_by<'a>(line: &[u8], room: &'a mut [u8; MOST_BYTES]) -> Result<Request<'a>, LineFault>
+    requires { length line.now ≤ 4096 }
+    ensures { event_asked result ≡ asked_event (fields line.now) }
+{
+    match fields_of(line) {
+        Fields::Two(now, second) => {
+            if is_quiet(second) {
+                tick(now)
+            } else {
+                Err(LineFault::Form)
+            }
+        }
+        Fields::Three(now, second, third) => {
+            if is_quiet(second) {
+                Err(LineFault::Form)
+            } else {
+                datagram(now, second, third, room)
+            }
+        }
+        Fields::Other => Err(LineFault::Form),
+    }
+}

@@ -1,0 +1,65 @@
+//! A run of the program.
+use super::fault::RunFault;
+use super::replay::replay;
+use super::show::show;
+use super::words::{Asked, asked_for};
+use oca_device::{Device, Outbox};
+use oca_script::printing::write_bytes;
+use oca_tree::{Tree, bench};
+use std::alloc::Global;
+use std::convert::AsStr;
+use std::io::{Read, Write};
+
+/// Runs the program on the words of its command line, its name first, and answers its exit status: 0, 2 where the words or
+/// a line are bad, and 1 where something could not be done. A fault is printed on `faults` as one line.
+pub fn run<S: AsStr, R: Read, W: Write, F: Write>(
+    alloc: Global,
+    words: &[S],
+    reader: &mut R,
+    writer: &mut W,
+    faults: &mut F,
+) -> u8 {
+    match served(alloc, words, reader, writer) {
+        Ok(()) => 0,
+        Err(fault) => report(fault, faults),
+    }
+}
+
+/// Prints a fault, and answers the exit status.
+pub fn report<F: Write>(fault: RunFault, faults: &mut F) -> u8 {
+    let _ = writeln!(faults, "{fault}");
+    fault.status()
+}
+
+fn served<S: AsStr, R: Read, W: Write>(
+    alloc: Global,
+    words: &[S],
+    reader: &mut R,
+    writer: &mut W,
+) -> Result<(), RunFault> {
+    match asked_for(alloc, words)? {
+        Asked::Replay => {
+            let (mut device, mut outbox) = start(alloc)?;
+            replay(&mut device, &mut outbox, reader, writer)?;
+        }
+        Asked::Show => show(&bench_tree(alloc)?, writer)?,
+        Asked::Help(text) => write_bytes(writer, text.as_bytes())?,
+    }
+    Ok(())
+}
+
+/// The bench device, and an outbox.
+fn start(alloc: Global) -> Result<(Device, Outbox), RunFault> {
+    let tree = bench_tree(alloc)?;
+    let Ok(device) = Device::new(alloc, tree) else {
+        return Err(RunFault::NoMemory);
+    };
+    let Ok(outbox) = Outbox::new(alloc) else {
+        return Err(RunFault::NoMemory);
+    };
+    Ok((device, outbox))
+}
+
+fn bench_tree(alloc: Global) -> Result<Tree, RunFault> {
+    bench(alloc).map_err(|_| RunFault::NoMemory)
+}
