@@ -159,7 +159,7 @@ fn take_piece<L: Language, W: Write>(
 /// from 1, and the text of the requests before the first bad line is written. Faults: `Line` with the
 /// first bad line and its fault; `TooMuch` beyond 16,777,216 bytes where no line within them is bad;
 /// `Read` and `Write` at a failed read or write, after which some first requests were served and a
-/// front of their text was written (tests show that they come nowhere else). (The form of a script is
+/// front of their text was written (that they come nowhere else is only tested). (The form of a script is
 /// the profile's.)
 pub fn replay<L: Language, R: Read, W: Write>(
     state: &mut L::State,

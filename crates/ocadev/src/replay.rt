@@ -106,7 +106,7 @@ fn print_packets<W: Write>(outbox: &Outbox, pending: &mut Pending, writer: &mut 
 /// A line `N P HEX` is a datagram of the peer P at the moment N in milliseconds, and a line `N quiet` a clock reading. The
 /// outbox is emptied before each datagram, and what it held at first does not matter. Faults: `Line` with the number of
 /// the first bad line, counted from 1; `TooMuch` beyond 16,777,216 bytes; `Read` and `Write` where the reader or the
-/// writer failed, or the writer took nothing (tests show that they come nowhere else). What the lines before printed is
+/// writer failed, or the writer took nothing (that they come nowhere else is only tested). What the lines before printed is
 /// written in each case, as far as the writer went. Takes no memory. (The script's form is the profile's.)
 pub fn replay<R: Read, W: Write>(
     device: &mut Device,
