@@ -382,7 +382,8 @@ impl TreeBuilder {
     }
 
     /// Adds an object at the end: enabled, unlocked and with an empty label. It is refused by the first
-    /// row of `AddFault` that applies, and is then unchanged. It asks for no memory, since `new` took it: `NoMemory` does not come.
+    /// variant of `AddFault` that applies, and is then unchanged. It asks for no memory, since `new` took
+    /// it: `NoMemory` does not come.
     pub fn add(&mut self, container: Ono, ono: Ono, spec: &Spec<'_>) -> Result<(), AddFault>
         ensures { Adds result self.old self.new container.0 ono.0 spec.now }
     {
