@@ -1,9 +1,5 @@
 -- How a tree is built (the order of the faults is the profile's).
-<<<<<<< HEAD
-use Rattle.std.specs.Prelude.{◌≡◌, ℕ, ◌+◌, ◌==◌, ◌&&◌, ◌||◌, not, Bool, true, false, if◌then◌else◌, nat_lt, nat_le, List, [], ◌∷◌, ◌++◌, length, map, replicate, codes, Option, Some, None, is_some, Result, Ok, Err, ℤ, int_le, int_lt, pos}
-=======
-use Rattle.std.specs.Prelude.{◌≡◌, ℕ, ◌+◌, ◌==◌, ◌||◌, not, ◌⊎◌, Bool, true, false, if◌then◌else◌, nat_lt, nat_le, List, [], ◌∷◌, ◌++◌, length, map, replicate, codes, Option, Some, None, is_some, Result, Ok, Err, ℤ, int_lt, pos}
->>>>>>> 45e38a94bbef9870db1d7360300c8a90a29c974b
+use Rattle.std.specs.Prelude.{◌≡◌, ℕ, ◌+◌, ◌==◌, ◌||◌, not, Bool, true, false, if◌then◌else◌, nat_lt, nat_le, List, [], ◌∷◌, ◌++◌, length, map, replicate, codes, Option, Some, None, is_some, Result, Ok, Err, ℤ, int_lt, pos}
 use Rattle.std.specs.List.{list_any}
 use Rattle.oca_tree.specs.declared.object.NumberKind.{NumberKind}
 use Rattle.oca_tree.specs.declared.object.NumberKind.TheVariants as kinds
