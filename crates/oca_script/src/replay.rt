@@ -156,14 +156,19 @@ fn take_piece<L: Language, W: Write>(
 }
 
 /// Replays the script that the reader has to give, by the rules of a language: the lines are counted
-/// from 1, and the text of the requests before the first bad line is written.
+/// from 1, and the text of the requests before the first bad line is written. Faults: `Line` with the
+/// first bad line and its fault; `TooMuch` beyond 16,777,216 bytes where no line within them is bad;
+/// `Read` and `Write` at a failed read or write, after which some first requests were served and a
+/// front of their text was written (that they come nowhere else is only tested). (The form of a script is
+/// the profile's.)
 pub fn replay<L: Language, R: Read, W: Write>(
     state: &mut L::State,
     room: &mut L::Room,
     reader: &mut R,
     writer: &mut W,
 ) -> Result<(), ReplayFault>
-    // Whatever reader: there are bytes that it gave, and the rest of what it had, and their script was replayed.
+    // Whatever reader: there are bytes, those that it gave where it tells them, and the rest of what it had, and their script was
+    // replayed.
     ensures reads { Outcome L.asked L.serves state.old state.new (W.contents writer.old) (W.contents writer.new)
         (R.remaining reader.old) (R.remaining reader.new) result }
     // Where the bytes that it had are known, their script was.

@@ -127,8 +127,8 @@ fn print_packets<W: Write>(outbox: &Outbox, pending: &mut Pending, writer: &mut 
 /// A line `N P HEX` is a datagram of the peer P at the moment N in milliseconds, and a line `N quiet` a clock reading. The
 /// outbox is emptied before each datagram, and what it held at first does not matter. Faults: `Line` with the number of
 /// the first bad line, counted from 1; `TooMuch` beyond 16,777,216 bytes; `Read` and `Write` where the reader or the
-/// writer failed, or the writer took nothing. What the lines before printed is written in each case, as far as the writer
-/// went. Takes no memory. (The script's form is the profile's.)
+/// writer failed, or the writer took nothing (that they come nowhere else is only tested). What the lines before printed is
+/// written in each case, as far as the writer went. Takes no memory. (The script's form is the profile's.)
 pub fn replay<R: Read, W: Write>(
     device: &mut Device,
     outbox: &mut Outbox,
@@ -141,7 +141,8 @@ pub fn replay<R: Read, W: Write>(
         IfSome (R.remaining reader.old) (λ given.
             Replays w tree events device.new (W.contents writer.old) (W.contents writer.new) result given)
     }
-    // Whatever reader: there are bytes that it gave, and the rest of what it had, and their script was replayed.
+    // Whatever reader: there are bytes, those that it gave where it tells them, and the rest of what it had, and their script was
+    // replayed.
     ensures reads {
         (w : ℕ) (tree : List Object) (events : List Event) → Represents w device.old tree events →
         Outcome w tree events device.new (W.contents writer.old) (W.contents writer.new)
