@@ -1,6 +1,6 @@
 -- A PDU behind others.
-use Rattle.std.proofs.Common.{◌≡◌, ℕ, ◌+◌, ◌≤◌, ◌<◌, ◌^◌, Bool, List, [], ◌∷◌, ◌++◌, length, refl, sym, ap, ◌∙◌, append_assoc, arith, length-append}
-use Rattle.std.specs.List.{flat_map, AllByRecursion}
+use Rattle.std.proofs.Common.{◌≡◌, ℕ, ◌+◌, ◌≤◌, ◌<◌, ◌^◌, Bool, List, [], ◌∷◌, ◌++◌, length, sym, ap, ◌∙◌, append_assoc, arith, length-append}
+use Rattle.std.specs.List.{flat_map}
 use Rattle.std.proofs.lemmas.List.{append-nil}
 use Rattle.std.proofs.lemmas.Grind.{flat_map-append}
 use Rattle.oca_types.specs.Peers.{CommandFields}
@@ -8,7 +8,7 @@ use Rattle.oca_types.specs.declared.status.Status.{Status}
 use Rattle.oca_types.specs.declared.status.Status.TheVariants as status
 use Rattle.oca_types.specs.Status.{status_number}
 use Rattle.oca_pdu.specs.Messages.{ResponseFields, Pdu, Commands, Responses}
-use Rattle.oca_pdu.specs.Encoding.{command_encoding, response_encoding, pdu_encoding, CommandFits, ResponseFits, PduFits, IsDatagram}
+use Rattle.oca_pdu.specs.Encoding.{pdu_encoding, CommandFits, ResponseFits, PduFits}
 use Rattle.oca_pdu.specs.Writing.{AddsPdu}
 use Rattle.oca_pdu.proofs.Decided.{each-append}
 

@@ -1,23 +1,20 @@
 -- Bytes are a datagram or have a first fault.
-use Rattle.std.proofs.Common.{◌≡◌, ℕ, zero, suc, ◌-◌, ◌+◌, ◌≤◌, ◌<◌, ◌^◌, Bool, true, false, eqb, List, [], ◌∷◌, ◌++◌, length, take, drop, get_or, refl, sym, ap, subst, ◌∙◌, append_assoc, arith, length-append, inl, inr, ◌⊎◌, drop-cons}
+use Rattle.std.proofs.Common.{◌≡◌, ℕ, zero, suc, ◌-◌, ◌+◌, ◌≤◌, ◌<◌, ◌^◌, Bool, true, false, List, [], ◌∷◌, ◌++◌, length, take, drop, refl, sym, ap, subst, ◌∙◌, append_assoc, arith, length-append, inl, inr, ◌⊎◌, drop-cons}
 use Rattle.std.specs.Prelude.{◌≢◌, slice_index}
 use Rattle.std.specs.List.{flat_map, AllByRecursion}
 use Rattle.std.specs.Int.{w16, w32, to_be_bytes, from_be_bytes}
-use Rattle.std.proofs.lemmas.Bool.{cases_lt, eqb-true, eqb-false}
+use Rattle.std.proofs.lemmas.Bool.{cases_lt}
 use Rattle.std.proofs.lemmas.List.{append-nil, take-append-le, take-append-drop, length-take, length-drop, nil_from_length, drop-drop}
-use Rattle.std.proofs.lemmas.List.Concat.{flat_map-cons}
 use Rattle.std.proofs.lemmas.Grind.{flat_map-append}
 use Rattle.std.proofs.lemmas.Nat.{be_bytes_2, be_bytes_4}
-use Rattle.oca_types.specs.Peers.{CommandFields}
 use Rattle.oca_pdu.specs.declared.fault.PduFault.{PduFault}
 use Rattle.oca_pdu.specs.declared.fault.PduFaultKind.{PduFaultKind}
 use Rattle.oca_pdu.specs.declared.fault.PduFaultKind.TheVariants.{Empty, TooLong, Sync, Version, PduSize, PduType, Count, MessageSize, Truncated}
 use Rattle.oca_pdu.specs.declared.message.Form.TheVariants.{Seconds, Millis}
 use Rattle.oca_pdu.specs.declared.message.Kind.{Kind}
 use Rattle.oca_pdu.specs.declared.message.Kind.TheVariants as kinds
-use Rattle.oca_pdu.specs.Faults.{IsFaultAt}
-use Rattle.oca_pdu.specs.Messages.{Msg, Command, Response, ResponseFields, Pdu, Commands, Responses, OneKeepAlive}
-use Rattle.oca_pdu.specs.Encoding.{command_encoding, response_encoding, keep_alive_encoding, pdu_frame, command_type, pdu_encoding, CommandFits, ResponseFits, PduFits, IsDatagram}
+use Rattle.oca_pdu.specs.Messages.{Msg, Command, Response, Pdu, Commands, Responses, OneKeepAlive}
+use Rattle.oca_pdu.specs.Encoding.{command_encoding, response_encoding, pdu_frame, command_type, pdu_encoding, CommandFits, ResponseFits, PduFits, IsDatagram}
 use Rattle.oca_pdu.specs.FirstFault.{MessagesFail, MessagesMissing, MessageCutOff, MessageOfWrongSize, BytesLeft, BeginsWithFrame, PduFails, WrongSync, VersionCutOff, WrongVersion, SizeCutOff, SizeTooSmall, PduCutOff, WrongType, NoMessages, WrongKeepAliveCount, WrongKeepAliveSize, InCommands, InResponses, IsFirstFault, NoBytes, TooManyBytes, InPdu}
 use Rattle.oca_pdu.specs.Reading.{number_at, least_size}
 use Rattle.oca_pdu.proofs.Codec.{IsBytes, IsBytes-take, IsBytes-drop, Codec, least_four, least_command, command_kind, command_codec, response_codec, below_w16, below_w32, front_w16, front_w32}

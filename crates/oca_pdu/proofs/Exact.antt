@@ -1,14 +1,15 @@
 -- The laws.
-use Rattle.std.proofs.Common.{◌≡◌, ℕ, zero, suc, ◌<◌, true, List, [], ◌∷◌, Result, Ok, Err, refl, sym, ap, subst, ◌∙◌, inl, inr, arith, get_or}
+use Rattle.std.proofs.Common.{◌≡◌, ℕ, zero, suc, true, List, [], ◌∷◌, ◌++◌, Result, Ok, Err, refl, sym, ap, subst, ◌∙◌, inl, inr, arith}
 use Rattle.std.specs.Prelude.{is_ok}
 use Rattle.std.specs.List.{flat_map}
 use Rattle.oca_pdu.specs.declared.fault.PduFault.{PduFault}
 use Rattle.oca_pdu.specs.Messages.{Msg, Pdu, messages_of}
-use Rattle.oca_pdu.specs.Encoding.{IsDatagram, pdu_encoding}
+use Rattle.oca_pdu.specs.Encoding.{IsDatagram}
 use Rattle.oca_pdu.specs.Datagrams.{read_or_none}
 use Rattle.std.proofs.lemmas.List.{append-nil}
+use Rattle.std.proofs.lemmas.Grind.{flat_map-append}
 use Rattle.oca_pdu.specs.Reading.{read_datagram}
-use Rattle.oca_pdu.specs.Laws.{OneListOfMessages, OneFirstFault, NoFaultOfADatagram, ReadsExactly, ReadingIsExact, WrittenIsReadBack, AreBytes}
+use Rattle.oca_pdu.specs.Laws.{OneListOfMessages, OneFirstFault, NoFaultOfADatagram, ReadingIsExact, WrittenIsReadBack, AreBytes}
 use Rattle.oca_pdu.proofs.MessageLoop.{ok_is}
 use Rattle.oca_pdu.specs.FirstFault.{IsFirstFault}
 use Rattle.oca_pdu.proofs.Refused.{datagram_refused}
@@ -86,5 +87,5 @@ not_refused ps bytes f p e = not_both (read_datagram bytes) (flat_map messages_o
 -- ---- what is written is read back
 
 pub read_back : WrittenIsReadBack
-read_back p are =
-    datagram_again (p ∷ []) (pdu_encoding p) are ∙ ap (λ (l : List Msg). Ok l) (append-nil (messages_of p))
+read_back ps p bytes are =
+    datagram_again (ps ++ p ∷ []) bytes are ∙ ap (λ (l : List Msg). Ok l) (flat_map-append messages_of ps (p ∷ []) ∙ ap (λ (l : List Msg). flat_map messages_of ps ++ l) (append-nil (messages_of p)))

@@ -1,14 +1,14 @@
 -- A datagram is within the limits.
-use Rattle.std.proofs.Common.{◌≡◌, ℕ, ◌+◌, ◌*◌, ◌≤◌, ◌<◌, Bool, true, false, List, [], ◌∷◌, ◌++◌, length, map, Result, Ok, refl, sym, ap, subst, ◌∙◌, arith, length-append, cond}
+use Rattle.std.proofs.Common.{◌≡◌, ℕ, ◌+◌, ◌*◌, ◌≤◌, Bool, true, List, [], ◌∷◌, length, map, refl, sym, ap, subst, ◌∙◌, arith, length-append, cond}
 use Rattle.std.specs.Prelude.{not, count_by, is_ok}
-use Rattle.std.specs.List.{flat_map, AllByRecursion}
+use Rattle.std.specs.List.{flat_map}
 use Rattle.std.proofs.lemmas.List.Concat.{flat_map-cons}
 use Rattle.std.proofs.lemmas.List.Sums.{sum_by-append}
 use Rattle.std.proofs.lemmas.List.{append-nil}
 use Rattle.oca_types.specs.Peers.{CommandFields}
 use Rattle.oca_pdu.specs.declared.message.Form.{Form}
 use Rattle.oca_pdu.specs.declared.message.Form.TheVariants.{Seconds, Millis}
-use Rattle.oca_pdu.specs.Messages.{Msg, Command, Response, KeepAlive, ResponseFields, Pdu, Commands, Responses, OneKeepAlive, messages_of}
+use Rattle.oca_pdu.specs.Messages.{Msg, Command, Response, ResponseFields, Pdu, Commands, Responses, OneKeepAlive, messages_of}
 use Rattle.oca_pdu.specs.Encoding.{command_encoding, response_encoding, pdu_encoding, IsDatagram}
 use Rattle.oca_pdu.specs.Limits.{is_command, is_response, IsWithinLimits}
 use Rattle.oca_pdu.specs.Reading.{read_datagram}

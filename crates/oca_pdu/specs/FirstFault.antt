@@ -1,14 +1,15 @@
 -- The first fault of bytes that are no datagram (profile). The checks are made in the order of the rules below: of the whole,
--- then PDU by PDU, and in a PDU message by message. A rule says that its check fails and that those before it hold.
+-- then PDU by PDU, and in a PDU message by message. A rule says that its check fails and that those before it hold. A field that
+-- is not wholly inside the datagram fails in its turn; behind PduSize there is none, since the PDU then lies inside and has at
+-- least 12 bytes.
 use Rattle.std.specs.Prelude.{◌≡◌, ◌≢◌, ℕ, ◌+◌, ◌<◌, ◌≤◌, ◌^◌, ◌⊎◌, Bool, List, [], ◌∷◌, ◌++◌, length}
 use Rattle.std.specs.List.{flat_map, AllByRecursion}
 use Rattle.std.specs.Int.{w16, w32}
 use Rattle.oca_types.specs.Numbers.{unsigned_encoding}
-use Rattle.oca_types.specs.Peers.{CommandFields}
 use Rattle.oca_pdu.specs.declared.fault.PduFault.{PduFault}
 use Rattle.oca_pdu.specs.declared.fault.PduFaultKind.TheVariants.{Empty, TooLong, Sync, Version, PduSize, PduType, Count, MessageSize, Truncated}
 use Rattle.oca_pdu.specs.Faults.{IsFaultAt}
-use Rattle.oca_pdu.specs.Messages.{ResponseFields, Pdu}
+use Rattle.oca_pdu.specs.Messages.{Pdu}
 use Rattle.oca_pdu.specs.Encoding.{command_encoding, response_encoding, pdu_frame, command_type, pdu_encoding, CommandFits, ResponseFits, PduFits}
 
 -- The messages of the PDU at p fail. They lie in body, from p + 10 to the PDU's end, and are to be `count`; `before` are those

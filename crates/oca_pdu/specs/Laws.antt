@@ -1,10 +1,9 @@
 -- What holds of the encodings and of reading, for every list of bytes.
-use Rattle.std.specs.Prelude.{◌≡◌, ℕ, ◌<◌, ◌↔◌, List, [], ◌∷◌, Result, Ok, Err, Bool}
+use Rattle.std.specs.Prelude.{◌≡◌, ℕ, ◌<◌, ◌↔◌, List, [], ◌∷◌, ◌++◌, Ok, Err}
 use Rattle.std.specs.List.{flat_map, AllByRecursion}
-use Rattle.oca_types.specs.Peers.{CommandFields}
 use Rattle.oca_pdu.specs.declared.fault.PduFault.{PduFault}
 use Rattle.oca_pdu.specs.Messages.{Msg, Pdu, messages_of}
-use Rattle.oca_pdu.specs.Encoding.{IsDatagram, PduFits, pdu_encoding}
+use Rattle.oca_pdu.specs.Encoding.{IsDatagram}
 use Rattle.oca_pdu.specs.FirstFault.{IsFirstFault}
 use Rattle.oca_pdu.specs.Reading.{read_datagram}
 
@@ -32,6 +31,6 @@ pub record ReadsExactly (bytes : List ℕ) : Type 0 where
 abbrev pub ReadingIsExact : Type 0
 ReadingIsExact = (bytes : List ℕ) → AreBytes bytes → ReadsExactly bytes
 
--- A PDU that is written alone is read back as its messages.
+-- A PDU that was appended to others is read back behind their messages.
 abbrev pub WrittenIsReadBack : Type 0
-WrittenIsReadBack = (p : Pdu) → IsDatagram (p ∷ []) (pdu_encoding p) → read_datagram (pdu_encoding p) ≡ Ok (messages_of p)
+WrittenIsReadBack = (ps : List Pdu) (p : Pdu) (bytes : List ℕ) → IsDatagram (ps ++ p ∷ []) bytes → read_datagram bytes ≡ Ok (flat_map messages_of ps ++ messages_of p)

@@ -1,5 +1,5 @@
 -- How many messages a datagram has at most, which follows from its 1,472 bytes (profile).
-use Rattle.std.specs.Prelude.{ℕ, ◌≤◌, Bool, true, false, not, List, length, count_by}
+use Rattle.std.specs.Prelude.{◌≤◌, Bool, true, false, not, List, length, count_by}
 use Rattle.oca_pdu.specs.Messages.{Msg, Command, Response, KeepAlive}
 
 abbrev pub is_command : Msg → Bool

@@ -21,7 +21,7 @@ pub fn law_reading()
     ensures { ReadingIsExact }
 {}
 
-/// What a writer appends to an empty packet is read back as its message.
+/// What a writer appends to a packet is read back behind the messages that it held.
 pub fn law_written_is_read_back()
     ensures { WrittenIsReadBack }
 {}

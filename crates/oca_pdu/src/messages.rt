@@ -6,7 +6,7 @@ use crate::message::{Kind, Message};
 use crate::walk;
 
 /// The messages of a datagram that are still to come: those of the PDU that was begun, and the PDUs behind it.
-#[derive(Clone, Copy)]
+#[derive(Drop)]
 pub struct Messages<'a> {
     pub(crate) kind: Kind,
     pub(crate) left: u16,

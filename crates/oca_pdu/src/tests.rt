@@ -1,4 +1,8 @@
 //! What no clause says: datagrams from outside, and each call once.
+ghost use Rattle.std.specs.Prelude.{◌≡◌, count_by};
+ghost use Rattle.oca_pdu.specs.Limits.{is_command};
+ghost use Rattle.oca_pdu.specs.Datagrams.{datagram_messages};
+
 use super::*;
 use arrayvec::ArrayVec;
 use oca_types::{Command, Handle, MethodId, Ono, Packet, Params, Reply, Status};
@@ -145,6 +149,23 @@ fn messages_in(bytes: &[u8]) -> usize {
     }
 }
 
+/// How many of the messages are commands: a loop over them whose invariant speaks of those that are left.
+fn commands_in(datagram: &Datagram) -> usize
+    ensures { result ≡ count_by is_command (datagram_messages datagram.now) }
+{
+    let mut count: usize = 0;
+    for message in datagram.messages() {
+        if let Message::Command {
+            respond: _,
+            command: _,
+        } = message
+        {
+            count += 1;
+        }
+    }
+    count
+}
+
 fn reply(status: u8, count: u8, bytes: &[u8]) -> Reply {
     let mut params = Params::new();
     let _ = params.try_extend_from_slice(bytes);
@@ -198,6 +219,7 @@ fn messages_of_the_worked_examples(rt: HostRuntime) {
     let handles = [1, 2];
     let targets = [4097, 4098];
     if let Ok(datagram) = check(TWO_COMMANDS) {
+        assert_eq!(rt; commands_in(&datagram), 2);
         let mut seen = 0;
         for message in datagram.messages() {
             if let Message::Command { respond, command } = message {

@@ -1,15 +1,12 @@
 -- An object is added at the end.
-use Rattle.std.proofs.Common.{◌≡◌, ℕ, ◌+◌, ◌<◌, ◌≤◌, Bool, true, false, List, [], ◌∷◌, ◌++◌, map, length, refl, sym, ap, ◌∙◌, arith, length-append}
-use Rattle.std.specs.Prelude.{Option, Some, None, is_some, codes, nat_le, nat_lt, ◌==◌}
-use Rattle.std.specs.List.{All}
+use Rattle.std.proofs.Common.{◌≡◌, ℕ, ◌+◌, ◌<◌, ◌≤◌, true, false, List, [], ◌∷◌, ◌++◌, length, refl, ap, ◌∙◌, arith, length-append}
+use Rattle.std.specs.Prelude.{Option, Some, None, is_some, nat_le, nat_lt, ◌==◌}
 use Rattle.std.proofs.lemmas.List.Elements.{All-push}
 use Rattle.oca_tree.specs.declared.object.Object.{Object}
 use Rattle.oca_tree.specs.declared.object.Value.{Value}
-use Rattle.oca_tree.specs.declared.object.Value.TheVariants as values
-use Rattle.oca_tree.specs.declared.builder.AddFault.{AddFault}
 use Rattle.oca_tree.specs.declared.builder.Spec.{Spec}
 use Rattle.oca_tree.specs.Objects.{object_of}
-use Rattle.oca_tree.specs.Places.{Place, place_of, places, place_at, is_block_at, depth}
+use Rattle.oca_tree.specs.Places.{place_of, places, is_block_at, depth}
 use Rattle.oca_tree.specs.Trees.{IsTree, IsSound, IsSoundValue, IsBuilt, IsFree}
 use Rattle.oca_tree.specs.Trees as trees
 use Rattle.oca_tree.specs.Building.{root, new_object, object_of_spec, value_of, has_bad_name, is_bad_value, add_fault}

@@ -1,12 +1,12 @@
 -- A step up the chain of containers.
-use Rattle.std.proofs.Common.{◌≡◌, ℕ, zero, suc, ◌+◌, ◌-◌, ◌<◌, Bool, true, false, cond, List, [], ◌∷◌, length, map, refl, sym, ap, ◌∙◌, arith}
+use Rattle.std.proofs.Common.{◌≡◌, ℕ, suc, ◌+◌, ◌-◌, ◌<◌, Bool, true, false, List, [], ◌∷◌, length, refl, sym, ap, ◌∙◌, arith}
 use Rattle.std.specs.Prelude.{Option, Some, None, ◌==◌, ◌||◌}
 use Rattle.std.specs.Option.{option_map, option_map_or}
-use Rattle.std.specs.List.{find, list_any}
+use Rattle.std.specs.List.{list_any}
 use Rattle.std.proofs.lemmas.List.{length-map}
 use Rattle.oca_tree.specs.declared.object.Object.{Object}
-use Rattle.oca_tree.specs.Objects.{object_of, has_number}
-use Rattle.oca_tree.specs.Places.{Place, place_of, places, place_at, is_block_at, chain_within}
+use Rattle.oca_tree.specs.Objects.{object_of}
+use Rattle.oca_tree.specs.Places.{Place, place_of, places, place_at, chain_within}
 
 -- the place with a number is that of the object with it
 pub place_at_places : (tree : List Object) (number : ℕ) → place_at (places tree) number ≡ option_map place_of (object_of tree number)

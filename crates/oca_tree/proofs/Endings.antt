@@ -1,8 +1,8 @@
 -- Every chain of containers ends within as many steps as there are objects.
-use Rattle.std.proofs.Common.{◌≡◌, ℕ, zero, suc, ◌+◌, ◌<◌, ◌≤◌, Bool, true, false, cond, List, [], ◌∷◌, ◌++◌, length, refl, sym, ap, ◌∙◌, subst, arith, inl, inr, length-append, eqb-true, eq-eqb}
+use Rattle.std.proofs.Common.{◌≡◌, ℕ, zero, suc, Bool, true, false, cond, List, [], ◌∷◌, ◌++◌, length, refl, sym, ap, ◌∙◌, subst, arith, inl, inr, length-append, eqb-true, eq-eqb}
 use Rattle.std.specs.Prelude.{Option, Some, None, is_some, ◌==◌, ◌||◌, ◌⊎◌}
 use Rattle.std.specs.Option.{option_map_or, option_or}
-use Rattle.std.specs.List.{find, list_any}
+use Rattle.std.specs.List.{list_any}
 use Rattle.std.proofs.lemmas.List.Folds.{find-append}
 use Rattle.oca_tree.specs.Places.{Place, place_at, is_block_at, chain_within, chain, reaches, ChainReaches}
 use Rattle.oca_tree.specs.Places as places

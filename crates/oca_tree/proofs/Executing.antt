@@ -1,6 +1,6 @@
 -- What a command does, from what each of its steps found.
-use Rattle.std.proofs.Common.{◌≡◌, ℕ, ◌<◌, ◌≤◌, Bool, true, false, List, length, get_or, set, refl, sym, ap, ◌∙◌, arith, eqb-true}
-use Rattle.std.specs.Prelude.{Option, Some, None, Ok, Err, nat_lt, ◌==◌}
+use Rattle.std.proofs.Common.{◌≡◌, ℕ, ◌<◌, ◌≤◌, true, false, List, length, get_or, set, refl, sym, ap, ◌∙◌, arith, eqb-true}
+use Rattle.std.specs.Prelude.{Some, None, Ok, Err, nat_lt, ◌==◌}
 use Rattle.std.specs.List.{position}
 use Rattle.std.proofs.lemmas.Option.{slice_get-get_or}
 use Rattle.oca_types.specs.declared.words.Peer.{Peer}
@@ -8,7 +8,6 @@ use Rattle.oca_types.specs.declared.status.Status.{Status}
 use Rattle.oca_types.specs.declared.status.Status.TheVariants as statuses
 use Rattle.oca_types.specs.declared.class.Method.{Method}
 use Rattle.oca_types.specs.declared.class.Access.{Access}
-use Rattle.oca_types.specs.declared.class.MethodKind.{MethodKind}
 use Rattle.oca_types.specs.declared.class.MethodKind.TheVariants.{Known}
 use Rattle.oca_types.specs.Peers.{CommandFields}
 use Rattle.oca_tree.specs.declared.object.Object.{Object}

@@ -1,12 +1,12 @@
 -- The place of an object, and a write there.
-use Rattle.std.proofs.Common.{◌≡◌, ℕ, zero, suc, ◌+◌, ◌<◌, Bool, true, false, cond, List, [], ◌∷◌, length, get_or, set, ◌≤◌, refl, sym, ap, ◌∙◌, arith, one-add}
+use Rattle.std.proofs.Common.{◌≡◌, ℕ, zero, suc, ◌<◌, Bool, true, false, List, [], ◌∷◌, length, get_or, set, ◌≤◌, refl, sym, ap, ◌∙◌, arith, one-add}
 use Rattle.oca_tree.specs.declared.object.Object.{Object}
 use Rattle.oca_tree.specs.Objects.{has_number, with_object}
-use Rattle.std.specs.Prelude.{Option, Some, None, IfNone, IfSome, is_some, ◌==◌, nat_lt}
+use Rattle.std.specs.Prelude.{Option, Some, None, IfNone, IfSome, is_some, ◌==◌}
 use Rattle.std.specs.List.{find, position, position_or_len, slice_get}
 use Rattle.std.proofs.lemmas.List.Folds.{find_at}
 use Rattle.std.proofs.lemmas.List.Sums.{length-filter}
-use Rattle.std.proofs.lemmas.Option.{slice_get_past, slice_get_within}
+use Rattle.std.proofs.lemmas.Option.{slice_get_past}
 
 module _ {X : Type 0} (p : X → Bool) where
   pub slice_get_at : (xs : List X) (i : ℕ) (d : X) → i < length xs → slice_get xs i ≡ Some (get_or xs i d)

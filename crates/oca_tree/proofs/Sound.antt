@@ -1,11 +1,10 @@
 -- What is asked and in range keeps a tree one.
-use Rattle.std.proofs.Common.{◌≡◌, ℕ, zero, suc, ◌+◌, ◌<◌, ◌≤◌, Bool, true, false, cond, List, [], ◌∷◌, ◌++◌, map, length, get_or, set, refl, sym, ap, ◌∙◌, subst, arith, rules, length-append}
-use Rattle.std.specs.Prelude.{Option, Some, None, ℤ, ◌≤ℤ◌, int_le, ◌&&◌, not, IsTrue, nat_lt}
+use Rattle.std.proofs.Common.{◌≡◌, ℕ, zero, suc, ◌<◌, Bool, true, false, cond, List, [], ◌∷◌, map, length, get_or, set, refl, sym, ap, ◌∙◌, arith}
+use Rattle.std.specs.Prelude.{None, ℤ, ◌≤ℤ◌, ◌&&◌, not, IsTrue, nat_lt}
 use Rattle.std.proofs.lemmas.Int.{ints}
-use Rattle.std.specs.List.{All}
 use Rattle.std.proofs.Math.ListN.{length-set}
 use Rattle.std.proofs.lemmas.List.{length-map}
-use Rattle.std.proofs.lemmas.List.Elements.{All-map, All-set, All-weaker, All-push}
+use Rattle.std.proofs.lemmas.List.Elements.{All-map, All-set, All-weaker}
 use Rattle.oca_types.specs.declared.words.Peer.{Peer}
 use Rattle.oca_tree.specs.declared.object.NumberKind.{NumberKind}
 use Rattle.oca_tree.specs.declared.object.NumberKind.TheVariants.{Int8, Int16, Int32, Int64, Uint8, Uint16, Uint32, Uint64}
@@ -19,10 +18,10 @@ use Rattle.oca_tree.specs.declared.request.Request.TheVariants as requests
 use Rattle.oca_tree.specs.Kinds.{IsOfType}
 use Rattle.oca_tree.specs.Places.{Place, place_of, places, is_block_value}
 use Rattle.oca_tree.specs.Locks.{without_lock_of, is_held_by}
-use Rattle.oca_tree.specs.Requests.{positions, is_enabled, is_out_of_range, is_outside, is_bad_position, is_invalid}
+use Rattle.oca_tree.specs.Requests.{is_enabled, is_out_of_range, is_outside, is_bad_position, is_invalid}
 use Rattle.oca_tree.specs.Execution.{changed, changed_value, changed_switch, changed_range}
 use Rattle.oca_tree.proofs.Asked.{FitsPositions}
-use Rattle.oca_tree.specs.Trees.{IsTree, IsSound, IsSoundValue, IsSoundRange, IsSoundSwitch, IsSoundLock, IsBuilt}
+use Rattle.oca_tree.specs.Trees.{IsTree, IsSound, IsSoundValue, IsSoundRange, IsSoundSwitch}
 
 -- ---- changing an object
 

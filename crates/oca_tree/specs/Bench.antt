@@ -1,10 +1,10 @@
 -- The bench device (profile): a desk with one object of each form.
-use Rattle.std.specs.Prelude.{ℕ, true, false, List, [], ◌∷◌, codes, ℤ, pos, negsuc}
+use Rattle.std.specs.Prelude.{true, false, List, [], ◌∷◌, codes, pos, negsuc}
 use Rattle.oca_tree.specs.declared.object.MuteState.TheVariants.{Muted}
 use Rattle.oca_tree.specs.declared.object.PolarityState.TheVariants.{NonInverted}
 use Rattle.oca_tree.specs.declared.object.NumberKind.TheVariants.{Int16, Uint8}
 use Rattle.oca_tree.specs.declared.object.Object.{Object}
-use Rattle.oca_tree.specs.declared.object.Value.TheVariants.{Block, Mute, Polarity, Switch, Boolean, Number}
+use Rattle.oca_tree.specs.declared.object.Value.TheVariants.{Block, Mute, Polarity, Switch, Boolean}
 use Rattle.oca_tree.specs.Building.{new_object, root, number}
 
 abbrev pub bench_objects : List Object

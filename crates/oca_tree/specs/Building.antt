@@ -1,5 +1,5 @@
 -- How a tree is built (the order of the faults is the profile's).
-use Rattle.std.specs.Prelude.{◌≡◌, ℕ, ◌+◌, ◌==◌, ◌&&◌, ◌||◌, not, ◌⊎◌, Bool, true, false, if◌then◌else◌, nat_lt, nat_le, List, [], ◌∷◌, ◌++◌, length, map, replicate, codes, Option, Some, None, is_some, Result, Ok, Err, ℤ, int_le, int_lt, pos}
+use Rattle.std.specs.Prelude.{◌≡◌, ℕ, ◌+◌, ◌==◌, ◌||◌, not, ◌⊎◌, Bool, true, false, if◌then◌else◌, nat_lt, nat_le, List, [], ◌∷◌, ◌++◌, length, map, replicate, codes, Option, Some, None, is_some, Result, Ok, Err, ℤ, int_lt, pos}
 use Rattle.std.specs.List.{list_any}
 use Rattle.oca_tree.specs.declared.object.NumberKind.{NumberKind}
 use Rattle.oca_tree.specs.declared.object.NumberKind.TheVariants as kinds
@@ -82,6 +82,8 @@ abbrev pub first_fault : List (Bool × AddFault) → Option AddFault
 first_fault [] = None
 first_fault (line ∷ lines) = if line.0 then Some line.1 else first_fault lines
 
+-- the profile's order: 128 objects, a reserved number, a number that is there, no block to contain it, depth 9, a text that is
+-- empty or long, a range that does not hold
 unfoldable pub add_fault : List Object → ℕ → ℕ → Spec → Option AddFault
 add_fault tree container ono spec = first_fault (
     (nat_le 128 (length tree), faults.Full)

@@ -1,5 +1,5 @@
 -- What a command does to a tree, and what is answered (AES70-2; the order of the statuses is the profile's).
-use Rattle.std.specs.Prelude.{ℕ, ◌-◌, ◌==◌, not, Bool, true, false, if◌then◌else◌, List, [], ◌∷◌, ◌++◌, length, nat_lt, slice_index_or, slice_set, Option, Some, None, is_none, ℤ}
+use Rattle.std.specs.Prelude.{ℕ, ◌-◌, ◌==◌, Bool, true, false, if◌then◌else◌, List, [], ◌∷◌, ◌++◌, length, nat_lt, slice_index_or, slice_set, Option, Some, None, is_none}
 use Rattle.std.specs.List.{flat_map}
 use Rattle.std.specs.Int.{w8, w16, w32}
 use Rattle.oca_types.specs.declared.words.Peer.{Peer}
@@ -16,7 +16,6 @@ use Rattle.oca_tree.specs.declared.object.MuteState.{MuteState}
 use Rattle.oca_tree.specs.declared.object.MuteState.TheVariants.{Muted, Unmuted}
 use Rattle.oca_tree.specs.declared.object.PolarityState.{PolarityState}
 use Rattle.oca_tree.specs.declared.object.PolarityState.TheVariants.{NonInverted, Inverted}
-use Rattle.oca_tree.specs.declared.object.LockKind.{LockKind}
 use Rattle.oca_tree.specs.declared.object.LockKind.TheVariants.{Total, Readonly}
 use Rattle.oca_tree.specs.declared.object.Object.{Object}
 use Rattle.oca_tree.specs.declared.object.Range.{Range}
@@ -232,6 +231,8 @@ abbrev pub first_that_applies : List (Bool × Status) → Status
 first_that_applies [] = status.Ok
 first_that_applies (line ∷ lines) = if line.0 then line.1 else first_that_applies lines
 
+-- the profile's order of the refusals: no such object, no such method, a method that is left out, a lock of another peer,
+-- parameters that are not the method's, a value out of range, a lock that cannot be made or is not there, a long answer
 abbrev pub status_lines : List Object → Peer → Option Object → MethodKind → Option Request → List (Bool × Status)
 status_lines tree peer o method request =
     (is_none o, status.BadOno)

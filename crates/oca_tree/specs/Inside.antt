@@ -1,5 +1,5 @@
 -- What the tree's own functions say to one another. No public clause cites it.
-use Rattle.std.specs.Prelude.{◌≡◌, ℕ, ◌==◌, Bool, true, false, if◌then◌else◌, List, [], ◌∷◌, ◌++◌, length, ◌<◌, ◌+◌, slice_set, slice_index_or, nat_lt, Option, Some, None, Result, Ok, Err, ℤ}
+use Rattle.std.specs.Prelude.{◌≡◌, ℕ, ◌==◌, Bool, true, false, if◌then◌else◌, List, [], ◌∷◌, ◌++◌, length, ◌<◌, ◌+◌, slice_set, slice_index_or, nat_lt, Option, Some, None, Result, Ok, Err}
 use Rattle.oca_types.specs.declared.words.Peer.{Peer}
 use Rattle.oca_types.specs.declared.status.Status.{Status}
 use Rattle.oca_types.specs.declared.status.Status.TheVariants as status

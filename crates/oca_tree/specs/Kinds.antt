@@ -1,5 +1,5 @@
 -- The integer types of the number actuators, and their encodings (AES70-2, AES70-3).
-use Rattle.std.specs.Prelude.{ℕ, Bool, true, false, List, Option, ℤ, pos, nat_abs, FitsSigned}
+use Rattle.std.specs.Prelude.{ℕ, List, Option, ℤ, pos, nat_abs, FitsSigned}
 use Rattle.std.specs.Int.{Width, w8, w16, w32, w64, FitsUnsigned}
 use Rattle.std.specs.Option.{option_map}
 use Rattle.oca_types.specs.declared.class.Class.{Class}

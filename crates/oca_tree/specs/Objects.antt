@@ -1,5 +1,5 @@
 -- Objects: their classes, their members, and the tree as the list of them in order of adding (AES70-1, AES70-2).
-use Rattle.std.specs.Prelude.{ℕ, ◌==◌, Bool, List, [], ◌∷◌, if◌then◌else◌, Option, length, map}
+use Rattle.std.specs.Prelude.{ℕ, ◌==◌, Bool, List, [], ◌∷◌, if◌then◌else◌, Option}
 use Rattle.std.specs.List.{find, filter}
 use Rattle.oca_types.specs.declared.class.Class.{Class}
 use Rattle.oca_types.specs.declared.class.Class.TheVariants as class

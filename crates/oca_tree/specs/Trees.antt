@@ -1,12 +1,12 @@
 -- What holds of every tree.
-use Rattle.std.specs.Prelude.{◌≡◌, ℕ, ◌+◌, ◌≤◌, ◌<◌, true, List, [], ◌∷◌, ◌++◌, length, Option, Some, None, ℤ, ◌≤ℤ◌, IsTrue, Bool}
+use Rattle.std.specs.Prelude.{◌≡◌, ◌≤◌, ◌<◌, true, List, [], ◌∷◌, ◌++◌, length, Option, Some, None, ◌≤ℤ◌, IsTrue, Bool}
 use Rattle.std.specs.List.{All}
 use Rattle.oca_tree.specs.declared.object.Object.{Object}
 use Rattle.oca_tree.specs.declared.object.Lock.{Lock}
 use Rattle.oca_tree.specs.declared.object.Range.{Range}
 use Rattle.oca_tree.specs.declared.object.Switch.{Switch}
 use Rattle.oca_tree.specs.declared.object.Value.{Value}
-use Rattle.oca_tree.specs.declared.object.Value.TheVariants.{Block, Mute, Polarity, Switch as AsSwitch, Boolean, Number}
+use Rattle.oca_tree.specs.declared.object.Value.TheVariants.{Switch as AsSwitch, Number}
 use Rattle.oca_tree.specs.Kinds.{IsOfType}
 use Rattle.oca_tree.specs.Places.{Place, places, place_at, is_block_at, depth}
 

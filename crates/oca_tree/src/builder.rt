@@ -364,7 +364,7 @@ impl TreeBuilder {
     }
 
     /// Adds an object at the end: enabled, unlocked and with an empty label. It is refused by the first
-    /// row of `AddFault` that applies, and is then unchanged. `NoMemory` comes only where no other does
+    /// variant of `AddFault` that applies, and is then unchanged. `NoMemory` comes only where no other does
     /// and memory was refused.
     pub fn add(&mut self, container: Ono, ono: Ono, spec: &Spec<'_>) -> Result<(), AddFault>
         ensures { Adds result self.old self.new container.0 ono.0 spec.now }

@@ -1,4 +1,4 @@
-use Rattle.std.proofs.Common.{arith, ◌≡◌, sym, ◌∙◌, ap, length, length-take, length-drop}
+use Rattle.std.proofs.Common.{arith, sym, ◌∙◌}
 use Rattle.std.proofs.lemmas.List.{take_rest}
 use Rattle.oca_pdu.proofs.Walking.{pdus_open, Parts, inside_ok, rest_ok, has_content, content_ok, step_behind}
 use Rattle.oca_pdu.proofs.walk.behind.Goals as goal

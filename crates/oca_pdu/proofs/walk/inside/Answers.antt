@@ -1,6 +1,4 @@
-use Rattle.std.proofs.Common.{arith, ◌≡◌, ℕ, List, length, length-take, take}
-use Rattle.std.specs.Int.{w32}
-use Rattle.oca_pdu.specs.Reading.{number_at}
+use Rattle.std.proofs.Common.{arith, length-take}
 use Rattle.oca_pdu.proofs.Walking.{messages_open, step_inside, left_inside}
 use Rattle.oca_pdu.proofs.walk.inside.Goals as goal
 

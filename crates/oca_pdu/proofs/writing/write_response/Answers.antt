@@ -1,4 +1,4 @@
-use Rattle.std.proofs.Common.{arith, ap, sym, ◌∙◌, ◌≤◌, ◌++◌, List, ℕ, length, length-append}
+use Rattle.std.proofs.Common.{arith, ap, ◌∙◌, ◌≤◌, ◌++◌, List, ℕ, length, length-append}
 use Rattle.oca_pdu.specs.Messages.{response_with}
 use Rattle.oca_pdu.proofs.Adding.{adds_response, two_parts}
 use Rattle.oca_pdu.proofs.writing.write_response.Goals as goal

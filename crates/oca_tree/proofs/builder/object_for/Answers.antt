@@ -1,5 +1,5 @@
-use Rattle.std.proofs.Common.{◌≡◌, ◌≤◌, ◌<◌, refl, sym, length, arith, false, true, rules, get_or}
-use Rattle.std.specs.Prelude.{◌==◌, None, nat_lt}
+use Rattle.std.proofs.Common.{◌≡◌, ◌≤◌, ◌<◌, refl, sym, length, arith, false, true}
+use Rattle.std.specs.Prelude.{◌==◌, None}
 use Rattle.oca_tree.specs.declared.object.Object.{Object}
 use Rattle.oca_tree.specs.Building.{is_bad_value, value_of, has_bad_name}
 use Rattle.oca_tree.specs.Places.{places, is_block_at, depth}

@@ -1,5 +1,3 @@
-use Rattle.std.proofs.Common.{ap, sym, ◌∙◌}
-use Rattle.std.specs.Prelude.{Some}
 use Rattle.oca_tree.proofs.Chains.{container_some, container_none}
 use Rattle.oca_tree.proofs.place.container_of.Goals as goal
 

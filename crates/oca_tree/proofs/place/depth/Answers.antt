@@ -1,4 +1,4 @@
-use Rattle.std.proofs.Common.{◌≡◌, ◌+◌, ◌-◌, ◌<◌, length, arith, ap}
+use Rattle.std.proofs.Common.{◌≡◌, ◌-◌, ◌<◌, length, arith, ap}
 use Rattle.oca_tree.specs.Places.{places}
 use Rattle.oca_tree.proofs.Chains.{length_places, depth_more, depth_ends, chain_zero}
 use Rattle.oca_tree.proofs.place.depth.Goals as goal

@@ -13,7 +13,7 @@ pub serve_messages-counts-requires-clause-room : goal.serve_messages-counts-requ
 serve_messages-counts-requires-clause-room c =
     let found = c.in-Ok.ensures.found in
     let few = answers_of_datagram found.0 c.args.bytes.now found.1 in
-    let messages = ap most_answers (c.messages.ensures ∙ found.2) in
+    let messages = ap most_answers (c.messages.ensures.all ∙ found.2) in
     let none = ap length c.requires.empty in
     omega (arith, few, messages, none)
 
@@ -34,4 +34,4 @@ returns-then-admit c = λ w s h.
     taken_whole w c.serve_messages-counts.new.self p c.args.bytes.now ms s c.args.outbox.now c.serve_messages-counts.new.outbox c.serve_messages-counts.result
       c.in-Ok.ensures.reads let_in c.requires.empty
       (subst (λ (xs : List Msg). ServesAll w c.serve_messages-counts.new.self p xs (noted p (Admitted ms) s) c.args.outbox.now c.serve_messages-counts.new.outbox c.serve_messages-counts.result)
-        c.messages.ensures serves)
+        c.messages.ensures.all serves)
