@@ -27,6 +27,7 @@ delivery_of (scripted.Datagram from bytes now) = Datagram from bytes.items now
 delivery_of (scripted.Quiet now) = Quiet now
 delivery_of scripted.Failed = Failed
 
+-- the entries of a script
 abbrev pub deliveries_of : List Scripted → List Delivery
 deliveries_of entries = map delivery_of entries
 
@@ -41,7 +42,14 @@ sent_packets packets = map sent_of packets
 abbrev pub new_memory : List Delivery → ℕ → Option ℕ → MemoryState
 new_memory script room fail_send =
     record {
-      delivered = []; to_come = script; taken = []; room = room; send_number = 0; fail_send = fail_send; closed = false; failures = 0;
+      delivered = [];
+      to_come = script;
+      taken = [];
+      room = room;
+      send_number = 0;
+      fail_send = fail_send;
+      closed = false;
+      failures = 0;
     }
 
 -- how an entry is heard, and what the packet then holds: a datagram of more than 1,472 bytes is oversize
@@ -67,18 +75,32 @@ next_bytes (d ∷ rest) = bytes_of d
 abbrev pub after_next : List Delivery → MemoryState → MemoryState
 after_next [] e =
     record {
-      delivered = e.delivered; to_come = e.to_come; taken = e.taken; room = e.room; send_number = e.send_number;
-      fail_send = e.fail_send; closed = true; failures = e.failures;
+      delivered = e.delivered;
+      to_come = e.to_come;
+      taken = e.taken;
+      room = e.room;
+      send_number = e.send_number;
+      fail_send = e.fail_send;
+      closed = true;
+      failures = e.failures;
     }
 after_next (d ∷ rest) e =
     record {
-      delivered = e.delivered ++ d ∷ []; to_come = rest; taken = e.taken; room = e.room; send_number = e.send_number;
-      fail_send = e.fail_send; closed = e.closed; failures = failures_after (heard_of d) e.failures;
+      delivered = e.delivered ++ d ∷ [];
+      to_come = rest;
+      taken = e.taken;
+      room = e.room;
+      send_number = e.send_number;
+      fail_send = e.fail_send;
+      closed = e.closed;
+      failures = failures_after (heard_of d) e.failures;
     }
 
+-- the end after a receive
 abbrev pub after_receive : MemoryState → MemoryState
 after_receive e = after_next e.to_come e
 
+-- the send number n is the one that fails
 abbrev pub is_number : Option ℕ → ℕ → Bool
 is_number None n = false
 is_number (Some k) n = n == k
@@ -91,6 +113,12 @@ takes e = nat_lt (length e.taken) e.room && not (is_number e.fail_send e.send_nu
 abbrev pub after_send : MemoryState → Peer → List ℕ → MemoryState
 after_send e to bytes =
     record {
-      delivered = e.delivered; to_come = e.to_come; taken = taken_after (takes e) to bytes e.taken; room = e.room;
-      send_number = one_more e.send_number; fail_send = e.fail_send; closed = e.closed; failures = failures_sent (takes e) e.failures;
+      delivered = e.delivered;
+      to_come = e.to_come;
+      taken = taken_after (takes e) to bytes e.taken;
+      room = e.room;
+      send_number = one_more e.send_number;
+      fail_send = e.fail_send;
+      closed = e.closed;
+      failures = failures_sent (takes e) e.failures;
     }
