@@ -5,3 +5,6 @@ pub mod Opened
 pub mod Steps
 pub mod Bounds
 pub mod Turns
+pub mod Joins
+pub mod Histories
+pub mod Answering

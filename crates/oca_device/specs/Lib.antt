@@ -8,3 +8,4 @@ pub mod Serving
 pub mod Reports
 pub mod Replies
 pub mod Totals
+pub mod Laws

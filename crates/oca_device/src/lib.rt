@@ -3,12 +3,14 @@
 
 mod counts;
 mod device;
+mod law;
 mod outbox;
 mod report;
 mod serving;
 mod verdict;
 
 pub use device::Device;
+pub use law::law_of_executions;
 pub use outbox::Outbox;
 pub use report::Report;
 pub use serving::serve;
