@@ -58,22 +58,22 @@ messages_answered w p (Command respond c ∷ ms) s k d =
     let h = c.handle in
     let next = after_command (judged_in w s p h) p c s in
     let Goal : Bool → Bool → Type 0 = λ joined_it in_window.
-          cond respond (answer_to_command (judged_in w s p h) p c s) [] ++ answers_to_messages w p ms next
-          ≡ cond (respond && (joined_it || in_window)) (response_under h (entry_under h (accepted (run p (after_messages w p ms next).notes)))) []
-            ++ answers_from w (accepted (run p (after_messages w p ms next).notes)) (cond joined_it (H ++ h ∷ []) H) ms in
+    cond respond (answer_to_command (judged_in w s p h) p c s) [] ++ answers_to_messages w p ms next
+    ≡ cond (respond && (joined_it || in_window)) (response_under h (entry_under h (accepted (run p (after_messages w p ms next).notes)))) []
+    ++ answers_from w (accepted (run p (after_messages w p ms next).notes)) (cond joined_it (H ++ h ∷ []) H) ms in
     let fresh = fresh_state p c s in
     let d' : accepts w A h ≡ true → IsDistinct nat_eq (executed_handles p fresh.notes) = λ yes_it.
-          subst (λ (x : List ℕ). IsDistinct nat_eq x) (sym (fresh_handles p c s k))
-            (subst (λ (b : Bool). IsDistinct nat_eq (cond b (H ++ h ∷ []) H)) (sym (accepts_joins w A h) ∙ yes_it) (distinct_after w H h d)) in
+    subst (λ (x : List ℕ). IsDistinct nat_eq x) (sym (fresh_handles p c s k))
+    (subst (λ (b : Bool). IsDistinct nat_eq (cond b (H ++ h ∷ []) H)) (sym (accepts_joins w A h) ∙ yes_it) (distinct_after w H h d)) in
     subst (λ (b : Bool). Goal b (list_any (λ x. nat_eq x h) (window w H))) (accepts_joins w A h)
-      (subst (λ (b : Bool). Goal (accepts w A h) b) (sym (window_has w h A))
-        (by_test respond (accepts w A h) (entry_under h (window w A)) (new_where_accepted w A h)
-          (λ e f. found_behind (length A - w) h A e d f)
-          (λ yes_it. messages_answered w p ms fresh (fresh_known p c s) (d' yes_it)
-            ∙ ap (λ x. answers_from w (accepted (run p (after_messages w p ms fresh).notes)) x ms) (fresh_handles p c s k))
-          (messages_answered w p ms s k d)
-          (accepted_grows w p ms fresh (fresh_known p c s))
-          (accepted_grows w p ms s k)))
+    (subst (λ (b : Bool). Goal (accepts w A h) b) (sym (window_has w h A))
+    (by_test respond (accepts w A h) (entry_under h (window w A)) (new_where_accepted w A h)
+    (λ e f. found_behind (length A - w) h A e d f)
+    (λ yes_it. messages_answered w p ms fresh (fresh_known p c s) (d' yes_it)
+    ∙ ap (λ x. answers_from w (accepted (run p (after_messages w p ms fresh).notes)) x ms) (fresh_handles p c s k))
+    (messages_answered w p ms s k d)
+    (accepted_grows w p ms fresh (fresh_known p c s))
+    (accepted_grows w p ms s k)))
   where
     by_test : (r b : Bool) (o : Option Entry) →
         (b ≡ true → list_any (has_handle c.handle) (accepted (run p s.notes)) ≡ false) →
@@ -84,17 +84,17 @@ messages_answered w p (Command respond c ∷ ms) s k d =
         Grows (accepted (run p s.notes)) (accepted (run p (after_messages w p ms s).notes)) →
         cond r (answer_to_command (cond b Fresh (duplicate_or_old o)) p c s) [] ++ answers_to_messages w p ms (after_command (cond b Fresh (duplicate_or_old o)) p c s)
         ≡ cond (r && (b || is_some o)) (response_under c.handle (entry_under c.handle (accepted (run p (after_messages w p ms (after_command (cond b Fresh (duplicate_or_old o)) p c s)).notes)))) []
-          ++ answers_from w (accepted (run p (after_messages w p ms (after_command (cond b Fresh (duplicate_or_old o)) p c s)).notes)) (cond b (executed_handles p s.notes ++ c.handle ∷ []) (executed_handles p s.notes)) ms
+        ++ answers_from w (accepted (run p (after_messages w p ms (after_command (cond b Fresh (duplicate_or_old o)) p c s)).notes)) (cond b (executed_handles p s.notes ++ c.handle ∷ []) (executed_handles p s.notes)) ms
     by_test true true o new behind ih_fresh ih_same g_fresh g_same =
         let there : entry_under c.handle (accepted (run p (fresh_state p c s).notes)) ≡ Some (entry_of p c s) =
-              ap (entry_under c.handle) (fresh_accepted p c s k) ∙ found_last (accepted (run p s.notes)) (entry_of p c s) (new refl) in
+        ap (entry_under c.handle) (fresh_accepted p c s k) ∙ found_last (accepted (run p s.notes)) (entry_of p c s) (new refl) in
         ap (λ xs. response c.handle (reply_of s.tree p c) ∷ [] ++ xs) (ih_fresh refl)
         ∙ ap (λ x. response_under c.handle x ++ answers_from w (accepted (run p (after_messages w p ms (fresh_state p c s)).notes)) (executed_handles p s.notes ++ c.handle ∷ []) ms)
-            (sym (found_later c.handle _ _ (entry_of p c s) g_fresh there))
+        (sym (found_later c.handle _ _ (entry_of p c s) g_fresh there))
     by_test true false (Some e) new behind ih_fresh ih_same g_fresh g_same =
         ap (λ xs. response c.handle e.reply ∷ [] ++ xs) ih_same
         ∙ ap (λ x. response_under c.handle x ++ answers_from w (accepted (run p (after_messages w p ms s).notes)) (executed_handles p s.notes) ms)
-            (sym (found_later c.handle _ _ e g_same (behind e refl)))
+        (sym (found_later c.handle _ _ e g_same (behind e refl)))
     by_test true false None new behind ih_fresh ih_same g_fresh g_same = ih_same
     by_test false true o new behind ih_fresh ih_same g_fresh g_same = ih_fresh refl
     by_test false false (Some e) new behind ih_fresh ih_same g_fresh g_same = ih_same
@@ -103,8 +103,8 @@ messages_answered w p (KeepAlive form ∷ ms) s k d =
     let next = kept_alive p (time_of form) s in
     let same = alive_accepted p (time_of form) s k in
     ap (λ xs. KeepAlive form ∷ xs)
-      (messages_answered w p ms next (alive_known p (time_of form) s) (subst (λ (x : List Entry). IsDistinct nat_eq (handles_of x)) (sym same) d)
-        ∙ ap (λ x. answers_from w (accepted (run p (after_messages w p ms next).notes)) (handles_of x) ms) same)
+    (messages_answered w p ms next (alive_known p (time_of form) s) (subst (λ (x : List Entry). IsDistinct nat_eq (handles_of x)) (sym same) d)
+    ∙ ap (λ x. answers_from w (accepted (run p (after_messages w p ms next).notes)) (handles_of x) ms) same)
 messages_answered w p (Response r ∷ ms) s k d = messages_answered w p ms s k d
 
 -- a datagram
@@ -113,13 +113,14 @@ reading_answered : (w : ℕ) (p : Peer) (r : Result (List Msg) PduFault) (s : St
 reading_answered w p (Err fault) s d = refl
 reading_answered w p (Ok ms) s d =
     by_test (admits s p)
-      (messages_answered w p ms (let_in p ms s) (let_in_known p ms s)
-          (subst (λ (x : List ℕ). IsDistinct nat_eq x) (sym (let_in_handles p ms s)) (distinct_present (is_known s.moment s.notes p)))
-        ∙ ap (λ x. answers_from w (accepted (run p (after_messages w p ms (let_in p ms s)).notes)) x ms) (let_in_handles p ms s))
+    (messages_answered w p ms (let_in p ms s) (let_in_known p ms s)
+    (subst (λ (x : List ℕ). IsDistinct nat_eq x) (sym (let_in_handles p ms s)) (distinct_present (is_known s.moment s.notes p)))
+    ∙ ap (λ x. answers_from w (accepted (run p (after_messages w p ms (let_in p ms s)).notes)) x ms) (let_in_handles p ms s))
   where
     distinct_present : (b : Bool) → IsDistinct nat_eq (cond b (executed_handles p s.notes) [])
     distinct_present true = d
     distinct_present false = distinct_none
+
     by_test : (b : Bool) →
         answers_to_messages w p ms (let_in p ms s) ≡ answers_from w (accepted (run p (after_messages w p ms (let_in p ms s)).notes)) (present_handles s p) ms →
         cond b (answers_to_messages w p ms (let_in p ms s)) []

@@ -44,9 +44,9 @@ changed_both a b c xs ys f g =
     record {
       tree = g.tree ∙ ap (λ t. tree_after t ys) f.tree ∙ sym (tree_both a.tree xs ys);
       executed = g.executed ∙ ap (λ zs. zs ++ executions b.tree ys) f.executed
-        ∙ append_assoc (noted_executions a.notes) (executions a.tree xs) (executions b.tree ys)
-        ∙ ap (λ t. noted_executions a.notes ++ (executions a.tree xs ++ executions t ys)) f.tree
-        ∙ ap (λ zs. noted_executions a.notes ++ zs) (sym (executions_both a.tree xs ys));
+          ∙ append_assoc (noted_executions a.notes) (executions a.tree xs) (executions b.tree ys)
+          ∙ ap (λ t. noted_executions a.notes ++ (executions a.tree xs ++ executions t ys)) f.tree
+          ∙ ap (λ zs. noted_executions a.notes ++ zs) (sym (executions_both a.tree xs ys));
     }
 
 tree_released : (ps : List Peer) (tree : List Object) → released_all ps tree ≡ tree_after tree (map Releases ps)
@@ -118,26 +118,26 @@ messages_changed w p [] s k = not_changed s
 messages_changed w p (Command respond c ∷ ms) s k =
     let A = accepted (run p s.notes) in
     let Goal : Bool → Type 0 = λ b. IsChanged s (after_messages w p ms (after_command (judged_in w s p c.handle) p c s))
-          (map (Executes p) (cond b (c ∷ accepted_among w (executed_handles p s.notes ++ c.handle ∷ []) (commands_in ms)) (accepted_among w (executed_handles p s.notes) (commands_in ms)))) in
+    (map (Executes p) (cond b (c ∷ accepted_among w (executed_handles p s.notes ++ c.handle ∷ []) (commands_in ms)) (accepted_among w (executed_handles p s.notes) (commands_in ms)))) in
     subst Goal (accepts_joins w A c.handle)
-      (by_test (accepts w A c.handle) (entry_under c.handle (window w A))
-        (subst (λ (H : List ℕ). IsChanged (fresh_state p c s) (after_messages w p ms (fresh_state p c s)) (map (Executes p) (accepted_among w H (commands_in ms)))) (fresh_handles p c s k)
-          (messages_changed w p ms (fresh_state p c s) (fresh_known p c s)))
-        (messages_changed w p ms s k))
+    (by_test (accepts w A c.handle) (entry_under c.handle (window w A))
+    (subst (λ (H : List ℕ). IsChanged (fresh_state p c s) (after_messages w p ms (fresh_state p c s)) (map (Executes p) (accepted_among w H (commands_in ms)))) (fresh_handles p c s k)
+    (messages_changed w p ms (fresh_state p c s) (fresh_known p c s)))
+    (messages_changed w p ms s k))
   where
     by_test : (b : Bool) (o : Option Entry) →
         IsChanged (fresh_state p c s) (after_messages w p ms (fresh_state p c s)) (map (Executes p) (accepted_among w (executed_handles p s.notes ++ c.handle ∷ []) (commands_in ms))) →
         IsChanged s (after_messages w p ms s) (map (Executes p) (accepted_among w (executed_handles p s.notes) (commands_in ms))) →
         IsChanged s (after_messages w p ms (after_command (cond b Fresh (duplicate_or_old o)) p c s))
-          (map (Executes p) (cond b (c ∷ accepted_among w (executed_handles p s.notes ++ c.handle ∷ []) (commands_in ms)) (accepted_among w (executed_handles p s.notes) (commands_in ms))))
+        (map (Executes p) (cond b (c ∷ accepted_among w (executed_handles p s.notes ++ c.handle ∷ []) (commands_in ms)) (accepted_among w (executed_handles p s.notes) (commands_in ms))))
     by_test true o fresh same = changed_both s (fresh_state p c s) _ (Executes p c ∷ []) _ (fresh_changed p c s) fresh
     by_test false (Some e) fresh same = same
     by_test false None fresh same = same
 messages_changed w p (KeepAlive form ∷ ms) s k =
     let next = kept_alive p (time_of form) s in
     changed_both s next _ [] _ (note_changed p s (time_of form))
-      (subst (λ (A : List Entry). IsChanged next (after_messages w p ms next) (map (Executes p) (accepted_among w (handles_of A) (commands_in ms)))) (alive_accepted p (time_of form) s k)
-        (messages_changed w p ms next (alive_known p (time_of form) s)))
+    (subst (λ (A : List Entry). IsChanged next (after_messages w p ms next) (map (Executes p) (accepted_among w (handles_of A) (commands_in ms)))) (alive_accepted p (time_of form) s k)
+    (messages_changed w p ms next (alive_known p (time_of form) s)))
 messages_changed w p (Response r ∷ ms) s k = messages_changed w p ms s k
 
 -- The commands' handles join those of the session, in order.
@@ -147,17 +147,17 @@ messages_joined w p [] s k = refl
 messages_joined w p (Command respond c ∷ ms) s k =
     let A = accepted (run p s.notes) in
     let Goal : Bool → Type 0 = λ b. executed_handles p (after_messages w p ms (after_command (judged_in w s p c.handle) p c s)).notes
-          ≡ joined w (cond b (executed_handles p s.notes ++ c.handle ∷ []) (executed_handles p s.notes)) (command_handles ms) in
+    ≡ joined w (cond b (executed_handles p s.notes ++ c.handle ∷ []) (executed_handles p s.notes)) (command_handles ms) in
     subst Goal (accepts_joins w A c.handle)
-      (by_test (accepts w A c.handle) (entry_under c.handle (window w A))
-        (messages_joined w p ms (fresh_state p c s) (fresh_known p c s) ∙ ap (λ H. joined w H (command_handles ms)) (fresh_handles p c s k))
-        (messages_joined w p ms s k))
+    (by_test (accepts w A c.handle) (entry_under c.handle (window w A))
+    (messages_joined w p ms (fresh_state p c s) (fresh_known p c s) ∙ ap (λ H. joined w H (command_handles ms)) (fresh_handles p c s k))
+    (messages_joined w p ms s k))
   where
     by_test : (b : Bool) (o : Option Entry) →
         executed_handles p (after_messages w p ms (fresh_state p c s)).notes ≡ joined w (executed_handles p s.notes ++ c.handle ∷ []) (command_handles ms) →
         executed_handles p (after_messages w p ms s).notes ≡ joined w (executed_handles p s.notes) (command_handles ms) →
         executed_handles p (after_messages w p ms (after_command (cond b Fresh (duplicate_or_old o)) p c s)).notes
-          ≡ joined w (cond b (executed_handles p s.notes ++ c.handle ∷ []) (executed_handles p s.notes)) (command_handles ms)
+        ≡ joined w (cond b (executed_handles p s.notes ++ c.handle ∷ []) (executed_handles p s.notes)) (command_handles ms)
     by_test true o fresh same = fresh
     by_test false (Some e) fresh same = same
     by_test false None fresh same = same
@@ -172,10 +172,10 @@ pub messages_run : (w : ℕ) (p : Peer) (ms : List Msg) (s : State) → is_known
 messages_run w p [] s k = refl
 messages_run w p (Command respond c ∷ ms) s k =
     by_judgement (judged_in w s p c.handle)
-      (messages_run w p ms (fresh_state p c s) (fresh_known p c s)
-        ∙ ap handles_of_run (run_goes_on (note_of p s (Executed s.tree c (reply_of s.tree p c))) s.notes k)
-        ∙ append-nil (handles_of_run (run p s.notes)))
-      (messages_run w p ms s k)
+    (messages_run w p ms (fresh_state p c s) (fresh_known p c s)
+    ∙ ap handles_of_run (run_goes_on (note_of p s (Executed s.tree c (reply_of s.tree p c))) s.notes k)
+    ∙ append-nil (handles_of_run (run p s.notes)))
+    (messages_run w p ms s k)
   where
     by_judgement : (j : Judgement) →
         handles_of_run (run p (after_messages w p ms (fresh_state p c s)).notes) ≡ handles_of_run (run p s.notes) →
@@ -199,8 +199,8 @@ messages_other : (w : ℕ) (p q : Peer) (ms : List Msg) (s : State) → same_pee
 messages_other w p q [] s h = refl
 messages_other w p q (Command respond c ∷ ms) s h =
     by_judgement (judged_in w s p c.handle)
-      (messages_other w p q ms (fresh_state p c s) h ∙ other_note (note_of p s (Executed s.tree c (reply_of s.tree p c))) s.notes q h)
-      (messages_other w p q ms s h)
+    (messages_other w p q ms (fresh_state p c s) h ∙ other_note (note_of p s (Executed s.tree c (reply_of s.tree p c))) s.notes q h)
+    (messages_other w p q ms s h)
   where
     by_judgement : (j : Judgement) →
         notes_of q (after_messages w p ms (fresh_state p c s)).notes ≡ notes_of q s.notes →
@@ -236,9 +236,9 @@ pub reading_changed : (w : ℕ) (p : Peer) (r : Result (List Msg) PduFault) (s :
 reading_changed w p (Err fault) s = not_changed s
 reading_changed w p (Ok ms) s =
     by_test (admits s p)
-      (changed_both s (let_in p ms s) _ [] _ (let_in_changed p ms s)
-        (subst (λ (H : List ℕ). IsChanged (let_in p ms s) (after_messages w p ms (let_in p ms s)) (map (Executes p) (accepted_among w H (commands_in ms)))) (let_in_handles p ms s)
-          (messages_changed w p ms (let_in p ms s) (let_in_known p ms s))))
+    (changed_both s (let_in p ms s) _ [] _ (let_in_changed p ms s)
+    (subst (λ (H : List ℕ). IsChanged (let_in p ms s) (after_messages w p ms (let_in p ms s)) (map (Executes p) (accepted_among w H (commands_in ms)))) (let_in_handles p ms s)
+    (messages_changed w p ms (let_in p ms s) (let_in_known p ms s))))
   where
     by_test : (b : Bool) →
         IsChanged s (after_messages w p ms (let_in p ms s)) (map (Executes p) (accepted_among w (present_handles s p) (commands_in ms))) →
@@ -316,12 +316,13 @@ reading_joined w p (Ok ms) s h q = by_test (admits s p) (by_same (same_peer p q)
     by_same : (b : Bool) → same_peer p q ≡ b → IsJoined w (after_messages w p ms (let_in p ms s)).notes q
     by_same true e =
         subst (λ (x : Peer). IsJoined w (after_messages w p ms (let_in p ms s)).notes x) (same_is p q e)
-          (messages_joined w p ms (let_in p ms s) (let_in_known p ms s)
-            ∙ let_in_joined w p ms s (h p)
-            ∙ ap (joined w []) (sym (messages_run w p ms (let_in p ms s) (let_in_known p ms s))))
+        (messages_joined w p ms (let_in p ms s) (let_in_known p ms s)
+        ∙ let_in_joined w p ms s (h p)
+        ∙ ap (joined w []) (sym (messages_run w p ms (let_in p ms s) (let_in_known p ms s))))
     by_same false e =
         let same = messages_other w p q ms (let_in p ms s) e ∙ other_note (note_of p s (Admitted ms)) s.notes q e in
         ap (λ own. handles_of (accepted (unbroken own))) same ∙ h q ∙ ap (λ own. joined w [] (handles_of_run (unbroken own))) (sym same)
+
     by_test : (b : Bool) → IsJoined w (after_messages w p ms (let_in p ms s)).notes q → IsJoined w (cond b (after_messages w p ms (let_in p ms s)) s).notes q
     by_test true f = f
     by_test false f = h q
@@ -336,4 +337,4 @@ history_joined w tree (Tick now ∷ events) q = history_joined w tree events q
 pub history_once : (w : ℕ) (tree : List Object) (events : List Event) (q : Peer) → IsDistinct nat_eq (executed_handles q (state_after w tree events).notes)
 history_once w tree events q =
     subst (λ (H : List ℕ). IsDistinct nat_eq H) (sym (history_joined w tree events q))
-      (distinct_joined w [] (handles_of_run (run q (state_after w tree events).notes)) distinct_none)
+    (distinct_joined w [] (handles_of_run (run q (state_after w tree events).notes)) distinct_none)

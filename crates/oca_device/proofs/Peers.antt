@@ -48,10 +48,12 @@ in_filtered f p (q ∷ ps) = by_same (same_peer q p) refl (in_filtered f p ps)
         is_in p (cond b (q ∷ filter f ps) (filter f ps)) ≡ (b && true)
     here true s e h = ap (λ x. x || is_in p (filter f ps)) s
     here false s e h = h ∙ ap (λ x. x && is_in p ps) (sym e)
+
     there : (b : Bool) → same_peer q p ≡ false → is_in p (filter f ps) ≡ (f p && is_in p ps) →
         is_in p (cond b (q ∷ filter f ps) (filter f ps)) ≡ (f p && is_in p ps)
     there true s h = ap (λ x. x || is_in p (filter f ps)) s ∙ h
     there false s h = h
+
     by_same : (same : Bool) → same_peer q p ≡ same → is_in p (filter f ps) ≡ (f p && is_in p ps) →
         is_in p (cond (f q) (q ∷ filter f ps) (filter f ps)) ≡ (f p && (same_peer q p || is_in p ps))
     by_same true s h =

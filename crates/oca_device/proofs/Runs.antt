@@ -60,12 +60,15 @@ opened_has (n ∷ ns) p = by_known (is_known n.at ns n.peer) refl (opened_has ns
         is_in p (opened ns) ≡ has_notes (cond b (n ∷ notes_of p ns) (notes_of p ns))
     by_same_known true s k h = h ∙ known_has_notes n.at (notes_of p ns) (ap (is_known n.at ns) (sym (same_is n.peer p s)) ∙ k)
     by_same_known false s k h = h
+
     or_false : (b : Bool) → (b || false) ≡ b
     or_false true = refl
     or_false false = refl
+
     or_true : (b : Bool) → (b || true) ≡ true
     or_true true = refl
     or_true false = refl
+
     by_same_new : (b : Bool) → same_peer n.peer p ≡ b → is_in p (opened ns) ≡ has_notes (notes_of p ns) →
         (is_in p (without n.peer (opened ns)) || (same_peer n.peer p || false)) ≡ has_notes (cond b (n ∷ notes_of p ns) (notes_of p ns))
     by_same_new true s h = ap (λ x. is_in p (without n.peer (opened ns)) || (x || false)) s ∙ or_true (is_in p (without n.peer (opened ns)))
@@ -75,6 +78,7 @@ opened_has (n ∷ ns) p = by_known (is_known n.at ns n.peer) refl (opened_has ns
         ∙ in_filtered (λ q. not (same_peer q n.peer)) p (opened ns)
         ∙ ap (λ x. not x && is_in p (opened ns)) (same_turned p n.peer ∙ s)
         ∙ h
+
     by_known : (b : Bool) → is_known n.at ns n.peer ≡ b → is_in p (opened ns) ≡ has_notes (notes_of p ns) →
         is_in p (cond b (opened ns) (without n.peer (opened ns) ++ n.peer ∷ [])) ≡ has_notes (cond (same_peer n.peer p) (n ∷ notes_of p ns) (notes_of p ns))
     by_known true k h = by_same_known (same_peer n.peer p) refl k h
@@ -116,6 +120,7 @@ known_later m t ns le w = filter_both (λ q. stays t (session_for w ns q)) (is_k
   where
     both_within : (a : ℕ) → (nat_le (m - a) 120000 && nat_le (t - a) 120000) ≡ nat_le (t - a) 120000
     both_within a = grind (arith, nat_tests)
+
     by_notes : (own : List Note) → (is_within m own && nat_le (t - last_moment (unbroken own)) 120000) ≡ is_within t own
     by_notes [] = refl
     by_notes (n ∷ own) = both_within n.at
@@ -124,14 +129,14 @@ known_later m t ns le w = filter_both (λ q. stays t (session_for w ns q)) (is_k
 other_session : (w : ℕ) (n : Note) (ns : List Note) (q : Peer) → same_peer q n.peer ≡ false → session_for w ns q ≡ session_for w (n ∷ ns) q
 other_session w n ns q h =
     ap (λ (own : List Note). let s : Session = record { peer = q; heard = last_moment (unbroken own); heartbeat = heartbeat_of (unbroken own); retained = retained_of w (accepted (unbroken own)) } in s)
-      (sym (other_notes n ns q (same_turned n.peer q ∙ h)))
+    (sym (other_notes n ns q (same_turned n.peer q ∙ h)))
 
 -- The clock moves.
 pub table_moved : (w t : ℕ) (s : State) → s.moment ≤ t → at_with (table_of w s) t (staying t (table_of w s).sessions) ≡ table_of w (moved_to t s)
 table_moved w t s le =
     ap (λ ss. let x : Table = record { window = w; moment = t; sessions = ss } in x)
-      (filter_mapped (stays t) (session_for w s.notes) (known s.moment s.notes)
-        ∙ ap (map (session_for w s.notes)) (known_later s.moment t s.notes le w))
+    (filter_mapped (stays t) (session_for w s.notes) (known s.moment s.notes)
+    ∙ ap (map (session_for w s.notes)) (known_later s.moment t s.notes le w))
 
 pub lapsed_moved : (w t : ℕ) (s : State) → lapsed t (table_of w s).sessions ≡ lapsed_at t s
 lapsed_moved w t s =
@@ -161,7 +166,7 @@ table_opened w s p messages k =
     let ks = known s.moment s.notes in
     let made = session_for w (n ∷ s.notes) in
     let new : table.opened w p s.moment ≡ made p =
-        ap (λ (own : List Note). let x : Session = record { peer = p; heard = last_moment own; heartbeat = heartbeat_of own; retained = retained_of w (accepted own) } in x) (sym (run_begins n s.notes k)) in
+    ap (λ (own : List Note). let x : Session = record { peer = p; heard = last_moment own; heartbeat = heartbeat_of own; retained = retained_of w (accepted own) } in x) (sym (run_begins n s.notes k)) in
     ap (λ x. map (session_for w s.notes) ks ++ x ∷ []) new
     ∙ ap (λ xs. xs ++ made p ∷ []) (made_alike (session_for w s.notes) (λ _. refl) made p (other_session w n s.notes) ks (known_has s.moment s.notes p ∙ k))
     ∙ sym (map_appended made ks (p ∷ []))

@@ -34,9 +34,10 @@ max_above m now = omega arith
 pub clock_moved : (w now : ℕ) (s : State) (old new : Table) (peers : List Peer) → old ≡ table_of w s →
     peers ≡ lapsed (present old now) old.sessions → new ≡ at_with old (present old now) (staying (present old now) old.sessions) →
     (peers ≡ lapsed_at (max s.moment now) s) × (new ≡ table_of w (moved_to (max s.moment now) s))
-clock_moved w now s old new peers was gone is =
-    (gone ∙ ap (λ (t : Table). lapsed (present t now) t.sessions) was ∙ lapsed_moved w (max s.moment now) s,
-     is ∙ ap (λ (t : Table). at_with t (present t now) (staying (present t now) t.sessions)) was ∙ table_moved w (max s.moment now) s (max_above s.moment now))
+clock_moved w now s old new peers was gone is = (
+  gone ∙ ap (λ (t : Table). lapsed (present t now) t.sessions) was ∙ lapsed_moved w (max s.moment now) s,
+  is ∙ ap (λ (t : Table). at_with t (present t now) (staying (present t now) t.sessions)) was ∙ table_moved w (max s.moment now) s (max_above s.moment now),
+)
 
 -- ---- what is known of the peers in the table
 
@@ -52,7 +53,7 @@ none_known false x h = refl
 pub known_there : (w : ℕ) (s : State) (p : Peer) (old : Table) → old ≡ table_of w s → IsSome (session_of p old.sessions) → is_known s.moment s.notes p ≡ true
 known_there w s p old was h =
     some_known (is_known s.moment s.notes p) (session_for w s.notes p)
-      (subst (λ (o : Option Session). IsSome o) (ap (λ (x : Table). session_of p x.sessions) was ∙ session_known w s p) h)
+    (subst (λ (o : Option Session). IsSome o) (ap (λ (x : Table). session_of p x.sessions) was ∙ session_known w s p) h)
 
 new_there : (w : ℕ) (s : State) (p : Peer) (old : Table) → old ≡ table_of w s → session_of p old.sessions ≡ None → is_known s.moment s.notes p ≡ false
 new_there w s p old was h =
@@ -72,7 +73,7 @@ admitted_known : (w : ℕ) (s : State) (p : Peer) (ms : List Msg) → is_known s
 admitted_known w s p ms k =
     let n : Note = record { peer = p; at = s.moment; what = Admitted ms } in
     ap (table_at w s.moment) (table_noted w s p (Admitted ms) (heard_at s.moment) k
-      (ap (λ (own : List Note). session_in w p (last_moment own) own) (sym (run_goes_on n s.notes k))))
+    (ap (λ (own : List Note). session_in w p (last_moment own) own) (sym (run_goes_on n s.notes k))))
 
 admitted_new : (w : ℕ) (s : State) (p : Peer) (ms : List Msg) → is_known s.moment s.notes p ≡ false →
     at_with (table_of w s) s.moment ((table_of w s).sessions ++ opened w p s.moment ∷ []) ≡ table_of w (noted p (Admitted ms) s)
@@ -103,29 +104,32 @@ answers_admitted heard.NoRoom = false
 pub hears_known : (w : ℕ) (s : State) (p : Peer) (t : ℕ) (old new : Table) → old ≡ table_of w s → t ≡ s.moment → Hears p t old heard.Known new →
     (true ≡ admits s p) × ((ms : List Msg) → new ≡ table_of w (noted p (Admitted ms) s))
 hears_known w s p t old new was now h =
-    let k = known_there w s p old was h.0 in
-    (sym (ap (λ b. b || nat_lt (length (known s.moment s.notes)) 16) k),
-     λ ms. h.1 ∙ ap (λ (u : ℕ). at_with old u (changed p (heard_at u) old.sessions)) now
-       ∙ ap (λ (x : Table). at_with x s.moment (changed p (heard_at s.moment) x.sessions)) was
-       ∙ admitted_known w s p ms k)
+    let k = known_there w s p old was h.0 in (
+      sym (ap (λ b. b || nat_lt (length (known s.moment s.notes)) 16) k),
+      λ ms. h.1 ∙ ap (λ (u : ℕ). at_with old u (changed p (heard_at u) old.sessions)) now
+          ∙ ap (λ (x : Table). at_with x s.moment (changed p (heard_at s.moment) x.sessions)) was
+          ∙ admitted_known w s p ms k,
+    )
 
 pub hears_opened : (w : ℕ) (s : State) (p : Peer) (t : ℕ) (old new : Table) → old ≡ table_of w s → t ≡ s.moment → Hears p t old heard.Opened new →
     (true ≡ admits s p) × ((ms : List Msg) → new ≡ table_of w (noted p (Admitted ms) s))
 hears_opened w s p t old new was now h =
     let k = new_there w s p old was h.0 in
-    let few : length (known s.moment s.notes) < 16 = subst (λ (n : ℕ). n < 16) (count_known w s old was) h.1 in
-    (sym (ap (λ b. b || nat_lt (length (known s.moment s.notes)) 16) k ∙ room (length (known s.moment s.notes)) few),
-     λ ms. h.2 ∙ ap (λ (u : ℕ). at_with old u (old.sessions ++ opened old.window p u ∷ [])) now
-       ∙ ap (λ (x : Table). at_with x s.moment (x.sessions ++ opened x.window p s.moment ∷ [])) was
-       ∙ admitted_new w s p ms k)
+    let few : length (known s.moment s.notes) < 16 = subst (λ (n : ℕ). n < 16) (count_known w s old was) h.1 in (
+      sym (ap (λ b. b || nat_lt (length (known s.moment s.notes)) 16) k ∙ room (length (known s.moment s.notes)) few),
+      λ ms. h.2 ∙ ap (λ (u : ℕ). at_with old u (old.sessions ++ opened old.window p u ∷ [])) now
+          ∙ ap (λ (x : Table). at_with x s.moment (x.sessions ++ opened x.window p s.moment ∷ [])) was
+          ∙ admitted_new w s p ms k,
+    )
 
 pub hears_no_room : (w : ℕ) (s : State) (p : Peer) (t : ℕ) (old new : Table) → old ≡ table_of w s → t ≡ s.moment → Hears p t old heard.NoRoom new →
     (false ≡ admits s p) × (new ≡ table_of w s)
 hears_no_room w s p t old new was now h =
     let k = new_there w s p old was h.0 in
-    let many : 16 ≤ length (known s.moment s.notes) = subst (λ (n : ℕ). 16 ≤ n) (count_known w s old was) h.1 in
-    (sym (ap (λ b. b || nat_lt (length (known s.moment s.notes)) 16) k ∙ no_room (length (known s.moment s.notes)) many),
-     h.2 ∙ ap (λ (u : ℕ). at_with old u old.sessions) now ∙ ap (λ (x : Table). at_with x s.moment x.sessions) was)
+    let many : 16 ≤ length (known s.moment s.notes) = subst (λ (n : ℕ). 16 ≤ n) (count_known w s old was) h.1 in (
+      sym (ap (λ b. b || nat_lt (length (known s.moment s.notes)) 16) k ∙ no_room (length (known s.moment s.notes)) many),
+      h.2 ∙ ap (λ (u : ℕ). at_with old u old.sessions) now ∙ ap (λ (x : Table). at_with x s.moment x.sessions) was,
+    )
 
 -- a peer that was let in has the present moment as its last, and is known
 pub admitted_now : (s : State) (p : Peer) (ms : List Msg) → last_moment (run p (noted p (Admitted ms) s).notes) ≡ s.moment
@@ -144,9 +148,9 @@ heartbeat_there w ms s p old new was k now is =
     let n : Note = record { peer = p; at = s.moment; what = Heartbeat ms } in
     let own = run p s.notes in
     is ∙ ap (λ (x : Table). with_sessions x (changed p (with_heartbeat ms) x.sessions)) was
-      ∙ ap (table_at w s.moment) (table_noted w s p (Heartbeat ms) (with_heartbeat ms) k
-          (ap (λ (t : ℕ). let x : Session = record { peer = p; heard = t; heartbeat = max 250 (min ms 30000); retained = retained_of w (accepted own) } in x) now
-            ∙ ap (λ (run_now : List Note). session_in w p (last_moment run_now) run_now) (sym (run_goes_on n s.notes k))))
+    ∙ ap (table_at w s.moment) (table_noted w s p (Heartbeat ms) (with_heartbeat ms) k
+    (ap (λ (t : ℕ). let x : Session = record { peer = p; heard = t; heartbeat = max 250 (min ms 30000); retained = retained_of w (accepted own) } in x) now
+    ∙ ap (λ (run_now : List Note). session_in w p (last_moment run_now) run_now) (sym (run_goes_on n s.notes k))))
 
 -- a command was executed, and its reply kept
 pub executed_there : (w : ℕ) (s : State) (p : Peer) (what : What) (e : Entry) (old new : Table) → old ≡ table_of w s → is_known s.moment s.notes p ≡ true → last_moment (run p s.notes) ≡ s.moment →
@@ -156,11 +160,11 @@ executed_there w s p what e old new was k now says is =
     let n : Note = record { peer = p; at = s.moment; what = what } in
     let own = run p s.notes in
     is ∙ ap (λ (x : Table). with_sessions x (changed p (with_accepted w (accepted own ++ e ∷ [])) x.sessions)) was
-      ∙ ap (table_at w s.moment) (table_noted w s p what (with_accepted w (accepted own ++ e ∷ [])) k
-          (ap (λ (t : ℕ). let x : Session = record { peer = p; heard = t; heartbeat = heartbeat_of own; retained = retained_of w (accepted own ++ e ∷ []) } in x) now
-            ∙ ap (λ (h : ℕ). let x : Session = record { peer = p; heard = s.moment; heartbeat = h; retained = retained_of w (accepted own ++ e ∷ []) } in x) (sym (says own s.moment).0)
-            ∙ ap (λ (A : List Entry). let x : Session = record { peer = p; heard = s.moment; heartbeat = heartbeat_of (n ∷ own); retained = retained_of w A } in x) (sym (says own s.moment).1)
-            ∙ ap (λ (run_now : List Note). session_in w p (last_moment run_now) run_now) (sym (run_goes_on n s.notes k))))
+    ∙ ap (table_at w s.moment) (table_noted w s p what (with_accepted w (accepted own ++ e ∷ [])) k
+    (ap (λ (t : ℕ). let x : Session = record { peer = p; heard = t; heartbeat = heartbeat_of own; retained = retained_of w (accepted own ++ e ∷ []) } in x) now
+    ∙ ap (λ (h : ℕ). let x : Session = record { peer = p; heard = s.moment; heartbeat = h; retained = retained_of w (accepted own ++ e ∷ []) } in x) (sym (says own s.moment).0)
+    ∙ ap (λ (A : List Entry). let x : Session = record { peer = p; heard = s.moment; heartbeat = heartbeat_of (n ∷ own); retained = retained_of w A } in x) (sym (says own s.moment).1)
+    ∙ ap (λ (run_now : List Note). session_in w p (last_moment run_now) run_now) (sym (run_goes_on n s.notes k))))
 
 -- ---- several messages are served
 
@@ -221,16 +225,16 @@ one_further w p d d' m rest rest' ms s before out out' n k h step has t =
       now = message_now w h.mid p m known h.now;
       state_is = sym (ap (λ xs. after_messages w p xs h.mid) step) ∙ h.state_is;
       packets_are =
-        ap (λ xs. xs ++ packets_of (answers_to_messages w p rest' next)) t.packets
-        ∙ append_assoc out (packets_of (answer_to w p m h.mid)) (packets_of (answers_to_messages w p rest' next))
-        ∙ ap (λ xs. out ++ xs) (sym (map-append packet_of (answer_to w p m h.mid) (answers_to_messages w p rest' next)))
-        ∙ sym (ap (λ xs. out ++ packets_of (answers_to_messages w p xs h.mid)) step)
-        ∙ h.packets_are;
+          ap (λ xs. xs ++ packets_of (answers_to_messages w p rest' next)) t.packets
+          ∙ append_assoc out (packets_of (answer_to w p m h.mid)) (packets_of (answers_to_messages w p rest' next))
+          ∙ ap (λ xs. out ++ xs) (sym (map-append packet_of (answer_to w p m h.mid) (answers_to_messages w p rest' next)))
+          ∙ sym (ap (λ xs. out ++ packets_of (answers_to_messages w p xs h.mid)) step)
+          ∙ h.packets_are;
       counts_are =
-        ap (λ x. plus (plus n x) (counts_of_messages w p rest' next)) t.counts
-        ∙ sym (plus_assoc n (count_of w p m h.mid) (counts_of_messages w p rest' next))
-        ∙ sym (ap (λ xs. plus n (counts_of_messages w p xs h.mid)) step)
-        ∙ h.counts_are;
+          ap (λ x. plus (plus n x) (counts_of_messages w p rest' next)) t.counts
+          ∙ sym (plus_assoc n (count_of w p m h.mid) (counts_of_messages w p rest' next))
+          ∙ sym (ap (λ xs. plus n (counts_of_messages w p xs h.mid)) step)
+          ∙ h.counts_are;
     }
 
 -- ---- a datagram is taken
@@ -243,11 +247,11 @@ pub refused_whole : (w : ℕ) (d : DeviceState) (p : Peer) (bytes : List ℕ) (m
 refused_whole w d p bytes ms s after reads out h none =
     record {
       device = subst (λ (r : Result (List Msg) PduFault). IsIn w d (after_reading w p r s)) (sym reads)
-        (subst (λ (b : Bool). IsIn w d (cond b (after_messages w p ms (admitted_state p ms s)) s)) (sym out) h);
+          (subst (λ (b : Bool). IsIn w d (cond b (after_messages w p ms (admitted_state p ms s)) s)) (sym out) h);
       packets = none ∙ sym (ap packets_of (ap (λ (r : Result (List Msg) PduFault). answers_to_reading w p r s) reads
-        ∙ ap (λ (b : Bool). cond b (answers_to_messages w p ms (admitted_state p ms s)) []) out));
+          ∙ ap (λ (b : Bool). cond b (answers_to_messages w p ms (admitted_state p ms s)) []) out));
       verdict_is = sym (ap (λ (r : Result (List Msg) PduFault). verdict_of_reading w p r s) reads
-        ∙ ap (λ (b : Bool). cond b (served (counts_of_messages w p ms (admitted_state p ms s))) verdicts.NoRoom) out);
+          ∙ ap (λ (b : Bool). cond b (served (counts_of_messages w p ms (admitted_state p ms s))) verdicts.NoRoom) out);
     }
 
 pub taken_whole : (w : ℕ) (d : DeviceState) (p : Peer) (bytes : List ℕ) (ms : List Msg) (s : State) (before after : List (List ℕ)) (n : Counts) →
@@ -257,10 +261,10 @@ taken_whole w d p bytes ms s before after n reads let_in none t =
     let all = admitted_state p ms s in
     record {
       device = subst (λ (r : Result (List Msg) PduFault). IsIn w d (after_reading w p r s)) (sym reads)
-        (subst (λ (b : Bool). IsIn w d (cond b (after_messages w p ms all) s)) (sym let_in) t.device);
+          (subst (λ (b : Bool). IsIn w d (cond b (after_messages w p ms all) s)) (sym let_in) t.device);
       packets = t.packets ∙ ap (λ xs. xs ++ packets_of (answers_to_messages w p ms all)) none
-        ∙ sym (ap packets_of (ap (λ (r : Result (List Msg) PduFault). answers_to_reading w p r s) reads
-        ∙ ap (λ (b : Bool). cond b (answers_to_messages w p ms all) []) let_in));
+          ∙ sym (ap packets_of (ap (λ (r : Result (List Msg) PduFault). answers_to_reading w p r s) reads
+          ∙ ap (λ (b : Bool). cond b (answers_to_messages w p ms all) []) let_in));
       verdict_is = ap served t.counts ∙ sym (ap (λ (r : Result (List Msg) PduFault). verdict_of_reading w p r s) reads
-        ∙ ap (λ (b : Bool). cond b (served (counts_of_messages w p ms all)) verdicts.NoRoom) let_in);
+          ∙ ap (λ (b : Bool). cond b (served (counts_of_messages w p ms all)) verdicts.NoRoom) let_in);
     }

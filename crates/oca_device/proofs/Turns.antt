@@ -109,8 +109,8 @@ one_delivery x old new delivered delivered' took took' r grew turns represents r
       represents = represents;
       replied = λ w tree events h. subst (λ (xs : List Sent). TakesReplies r.failed_sends took took' xs) (sym (append-nil (replies_to w tree events x))) (replied w tree events h);
       reported = λ w tree events h.
-        reported w tree events h
-        ∙ ap (λ (q : Report). let z : Report = record q { failed_sends = r.failed_sends } in z) (sym (added_none (turn_report w tree events x)));
+          reported w tree events h
+          ∙ ap (λ (q : Report). let z : Report = record q { failed_sends = r.failed_sends } in z) (sym (added_none (turn_report w tree events x)));
     }
 
 pub one_more_turn : (a b c : DeviceState) (d1 d2 d3 : List Delivery) (t1 t2 t3 : List Sent) (r s : Report) →
@@ -121,22 +121,22 @@ one_more_turn a b c d1 d2 d3 t1 t2 t3 r s f g =
       grew = g.grew ∙ ap (λ xs. xs ++ g.deliveries) f.grew ∙ append_assoc d1 f.deliveries g.deliveries;
       turns = omega (arith, f.turns, g.turns, length-append f.deliveries g.deliveries);
       represents = λ w tree events h.
-        subst (λ (es : List Event). Represents w c tree es) (sym (later_events f.deliveries g.deliveries events))
+          subst (λ (es : List Event). Represents w c tree es) (sym (later_events f.deliveries g.deliveries events))
           (g.represents w tree (events_after_all f.deliveries events) (f.represents w tree events h));
       replied = λ w tree events h.
-        let x = f.replied w tree events h in
-        let y = g.replied w tree (events_after_all f.deliveries events) (f.represents w tree events h) in
-        record {
-          sent = x.sent ++ y.sent;
-          grew = y.grew ∙ ap (λ xs. xs ++ y.sent) x.grew ∙ append_assoc t1 x.sent y.sent;
-          part = subst (λ (xs : List Sent). Lacks (r.failed_sends + s.failed_sends) (x.sent ++ y.sent) xs) (sym (later_replies w tree f.deliveries g.deliveries events))
-            (lacks_both r.failed_sends s.failed_sends _ _ _ _ x.part y.part);
-        };
+          let x = f.replied w tree events h in
+          let y = g.replied w tree (events_after_all f.deliveries events) (f.represents w tree events h) in
+          record {
+            sent = x.sent ++ y.sent;
+            grew = y.grew ∙ ap (λ xs. xs ++ y.sent) x.grew ∙ append_assoc t1 x.sent y.sent;
+            part = subst (λ (xs : List Sent). Lacks (r.failed_sends + s.failed_sends) (x.sent ++ y.sent) xs) (sym (later_replies w tree f.deliveries g.deliveries events))
+                (lacks_both r.failed_sends s.failed_sends _ _ _ _ x.part y.part);
+          };
       reported = λ w tree events h.
-        let x = f.reported w tree events h in
-        let y = g.reported w tree (events_after_all f.deliveries events) (f.represents w tree events h) in
-        let k = r.failed_sends + s.failed_sends in
-        ap (λ q. added q s) x ∙ ap (added (record (report_of w tree events f.deliveries) { failed_sends = r.failed_sends })) y
+          let x = f.reported w tree events h in
+          let y = g.reported w tree (events_after_all f.deliveries events) (f.represents w tree events h) in
+          let k = r.failed_sends + s.failed_sends in
+          ap (λ q. added q s) x ∙ ap (added (record (report_of w tree events f.deliveries) { failed_sends = r.failed_sends })) y
           ∙ ap (λ (q : Report). let z : Report = record q { failed_sends = k } in z) (sym (later_reports w tree f.deliveries g.deliveries events));
     }
 
@@ -144,8 +144,8 @@ pub unchanged_after : (a b c : DeviceState) (d1 d2 d3 : List Delivery) (t1 t2 t3
     ServesDeliveries a b d1 d2 t1 t2 r → IsUnchanged b c d2 d3 t2 t3 → ServesDeliveries a c d1 d3 t1 t3 r
 unchanged_after a b c d1 d2 d3 t1 t2 t3 r f u =
     subst (λ (x : DeviceState). ServesDeliveries a x d1 d3 t1 t3 r) (sym u.device)
-      (subst (λ (x : List Delivery). ServesDeliveries a b d1 x t1 t3 r) (sym u.delivered_is)
-        (subst (λ (x : List Sent). ServesDeliveries a b d1 d2 t1 x r) (sym u.taken_is) f))
+    (subst (λ (x : List Delivery). ServesDeliveries a b d1 x t1 t3 r) (sym u.delivered_is)
+    (subst (λ (x : List Sent). ServesDeliveries a b d1 d2 t1 x r) (sym u.taken_is) f))
 
 -- ---- the packets of one datagram are sent
 
@@ -229,8 +229,8 @@ module _ (old new : DeviceState) (delivered delivered' : List Delivery) (took to
       ServesDeliveries old new delivered delivered' took took' r
   quiet_turn now grew same e h =
       one_delivery (Quiet now) old new delivered delivered' took took' r grew (ap (λ (q : Report). q.turns) e) h
-        (λ w tree events _. no_replies r.failed_sends took took' [] (ap (λ (q : Report). q.failed_sends) e) same refl)
-        (λ w tree events _. but_for_failed_sends r (record one_turn { quiet = 1 }) e)
+      (λ w tree events _. no_replies r.failed_sends took took' [] (ap (λ (q : Report). q.failed_sends) e) same refl)
+      (λ w tree events _. but_for_failed_sends r (record one_turn { quiet = 1 }) e)
 
   pub oversize_turn : (from : Peer) (long : List ℕ) (now : ℕ) → 1472 < length long → delivered' ≡ delivered ++ Datagram from long now ∷ [] → took' ≡ took → r ≡ record one_turn { oversize = 1 } →
       ((w : ℕ) (tree : List Object) (events : List Event) → Represents w old tree events → Represents w new tree (event.Tick now ∷ events)) →
@@ -238,19 +238,19 @@ module _ (old new : DeviceState) (delivered delivered' : List Delivery) (took to
   oversize_turn from long now above grew same e h =
       let no_datagram = beyond (length long) above in
       one_delivery (Datagram from long now) old new delivered delivered' took took' r grew (ap (λ (q : Report). q.turns) e)
-        (λ w tree events rep. subst (λ (b : Bool). Represents w new tree (cond b (event.Datagram from long now ∷ events) (event.Tick now ∷ events))) (sym no_datagram) (h w tree events rep))
-        (λ w tree events _. no_replies r.failed_sends took took' _ (ap (λ (q : Report). q.failed_sends) e) same
-          (ap (λ b. cond b (sent_to from (packets w tree events (event.Datagram from long now))) []) no_datagram))
-        (λ w tree events _. but_for_failed_sends r (turn_report w tree events (Datagram from long now))
-          (e ∙ sym (ap (λ b. cond b (verdict_turn (verdict w tree events from long now)) (record one_turn { oversize = 1 })) no_datagram)))
+      (λ w tree events rep. subst (λ (b : Bool). Represents w new tree (cond b (event.Datagram from long now ∷ events) (event.Tick now ∷ events))) (sym no_datagram) (h w tree events rep))
+      (λ w tree events _. no_replies r.failed_sends took took' _ (ap (λ (q : Report). q.failed_sends) e) same
+      (ap (λ b. cond b (sent_to from (packets w tree events (event.Datagram from long now))) []) no_datagram))
+      (λ w tree events _. but_for_failed_sends r (turn_report w tree events (Datagram from long now))
+      (e ∙ sym (ap (λ b. cond b (verdict_turn (verdict w tree events from long now)) (record one_turn { oversize = 1 })) no_datagram)))
 
   pub failed_turn : delivered' ≡ delivered ++ Failed ∷ [] → took' ≡ took → r ≡ record one_turn { failed_receives = 1 } → new ≡ old →
       ServesDeliveries old new delivered delivered' took took' r
   failed_turn grew same e h =
       one_delivery Failed old new delivered delivered' took took' r grew (ap (λ (q : Report). q.turns) e)
-        (λ w tree events rep. subst (λ (d : DeviceState). Represents w d tree events) (sym h) rep)
-        (λ w tree events _. no_replies r.failed_sends took took' [] (ap (λ (q : Report). q.failed_sends) e) same refl)
-        (λ w tree events _. but_for_failed_sends r (record one_turn { failed_receives = 1 }) e)
+      (λ w tree events rep. subst (λ (d : DeviceState). Represents w d tree events) (sym h) rep)
+      (λ w tree events _. no_replies r.failed_sends took took' [] (ap (λ (q : Report). q.failed_sends) e) same refl)
+      (λ w tree events _. but_for_failed_sends r (record one_turn { failed_receives = 1 }) e)
 
   pub datagram_turn : (from : Peer) (bytes : List ℕ) (now : ℕ) (v : Verdict) (out : List (List ℕ)) (q : Report) → length bytes ≤ 1472 → delivered' ≡ delivered ++ Datagram from bytes now ∷ [] →
       r ≡ record q { failed_sends = r.failed_sends } → q ≡ verdict_turn v → q.turns ≡ 1 →
@@ -262,12 +262,12 @@ module _ (old new : DeviceState) (delivered delivered' : List Delivery) (took to
   datagram_turn from bytes now v out q short grew e f one represents packets_are verdict_is sent =
       let fits = within (length bytes) short in
       one_delivery (Datagram from bytes now) old new delivered delivered' took took' r grew (ap (λ (x : Report). x.turns) e ∙ one)
-        (λ w tree events rep. subst (λ (b : Bool). Represents w new tree (cond b (event.Datagram from bytes now ∷ events) (event.Tick now ∷ events))) (sym fits) (represents w tree events rep))
-        (λ w tree events rep. subst (λ (xs : List Sent). TakesReplies r.failed_sends took took' xs)
-          (ap (sent_to from) (packets_are w tree events rep) ∙ sym (ap (λ b. cond b (sent_to from (packets w tree events (event.Datagram from bytes now))) []) fits)) sent)
-        (λ w tree events rep. e ∙ ap (λ (x : Report). let y : Report = record x { failed_sends = r.failed_sends } in y)
-          (f ∙ ap verdict_turn (verdict_is w tree events rep)
-            ∙ sym (ap (λ b. cond b (verdict_turn (verdict w tree events from bytes now)) (record one_turn { oversize = 1 })) fits)))
+      (λ w tree events rep. subst (λ (b : Bool). Represents w new tree (cond b (event.Datagram from bytes now ∷ events) (event.Tick now ∷ events))) (sym fits) (represents w tree events rep))
+      (λ w tree events rep. subst (λ (xs : List Sent). TakesReplies r.failed_sends took took' xs)
+      (ap (sent_to from) (packets_are w tree events rep) ∙ sym (ap (λ b. cond b (sent_to from (packets w tree events (event.Datagram from bytes now))) []) fits)) sent)
+      (λ w tree events rep. e ∙ ap (λ (x : Report). let y : Report = record x { failed_sends = r.failed_sends } in y)
+      (f ∙ ap verdict_turn (verdict_is w tree events rep)
+      ∙ sym (ap (λ b. cond b (verdict_turn (verdict w tree events from bytes now)) (record one_turn { oversize = 1 })) fits)))
 
 -- ---- counts of failures, short of their last value
 

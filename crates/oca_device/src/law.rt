@@ -8,5 +8,4 @@ ghost use Rattle.oca_device.specs.Laws.{EveryHistoryIsLawful, EveryDatagramIsAns
 pub fn law_of_executions()
     ensures lawful { EveryHistoryIsLawful }
     ensures answered { EveryDatagramIsAnsweredByExecutions }
-{
-}
+{}

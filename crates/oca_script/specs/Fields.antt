@@ -68,7 +68,7 @@ peer_of text =
     then_in (number_of 3 255 r.0) (λ c.
     then_in (number_of 3 255 s.0) (λ d.
     then_in (number_of 5 65535 s.1) (λ port.
-      Some (record { ip = ((a * 256 + b) * 256 + c) * 256 + d; port = port }))))))))))
+    Some (record { ip = ((a * 256 + b) * 256 + c) * 256 + d; port = port }))))))))))
 
 -- ---- bytes
 

@@ -50,7 +50,11 @@ fn line_asks(line: &[u8]) -> Result<bool, LineFault>
     if is_skipped(line) {
         return Ok(false);
     }
-    if is_ascii(line) { Ok(true) } else { Err(LineFault::Form) }
+    if is_ascii(line) {
+        Ok(true)
+    } else {
+        Err(LineFault::Form)
+    }
 }
 
 /// Serves a line that asks for something.
@@ -246,7 +250,11 @@ fn read_script<L: Language, R: Read, W: Write>(
 }
 
 /// The next bytes, and none only at the end.
-fn read_piece<'a, R: Read>(reader: &mut R, buffer: &'a mut [u8], most: usize) -> Result<&'a [u8], ReplayFault>
+fn read_piece<'a, R: Read>(
+    reader: &mut R,
+    buffer: &'a mut [u8],
+    most: usize,
+) -> Result<&'a [u8], ReplayFault>
     requires some { 0 < most }
     requires within { most ≤ length buffer.old }
     ensures consumes { IfOk result (λ piece. Consumes (R.remaining reader.old) (R.remaining reader.new) piece.now) }

@@ -22,6 +22,7 @@ pub struct DeviceScript;
 
 impl Language for DeviceScript {
     type State = Device;
+
     type Room = Outbox;
 
     ghost Request = { Event };
@@ -64,7 +65,9 @@ fn serve<W: Write>(
             device.tick(now);
             print(pending, writer, b"quiet\n")
         }
-        Request::Datagram { now, from, bytes } => datagram(device, outbox, from, bytes, now, pending, writer),
+        Request::Datagram { now, from, bytes } => datagram(
+            device, outbox, from, bytes, now, pending, writer,
+        ),
     }
 }
 
@@ -88,7 +91,11 @@ fn datagram<W: Write>(
 }
 
 /// Prints what became of a datagram.
-fn print_verdict<W: Write>(verdict: Verdict, pending: &mut Pending, writer: &mut W) -> Result<(), WriteFailed>
+fn print_verdict<W: Write>(
+    verdict: Verdict,
+    pending: &mut Pending,
+    writer: &mut W,
+) -> Result<(), WriteFailed>
     ensures { Prints result (W.contents writer.old) pending.old.items (W.contents writer.new) pending.new.items
         (verdict_text verdict) }
 {
@@ -98,7 +105,11 @@ fn print_verdict<W: Write>(verdict: Verdict, pending: &mut Pending, writer: &mut
 }
 
 /// Prints a packet.
-fn print_packet<W: Write>(packet: &[u8], pending: &mut Pending, writer: &mut W) -> Result<(), WriteFailed>
+fn print_packet<W: Write>(
+    packet: &[u8],
+    pending: &mut Pending,
+    writer: &mut W,
+) -> Result<(), WriteFailed>
     requires { length packet.now ≤ 1472 }
     ensures { Prints result (W.contents writer.old) pending.old.items (W.contents writer.new) pending.new.items
         (packet_text packet.now) }
@@ -109,7 +120,11 @@ fn print_packet<W: Write>(packet: &[u8], pending: &mut Pending, writer: &mut W) 
 }
 
 /// Prints each packet.
-fn print_packets<W: Write>(outbox: &Outbox, pending: &mut Pending, writer: &mut W) -> Result<(), WriteFailed>
+fn print_packets<W: Write>(
+    outbox: &Outbox,
+    pending: &mut Pending,
+    writer: &mut W,
+) -> Result<(), WriteFailed>
     ensures { Prints result (W.contents writer.old) pending.old.items (W.contents writer.new) pending.new.items
         (flat_map packet_text outbox.now) }
 {
@@ -136,18 +151,14 @@ pub fn replay<R: Read, W: Write>(
     writer: &mut W,
 ) -> Result<(), ReplayFault>
     // Where the bytes that the reader had are known, their script was replayed.
-    ensures known {
-        (w : ℕ) (tree : List Object) (events : List Event) → Represents w device.old tree events →
+    ensures known { (w : ℕ) (tree : List Object) (events : List Event) → Represents w device.old tree events →
         IfSome (R.remaining reader.old) (λ given.
-            Replays w tree events device.new (W.contents writer.old) (W.contents writer.new) result given)
-    }
+        Replays w tree events device.new (W.contents writer.old) (W.contents writer.new) result given) }
     // Whatever reader: there are bytes, those that it gave where it tells them, and the rest of what it had, and their script was
     // replayed.
-    ensures reads {
-        (w : ℕ) (tree : List Object) (events : List Event) → Represents w device.old tree events →
+    ensures reads { (w : ℕ) (tree : List Object) (events : List Event) → Represents w device.old tree events →
         Outcome w tree events device.new (W.contents writer.old) (W.contents writer.new)
-            (R.remaining reader.old) (R.remaining reader.new) result
-    }
+        (R.remaining reader.old) (R.remaining reader.new) result }
 {
     oca_script::replay::replay::<DeviceScript, R, W>(device, outbox, reader, writer)
 }

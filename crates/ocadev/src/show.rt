@@ -19,7 +19,11 @@ pub fn show<W: Write>(tree: &Tree, writer: &mut W) -> Result<(), WriteFailed> {
     flush(&mut pending, writer)
 }
 
-fn print_object<W: Write>(object: &ObjectInfo, pending: &mut Pending, writer: &mut W) -> Result<(), WriteFailed> {
+fn print_object<W: Write>(
+    object: &ObjectInfo,
+    pending: &mut Pending,
+    writer: &mut W,
+) -> Result<(), WriteFailed> {
     print_number(object.ono.0, pending, writer)?;
     let mut before: &[u8] = b" ";
     for field in class_fields(object.class).as_slice() {
@@ -34,7 +38,11 @@ fn print_object<W: Write>(object: &ObjectInfo, pending: &mut Pending, writer: &m
     print(pending, writer, b"\n")
 }
 
-fn print_number<W: Write>(n: u32, pending: &mut Pending, writer: &mut W) -> Result<(), WriteFailed> {
+fn print_number<W: Write>(
+    n: u32,
+    pending: &mut Pending,
+    writer: &mut W,
+) -> Result<(), WriteFailed> {
     make_room(pending, writer, 20)?;
     put_number(pending, n as u64);
     Ok(())

@@ -13,7 +13,7 @@ loop-turn-init g c =
       empty = c.clear.ensures;
       telling = refl;
       served = λ _. subst (λ (r : Report). ServesDeliveries c.args.device.now c.args.device.now delivered delivered taken taken r) (sym c.nothing-report.ensures)
-        (no_deliveries c.args.device.now delivered taken);
+          (no_deliveries c.args.device.now delivered taken);
       turns = ap (λ (r : Report). r.turns) c.nothing-report.ensures;
       within = none_within c.nothing-report.result _ c.nothing-report.ensures;
       failures = λ _. sym (ap (λ (r : Report). g.E.End.failures c.args.end.now + (r.failed_receives + r.failed_sends)) c.nothing-report.ensures ∙ plus_nothing (g.E.End.failures c.args.end.now));
@@ -34,12 +34,12 @@ loop-turn-preserved g c =
       empty = one.outbox;
       telling = one.telling ∙ inv.telling;
       served = λ h. subst (λ (r : Report). ServesDeliveries c.args.device.now c.take_turn.new.device delivered delivered' taken taken' r) (sym c.sum-report.ensures)
-        (one_more_turn c.args.device.now c.loop-turn.device c.take_turn.new.device delivered (g.E.End.delivered c.loop-turn.end) delivered' taken (g.E.End.taken c.loop-turn.end) taken'
+          (one_more_turn c.args.device.now c.loop-turn.device c.take_turn.new.device delivered (g.E.End.delivered c.loop-turn.end) delivered' taken (g.E.End.taken c.loop-turn.end) taken'
           c.loop-turn.report c.in-Some.turn (inv.served h) (one.turn (inv.telling ∙ h)));
       turns = ap (λ (r : Report). r.turns) c.sum-report.ensures ∙ ap (λ (n : ℕ). n + c.in-Some.turn.turns) inv.turns ∙ ap (λ (n : ℕ). c.loop-turn._turn + n) one.one;
       within = more_within _ 4294967295 _ c.loop-turn.report c.in-Some.turn c.sum-report.result c.sum-report.ensures inv.within one.fits (omega arith);
       failures = λ below.
-        failures_so_far (g.E.End.failures c.args.end.now) (g.E.End.failures c.loop-turn.end) (g.E.End.failures c.take_turn.new.end)
+          failures_so_far (g.E.End.failures c.args.end.now) (g.E.End.failures c.loop-turn.end) (g.E.End.failures c.take_turn.new.end)
           c.loop-turn.report.failed_receives c.loop-turn.report.failed_sends c.in-Some.turn.failed_receives c.in-Some.turn.failed_sends inv.failures one.failed below
-        ∙ sym (ap (λ (r : Report). g.E.End.failures c.args.end.now + (r.failed_receives + r.failed_sends)) c.sum-report.ensures);
+          ∙ sym (ap (λ (r : Report). g.E.End.failures c.args.end.now + (r.failed_receives + r.failed_sends)) c.sum-report.ensures);
     }

@@ -7,12 +7,12 @@ use Rattle.oca_device.proofs.serving.serve.Given as goal
 
 abbrev pub invariant-loop-turn : goal.invariant-loop-turn
 invariant-loop-turn g l = record {
-    empty : l.outbox ≡ [];
-    telling : g.E.End.tells l.end ≡ g.E.End.tells l.fn.end;
-    served : IsTrue (g.E.End.tells l.fn.end) →
+  empty : l.outbox ≡ [];
+  telling : g.E.End.tells l.end ≡ g.E.End.tells l.fn.end;
+  served : IsTrue (g.E.End.tells l.fn.end) →
       ServesDeliveries l.fn.device l.device (g.E.End.delivered l.fn.end) (g.E.End.delivered l.end) (g.E.End.taken l.fn.end) (g.E.End.taken l.end) l.report;
-    turns : l.report.turns ≡ l._turn;
-    within : IsWithin (l._turn * 4294967295) l.report;
-    failures : g.E.End.failures l.end < last_u64 →
+  turns : l.report.turns ≡ l._turn;
+  within : IsWithin (l._turn * 4294967295) l.report;
+  failures : g.E.End.failures l.end < last_u64 →
       g.E.End.failures l.end ≡ g.E.End.failures l.fn.end + (l.report.failed_receives + l.report.failed_sends);
-  }
+}

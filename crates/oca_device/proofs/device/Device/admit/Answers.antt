@@ -16,10 +16,10 @@ returns-clause-admits c = λ w s h.
     let le = subst (λ (d : DeviceState). c.args.now ≤ d.sessions.moment) (sym c.self.view_is) c.requires in
     let now = present_is w s old c.args.now was.sessions le in
     elim c.match-hear.branch [
-        in-NoRoom b ↦ b.result-is ∙ (hears_no_room w s c.args.from (present old c.args.now) old c.hear.new.self was.sessions now b.in-NoRoom.ensures.hears).0
+      | in-NoRoom b ↦ b.result-is ∙ (hears_no_room w s c.args.from (present old c.args.now) old c.hear.new.self was.sessions now b.in-NoRoom.ensures.hears).0
       | in-Known b ↦ b.result-is ∙ (hears_known w s c.args.from (present old c.args.now) old c.hear.new.self was.sessions now b.in-Known.ensures.hears).0
       | in-Opened b ↦ b.result-is ∙ (hears_opened w s c.args.from (present old c.args.now) old c.hear.new.self was.sessions now b.in-Opened.ensures.hears).0
-      ]
+    ]
 
 pub returns-clause-noted : goal.returns-clause-noted
 returns-clause-noted c = λ w s ms h.
@@ -30,7 +30,7 @@ returns-clause-noted c = λ w s ms h.
     let now = present_is w s old c.args.now was.sessions le in
     let After : Bool → Type 0 = λ b. IsIn w (device_with c.self.inside.tree c.hear.new.self) (cond b (noted p (Admitted ms) s) s) in
     elim c.match-hear.branch [
-        in-NoRoom b ↦ subst After (sym b.result-is) (record { tree = was.tree; sessions = (hears_no_room w s p (present old c.args.now) old c.hear.new.self was.sessions now b.in-NoRoom.ensures.hears).1 })
+      | in-NoRoom b ↦ subst After (sym b.result-is) (record { tree = was.tree; sessions = (hears_no_room w s p (present old c.args.now) old c.hear.new.self was.sessions now b.in-NoRoom.ensures.hears).1 })
       | in-Known b ↦ subst After (sym b.result-is) (record { tree = was.tree; sessions = (hears_known w s p (present old c.args.now) old c.hear.new.self was.sessions now b.in-Known.ensures.hears).1 ms })
       | in-Opened b ↦ subst After (sym b.result-is) (record { tree = was.tree; sessions = (hears_opened w s p (present old c.args.now) old c.hear.new.self was.sessions now b.in-Opened.ensures.hears).1 ms })
-      ]
+    ]

@@ -13,7 +13,7 @@ returns-clause-moved c = λ w s h.
     let moved = clock_moved w c.args.now s old c.advance-lapsed.new.self c.advance-lapsed.result.items was.sessions c.advance-lapsed.ensures.lapsed c.advance-lapsed.ensures.staying in
     record {
       tree = c.release_all.ensures
-        ∙ ap (λ ps. released_all ps tree) (c.as_slice.ensures.value ∙ moved.0)
-        ∙ ap (released_all (lapsed_at (max s.moment c.args.now) s)) was.tree;
+          ∙ ap (λ ps. released_all ps tree) (c.as_slice.ensures.value ∙ moved.0)
+          ∙ ap (released_all (lapsed_at (max s.moment c.args.now) s)) was.tree;
       sessions = moved.1;
     }

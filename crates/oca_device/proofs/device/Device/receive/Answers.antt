@@ -32,6 +32,6 @@ returns-then-admit c = λ w s h.
     let inside = subst (λ (b : Bool). IsIn w c.admit.new.self (cond b (noted p (Admitted ms) s) s)) c.if-admit.true (c.admit.ensures.noted w s ms h) in
     let serves = c.serve_messages-counts.ensures w (noted p (Admitted ms) s) inside (admitted_now s p ms) in
     taken_whole w c.serve_messages-counts.new.self p c.args.bytes.now ms s c.args.outbox.now c.serve_messages-counts.new.outbox c.serve_messages-counts.result
-      c.in-Ok.ensures.reads let_in c.requires.empty
-      (subst (λ (xs : List Msg). ServesAll w c.serve_messages-counts.new.self p xs (noted p (Admitted ms) s) c.args.outbox.now c.serve_messages-counts.new.outbox c.serve_messages-counts.result)
-        c.messages.ensures.all serves)
+    c.in-Ok.ensures.reads let_in c.requires.empty
+    (subst (λ (xs : List Msg). ServesAll w c.serve_messages-counts.new.self p xs (noted p (Admitted ms) s) c.args.outbox.now c.serve_messages-counts.new.outbox c.serve_messages-counts.result)
+    c.messages.ensures.all serves)

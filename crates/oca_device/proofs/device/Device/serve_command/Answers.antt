@@ -48,16 +48,16 @@ returns-after-respond-clause-serves c = λ w s h now.
         tree = c.execute-reply.ensures.tree ∙ ap (λ t. (execution t p command).tree) was.tree;
         sessions = executed_there w s p (Executed s.tree command (reply_of s.tree p command)) made old c.keep.new.self was.sessions known now (λ own t. (refl, refl))
             (c.keep.ensures.accepted w A agreed
-              ∙ ap (λ (r : Reply). with_sessions old (changed p (with_accepted w (A ++ (record { handle = command.handle; reply = r }) ∷ [])) old.sessions)) reply);
+            ∙ ap (λ (r : Reply). with_sessions old (changed p (with_accepted w (A ++ (record { handle = command.handle; reply = r }) ∷ [])) old.sessions)) reply);
       });
       packets = subst (λ (j : Judgement). c.if-respond.outbox ≡ c.args.outbox.now ++ packets_of (cond c.args.respond (answer_to_command j p command s) [])) fresh
-        (elim c.if-respond.branch [
-            then-respond b ↦ answered c.args.respond c.args.outbox.now c.if-respond.outbox (response command.handle (reply_of s.tree p command) ∷ [])
-              (λ _. b.outbox-is ∙ b.respond.ensures ∙ ap (λ (r : Reply). c.args.outbox.now ++ packet_of (response command.handle r) ∷ []) reply)
-              (λ q. cc)
-          | else-respond b ↦ answered c.args.respond c.args.outbox.now c.if-respond.outbox (response command.handle (reply_of s.tree p command) ∷ [])
-              (λ q. cc)
-              (λ _. b.outbox-is)
+          (elim c.if-respond.branch [
+            | then-respond b ↦ answered c.args.respond c.args.outbox.now c.if-respond.outbox (response command.handle (reply_of s.tree p command) ∷ [])
+                (λ _. b.outbox-is ∙ b.respond.ensures ∙ ap (λ (r : Reply). c.args.outbox.now ++ packet_of (response command.handle r) ∷ []) reply)
+                (λ q. cc)
+            | else-respond b ↦ answered c.args.respond c.args.outbox.now c.if-respond.outbox (response command.handle (reply_of s.tree p command) ∷ [])
+                (λ q. cc)
+                (λ _. b.outbox-is)
           ]);
       counts = ap count_of_command fresh;
     }
@@ -74,13 +74,13 @@ returns-after-respond-2-clause-serves c = λ w s h now.
     record {
       device = subst (λ (j : Judgement). IsIn w c.args.self.now (after_command j p command s)) duplicate h;
       packets = subst (λ (j : Judgement). c.if-respond-2.outbox ≡ c.args.outbox.now ++ packets_of (cond c.args.respond (answer_to_command j p command s) [])) duplicate
-        (elim c.if-respond-2.branch [
-            then-respond-2 b ↦ answered c.args.respond c.args.outbox.now c.if-respond-2.outbox (response command.handle c.in-Kept.reply.now ∷ [])
-              (λ _. b.outbox-is ∙ b.respond-then-respond-2.ensures)
-              (λ q. cc)
-          | else-respond-2 b ↦ answered c.args.respond c.args.outbox.now c.if-respond-2.outbox (response command.handle c.in-Kept.reply.now ∷ [])
-              (λ q. cc)
-              (λ _. b.outbox-is)
+          (elim c.if-respond-2.branch [
+            | then-respond-2 b ↦ answered c.args.respond c.args.outbox.now c.if-respond-2.outbox (response command.handle c.in-Kept.reply.now ∷ [])
+                (λ _. b.outbox-is ∙ b.respond-then-respond-2.ensures)
+                (λ q. cc)
+            | else-respond-2 b ↦ answered c.args.respond c.args.outbox.now c.if-respond-2.outbox (response command.handle c.in-Kept.reply.now ∷ [])
+                (λ q. cc)
+                (λ _. b.outbox-is)
           ]);
       counts = ap count_of_command duplicate;
     }
@@ -97,6 +97,6 @@ returns-in-Old-clause-serves c = λ w s h now.
     record {
       device = subst (λ (j : Judgement). IsIn w c.args.self.now (after_command j p command s)) too_old h;
       packets = subst (λ (j : Judgement). c.args.outbox.now ≡ c.args.outbox.now ++ packets_of (cond c.args.respond (answer_to_command j p command s) [])) too_old
-        (answered c.args.respond c.args.outbox.now c.args.outbox.now [] (λ _. sym (append-nil c.args.outbox.now)) (λ _. refl));
+          (answered c.args.respond c.args.outbox.now c.args.outbox.now [] (λ _. sym (append-nil c.args.outbox.now)) (λ _. refl));
       counts = ap count_of_command too_old;
     }

@@ -13,7 +13,7 @@ loop-message-preserved c =
       room = omega (arith, inv.room, c.serve-more.ensures.packets, fewer);
       few = omega (arith, inv.few, c.serve-more.ensures.commands, fewer);
       served = λ w s h now.
-        let before = inv.served w s h now in
-        one_further w c.args.from c.loop-message.self c.serve-more.new.self _ _ _ _ s _ _ _ _ _ before step inv.known
+          let before = inv.served w s h now in
+          one_further w c.args.from c.loop-message.self c.serve-more.new.self _ _ _ _ s _ _ _ _ _ before step inv.known
           (c.serve-more.ensures.serves w before.mid before.device before.now);
     }

@@ -17,5 +17,5 @@ invariant-loop-message l =
       room : length l.outbox + most_answers rest ≤ 122;
       few : l.counts.executed + l.counts.kept + l.counts.old + most_answers rest ≤ 122;
       served : (w : ℕ) (s : State) → IsIn w l.fn.self s → last_moment (run l.from s.notes) ≡ s.moment →
-        IsHalfway w l.from l.self rest (messages_left l.fn.messages) s l.fn.outbox l.outbox l.counts;
+          IsHalfway w l.from l.self rest (messages_left l.fn.messages) s l.fn.outbox l.outbox l.counts;
     }
