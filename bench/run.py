@@ -6,7 +6,6 @@ single: one new command a datagram, one peer. packed: 86 new commands a datagram
 copies: 16 peers, each command ten times in a row, so that nine of ten are duplicates."""
 import os
 import re
-import resource
 import subprocess
 import sys
 import tempfile
@@ -43,13 +42,12 @@ def instructions(program, path, folder):
 
 
 def resident(program, path):
-    """The largest resident memory of a child of its own, in kilobytes."""
-    child = os.fork()
-    if child == 0:
-        with open(path) as script:
-            subprocess.run([program, "replay"], stdin=script, stdout=subprocess.DEVNULL, check=True)
-        os._exit(0 if print(resource.getrusage(resource.RUSAGE_CHILDREN).ru_maxrss, flush=True) is None else 1)
-    os.waitpid(child, 0)
+    """The largest resident memory in kilobytes, as GNU time measures it."""
+    with open(path) as script:
+        run = subprocess.run(
+            ["/usr/bin/time", "-f", "%M", program, "replay"],
+            stdin=script, stdout=subprocess.DEVNULL, stderr=subprocess.PIPE, text=True, check=True)
+    return int(run.stderr.split()[-1])
 
 
 def main():
@@ -62,8 +60,7 @@ def main():
                 script.writelines(content)
             count = sum(1 for _ in open(path))
             millions = instructions(program, path, folder) / 1e6
-            print(f"{name} {count} {millions:.1f} ", end="", flush=True)
-            resident(program, path)
+            print(name, count, f"{millions:.1f}", resident(program, path), flush=True)
 
 
 main()

@@ -36,7 +36,7 @@ impl Model for Outbox {
 impl Outbox {
     ghost use Rattle.oca_device.specs.Outboxes.{bytes_of};
 
-    /// An empty outbox, with room for 122 packets: no later call takes memory. Refusal: `NoMemory`.
+    /// An empty outbox, with room for 122 packets, more than any datagram asks for. Refusal: `NoMemory`.
     pub fn new(alloc: Global) -> Result<Outbox, NoMemory>
         ensures { IfOk result (λ outbox. outbox ≡ []) }
     {

@@ -27,6 +27,7 @@ HoldsOnlyADatagram (heard.Oversize now) bytes = bytes ≡ []
 HoldsOnlyADatagram heard.Failed bytes = bytes ≡ []
 HoldsOnlyADatagram heard.Closed bytes = bytes ≡ []
 
+-- the receive answered Failed
 abbrev pub is_failed : Heard → Bool
 is_failed (heard.Datagram from now) = false
 is_failed (heard.Quiet now) = false
@@ -34,6 +35,7 @@ is_failed (heard.Oversize now) = false
 is_failed heard.Failed = true
 is_failed heard.Closed = false
 
+-- the receive answered Closed
 abbrev pub is_closed : Heard → Bool
 is_closed (heard.Datagram from now) = false
 is_closed (heard.Quiet now) = false

@@ -27,6 +27,7 @@ delivery_of (scripted.Datagram from bytes now) = Datagram from bytes.items now
 delivery_of (scripted.Quiet now) = Quiet now
 delivery_of scripted.Failed = Failed
 
+-- the entries of a script
 abbrev pub deliveries_of : List Scripted → List Delivery
 deliveries_of entries = map delivery_of entries
 
@@ -95,9 +96,11 @@ after_next (d ∷ rest) e =
       failures = failures_after (heard_of d) e.failures;
     }
 
+-- the end after a receive
 abbrev pub after_receive : MemoryState → MemoryState
 after_receive e = after_next e.to_come e
 
+-- the send number n is the one that fails
 abbrev pub is_number : Option ℕ → ℕ → Bool
 is_number None n = false
 is_number (Some k) n = n == k

@@ -1,4 +1,6 @@
 //! What the clauses leave open: that a call succeeds, and one run through a whole script.
+ghost use Rattle.std.specs.Prelude.{IsTrue};
+
 use crate::{End, Heard, MemoryEnd, Scripted};
 use oca_types::{Packet, Peer};
 use std::alloc::Global;
@@ -36,11 +38,19 @@ fn script(alloc: Global) -> Result<Vec<Scripted>, Fail> {
     Ok(script)
 }
 
+/// Asks for an end that tells.
+fn is_told<E: End>(_end: &E) -> bool
+    requires { IsTrue (E.tells _end.now) }
+{
+    true
+}
+
 #[test]
 fn delivers_its_script_in_order(rt: HostRuntime) -> Result<(), Fail> {
     let mut end = MemoryEnd::new(rt.alloc(), script(rt.alloc())?, 0, None).map_err(
         |_| "no memory",
     )?;
+    assert!(rt; is_told(&end), "an end in memory tells");
     assert_eq!(rt; end.delivered().len(), 0);
     let mut packet = Packet::new();
     packet

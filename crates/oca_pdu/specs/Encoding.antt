@@ -33,12 +33,13 @@ abbrev pub command_type : Bool → ℕ
 command_type false = 0
 command_type true = 1
 
+-- a PDU: of type 0 or 1 with commands, of type 3 with responses, of type 4 with a keep-alive
 abbrev pub pdu_encoding : Pdu → List ℕ
 pdu_encoding (Commands respond cs) = pdu_frame (command_type respond) (length cs) (flat_map command_encoding cs)
 pdu_encoding (Responses rs) = pdu_frame 3 (length rs) (flat_map response_encoding rs)
 pdu_encoding (OneKeepAlive form) = pdu_frame 4 1 (keep_alive_encoding form)
 
--- What has an encoding: each number fits its width.
+-- What has an encoding (AES70-3): each number fits its width.
 pub record CommandFits (c : CommandFields) : Type 0 where
   pub handle : c.handle < 2 ^ 32
   pub target : c.target < 2 ^ 32
@@ -47,23 +48,25 @@ pub record CommandFits (c : CommandFields) : Type 0 where
   pub count : c.count < 2 ^ 8
   pub size : 17 + length c.params < 2 ^ 32
 
+-- the same of a response
 pub record ResponseFits (r : ResponseFields) : Type 0 where
   pub handle : r.handle < 2 ^ 32
   pub status : r.status < 2 ^ 8
   pub count : r.count < 2 ^ 8
   pub size : 10 + length r.params < 2 ^ 32
 
+-- the same of the time of a keep-alive
 abbrev pub FormFits : Form → Type 0
 FormFits (Seconds n) = n < 2 ^ 16
 FormFits (Millis n) = n < 2 ^ 32
 
--- A PDU has at least one message.
+-- A PDU has at least one message, and a keep-alive PDU has one (profile); the counts and sizes fit their fields.
 abbrev pub PduFits : Pdu → Type 0
 PduFits (Commands respond cs) = (0 < length cs) × (length cs < 2 ^ 16) × AllByRecursion CommandFits cs × (9 + length (flat_map command_encoding cs) < 2 ^ 32)
 PduFits (Responses rs) = (0 < length rs) × (length rs < 2 ^ 16) × AllByRecursion ResponseFits rs × (9 + length (flat_map response_encoding rs) < 2 ^ 32)
 PduFits (OneKeepAlive form) = FormFits form
 
--- The bytes are the encodings of these PDUs, one or more, and at most 1,472 (profile).
+-- The bytes are the encodings of these PDUs, one or more (AES70-3), and at most 1,472 (profile).
 pub record IsDatagram (ps : List Pdu) (bytes : List ℕ) : Type 0 where
   pub some : 0 < length ps
   pub each : AllByRecursion PduFits ps

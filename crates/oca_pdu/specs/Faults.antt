@@ -4,6 +4,7 @@ use Rattle.oca_pdu.specs.declared.fault.PduFault.{PduFault}
 use Rattle.oca_pdu.specs.declared.fault.PduFaultKind.{PduFaultKind}
 use Rattle.oca_pdu.specs.declared.fault.PduFaultKind.TheVariants as kinds
 
+-- the number of a kind of fault
 abbrev pub fault_number : PduFaultKind → ℕ
 fault_number kinds.Empty = 1
 fault_number kinds.TooLong = 2

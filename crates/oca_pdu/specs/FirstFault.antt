@@ -77,6 +77,7 @@ pub data PduFails (p : ℕ) (rest : List ℕ) (f : PduFault) : Type 0 where
   InResponses : (count : ℕ) (body behind : List ℕ) → BeginsWithFrame 3 count body behind rest → count ≢ 0
       → MessagesFail response_encoding ResponseFits 10 count p body f → PduFails p rest f
 
+-- The first fault of the bytes is f: of the number of bytes, or else of the first PDU that fails.
 pub data IsFirstFault (bytes : List ℕ) (f : PduFault) : Type 0 where
   -- there are no bytes
   NoBytes : bytes ≡ []

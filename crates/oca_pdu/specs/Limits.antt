@@ -12,6 +12,7 @@ is_response (Command respond fields) = false
 is_response (Response fields) = true
 is_response (KeepAlive form) = false
 
+-- At most 146 messages, of which at most 86 are commands.
 pub record IsWithinLimits (ms : List Msg) : Type 0 where
   pub messages : length ms ≤ 146
   pub commands : count_by is_command ms ≤ 86

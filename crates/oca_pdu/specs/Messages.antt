@@ -8,6 +8,7 @@ use Rattle.oca_pdu.specs.declared.message.Form.{Form}
 use Rattle.oca_pdu.specs.declared.message.Message.{Message}
 use Rattle.oca_pdu.specs.declared.message.Message.TheVariants as messages
 
+-- a response: the handle of its command, the number of its status, ParamCount and the parameters
 pub record ResponseFields : Type 0 where
   pub handle : ℕ
   pub status : ℕ
@@ -26,6 +27,7 @@ pub data Pdu : Type 0 where
   Responses : (responses : List ResponseFields) → Pdu
   OneKeepAlive : (form : Form) → Pdu
 
+-- the messages of a PDU in order
 abbrev pub messages_of : Pdu → List Msg
 messages_of (Commands respond cs) = map (λ c. Command respond c) cs
 messages_of (Responses rs) = map (λ r. Response r) rs

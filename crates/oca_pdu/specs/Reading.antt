@@ -1,6 +1,6 @@
--- Reading a datagram from left to right: its messages, or its first fault. This is the road that the code takes. That it
--- arrives where the encodings and the first fault say is the law `ReadingIsExact` of Laws; layers above cite
--- `read_datagram` as the messages of the bytes.
+-- Reading a datagram from left to right: its messages, or its first fault. The code takes the same
+-- steps. That they give what the encodings and the first fault say is the law `ReadingIsExact` of Laws; layers above
+-- cite `read_datagram` as the messages of the bytes.
 use Rattle.std.specs.Prelude.{ℕ, zero, suc, ◌+◌, ◌-◌, Bool, true, false, ◌||◌, not, List, [], ◌∷◌, ◌++◌, length, take, drop, slice_index, Result, Ok, Err, nat_lt, ◌==◌, Option, Some, None, if◌then◌else◌}
 use Rattle.std.specs.Int.{Width, w16, w32, byte_len, from_be_bytes}
 use Rattle.oca_pdu.specs.declared.fault.PduFault.{PduFault}

@@ -48,9 +48,11 @@ pub struct PduFault {
     pub at: u16,
 }
 
-/// Why a PDU could not be appended to a packet.
+/// Why a PDU could not be appended to a packet. The number is promised (profile).
 #[derive(Clone, Copy, Debug, PartialEq, Eq)]
 pub enum WriteFault {
     /// The packet would pass 1,472 bytes.
     TooLong = 1,
 }
+
+const _: () = prove!(WriteFault::TooLong as u8 == 1);

@@ -49,7 +49,7 @@ split_at-past sep x xs front ne =
 
 -- the place of the separator is found
 pub split_at-here : (sep : ℕ) (s : List ℕ) (i : ℕ) → i < length s → get_or s i 0 ≡ sep
-  → split_at sep s ≡ behind (take i s) (split_at sep (drop i s)) → split_at sep s ≡ Some (take i s, drop (i + 1) s)
+    → split_at sep s ≡ behind (take i s) (split_at sep (drop i s)) → split_at sep s ≡ Some (take i s, drop (i + 1) s)
 split_at-here sep s i within e so =
     so ∙ ap (λ (r : List ℕ). behind (take i s) (split_at sep r)) (drop-cons s i 0 within)
     ∙ ap (behind (take i s)) (split_at-found sep (get_or s i 0) (drop (suc i) s) e)
@@ -57,7 +57,7 @@ split_at-here sep s i within e so =
 
 -- it is not, and the loop goes on
 pub split_at-on : (sep : ℕ) (s : List ℕ) (i : ℕ) → i < length s → (get_or s i 0 ≡ sep → ⊥)
-  → split_at sep s ≡ behind (take i s) (split_at sep (drop i s)) → split_at sep s ≡ behind (take (i + 1) s) (split_at sep (drop (i + 1) s))
+    → split_at sep s ≡ behind (take i s) (split_at sep (drop i s)) → split_at sep s ≡ behind (take (i + 1) s) (split_at sep (drop (i + 1) s))
 split_at-on sep s i within ne so =
     so ∙ ap (λ (r : List ℕ). behind (take i s) (split_at sep r)) (drop-cons s i 0 within)
     ∙ split_at-past sep (get_or s i 0) (drop (suc i) s) (take i s) ne
@@ -74,7 +74,7 @@ fields-by : (s : List ℕ) → fields s ≡ cut_fields s (split_at 32 s)
 fields-by [] = refl
 fields-by (b ∷ bs) =
     elim (b == 32) as (λ v. cond v ([] ∷ fields bs) (onto_first b (fields bs))
-      ≡ cut_fields (b ∷ bs) (cond v (Some ([], bs)) (option_map (λ p. (b ∷ p.0, p.1)) (split_at 32 bs)))) [
+    ≡ cut_fields (b ∷ bs) (cond v (Some ([], bs)) (option_map (λ p. (b ∷ p.0, p.1)) (split_at 32 bs)))) [
       | true ↦ refl
       | false ↦ ap (onto_first b) (fields-by bs) ∙ joined (split_at 32 bs)
     ]
@@ -91,20 +91,19 @@ fields-more s front rest e = fields-by s ∙ ap (cut_fields s) e
 
 -- there is at least one field
 pub fields-first : (s : List ℕ) → (f : List ℕ) × (fs : List (List ℕ)) × (fields s ≡ f ∷ fs)
-fields-first s = 
+fields-first s =
     let shown : (r : Option (List ℕ × List ℕ)) → (f : List ℕ) × (fs : List (List ℕ)) × (cut_fields s r ≡ f ∷ fs) =
-      λ r. elim r as (λ r. (f : List ℕ) × (fs : List (List ℕ)) × (cut_fields s r ≡ f ∷ fs)) [ None ↦ (s, [], refl) | Some p ↦ (p.0, fields p.1, refl) ] in
+    λ r. elim r as (λ r. (f : List ℕ) × (fs : List (List ℕ)) × (cut_fields s r ≡ f ∷ fs)) [ None ↦ (s, [], refl) | Some p ↦ (p.0, fields p.1, refl) ] in
     let h = shown (split_at 32 s) in (h.0, h.1, fields-by s ∙ h.2)
 
 pub ruleset field_rules = (fields-one, fields-more)
 
 pub number-too_large : (most largest v i : ℕ) (ds : List ℕ) → 0 < length ds → length ds ≤ most → i < length ds
-  → 48 ≤ get_or ds i 0 → get_or ds i 0 ≤ 57 → largest < v * 10 + (get_or ds i 0 - 48)
-  → at_most largest (value_after 0 ds) ≡ at_most largest (value_after v (drop i ds)) → None ≡ number_of most largest ds
+    → 48 ≤ get_or ds i 0 → get_or ds i 0 ≤ 57 → largest < v * 10 + (get_or ds i 0 - 48)
+    → at_most largest (value_after 0 ds) ≡ at_most largest (value_after v (drop i ds)) → None ≡ number_of most largest ds
 unfolding number_of
 number-too_large most largest v i ds some few within low high over so =
     let one : ((length ds == 0) || ltb most (length ds)) ≡ false = grind (arith, nat_tests) in
     rw one (sym (so ∙ ap (λ (r : List ℕ). at_most largest (value_after v r)) (drop-cons ds i 0 within)
-      ∙ ap (at_most largest) (value_after-digit v (get_or ds i 0) (drop (suc i) ds) low high)
-      ∙ at_most-over largest (v * 10 + (get_or ds i 0 - 48)) (drop (suc i) ds) over))
-
+    ∙ ap (at_most largest) (value_after-digit v (get_or ds i 0) (drop (suc i) ds) low high)
+    ∙ at_most-over largest (v * 10 + (get_or ds i 0 - 48)) (drop (suc i) ds) over))

@@ -12,51 +12,50 @@ use Rattle.oca_script.proofs.ScriptLemmas.{script_from-ended, script_from-kept, 
 use Rattle.oca_script.proofs.StepLemmas.{Does-then, Does-at, Does-as, Does-err, Does-nothing}
 
 module _ {S R : Type 0} (serves : S → R → S → List ℕ → Type 0) (asked : List (List ℕ) → Result R LineFault) where
-
   -- what is asked by a piece and what follows it
   abbrev pub piece_then : ℕ → List ℕ → List ℕ → ℕ × List ℕ → Script R
   piece_then number line piece m = script_from asked number line (length piece + m.0) (piece ++ m.1)
 
   pub piece-more : (a b c : S) (u v w : Output) (r : Result Unit ReplayFault) (A : ℕ × List ℕ → Script R) (k k' : ℕ) (line line' rest front after : List ℕ)
-    → Some (front, after) ≡ split_at 10 rest → line' ≡ [] → k' ≡ k + 1
-    → Does serves a b u v (Ok tt) A (piece_then k line rest)
-    → Does {X = Script R} serves b c v w r (λ s. line_then k (parsed asked (line ++ front)) s) (λ s. s)
-    → Does serves a c u w r A (piece_then k' line' after)
+      → Some (front, after) ≡ split_at 10 rest → line' ≡ [] → k' ≡ k + 1
+      → Does serves a b u v (Ok tt) A (piece_then k line rest)
+      → Does {X = Script R} serves b c v w r (λ s. line_then k (parsed asked (line ++ front)) s) (λ s. s)
+      → Does serves a c u w r A (piece_then k' line' after)
   piece-more a b c u v w r A k k' line line' rest front after cut none next h d =
       Does-then serves a b c u v w r A (piece_then k line rest) (piece_then k' line' after) h
       (Does-as serves b c v w r _ _ _ _
-        (λ m. script_from-ended asked rest k line front after m.0 m.1 (sym cut))
-        (λ m. ap (λ (l : List ℕ). script_from asked (k + 1) l (length after + m.0) (after ++ m.1)) (sym none)
-          ∙ ap (λ n. script_from asked n line' (length after + m.0) (after ++ m.1)) (sym next))
-        (Does-at serves (λ (m : ℕ × List ℕ). script_from asked (k + 1) [] (length after + m.0) (after ++ m.1)) b c v w r _ _ d))
+      (λ m. script_from-ended asked rest k line front after m.0 m.1 (sym cut))
+      (λ m. ap (λ (l : List ℕ). script_from asked (k + 1) l (length after + m.0) (after ++ m.1)) (sym none)
+      ∙ ap (λ n. script_from asked n line' (length after + m.0) (after ++ m.1)) (sym next))
+      (Does-at serves (λ (m : ℕ × List ℕ). script_from asked (k + 1) [] (length after + m.0) (after ++ m.1)) b c v w r _ _ d))
 
   pub piece-fails : (a b c : S) (u v w : Output) (r : Result Unit ReplayFault) (fault : ReplayFault) (A B : ℕ × List ℕ → Script R) (k : ℕ) (line rest front after : List ℕ)
-    → Some (front, after) ≡ split_at 10 rest → r ≡ Err fault
-    → Does serves a b u v (Ok tt) A (piece_then k line rest)
-    → Does {X = Script R} serves b c v w (Err fault) (λ s. line_then k (parsed asked (line ++ front)) s) (λ s. s)
-    → Does serves a c u w r A B
+      → Some (front, after) ≡ split_at 10 rest → r ≡ Err fault
+      → Does serves a b u v (Ok tt) A (piece_then k line rest)
+      → Does {X = Script R} serves b c v w (Err fault) (λ s. line_then k (parsed asked (line ++ front)) s) (λ s. s)
+      → Does serves a c u w r A B
   piece-fails a b c u v w r fault A B k line rest front after cut is h d =
       subst (λ (z : Result Unit ReplayFault). Does serves a c u w z A B) (sym is)
       (Does-err serves a c u w (Err fault) fault A (piece_then (k + 1) [] after) B refl
-        (piece-more a b c u v w (Err fault) A k (k + 1) line [] rest front after cut refl refl h d))
+      (piece-more a b c u v w (Err fault) A k (k + 1) line [] rest front after cut refl refl h d))
 
   kept : (a b : S) (u v : Output) (r : Result Unit ReplayFault) (A : ℕ × List ℕ → Script R) (k k' : ℕ) (line line' rest : List ℕ)
-    → split_at 10 rest ≡ None → k' ≡ k → OnOk r (line' ≡ line ++ rest) → OnErr r (4096 < length (line ++ rest)) → IfErr r (λ e. e ≡ Line k TooLong)
-    → Does serves a b u v (Ok tt) A (piece_then k line rest)
-    → Does serves a b u v r A (λ m. script_from asked k' line' m.0 m.1)
+      → split_at 10 rest ≡ None → k' ≡ k → OnOk r (line' ≡ line ++ rest) → OnErr r (4096 < length (line ++ rest)) → IfErr r (λ e. e ≡ Line k TooLong)
+      → Does serves a b u v (Ok tt) A (piece_then k line rest)
+      → Does serves a b u v r A (λ m. script_from asked k' line' m.0 m.1)
   kept a b u v (Ok x) A k k' line line' rest cut same grown long is h =
       Does-as serves a b u v (Ok tt) A A _ _ (λ m. refl)
       (λ m. script_from-kept asked rest k line m.0 m.1 cut
-        ∙ ap (λ (l : List ℕ). script_from asked k l m.0 m.1) (sym grown) ∙ ap (λ n. script_from asked n line' m.0 m.1) (sym same))
+      ∙ ap (λ (l : List ℕ). script_from asked k l m.0 m.1) (sym grown) ∙ ap (λ n. script_from asked n line' m.0 m.1) (sym same))
       h
   kept a b u v (Err fault) A k k' line line' rest cut same grown long is h =
       subst (λ (z : ReplayFault). Does serves a b u v (Err z) A (λ m. script_from asked k' line' m.0 m.1)) (sym is)
       (Does-then serves a b b u v v (Err (Line k TooLong)) A (piece_then k line rest) (λ m. script_from asked k' line' m.0 m.1) h
-        (Does-nothing serves b v (Err (Line k TooLong)) (piece_then k line rest) (λ m. script_from asked k' line' m.0 m.1)
-          (λ m. script_from-kept asked rest k line m.0 m.1 cut ∙ script_from-long asked k (line ++ rest) m.0 m.1 long)))
+      (Does-nothing serves b v (Err (Line k TooLong)) (piece_then k line rest) (λ m. script_from asked k' line' m.0 m.1)
+      (λ m. script_from-kept asked rest k line m.0 m.1 cut ∙ script_from-long asked k (line ++ rest) m.0 m.1 long)))
 
   pub piece-kept : (a b : S) (u v : Output) (r : Result Unit ReplayFault) (A : ℕ × List ℕ → Script R) (k k' : ℕ) (line line' rest : List ℕ)
-    → split_at 10 rest ≡ None → k' ≡ k → OnOk r (line' ≡ line ++ rest) → OnErr r (4096 < length (line ++ rest)) → IfErr r (λ e. e ≡ Line k TooLong)
-    → Does serves a b u v (Ok tt) A (piece_then k line rest)
-    → Does serves a b u v r A (λ m. script_from asked k' line' m.0 m.1)
+      → split_at 10 rest ≡ None → k' ≡ k → OnOk r (line' ≡ line ++ rest) → OnErr r (4096 < length (line ++ rest)) → IfErr r (λ e. e ≡ Line k TooLong)
+      → Does serves a b u v (Ok tt) A (piece_then k line rest)
+      → Does serves a b u v r A (λ m. script_from asked k' line' m.0 m.1)
   piece-kept = kept

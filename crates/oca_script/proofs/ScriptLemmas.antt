@@ -26,27 +26,27 @@ cut_after-begins line [] = record {
   lines = [];
   all = ap (λ (l : List ℕ). l ∷ []) (sym (append-nil line));
   counted = λ long.
-    let test : ltb 4096 (length line) ≡ true = grind (arith, nat_tests) in
-    ([], rw test (ap (λ (l : List ℕ). l ∷ []) (sym (append-nil line))));
+      let test : ltb 4096 (length line) ≡ true = grind (arith, nat_tests) in
+      ([], rw test (ap (λ (l : List ℕ). l ∷ []) (sym (append-nil line))));
 }
 cut_after-begins line (b ∷ bs) =
     let more = cut_after-begins (line ++ b ∷ []) bs in
     elim (b == 10) as (λ v. Begins line (cond v (with_line line (cut_after [] bs)) (cut_after (line ++ b ∷ []) bs))) [
       | true ↦ record {
-          rest = [];
-          lines = all_lines (cut_after [] bs);
-          all = ap (λ (l : List ℕ). l ∷ all_lines (cut_after [] bs)) (sym (append-nil line));
-          counted = λ long. (counted_lines (cut_after [] bs), ap (λ (l : List ℕ). l ∷ counted_lines (cut_after [] bs)) (sym (append-nil line)));
-        }
+        rest = [];
+        lines = all_lines (cut_after [] bs);
+        all = ap (λ (l : List ℕ). l ∷ all_lines (cut_after [] bs)) (sym (append-nil line));
+        counted = λ long. (counted_lines (cut_after [] bs), ap (λ (l : List ℕ). l ∷ counted_lines (cut_after [] bs)) (sym (append-nil line)));
+      }
       | false ↦ record {
-          rest = b ∷ more.rest;
-          lines = more.lines;
-          all = more.all ∙ ap (λ (l : List ℕ). l ∷ more.lines) (append_assoc line (b ∷ []) more.rest);
-          counted = λ long.
+        rest = b ∷ more.rest;
+        lines = more.lines;
+        all = more.all ∙ ap (λ (l : List ℕ). l ∷ more.lines) (append_assoc line (b ∷ []) more.rest);
+        counted = λ long.
             let grown : length (line ++ b ∷ []) ≡ length line + 1 = simp length-append in
             let h = more.counted (omega arith) in
             (h.0, h.1 ∙ ap (λ (l : List ℕ). l ∷ h.0) (append_assoc line (b ∷ []) more.rest));
-        }
+      }
     ]
 
 pub asks-long : (line : List ℕ) → 4096 < length line → asks line ≡ Err TooLong
@@ -69,10 +69,9 @@ abbrev past : ℕ → Option (List ℕ × List ℕ) → Option (List ℕ × List
 past b o = option_map (λ p. (b ∷ p.0, p.1)) o
 
 module _ {R : Type 0} (asked : List (List ℕ) → Result R LineFault) where
-
   -- nothing is left
   pub script_from-end : (k : ℕ) (line : List ℕ) (left : ℕ)
-    → script_from asked k line left [] ≡ line_then k (parsed asked line) (ends_by (Ok tt))
+      → script_from asked k line left [] ≡ line_then k (parsed asked line) (ends_by (Ok tt))
   unfolding script_from
   script_from-end k line left =
       let fits : leb 0 left ≡ true = grind (arith, nat_tests) in
@@ -80,28 +79,28 @@ module _ {R : Type 0} (asked : List (List ℕ) → Result R LineFault) where
 
   -- a line feed
   pub script_from-line_feed : (k : ℕ) (line : List ℕ) (left : ℕ) (more : List ℕ)
-    → script_from asked k line (suc left) (10 ∷ more) ≡ line_then k (parsed asked line) (script_from asked (k + 1) [] left more)
+      → script_from asked k line (suc left) (10 ∷ more) ≡ line_then k (parsed asked line) (script_from asked (k + 1) [] left more)
   unfolding script_from
   script_from-line_feed k line left more =
       rw (leb-suc (length more) left)
       (elim (leb (length more) left) as (λ v.
-        cond v (script_of asked k (all_lines (cut_after line (10 ∷ more))) (Ok tt))
-          (script_of asked k (counted_lines (cut_after line (10 ∷ take left more))) (Err TooMuch))
-        ≡ line_then k (parsed asked line) (cond v (script_of asked (k + 1) (all_lines (cut_after [] more)) (Ok tt))
-          (script_of asked (k + 1) (counted_lines (cut_after [] (take left more))) (Err TooMuch)))) [
+      cond v (script_of asked k (all_lines (cut_after line (10 ∷ more))) (Ok tt))
+      (script_of asked k (counted_lines (cut_after line (10 ∷ take left more))) (Err TooMuch))
+      ≡ line_then k (parsed asked line) (cond v (script_of asked (k + 1) (all_lines (cut_after [] more)) (Ok tt))
+      (script_of asked (k + 1) (counted_lines (cut_after [] (take left more))) (Err TooMuch)))) [
         | true ↦ refl
         | false ↦ refl
       ])
 
   -- another byte
   pub script_from-byte : (k : ℕ) (line : List ℕ) (left b : ℕ) (more : List ℕ) → (b == 10) ≡ false
-    → script_from asked k line (suc left) (b ∷ more) ≡ script_from asked k (line ++ b ∷ []) left more
+      → script_from asked k line (suc left) (b ∷ more) ≡ script_from asked k (line ++ b ∷ []) left more
   unfolding script_from
   script_from-byte k line left b more other = rw (leb-suc (length more) left, other) refl
 
   -- more than counts, behind a line that is not too long
   pub script_from-too_much : (k : ℕ) (line : List ℕ) (b : ℕ) (more : List ℕ) → length line ≤ 4096
-    → script_from asked k line 0 (b ∷ more) ≡ ends_by (Err TooMuch)
+      → script_from asked k line 0 (b ∷ more) ≡ ends_by (Err TooMuch)
   unfolding script_from
   script_from-too_much k line b more short =
       let over : leb (suc (length more)) 0 ≡ false = grind (arith, nat_tests) in
@@ -109,7 +108,7 @@ module _ {R : Type 0} (asked : List (List ℕ) → Result R LineFault) where
       rw (over, not_long) refl
 
   script_of-long : (k : ℕ) (line rest : List ℕ) (lines all : List (List ℕ)) (end : Result Unit ReplayFault) → 4096 < length line
-    → all ≡ (line ++ rest) ∷ lines → script_of asked k all end ≡ ends_by (Err (Line k TooLong))
+      → all ≡ (line ++ rest) ∷ lines → script_of asked k all end ≡ ends_by (Err (Line k TooLong))
   script_of-long k line rest lines all end long e =
       let longer : 4096 < length (line ++ rest) = omega (arith, length-append line rest) in
       ap (λ (ls : List (List ℕ)). script_of asked k ls end) e
@@ -117,22 +116,22 @@ module _ {R : Type 0} (asked : List (List ℕ) → Result R LineFault) where
 
   -- a line that is too long already
   pub script_from-long : (k : ℕ) (line : List ℕ) (left : ℕ) (more : List ℕ) → 4096 < length line
-    → script_from asked k line left more ≡ ends_by (Err (Line k TooLong))
+      → script_from asked k line left more ≡ ends_by (Err (Line k TooLong))
   unfolding script_from
   script_from-long k line left more long =
       let h = cut_after-begins line more in
       let short = cut_after-begins line (take left more) in
       let counted = short.counted long in
       elim (leb (length more) left) as (λ v.
-        cond v (script_of asked k (all_lines (cut_after line more)) (Ok tt)) (script_of asked k (counted_lines (cut_after line (take left more))) (Err TooMuch))
-        ≡ ends_by (Err (Line k TooLong))) [
+      cond v (script_of asked k (all_lines (cut_after line more)) (Ok tt)) (script_of asked k (counted_lines (cut_after line (take left more))) (Err TooMuch))
+      ≡ ends_by (Err (Line k TooLong))) [
         | true ↦ script_of-long k line h.rest h.lines _ _ long h.all
         | false ↦ script_of-long k line short.rest counted.0 _ _ long counted.1
       ]
 
   -- a line's last bytes, its line feed, and the rest
   pub script_from-ended : (s : List ℕ) (k : ℕ) (line front rest : List ℕ) (left : ℕ) (more : List ℕ) → split_at 10 s ≡ parts front rest
-    → script_from asked k line (length s + left) (s ++ more)
+      → script_from asked k line (length s + left) (s ++ more)
       ≡ line_then k (parsed asked (line ++ front)) (script_from asked (k + 1) [] (length rest + left) (rest ++ more))
   script_from-ended [] k line front rest left more e = cc
   script_from-ended (b ∷ bs) k line front rest left more e =
@@ -140,17 +139,18 @@ module _ {R : Type 0} (asked : List (List ℕ) → Result R LineFault) where
       ap (λ n. script_from asked k line n (b ∷ (bs ++ more))) one ∙ by_test (λ p o. script_from-ended bs k (line ++ b ∷ []) p.0 p.1 left more o) (b == 10) refl e
     where
       found : (split_at 10 bs ≡ split_at 10 bs) → (b == 10) ≡ true → here bs ≡ parts front rest
-        → script_from asked k line (suc (length bs + left)) (b ∷ (bs ++ more)) ≡ line_then k (parsed asked (line ++ front)) (script_from asked (k + 1) [] (length rest + left) (rest ++ more))
+          → script_from asked k line (suc (length bs + left)) (b ∷ (bs ++ more)) ≡ line_then k (parsed asked (line ++ front)) (script_from asked (k + 1) [] (length rest + left) (rest ++ more))
       found same is f =
           let both : pair [] bs ≡ pair front rest = cc in
           let none : front ≡ [] = sym (ap (λ (q : List ℕ × List ℕ). q.0) both) in
           let all : rest ≡ bs = sym (ap (λ (q : List ℕ × List ℕ). q.1) both) in
           let ten : b ≡ 10 = eqb-true b 10 is in
           rw (none, all, ten, append-nil) (script_from-line_feed k line (length bs + left) (bs ++ more))
+
       on : ((p : List ℕ × List ℕ) → split_at 10 bs ≡ Some p → script_from asked k (line ++ b ∷ []) (length bs + left) (bs ++ more)
           ≡ line_then k (parsed asked ((line ++ b ∷ []) ++ p.0)) (script_from asked (k + 1) [] (length p.1 + left) (p.1 ++ more)))
-        → (o : Option (List ℕ × List ℕ)) → split_at 10 bs ≡ o → (b == 10) ≡ false → past b o ≡ parts front rest
-        → script_from asked k line (suc (length bs + left)) (b ∷ (bs ++ more)) ≡ line_then k (parsed asked (line ++ front)) (script_from asked (k + 1) [] (length rest + left) (rest ++ more))
+          → (o : Option (List ℕ × List ℕ)) → split_at 10 bs ≡ o → (b == 10) ≡ false → past b o ≡ parts front rest
+          → script_from asked k line (suc (length bs + left)) (b ∷ (bs ++ more)) ≡ line_then k (parsed asked (line ++ front)) (script_from asked (k + 1) [] (length rest + left) (rest ++ more))
       on shorter None o other f = cc
       on shorter (Some p) o other f =
           let both : pair (b ∷ p.0) p.1 ≡ pair front rest = cc in
@@ -160,31 +160,33 @@ module _ {R : Type 0} (asked : List (List ℕ) → Result R LineFault) where
           (script_from-byte k line (length bs + left) b (bs ++ more) other
           ∙ shorter p o
           ∙ ap (λ l. line_then k (parsed asked l) (script_from asked (k + 1) [] (length p.1 + left) (p.1 ++ more))) (append_assoc line (b ∷ []) p.0))
+
       by_test : ((p : List ℕ × List ℕ) → split_at 10 bs ≡ Some p → script_from asked k (line ++ b ∷ []) (length bs + left) (bs ++ more)
           ≡ line_then k (parsed asked ((line ++ b ∷ []) ++ p.0)) (script_from asked (k + 1) [] (length p.1 + left) (p.1 ++ more)))
-        → (v : Bool) → (b == 10) ≡ v → cond v (here bs) (past b (split_at 10 bs)) ≡ parts front rest
-        → script_from asked k line (suc (length bs + left)) (b ∷ (bs ++ more)) ≡ line_then k (parsed asked (line ++ front)) (script_from asked (k + 1) [] (length rest + left) (rest ++ more))
+          → (v : Bool) → (b == 10) ≡ v → cond v (here bs) (past b (split_at 10 bs)) ≡ parts front rest
+          → script_from asked k line (suc (length bs + left)) (b ∷ (bs ++ more)) ≡ line_then k (parsed asked (line ++ front)) (script_from asked (k + 1) [] (length rest + left) (rest ++ more))
       by_test shorter true is f = found refl is f
       by_test shorter false is f = on shorter (split_at 10 bs) refl is f
 
   -- bytes without a line feed
   pub script_from-kept : (s : List ℕ) (k : ℕ) (line : List ℕ) (left : ℕ) (more : List ℕ) → split_at 10 s ≡ None
-    → script_from asked k line (length s + left) (s ++ more) ≡ script_from asked k (line ++ s) left more
+      → script_from asked k line (length s + left) (s ++ more) ≡ script_from asked k (line ++ s) left more
   script_from-kept [] k line left more e = rw (zero-add, append-nil) refl
   script_from-kept (b ∷ bs) k line left more e =
       let one : suc (length bs) + left ≡ suc (length bs + left) = omega arith in
       ap (λ n. script_from asked k line n (b ∷ (bs ++ more))) one ∙ by_test (λ o. script_from-kept bs k (line ++ b ∷ []) left more o) (b == 10) refl e
     where
       on : (split_at 10 bs ≡ None → script_from asked k (line ++ b ∷ []) (length bs + left) (bs ++ more) ≡ script_from asked k ((line ++ b ∷ []) ++ bs) left more)
-        → (o : Option (List ℕ × List ℕ)) → split_at 10 bs ≡ o → (b == 10) ≡ false → past b o ≡ None
-        → script_from asked k line (suc (length bs + left)) (b ∷ (bs ++ more)) ≡ script_from asked k (line ++ b ∷ bs) left more
+          → (o : Option (List ℕ × List ℕ)) → split_at 10 bs ≡ o → (b == 10) ≡ false → past b o ≡ None
+          → script_from asked k line (suc (length bs + left)) (b ∷ (bs ++ more)) ≡ script_from asked k (line ++ b ∷ bs) left more
       on shorter None o other f =
           script_from-byte k line (length bs + left) b (bs ++ more) other
           ∙ shorter o
           ∙ ap (λ l. script_from asked k l left more) (append_assoc line (b ∷ []) bs)
       on shorter (Some p) o other f = cc
+
       by_test : (split_at 10 bs ≡ None → script_from asked k (line ++ b ∷ []) (length bs + left) (bs ++ more) ≡ script_from asked k ((line ++ b ∷ []) ++ bs) left more)
-        → (v : Bool) → (b == 10) ≡ v → cond v (here bs) (past b (split_at 10 bs)) ≡ None
-        → script_from asked k line (suc (length bs + left)) (b ∷ (bs ++ more)) ≡ script_from asked k (line ++ b ∷ bs) left more
+          → (v : Bool) → (b == 10) ≡ v → cond v (here bs) (past b (split_at 10 bs)) ≡ None
+          → script_from asked k line (suc (length bs + left)) (b ∷ (bs ++ more)) ≡ script_from asked k (line ++ b ∷ bs) left more
       by_test shorter true is f = cc
       by_test shorter false is f = on shorter (split_at 10 bs) refl is f

@@ -32,7 +32,6 @@ Printed-nil (Err TooMuch) a = Emits-nil a.contents a.held
 -- ---- requests
 
 module _ {S R : Type 0} (serves : S → R → S → List ℕ → Type 0) where
-
   pub Runs-then : (a b c : S) (xs ys : List R) (s t : List ℕ) → Runs serves a xs b s → Runs serves b ys c t → Runs serves a (xs ++ ys) c (s ++ t)
   Runs-then a b c [] ys s t h k =
       subst (λ (l : List ℕ). Runs serves a ys c (l ++ t)) (sym h.1) (subst (λ (d : S). Runs serves d ys c t) h.0 k)
@@ -51,7 +50,7 @@ behind-behind {R} xs ys s = ap behind_as (sym (append_assoc xs ys s.requests))
 -- ---- what was asked
 
 pub Leads-then : {R X : Type 0} (r : Result Unit ReplayFault) (asks mid rest : X → Script R) (xs ys : List R)
-  → ((x : X) → asks x ≡ behind xs (mid x)) → Leads r mid rest ys → Leads r asks rest (xs ++ ys)
+    → ((x : X) → asks x ≡ behind xs (mid x)) → Leads r mid rest ys → Leads r asks rest (xs ++ ys)
 Leads-then (Ok u) asks mid rest xs ys h k = λ x. h x ∙ ap (behind xs) (k x) ∙ behind-behind xs ys (rest x)
 Leads-then (Err (Line n w)) asks mid rest xs ys h k = λ x. h x ∙ ap (behind xs) (k x)
 Leads-then (Err Read) asks mid rest xs ys h k = λ x. ((k x).0, h x ∙ ap (behind xs) (k x).1 ∙ behind-behind xs ys (k x).0)
@@ -59,7 +58,7 @@ Leads-then (Err Write) asks mid rest xs ys h k = λ x. ((k x).0, h x ∙ ap (beh
 Leads-then (Err TooMuch) asks mid rest xs ys h k = λ x. h x ∙ ap (behind xs) (k x)
 
 Leads-at : {R X Y : Type 0} (f : Y → X) (r : Result Unit ReplayFault) (asks rest : X → Script R) (xs : List R)
-  → Leads r asks rest xs → Leads r (λ y. asks (f y)) (λ y. rest (f y)) xs
+    → Leads r asks rest xs → Leads r (λ y. asks (f y)) (λ y. rest (f y)) xs
 Leads-at f (Ok u) asks rest xs h = λ y. h (f y)
 Leads-at f (Err (Line n w)) asks rest xs h = λ y. h (f y)
 Leads-at f (Err Read) asks rest xs h = λ y. h (f y)
@@ -67,7 +66,7 @@ Leads-at f (Err Write) asks rest xs h = λ y. h (f y)
 Leads-at f (Err TooMuch) asks rest xs h = λ y. h (f y)
 
 Leads-as : {R X : Type 0} (r : Result Unit ReplayFault) (asks asks' rest rest' : X → Script R) (xs : List R)
-  → ((x : X) → asks' x ≡ asks x) → ((x : X) → rest x ≡ rest' x) → Leads r asks rest xs → Leads r asks' rest' xs
+    → ((x : X) → asks' x ≡ asks x) → ((x : X) → rest x ≡ rest' x) → Leads r asks rest xs → Leads r asks' rest' xs
 Leads-as (Ok u) asks asks' rest rest' xs e f h = λ x. e x ∙ h x ∙ ap (behind xs) (f x)
 Leads-as (Err (Line n w)) asks asks' rest rest' xs e f h = λ x. e x ∙ h x
 Leads-as (Err Read) asks asks' rest rest' xs e f h = λ x. ((h x).0, e x ∙ (h x).1)
@@ -83,15 +82,14 @@ Leads-err TooMuch asks rest rest' xs h = h
 -- ---- steps
 
 module _ {S R : Type 0} (serves : S → R → S → List ℕ → Type 0) where
-
   -- nothing was done
   pub Does-nothing : {X : Type 0} (a : S) (u : Output) (r : Result Unit ReplayFault) (asks rest : X → Script R)
-    → Leads r asks rest [] → Does serves a a u u r asks rest
+      → Leads r asks rest [] → Does serves a a u u r asks rest
   Does-nothing a u r asks rest h = record { requests = []; text = []; runs = (refl, refl); prints = Printed-nil r u; leads = h }
 
   -- a step, and then another
   pub Does-then : {X : Type 0} (a b c : S) (u v w : Output) (r : Result Unit ReplayFault) (asks mid rest : X → Script R)
-    → Does serves a b u v (Ok tt) asks mid → Does serves b c v w r mid rest → Does serves a c u w r asks rest
+      → Does serves a b u v (Ok tt) asks mid → Does serves b c v w r mid rest → Does serves a c u w r asks rest
   Does-then a b c u v w r asks mid rest h k = record {
     requests = h.requests ++ k.requests;
     text = h.text ++ k.text;
@@ -102,7 +100,7 @@ module _ {S R : Type 0} (serves : S → R → S → List ℕ → Type 0) where
 
   -- the same, whatever else is asked
   pub Does-at : {X Y : Type 0} (f : Y → X) (a b : S) (u v : Output) (r : Result Unit ReplayFault) (asks rest : X → Script R)
-    → Does serves a b u v r asks rest → Does serves a b u v r (λ y. asks (f y)) (λ y. rest (f y))
+      → Does serves a b u v r asks rest → Does serves a b u v r (λ y. asks (f y)) (λ y. rest (f y))
   Does-at f a b u v r asks rest h = record {
     requests = h.requests;
     text = h.text;
@@ -113,7 +111,7 @@ module _ {S R : Type 0} (serves : S → R → S → List ℕ → Type 0) where
 
   -- the same, said otherwise
   pub Does-as : {X : Type 0} (a b : S) (u v : Output) (r : Result Unit ReplayFault) (asks asks' rest rest' : X → Script R)
-    → ((x : X) → asks' x ≡ asks x) → ((x : X) → rest x ≡ rest' x) → Does serves a b u v r asks rest → Does serves a b u v r asks' rest'
+      → ((x : X) → asks' x ≡ asks x) → ((x : X) → rest x ≡ rest' x) → Does serves a b u v r asks rest → Does serves a b u v r asks' rest'
   Does-as a b u v r asks asks' rest rest' e f h = record {
     requests = h.requests;
     text = h.text;
@@ -124,20 +122,20 @@ module _ {S R : Type 0} (serves : S → R → S → List ℕ → Type 0) where
 
   -- at a fault it does not matter what would have been left
   pub Does-err : {X : Type 0} (a b : S) (u v : Output) (r : Result Unit ReplayFault) (fault : ReplayFault) (asks rest rest' : X → Script R)
-    → r ≡ Err fault → Does serves a b u v r asks rest → Does serves a b u v r asks rest'
+      → r ≡ Err fault → Does serves a b u v r asks rest → Does serves a b u v r asks rest'
   Does-err {X} a b u v r fault asks rest rest' e h = record {
     requests = h.requests;
     text = h.text;
     runs = h.runs;
     prints = h.prints;
     leads = subst (λ (q : Result Unit ReplayFault). Leads {R = R} {X = X} q asks rest' h.requests) (sym e)
-      (Leads-err fault asks rest rest' h.requests (subst (λ (q : Result Unit ReplayFault). Leads {R = R} {X = X} q asks rest h.requests) e h.leads));
+        (Leads-err fault asks rest rest' h.requests (subst (λ (q : Result Unit ReplayFault). Leads {R = R} {X = X} q asks rest h.requests) e h.leads));
   }
 
   -- ---- a line
 
   served : (a b : S) (p : Option (List ℕ)) (q : List ℕ) (p' : Option (List ℕ)) (q' : List ℕ) (k : ℕ) (x : Result R LineFault) → Takes x serves a b (Ok tt) p q p' q'
-    → Does {X = Script R} serves a b (output p q) (output p' q') (Ok tt) (λ s. line_then k (parsed_by (Ok true) x) s) (λ s. s)
+      → Does {X = Script R} serves a b (output p q) (output p' q') (Ok tt) (λ s. line_then k (parsed_by (Ok true) x) s) (λ s. s)
   served a b p q p' q' k (Err fault) h = cc (h.0)
   served a b p q p' q' k (Ok request) h = record {
     requests = request ∷ [];
@@ -148,7 +146,7 @@ module _ {S R : Type 0} (serves : S → R → S → List ℕ → Type 0) where
   }
 
   failed : (a b : S) (p : Option (List ℕ)) (q : List ℕ) (p' : Option (List ℕ)) (q' : List ℕ) (k : ℕ) (x : Result R LineFault) → Takes x serves a b (Err stop.Write) p q p' q'
-    → Does {X = Script R} serves a b (output p q) (output p' q') (Err Write) (λ s. line_then k (parsed_by (Ok true) x) s) (λ s. s)
+      → Does {X = Script R} serves a b (output p q) (output p' q') (Err Write) (λ s. line_then k (parsed_by (Ok true) x) s) (λ s. s)
   failed a b p q p' q' k (Err fault) h = cc (h.0)
   failed a b p q p' q' k (Ok request) h = record {
     requests = request ∷ [];
@@ -159,7 +157,7 @@ module _ {S R : Type 0} (serves : S → R → S → List ℕ → Type 0) where
   }
 
   refused : (a b : S) (p : Option (List ℕ)) (q : List ℕ) (p' : Option (List ℕ)) (q' : List ℕ) (k : ℕ) (x : Result R LineFault) (fault : LineFault) → Takes x serves a b (Err (stop.Line fault)) p q p' q'
-    → Does {X = Script R} serves a b (output p q) (output p' q') (Err (Line k fault)) (λ s. line_then k (parsed_by (Ok true) x) s) (λ s. s)
+      → Does {X = Script R} serves a b (output p q) (output p' q') (Err (Line k fault)) (λ s. line_then k (parsed_by (Ok true) x) s) (λ s. s)
   refused a b p q p' q' k (Err other) fault h =
       let same : other ≡ fault = cc (h.0) in
       subst (λ (d : S). Does {X = Script R} serves a d (output p q) (output p' q') (Err (Line k fault)) (λ s. line_then k (parsed_by (Ok true) (Err other)) s) (λ s. s)) (sym h.1)
@@ -173,35 +171,35 @@ module _ {S R : Type 0} (serves : S → R → S → List ℕ → Type 0) where
 
   -- what a language's `take_line` answered
   pub line-served : (a b : S) (p : Option (List ℕ)) (q : List ℕ) (p' : Option (List ℕ)) (q' : List ℕ) (k : ℕ) (x : Result R LineFault) (r : Result Unit Stop) (u : Unit {0}) → r ≡ Ok u
-    → Takes x serves a b r p q p' q' → Does {X = Script R} serves a b (output p q) (output p' q') (Ok tt) (λ s. line_then k (parsed_by (Ok true) x) s) (λ s. s)
+      → Takes x serves a b r p q p' q' → Does {X = Script R} serves a b (output p q) (output p' q') (Ok tt) (λ s. line_then k (parsed_by (Ok true) x) s) (λ s. s)
   line-served a b p q p' q' k x r u e h = served a b p q p' q' k x (subst (λ (z : Result Unit Stop). Takes x serves a b z p q p' q') e h)
 
   pub line-failed : (a b : S) (p : Option (List ℕ)) (q : List ℕ) (p' : Option (List ℕ)) (q' : List ℕ) (k : ℕ) (x : Result R LineFault) (r : Result Unit Stop) → r ≡ Err stop.Write
-    → Takes x serves a b r p q p' q' → Does {X = Script R} serves a b (output p q) (output p' q') (Err Write) (λ s. line_then k (parsed_by (Ok true) x) s) (λ s. s)
+      → Takes x serves a b r p q p' q' → Does {X = Script R} serves a b (output p q) (output p' q') (Err Write) (λ s. line_then k (parsed_by (Ok true) x) s) (λ s. s)
   line-failed a b p q p' q' k x r e h = failed a b p q p' q' k x (subst (λ (z : Result Unit Stop). Takes x serves a b z p q p' q') e h)
 
   pub line-refused : (a b : S) (p : Option (List ℕ)) (q : List ℕ) (p' : Option (List ℕ)) (q' : List ℕ) (k : ℕ) (x : Result R LineFault) (r : Result Unit Stop) (fault : LineFault) → r ≡ Err (stop.Line fault)
-    → Takes x serves a b r p q p' q' → Does {X = Script R} serves a b (output p q) (output p' q') (Err (Line k fault)) (λ s. line_then k (parsed_by (Ok true) x) s) (λ s. s)
+      → Takes x serves a b r p q p' q' → Does {X = Script R} serves a b (output p q) (output p' q') (Err (Line k fault)) (λ s. line_then k (parsed_by (Ok true) x) s) (λ s. s)
   line-refused a b p q p' q' k x r fault e h = refused a b p q p' q' k x fault (subst (λ (z : Result Unit Stop). Takes x serves a b z p q p' q') e h)
 
   -- a line with that fault whatever its fields are
   pub line-bad : (a : S) (u : Output) (k : ℕ) (fault : LineFault) (p : Result Bool LineFault) (x : Result R LineFault) → p ≡ Err fault
-    → Does {X = Script R} serves a a u u (Err (Line k fault)) (λ s. line_then k (parsed_by p x) s) (λ s. s)
+      → Does {X = Script R} serves a a u u (Err (Line k fault)) (λ s. line_then k (parsed_by p x) s) (λ s. s)
   line-bad a u k fault p x e = Does-nothing a u (Err (Line k fault)) _ _ (λ s. ap (λ q. line_then k (parsed_by q x) s) e)
 
   -- a line that is skipped
   pub line-skipped : (a : S) (u : Output) (k : ℕ) (p : Result Bool LineFault) (x : Result R LineFault) → p ≡ Ok false
-    → Does {X = Script R} serves a a u u (Ok tt) (λ s. line_then k (parsed_by p x) s) (λ s. s)
+      → Does {X = Script R} serves a a u u (Ok tt) (λ s. line_then k (parsed_by p x) s) (λ s. s)
   line-skipped a u k p x e = Does-nothing a u (Ok tt) _ _ (λ s. ap (λ q. line_then k (parsed_by q x) s) e)
 
   -- a line that asks for something
   pub line-asks : (a b : S) (u v : Output) (k : ℕ) (r : Result Unit ReplayFault) (p : Result Bool LineFault) (x : Result R LineFault) → p ≡ Ok true
-    → Does {X = Script R} serves a b u v r (λ s. line_then k (parsed_by (Ok true) x) s) (λ s. s) → Does {X = Script R} serves a b u v r (λ s. line_then k (parsed_by p x) s) (λ s. s)
+      → Does {X = Script R} serves a b u v r (λ s. line_then k (parsed_by (Ok true) x) s) (λ s. s) → Does {X = Script R} serves a b u v r (λ s. line_then k (parsed_by p x) s) (λ s. s)
   line-asks a b u v k r p x e h = Does-as a b u v r _ _ _ _ (λ s. ap (λ q. line_then k (parsed_by q x) s) e) (λ s. refl) h
 
   -- a line that is too long already
   pub line-too_long : (a : S) (u : Output) (k : ℕ) (line : List ℕ) (asked : List (List ℕ) → Result R LineFault) (r : Result Unit ReplayFault) → 4096 < length line
-    → r ≡ Err (Line k TooLong) → Does {X = Script R} serves a a u u r (λ s. line_then k (parsed asked line) s) (λ s. s)
+      → r ≡ Err (Line k TooLong) → Does {X = Script R} serves a a u u r (λ s. line_then k (parsed asked line) s) (λ s. s)
   line-too_long a u k line asked r long e =
       subst (λ (q : Result Unit ReplayFault). Does {X = Script R} serves a a u u q (λ s. line_then k (parsed asked line) s) (λ s. s)) (sym e)
       (line-bad a u k TooLong _ _ (asks-long line long))

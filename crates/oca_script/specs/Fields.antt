@@ -1,4 +1,4 @@
--- The fields of a script's line, and what they stand for (profile).
+-- The fields of a script's line, and the values that they encode (profile).
 use Rattle.std.specs.Prelude.{ℕ, ◌+◌, ◌-◌, ◌*◌, ◌^◌, ◌==◌, ◌&&◌, ◌||◌, nat_le, nat_lt, if◌then◌else◌, List, [], ◌∷◌, length, codes, Option, Some, None}
 use Rattle.std.specs.Option.{option_map}
 use Rattle.std.specs.Result.{result_ok}
@@ -68,7 +68,7 @@ peer_of text =
     then_in (number_of 3 255 r.0) (λ c.
     then_in (number_of 3 255 s.0) (λ d.
     then_in (number_of 5 65535 s.1) (λ port.
-      Some (record { ip = ((a * 256 + b) * 256 + c) * 256 + d; port = port }))))))))))
+    Some (record { ip = ((a * 256 + b) * 256 + c) * 256 + d; port = port }))))))))))
 
 -- ---- bytes
 

@@ -1,4 +1,4 @@
--- What a replay does.
+-- What a replay does (profile).
 use Rattle.std.specs.Prelude.{◌≡◌, ◌≤◌, ℕ, List, [], ◌∷◌, ◌++◌, length, Option, None, Some, Result, Ok, Err, OnOk}
 use Rattle.std.specs.Io.KnownBytes.{Appends, Consumes, IsAtEnd}
 use Rattle.oca_script.specs.declared.fault.LineFault.{LineFault}
@@ -75,6 +75,6 @@ pub record Reads (had has : Option (List ℕ)) (result : Result Unit ReplayFault
   pub bounded : length taken ≤ 16777217
   pub ended : OnOk result (IsAtEnd has)
 
--- There are bytes that the reader gave, and the script of these and of what it has left was replayed.
+-- There are bytes, those that the reader gave where it tells them, and the script of these and of what it has left was replayed.
 abbrev pub Outcome : {S R : Type 0} → (List (List ℕ) → Result R LineFault) → (S → R → S → List ℕ → Type 0) → S → S → Option (List ℕ) → Option (List ℕ) → Option (List ℕ) → Option (List ℕ) → Result Unit ReplayFault → Type 0
 Outcome asked serves old new was is had has result = (taken : List ℕ) × Reads had has result taken × Replays asked serves old new was is result (taken ++ known_bytes has)

@@ -48,6 +48,6 @@ pub record Performs {S R : Type 0} (asked : List (List ℕ) → Result R LineFau
   pub prints : Printed result was is text
   pub ends : Ends result (script asked given) requests
 
--- there are bytes that the reader gave, and the script of these and of what it has left was performed
+-- there are bytes, those that the reader gave where it tells them, and the script of these and of what it has left was performed
 abbrev pub Performance : {S R : Type 0} → (List (List ℕ) → Result R LineFault) → (S → R → S → List ℕ → Type 0) → S → S → Output → Output → Option (List ℕ) → Option (List ℕ) → Result Unit ReplayFault → Type 0
 Performance asked serves old new was is had has result = (taken : List ℕ) × Reads had has result taken × Performs asked serves old new was is result (taken ++ known_bytes has)

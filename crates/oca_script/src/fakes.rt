@@ -34,7 +34,11 @@ impl Read for PieceReader<'_> {
         if self.before_fault == 0 {
             return Err(io::Error::new(ErrorKind::Other, "fault"));
         }
-        let count = self.piece.min(self.before_fault).min(self.rest.len()).min(buf.len());
+        let count = self
+            .piece
+            .min(self.before_fault)
+            .min(self.rest.len())
+            .min(buf.len());
         let (front, rest) = self.rest.split_at(count);
         buf[..count].copy_from_slice(front);
         self.rest = rest;

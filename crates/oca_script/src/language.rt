@@ -1,12 +1,12 @@
 //! What the lines of a script ask for.
-use super::fault::{LineFault, Stop};
-use super::printing::Pending;
-use std::io::Write;
-
 ghost use Rattle.std.specs.Prelude.{◌≡◌, ◌≤◌, ℕ, List, Result, length};
 ghost use Rattle.oca_script.specs.Fields.{fields};
 ghost use Rattle.oca_script.specs.Replaying.{Takes};
 ghost use Rattle.oca_script.specs.declared.fault.LineFault.{LineFault};
+
+use super::fault::{LineFault, Stop};
+use super::printing::Pending;
+use std::io::Write;
 
 /// What the fields of a line ask for, and what serving that does to a state and prints.
 pub trait Language {

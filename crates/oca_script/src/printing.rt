@@ -39,6 +39,22 @@ pub fn flush<W: Write>(pending: &mut Pending, writer: &mut W) -> Result<(), Writ
     Ok(())
 }
 
+/// Makes room for so many bytes: where fewer are free, what is pending is handed to the writer.
+pub fn make_room<W: Write>(
+    pending: &mut Pending,
+    writer: &mut W,
+    room: usize,
+) -> Result<(), WriteFailed>
+    requires { room ≤ 8192 }
+    ensures prints { Prints result (W.contents writer.old) pending.old.items (W.contents writer.new) pending.new.items [] }
+    ensures room { OnOk result (array_vec_len pending.new + room ≤ 8192) }
+{
+    if CAPACITY - pending.len() < room {
+        return flush(pending, writer);
+    }
+    Ok(())
+}
+
 /// Adds the bytes to what is pending.
 fn hold(pending: &mut Pending, bytes: &[u8])
     requires { array_vec_len pending.old + length bytes.now ≤ 8192 }
@@ -49,7 +65,11 @@ fn hold(pending: &mut Pending, bytes: &[u8])
 
 /// Prints the bytes: they are pending then, or handed to the writer.
 #[tactic(auto, using(crate::proofs::PrintLemmas::print_rules))]
-pub fn print<W: Write>(pending: &mut Pending, writer: &mut W, bytes: &[u8]) -> Result<(), WriteFailed>
+pub fn print<W: Write>(
+    pending: &mut Pending,
+    writer: &mut W,
+    bytes: &[u8],
+) -> Result<(), WriteFailed>
     ensures { Prints result (W.contents writer.old) pending.old.items (W.contents writer.new) pending.new.items bytes.now }
 {
     if bytes.len() <= CAPACITY - pending.len() {

@@ -50,7 +50,11 @@ fn line_asks(line: &[u8]) -> Result<bool, LineFault>
     if is_skipped(line) {
         return Ok(false);
     }
-    if is_ascii(line) { Ok(true) } else { Err(LineFault::Form) }
+    if is_ascii(line) {
+        Ok(true)
+    } else {
+        Err(LineFault::Form)
+    }
 }
 
 /// Serves a line that asks for something.
@@ -156,14 +160,19 @@ fn take_piece<L: Language, W: Write>(
 }
 
 /// Replays the script that the reader has to give, by the rules of a language: the lines are counted
-/// from 1, and the text of the requests before the first bad line is written.
+/// from 1, and the text of the requests before the first bad line is written. Faults: `Line` with the
+/// first bad line and its fault; `TooMuch` beyond 16,777,216 bytes where no line within them is bad;
+/// `Read` and `Write` at a failed read or write, after which some first requests were served and a
+/// front of their text was written (that they come nowhere else is only tested). (The form of a script is
+/// the profile's.)
 pub fn replay<L: Language, R: Read, W: Write>(
     state: &mut L::State,
     room: &mut L::Room,
     reader: &mut R,
     writer: &mut W,
 ) -> Result<(), ReplayFault>
-    // Whatever reader: there are bytes that it gave, and the rest of what it had, and their script was replayed.
+    // Whatever reader: there are bytes, those that it gave where it tells them, and the rest of what it had, and their script was
+    // replayed.
     ensures reads { Outcome L.asked L.serves state.old state.new (W.contents writer.old) (W.contents writer.new)
         (R.remaining reader.old) (R.remaining reader.new) result }
     // Where the bytes that it had are known, their script was.
@@ -241,7 +250,11 @@ fn read_script<L: Language, R: Read, W: Write>(
 }
 
 /// The next bytes, and none only at the end.
-fn read_piece<'a, R: Read>(reader: &mut R, buffer: &'a mut [u8], most: usize) -> Result<&'a [u8], ReplayFault>
+fn read_piece<'a, R: Read>(
+    reader: &mut R,
+    buffer: &'a mut [u8],
+    most: usize,
+) -> Result<&'a [u8], ReplayFault>
     requires some { 0 < most }
     requires within { most ≤ length buffer.old }
     ensures consumes { IfOk result (λ piece. Consumes (R.remaining reader.old) (R.remaining reader.new) piece.now) }

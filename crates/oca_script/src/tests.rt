@@ -5,7 +5,7 @@ use super::field::{first_field, hex_bytes, moment, number, peer};
 use super::language::Language;
 use super::printing::{Pending, print};
 use super::replay::replay;
-use super::text::{TextLine, put, put_hex, put_number};
+use super::text::{put, put_hex, put_number};
 use super::{LineFault, ReplayFault, Stop, WriteFailed};
 use oca_types::Peer;
 use std::io::Write;
@@ -16,6 +16,7 @@ struct Echo;
 
 impl Language for Echo {
     type State = u64;
+
     type Room = u8;
 
     ghost Request = { Unit {0} };
@@ -40,6 +41,7 @@ impl Language for Echo {
 }
 
 const SCRIPT: &[u8] = b"one\n# note\n\ntwo three\nfour";
+
 const TEXT: &[u8] = b"onetwo threefour";
 
 /// The lines that were served, and how the replay ended.
@@ -84,7 +86,9 @@ fn pieces_of_each_size(rt: HostRuntime) {
         let mut lines = 0;
         let mut from = PieceReader::new(SCRIPT, piece, usize::MAX);
         let mut to = ShortWriter::new(piece, usize::MAX);
-        let ended = replay::<Echo, PieceReader, ShortWriter>(&mut lines, &mut 0, &mut from, &mut to);
+        let ended = replay::<Echo, PieceReader, ShortWriter>(
+            &mut lines, &mut 0, &mut from, &mut to,
+        );
         assert_eq!(rt; ended, Ok(()));
         assert!(rt; to.taken.as_slice() == TEXT);
         assert_eq!(rt; lines, 3);
@@ -97,7 +101,9 @@ fn reader_fails_at_each_place(rt: HostRuntime) {
         let mut lines = 0;
         let mut from = PieceReader::new(SCRIPT, 7, place);
         let mut to = ShortWriter::new(1000, usize::MAX);
-        let ended = replay::<Echo, PieceReader, ShortWriter>(&mut lines, &mut 0, &mut from, &mut to);
+        let ended = replay::<Echo, PieceReader, ShortWriter>(
+            &mut lines, &mut 0, &mut from, &mut to,
+        );
         assert_eq!(rt; ended, Err(ReplayFault::Read));
         let whole = if place < 4 {
             0
@@ -120,7 +126,9 @@ fn writer_fails_at_each_place(rt: HostRuntime) {
             let mut from = PieceReader::new(SCRIPT, 1000, usize::MAX);
             let mut to = ShortWriter::new(3, place);
             to.takes_nothing = takes_nothing;
-            let ended = replay::<Echo, PieceReader, ShortWriter>(&mut lines, &mut 0, &mut from, &mut to);
+            let ended = replay::<Echo, PieceReader, ShortWriter>(
+                &mut lines, &mut 0, &mut from, &mut to,
+            );
             assert_eq!(rt; ended, Err(ReplayFault::Write));
             assert_eq!(rt; to.taken.len(), place);
             assert!(rt; TEXT.starts_with(to.taken.as_slice()));
@@ -143,7 +151,10 @@ fn form_of_a_line(rt: HostRuntime) {
     assert_eq!(rt; replayed(b"").0, 0);
     assert_eq!(rt; replayed(b"\n\n\n"), (0, Ok(())));
     assert_eq!(rt; replayed(b"\r\n"), (1, Ok(())));
-    assert_eq!(rt; replayed(b"a\n#\xff\nb\x80"), (1, Err(ReplayFault::Line(3, LineFault::Form))));
+    assert_eq!(rt;
+        replayed(b"a\n#\xff\nb\x80"),
+        (1, Err(ReplayFault::Line(3, LineFault::Form)))
+    );
     assert_eq!(rt; replayed(b" #\n"), (1, Ok(())));
 }
 
@@ -152,13 +163,22 @@ fn length_of_a_line(rt: HostRuntime) {
     let comment = [b'#'; 4097];
     let mut line = [b'a'; 4098];
     assert_eq!(rt; replayed(&comment[..4096]), (0, Ok(())));
-    assert_eq!(rt; replayed(&comment), (0, Err(ReplayFault::Line(1, LineFault::TooLong))));
+    assert_eq!(rt;
+        replayed(&comment),
+        (0, Err(ReplayFault::Line(1, LineFault::TooLong)))
+    );
     assert_eq!(rt; replayed(&line[..4096]), (1, Ok(())));
-    assert_eq!(rt; replayed(&line[..4097]), (0, Err(ReplayFault::Line(1, LineFault::TooLong))));
+    assert_eq!(rt;
+        replayed(&line[..4097]),
+        (0, Err(ReplayFault::Line(1, LineFault::TooLong)))
+    );
     line[4096] = b'\n';
     assert_eq!(rt; replayed(&line), (2, Ok(())));
     line[0] = 0xff;
-    assert_eq!(rt; replayed(&line), (0, Err(ReplayFault::Line(1, LineFault::Form))));
+    assert_eq!(rt;
+        replayed(&line),
+        (0, Err(ReplayFault::Line(1, LineFault::Form)))
+    );
 }
 
 #[test]
@@ -168,8 +188,14 @@ fn length_of_a_script(rt: HostRuntime) {
         lines[100 * i + 99] = b'\n';
     }
     assert_eq!(rt; replayed_pattern(&lines, 16777216), (167773, Ok(())));
-    assert_eq!(rt; replayed_pattern(&lines, 16777217), (167772, Err(ReplayFault::TooMuch)));
-    assert_eq!(rt; replayed_pattern(b"#", 99999999), (0, Err(ReplayFault::Line(1, LineFault::TooLong))));
+    assert_eq!(rt;
+        replayed_pattern(&lines, 16777217),
+        (167772, Err(ReplayFault::TooMuch))
+    );
+    assert_eq!(rt;
+        replayed_pattern(b"#", 99999999),
+        (0, Err(ReplayFault::Line(1, LineFault::TooLong)))
+    );
 }
 
 #[test]
@@ -199,7 +225,13 @@ fn peers(rt: HostRuntime) {
     };
     assert_eq!(rt; peer(b"127.0.0.1:9001"), Some(local));
     assert_eq!(rt; peer(b"127.000.0.001:09001"), Some(local));
-    assert_eq!(rt; peer(b"255.255.255.255:65535"), Some(Peer { ip: u32::MAX, port: 65535 }));
+    assert_eq!(rt;
+        peer(b"255.255.255.255:65535"),
+        Some(Peer {
+            ip: u32::MAX,
+            port: 65535
+        })
+    );
     for text in [
         b"127.0.0.256:9001".as_slice(),
         b"127.0.0.1:65536",
@@ -252,7 +284,7 @@ fn fields_of_a_line(rt: HostRuntime) {
 
 #[test]
 fn printed_lines(rt: HostRuntime) {
-    let mut line = TextLine::new();
+    let mut line = Pending::new();
     put(&mut line, b"> ");
     put_hex(&mut line, b"\x3b\xfA");
     assert!(rt; line.len() < 64);

@@ -16,9 +16,11 @@ window w A = drop (length A - w) A
 abbrev pub outside : {X : Type 0} → ℕ → List X → List X
 outside w A = take (length A - w) A
 
+-- the command has this handle
 abbrev pub has_handle : ℕ → Entry → Bool
 has_handle h e = e.handle == h
 
+-- the command's handle is below this one
 abbrev pub is_below : ℕ → Entry → Bool
 is_below h e = nat_lt e.handle h
 
@@ -37,10 +39,12 @@ pub data Judgement : Type 0 where
   Duplicate : (reply : Reply) → Judgement
   Old : Judgement
 
+-- a duplicate of the command that was found, and old where none was
 abbrev pub duplicate_or_old : Option Entry → Judgement
 duplicate_or_old (Some e) = Duplicate e.reply
 duplicate_or_old None = Old
 
+-- what the accepted commands A say of the handle h, where the window has size w
 abbrev pub judgement : ℕ → List Entry → ℕ → Judgement
 judgement w A h = if accepts w A h then Fresh else duplicate_or_old (entry_under h (window w A))
 

@@ -25,6 +25,7 @@ pub record Table : Type 0 where
 abbrev pub at_with : Table → ℕ → List Session → Table
 at_with t moment ss = record { window = t.window; moment = moment; sessions = ss }
 
+-- the same window size and moment, with other sessions
 abbrev pub with_sessions : Table → List Session → Table
 with_sessions t ss = at_with t t.moment ss
 
@@ -32,6 +33,7 @@ with_sessions t ss = at_with t t.moment ss
 abbrev pub present : Table → ℕ → ℕ
 present t now = max t.moment now
 
+-- the session is that of this peer
 abbrev pub is_of : Peer → Session → Bool
 is_of p s = same_peer s.peer p
 
@@ -39,6 +41,7 @@ is_of p s = same_peer s.peer p
 abbrev pub session_of : Peer → List Session → Option Session
 session_of p ss = find (is_of p) ss
 
+-- the peers of the sessions, in their order
 abbrev pub peers_of : List Session → List Peer
 peers_of ss = map (λ s. s.peer) ss
 
@@ -50,6 +53,7 @@ changed p f ss = map (λ s. if is_of p s then f s else s) ss
 abbrev pub opened : ℕ → Peer → ℕ → Session
 opened w p moment = record { peer = p; heard = moment; heartbeat = 5000; retained = retained_of w [] }
 
+-- the session where its peer was last heard at this moment
 abbrev pub heard_at : ℕ → Session → Session
 heard_at moment s = record s { heard = moment }
 
@@ -65,6 +69,7 @@ with_entry e s = record s { retained = retained_after s.retained e }
 abbrev pub with_accepted : ℕ → List Entry → Session → Session
 with_accepted w A s = record s { retained = retained_of w A }
 
+-- how long the peer of the session has been silent
 abbrev pub silence : ℕ → Session → ℕ
 silence moment s = moment - s.heard
 
@@ -80,6 +85,7 @@ stays moment s = nat_le (silence moment s) 120000
 abbrev pub lapsed : ℕ → List Session → List Peer
 lapsed moment ss = peers_of (filter (is_lapsed moment) ss)
 
+-- the sessions that stay, and those that are forgotten, each in their order
 abbrev pub staying : ℕ → List Session → List Session
 staying moment ss = filter (stays moment) ss
 

@@ -30,8 +30,7 @@ pub enum Heard {
     NoRoom,
 }
 
-/// The sessions of at most 16 peers, in order of opening (profile: AES70-3 has keep-alives, and leaves sessions
-/// over UDP to the device).
+/// The sessions of at most 16 peers, in order of opening (profile).
 ///
 /// A peer is *known* while it has a session. The present moment is the latest that `advance` and `hear`
 /// were given, in milliseconds, and 0 at first. The *silence* of a session is the present moment less the

@@ -1,5 +1,5 @@
 -- How a tree is built (the order of the faults is the profile's).
-use Rattle.std.specs.Prelude.{◌≡◌, ℕ, ◌+◌, ◌==◌, ◌||◌, not, ◌⊎◌, Bool, true, false, if◌then◌else◌, nat_lt, nat_le, List, [], ◌∷◌, ◌++◌, length, map, replicate, codes, Option, Some, None, is_some, Result, Ok, Err, ℤ, int_lt, pos}
+use Rattle.std.specs.Prelude.{◌≡◌, ℕ, ◌+◌, ◌==◌, ◌||◌, not, Bool, true, false, if◌then◌else◌, nat_lt, nat_le, List, [], ◌∷◌, ◌++◌, length, map, replicate, codes, Option, Some, None, is_some, Result, Ok, Err, ℤ, int_lt, pos}
 use Rattle.std.specs.List.{list_any}
 use Rattle.oca_tree.specs.declared.object.NumberKind.{NumberKind}
 use Rattle.oca_tree.specs.declared.object.NumberKind.TheVariants as kinds
@@ -95,9 +95,8 @@ add_fault tree container ono spec = first_fault (
     ∷ (is_bad_value (value_of spec.kind), faults.BadRange)
     ∷ [])
 
--- The object is added at the end where no line applies. A refusal changes nothing, and is the first line that applies, or want
--- of memory where none does.
+-- The object is added at the end where no line applies. A refusal changes nothing, and is the first line that applies. Memory is
+-- not asked for: a builder has the room for 128 objects from the start.
 abbrev pub Adds : {X : Type 0} → Result X AddFault → List Object → List Object → ℕ → ℕ → Spec → Type 0
 Adds (Ok _) old new container ono spec = (add_fault old container ono spec ≡ None) × (new ≡ old ++ object_of_spec container ono spec ∷ [])
-Adds (Err e) old new container ono spec =
-    (new ≡ old) × ((add_fault old container ono spec ≡ Some e) ⊎ ((add_fault old container ono spec ≡ None) × (e ≡ faults.NoMemory)))
+Adds (Err e) old new container ono spec = (new ≡ old) × (add_fault old container ono spec ≡ Some e)

@@ -1,5 +1,5 @@
 //! Building a tree, object by object.
-ghost use Rattle.std.specs.Prelude.{◌≡◌, ◌≤◌, [], ◌∷◌, length, map, replicate, true, false, Some, None, IfOk, IfErr, MatchOption};
+ghost use Rattle.std.specs.Prelude.{◌≡◌, ◌≤◌, ◌<◌, [], ◌∷◌, length, map, replicate, true, false, Some, None, IfOk, IfErr, OnOk, MatchOption};
 ghost use Rattle.std.specs.List.{list_any};
 ghost use Rattle.oca_tree.specs.Kinds.{IsOfType};
 ghost use Rattle.oca_tree.specs.Building.{Adds, value_of, switch, number, has_bad_name, is_long, root};
@@ -15,7 +15,7 @@ use oca_types::{Ono, Text};
 use std::alloc::Global;
 use std::marker::Model;
 
-/// Why an object was not added, the first in this order that applies.
+/// Why an object was not added, the first in this order that applies. The numbers are promised (*profile*).
 #[derive(Clone, Copy, Debug, PartialEq, Eq)]
 pub enum AddFault {
     /// 128 objects are there, the root counted.
@@ -36,6 +36,22 @@ pub enum AddFault {
     /// Memory was refused.
     NoMemory = 8,
 }
+
+const _: () = prove!(AddFault::Full as u8 == 1);
+
+const _: () = prove!(AddFault::Reserved as u8 == 2);
+
+const _: () = prove!(AddFault::Taken as u8 == 3);
+
+const _: () = prove!(AddFault::NoSuchBlock as u8 == 4);
+
+const _: () = prove!(AddFault::TooDeep as u8 == 5);
+
+const _: () = prove!(AddFault::BadText as u8 == 6);
+
+const _: () = prove!(AddFault::BadRange as u8 == 7);
+
+const _: () = prove!(AddFault::NoMemory as u8 == 8);
 
 /// What an object is to be at first.
 #[derive(Clone, Copy)]
@@ -280,7 +296,8 @@ fn object_for(
     spec: &Spec<'_>,
 ) -> Result<Object, AddFault>
     requires { IsTree objects.now }
-    ensures { Makes result objects.now container.0 ono.0 spec.now }
+    ensures makes { Makes result objects.now container.0 ono.0 spec.now }
+    ensures room { OnOk result (length objects.now < 128) }
 {
     if objects.len() >= 128 {
         return Err(AddFault::Full);
@@ -325,7 +342,8 @@ pub struct TreeBuilder {
 }
 
 impl Model for TreeBuilder {
-    ghost use Rattle.std.specs.Prelude.{List};
+    ghost use Rattle.std.specs.Prelude.{List, ◌≤◌};
+    ghost use Rattle.std.specs.Vec.{vec_capacity};
     ghost use Rattle.oca_tree.specs.declared.object.Object.{Object as Item};
     ghost use Rattle.oca_tree.specs.Trees.{IsTree};
 
@@ -333,7 +351,7 @@ impl Model for TreeBuilder {
 
     ghost view = { λ t. t.objects.items };
 
-    ghost invariant = { λ t. IsTree t.objects.items };
+    ghost invariant = { λ t. IsTree t.objects.items × (128 ≤ vec_capacity t.objects) };
 }
 
 impl TreeBuilder {
@@ -364,15 +382,15 @@ impl TreeBuilder {
     }
 
     /// Adds an object at the end: enabled, unlocked and with an empty label. It is refused by the first
-    /// variant of `AddFault` that applies, and is then unchanged. `NoMemory` comes only where no other does
-    /// and memory was refused.
+    /// variant of `AddFault` that applies, and is then unchanged. It asks for no memory, since `new` took
+    /// it: `NoMemory` does not come.
     pub fn add(&mut self, container: Ono, ono: Ono, spec: &Spec<'_>) -> Result<(), AddFault>
         ensures { Adds result self.old self.new container.0 ono.0 spec.now }
     {
         let object = object_for(&self.objects, container, ono, spec)?;
         match self.objects.push(object) {
             Ok(()) => Ok(()),
-            Err(_) => Err(AddFault::NoMemory),
+            Err(_) => unreachable!(),
         }
     }
 

@@ -99,9 +99,11 @@ impl Tree {
         release_all(&mut self.objects, peer);
     }
 
-    /// How many objects there are, the root counted: 1 to 128.
+    /// How many objects there are, the root counted: 1 to 128. With it comes what holds of every tree: distinct numbers, blocks
+    /// that stand before what they contain, settings in their ranges, and locks of lockable objects alone.
     pub fn len(&self) -> usize
-        ensures { result ≡ length self.now }
+        ensures len { result ≡ length self.now }
+        ensures sound { IsTree self.now }
     {
         self.objects.len()
     }

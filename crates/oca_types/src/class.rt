@@ -49,7 +49,7 @@ pub enum Access {
     Locking,
 }
 
-/// A method that this device carries out (AES70-2), under the name that its class gives it. Mute and
+/// A method that this device carries out. The numbers and names are the profile's own table. Mute and
 /// polarity share `GetState` and `SetState`; the basic actuators share `GetSetting` and `SetSetting`.
 #[derive(Clone, Copy, Debug, PartialEq, Eq)]
 pub enum Method {
@@ -242,7 +242,7 @@ pub fn access_of(method: Method) -> Access
     }
 }
 
-/// What a class knows of a pair of DefLevel and MethodIndex (AES70-2; the numbers are the profile's).
+/// What a class knows of a pair of DefLevel and MethodIndex (AES70-2; the numbers and names are the profile's).
 #[tactic(auto, unfolding(crate::specs::Methods::method_kind))]
 pub fn method_of(class: Class, id: MethodId) -> MethodKind
     ensures { result ≡ method_kind class id }

@@ -28,8 +28,8 @@ four fs a b c rest e =
     ap asked_event (e ∙ ap (λ (gs : List (List ℕ)). a ∷ b ∷ c ∷ gs) some.are)
 
 pub request-of_four : (s a b c : List ℕ) (o1 o2 o3 : Option (List ℕ)) (r1 r2 r3 : List ℕ)
-  → fields s ≡ a ∷ fields_after o1 → o1 ≡ Some r1 → fields r1 ≡ b ∷ fields_after o2 → o2 ≡ Some r2
-  → fields r2 ≡ c ∷ fields_after o3 → o3 ≡ Some r3 → asked_event (fields s) ≡ Err Form
+    → fields s ≡ a ∷ fields_after o1 → o1 ≡ Some r1 → fields r1 ≡ b ∷ fields_after o2 → o2 ≡ Some r2
+    → fields r2 ≡ c ∷ fields_after o3 → o3 ≡ Some r3 → asked_event (fields s) ≡ Err Form
 request-of_four s a b c o1 o2 o3 r1 r2 r3 f1 e1 f2 e2 f3 e3 =
     let g1 : fields s ≡ a ∷ fields r1 = f1 ∙ ap (λ o. a ∷ fields_after o) e1 in
     let g2 : fields r1 ≡ b ∷ fields r2 = f2 ∙ ap (λ o. b ∷ fields_after o) e2 in

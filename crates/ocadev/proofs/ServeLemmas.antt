@@ -28,8 +28,8 @@ use Rattle.ocadev.specs.Replaying.{Serves, ServesAndPrints, Whole, Part, Replays
 -- ---- an event
 
 pub tick-served : (a b : DeviceState) (now : ℕ) (request : Request) (r : Result Unit WriteFailed) (u v : Option (List ℕ)) (p q : List ℕ) → request ≡ asks.Tick now
-  → ((w : ℕ) (tree : List Object) (events : List Event) → Represents w a tree events → Represents w b tree (Tick now ∷ events))
-  → Prints r u p v q (codes "quiet\n") → ServesAndPrints a (event_of request) b r u p v q
+    → ((w : ℕ) (tree : List Object) (events : List Event) → Represents w a tree events → Represents w b tree (Tick now ∷ events))
+    → Prints r u p v q (codes "quiet\n") → ServesAndPrints a (event_of request) b r u p v q
 unfolding event_text
 tick-served a b now request r u v p q e h prints =
     subst (λ (x : Request). ServesAndPrints a (event_of x) b r u p v q) (sym e)
@@ -40,25 +40,25 @@ tick-served a b now request r u v p q e h prints =
     })
 
 datagram-serves : (a b : DeviceState) (from : Peer) (bytes : List ℕ) (now : ℕ) (v : Verdict) (ps : List (List ℕ))
-  → ((w : ℕ) (tree : List Object) (events : List Event) → Represents w a tree events → Represents w b tree (Datagram from bytes now ∷ events))
-  → ((w : ℕ) (tree : List Object) (events : List Event) → Represents w a tree events → ps ≡ packets w tree events (Datagram from bytes now))
-  → ((w : ℕ) (tree : List Object) (events : List Event) → Represents w a tree events → v ≡ verdict w tree events from bytes now)
-  → Serves a (Datagram from bytes now) b (verdict_text v ++ flat_map packet_text ps)
+    → ((w : ℕ) (tree : List Object) (events : List Event) → Represents w a tree events → Represents w b tree (Datagram from bytes now ∷ events))
+    → ((w : ℕ) (tree : List Object) (events : List Event) → Represents w a tree events → ps ≡ packets w tree events (Datagram from bytes now))
+    → ((w : ℕ) (tree : List Object) (events : List Event) → Represents w a tree events → v ≡ verdict w tree events from bytes now)
+    → Serves a (Datagram from bytes now) b (verdict_text v ++ flat_map packet_text ps)
 unfolding event_text
 datagram-serves a b from bytes now v ps h sent said = record {
   represents = h;
   prints = λ w tree events at_a.
-    ap (λ x. verdict_text x ++ flat_map packet_text ps) (said w tree events at_a)
-    ∙ ap (λ (xs : List (List ℕ)). verdict_text (verdict w tree events from bytes now) ++ flat_map packet_text xs) (sent w tree events at_a);
+      ap (λ x. verdict_text x ++ flat_map packet_text ps) (said w tree events at_a)
+      ∙ ap (λ (xs : List (List ℕ)). verdict_text (verdict w tree events from bytes now) ++ flat_map packet_text xs) (sent w tree events at_a);
 }
 
 -- the verdict was printed, and the packets as far as r says
 pub datagram-served : (a b : DeviceState) (from : Peer) (bytes : List ℕ) (now : ℕ) (v : Verdict) (ps : List (List ℕ)) (line : List ℕ) (r : Result Unit WriteFailed) (x : Unit {0}) (k l m : Option (List ℕ)) (p q s : List ℕ)
-  → line ≡ verdict_text v
-  → ((w : ℕ) (tree : List Object) (events : List Event) → Represents w a tree events → Represents w b tree (Datagram from bytes now ∷ events))
-  → ((w : ℕ) (tree : List Object) (events : List Event) → Represents w a tree events → ps ≡ packets w tree events (Datagram from bytes now))
-  → ((w : ℕ) (tree : List Object) (events : List Event) → Represents w a tree events → v ≡ verdict w tree events from bytes now)
-  → Prints (Ok x) k p l q line → Prints r l q m s (flat_map packet_text ps) → ServesAndPrints a (Datagram from bytes now) b r k p m s
+    → line ≡ verdict_text v
+    → ((w : ℕ) (tree : List Object) (events : List Event) → Represents w a tree events → Represents w b tree (Datagram from bytes now ∷ events))
+    → ((w : ℕ) (tree : List Object) (events : List Event) → Represents w a tree events → ps ≡ packets w tree events (Datagram from bytes now))
+    → ((w : ℕ) (tree : List Object) (events : List Event) → Represents w a tree events → v ≡ verdict w tree events from bytes now)
+    → Prints (Ok x) k p l q line → Prints r l q m s (flat_map packet_text ps) → ServesAndPrints a (Datagram from bytes now) b r k p m s
 datagram-served a b from bytes now v ps line r x k l m p q s e h sent said first more = record {
   text = verdict_text v ++ flat_map packet_text ps;
   serves = datagram-serves a b from bytes now v ps h sent said;
@@ -67,11 +67,11 @@ datagram-served a b from bytes now v ps line r x k l m p q s e h sent said first
 
 -- the verdict was printed in part
 pub datagram-cut : (a b : DeviceState) (from : Peer) (bytes : List ℕ) (now : ℕ) (v : Verdict) (ps : List (List ℕ)) (line : List ℕ) (r : Result Unit WriteFailed) (x y : WriteFailed) (k l : Option (List ℕ)) (p q s : List ℕ)
-  → line ≡ verdict_text v
-  → ((w : ℕ) (tree : List Object) (events : List Event) → Represents w a tree events → Represents w b tree (Datagram from bytes now ∷ events))
-  → ((w : ℕ) (tree : List Object) (events : List Event) → Represents w a tree events → ps ≡ packets w tree events (Datagram from bytes now))
-  → ((w : ℕ) (tree : List Object) (events : List Event) → Represents w a tree events → v ≡ verdict w tree events from bytes now)
-  → r ≡ Err x → Prints (Err y) k p l q line → ServesAndPrints a (Datagram from bytes now) b r k p l s
+    → line ≡ verdict_text v
+    → ((w : ℕ) (tree : List Object) (events : List Event) → Represents w a tree events → Represents w b tree (Datagram from bytes now ∷ events))
+    → ((w : ℕ) (tree : List Object) (events : List Event) → Represents w a tree events → ps ≡ packets w tree events (Datagram from bytes now))
+    → ((w : ℕ) (tree : List Object) (events : List Event) → Represents w a tree events → v ≡ verdict w tree events from bytes now)
+    → r ≡ Err x → Prints (Err y) k p l q line → ServesAndPrints a (Datagram from bytes now) b r k p l s
 datagram-cut a b from bytes now v ps line r x y k l p q s e h sent said is first = record {
   text = verdict_text v ++ flat_map packet_text ps;
   serves = datagram-serves a b from bytes now v ps h sent said;
@@ -81,32 +81,32 @@ datagram-cut a b from bytes now v ps line r x y k l p q s e h sent said is first
 -- ---- a line
 
 pub line-taken : (a b : DeviceState) (r : Result Unit WriteFailed) (u : Unit {0}) (was is : Option (List ℕ)) (p q : List ℕ) (x : Result Event LineFault) (request : Request)
-  → r ≡ Ok u → Ok (event_of request) ≡ x → ServesAndPrints a (event_of request) b r was p is q → Takes x Serves a b (Ok tt) was p is q
+    → r ≡ Ok u → Ok (event_of request) ≡ x → ServesAndPrints a (event_of request) b r was p is q → Takes x Serves a b (Ok tt) was p is q
 line-taken a b r u was is p q x request e asked h =
     subst (λ (z : Result Event LineFault). Takes z Serves a b (Ok tt) was p is q) asked
     (record { text = h.text; rest = q; serves_it = h.serves; emits = subst (λ (z : Result Unit WriteFailed). Prints z was p is q h.text) e h.prints; rested = refl })
 
 pub line-failed : (a b : DeviceState) (r : Result Unit WriteFailed) (f : WriteFailed) (was is : Option (List ℕ)) (p q : List ℕ) (x : Result Event LineFault) (request : Request)
-  → r ≡ Err f → Ok (event_of request) ≡ x → ServesAndPrints a (event_of request) b r was p is q → Takes x Serves a b (Err stop.Write) was p is q
+    → r ≡ Err f → Ok (event_of request) ≡ x → ServesAndPrints a (event_of request) b r was p is q → Takes x Serves a b (Err stop.Write) was p is q
 line-failed a b r f was is p q x request e asked h =
     let printed = subst (λ (z : Result Unit WriteFailed). Prints z was p is q h.text) e h.prints in
     subst (λ (z : Result Event LineFault). Takes z Serves a b (Err stop.Write) was p is q) asked
     (record { text = h.text; rest = printed.0; serves_it = h.serves; emits = printed.1; rested = tt })
 
 pub line-refused : (a : DeviceState) (was : Option (List ℕ)) (p : List ℕ) (x : Result Event LineFault) (fault : LineFault)
-  → Err fault ≡ x → Takes x Serves a a (Err (stop.Line fault)) was p was p
+    → Err fault ≡ x → Takes x Serves a a (Err (stop.Line fault)) was p was p
 line-refused a was p x fault e =
     subst (λ (z : Result Event LineFault). Takes z Serves a a (Err (stop.Line fault)) was p was p) e (refl, refl, refl, refl)
 
 -- ---- a run of events
 
 runs-represent : (w : ℕ) (tree : List Object) (events : List Event) (a c : DeviceState) (more : List Event) (text : List ℕ) → Runs Serves a more c text
-  → Represents w a tree events → Represents w c tree (events_then events more)
+    → Represents w a tree events → Represents w c tree (events_then events more)
 runs-represent w tree events a c [] text h at_a = subst (λ (d : DeviceState). Represents w d tree events) (sym h.0) at_a
 runs-represent w tree events a c (e ∷ more) text h at_a = runs-represent w tree (e ∷ events) h.0 c more h.2 h.4 (h.3.represents w tree events at_a)
 
 runs-print : (w : ℕ) (tree : List Object) (events : List Event) (a c : DeviceState) (more : List Event) (text : List ℕ) → Runs Serves a more c text
-  → Represents w a tree events → text ≡ events_text w tree events more
+    → Represents w a tree events → text ≡ events_text w tree events more
 runs-print w tree events a c [] text h at_a = h.1
 runs-print w tree events a c (e ∷ more) text h at_a =
     h.5 ∙ ap (λ (l : List ℕ). l ++ h.2) (h.3.prints w tree events at_a)
@@ -115,7 +115,7 @@ runs-print w tree events a c (e ∷ more) text h at_a =
 -- ---- the whole
 
 whole : (w : ℕ) (tree : List Object) (events : List Event) (a b : DeviceState) (u v : Option (List ℕ)) (r : Result Unit ReplayFault) (given : List ℕ) (requests : List Event) (text : List ℕ)
-  → Represents w a tree events → Runs Serves a requests b text → Appends u v text → device_script given ≡ record { requests = requests; ending = r } → Whole w tree events b u v r given
+    → Represents w a tree events → Runs Serves a requests b text → Appends u v text → device_script given ≡ record { requests = requests; ending = r } → Whole w tree events b u v r given
 whole w tree events a b u v r given requests text at_a runs appends e =
     let same : (device_script given).requests ≡ requests = ap (λ (s : Script Event). s.requests) e in
     record {
@@ -125,7 +125,7 @@ whole w tree events a b u v r given requests text at_a runs appends e =
     }
 
 part : (w : ℕ) (tree : List Object) (events : List Event) (a b : DeviceState) (u v : Option (List ℕ)) (r : Result Unit ReplayFault) (given : List ℕ) (requests : List Event) (text : List ℕ)
-  → Represents w a tree events → Runs Serves a requests b text → Writes r u v text → BeginsWith requests (device_script given) → Part w tree events b u v r given
+    → Represents w a tree events → Runs Serves a requests b text → Writes r u v text → BeginsWith requests (device_script given) → Part w tree events b u v r given
 part w tree events a b u v r given requests text at_a runs writes begins = record {
   first = requests;
   begins = begins;
@@ -134,7 +134,7 @@ part w tree events a b u v r given requests text at_a runs writes begins = recor
 }
 
 replays : (w : ℕ) (tree : List Object) (events : List Event) (a b : DeviceState) (u v : Option (List ℕ)) (r : Result Unit ReplayFault) (given : List ℕ) → Represents w a tree events
-  → ReplaysScript asked_event Serves a b u v r given → Replays w tree events b u v r given
+    → ReplaysScript asked_event Serves a b u v r given → Replays w tree events b u v r given
 replays w tree events a b u v (Ok x) given at_a h = whole w tree events a b u v (Ok x) given h.requests h.text at_a h.runs h.writes h.ends
 replays w tree events a b u v (Err (Line n f)) given at_a h = whole w tree events a b u v (Err (Line n f)) given h.requests h.text at_a h.runs h.writes h.ends
 replays w tree events a b u v (Err TooMuch) given at_a h = whole w tree events a b u v (Err TooMuch) given h.requests h.text at_a h.runs h.writes h.ends
@@ -142,10 +142,10 @@ replays w tree events a b u v (Err Read) given at_a h = part w tree events a b u
 replays w tree events a b u v (Err Write) given at_a h = part w tree events a b u v (Err Write) given h.requests h.text at_a h.runs h.writes h.ends
 
 pub outcome-of : (w : ℕ) (tree : List Object) (events : List Event) (a b : DeviceState) (u v had has : Option (List ℕ)) (r : Result Unit ReplayFault) → Represents w a tree events
-  → ScriptOutcome asked_event Serves a b u v had has r → Outcome w tree events b u v had has r
+    → ScriptOutcome asked_event Serves a b u v had has r → Outcome w tree events b u v had has r
 outcome-of w tree events a b u v had has r at_a h = (h.0, h.1, replays w tree events a b u v r (h.0 ++ known_bytes has) at_a h.2)
 
 pub known-of : (w : ℕ) (tree : List Object) (events : List Event) (a b : DeviceState) (u v had : Option (List ℕ)) (r : Result Unit ReplayFault) → Represents w a tree events
-  → IfSome had (λ given. ReplaysScript asked_event Serves a b u v r given) → IfSome had (λ given. Replays w tree events b u v r given)
+    → IfSome had (λ given. ReplaysScript asked_event Serves a b u v r given) → IfSome had (λ given. Replays w tree events b u v r given)
 known-of w tree events a b u v None r at_a h = tt
 known-of w tree events a b u v (Some given) r at_a h = replays w tree events a b u v r given at_a h

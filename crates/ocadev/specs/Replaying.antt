@@ -1,4 +1,4 @@
--- What a replay does to a device, and what it writes.
+-- What a replay does to a device, and what it writes (profile).
 use Rattle.std.specs.Prelude.{◌≡◌, ℕ, List, [], ◌∷◌, ◌++◌, Option, Some, None, Result, Ok, Err}
 use Rattle.std.specs.Io.KnownBytes.{Appends}
 use Rattle.oca_tree.specs.declared.object.Object.{Object}
@@ -55,6 +55,6 @@ Replays w tree events new was is (Err Read) given = Part w tree events new was i
 Replays w tree events new was is (Err Write) given = Part w tree events new was is (Err Write) given
 Replays w tree events new was is (Err TooMuch) given = Whole w tree events new was is (Err TooMuch) given
 
--- There are bytes that the reader gave, and the script of these and of what it has left was replayed.
+-- There are bytes, those that the reader gave where it tells them, and the script of these and of what it has left was replayed.
 abbrev pub Outcome : ℕ → List Object → List Event → DeviceState → Option (List ℕ) → Option (List ℕ) → Option (List ℕ) → Option (List ℕ) → Result Unit ReplayFault → Type 0
 Outcome w tree events new was is had has result = (taken : List ℕ) × Reads had has result taken × Replays w tree events new was is result (taken ++ known_bytes has)

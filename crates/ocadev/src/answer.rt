@@ -1,48 +1,54 @@
 //! The lines that are printed for an event.
-ghost use Rattle.std.specs.Prelude.{◌≡◌, ◌++◌, ◌≤◌, length};
+ghost use Rattle.std.specs.Prelude.{◌≡◌, ◌+◌, ◌++◌, ◌≤◌, length};
+ghost use Rattle.arrayvec.specs.ArrayVec.{array_vec_len};
 ghost use Rattle.ocadev.specs.Printing.{verdict_text, packet_text};
 
 use oca_device::Verdict;
-use oca_script::text::{TextLine, put, put_hex, put_number};
+use oca_script::Pending;
+use oca_script::text::{put, put_hex, put_number};
 
-/// The line of what became of a datagram.
-pub fn verdict_line(verdict: Verdict) -> TextLine
-    ensures { result.items ≡ verdict_text verdict }
+/// Room for the line of what became of a datagram.
+pub const VERDICT_ROOM: usize = 128;
+
+/// Room for the line of a packet.
+pub const PACKET_ROOM: usize = 2960;
+
+/// Appends the line of what became of a datagram.
+pub fn put_verdict(line: &mut Pending, verdict: Verdict)
+    requires { array_vec_len line.old + 128 ≤ 8192 }
+    ensures { line.new.items ≡ line.old.items ++ verdict_text verdict }
 {
-    let mut line = TextLine::new();
     match verdict {
         Verdict::Served {
             executed,
             kept,
             old,
         } => {
-            put(&mut line, b"served ");
-            put_number(&mut line, executed as u64);
-            put(&mut line, b" ");
-            put_number(&mut line, kept as u64);
-            put(&mut line, b" ");
-            put_number(&mut line, old as u64);
+            put(line, b"served ");
+            put_number(line, executed as u64);
+            put(line, b" ");
+            put_number(line, kept as u64);
+            put(line, b" ");
+            put_number(line, old as u64);
         }
         Verdict::Malformed(fault) => {
-            put(&mut line, b"malformed ");
-            put_number(&mut line, fault.kind.number() as u64);
-            put(&mut line, b" at ");
-            put_number(&mut line, fault.at as u64);
+            put(line, b"malformed ");
+            put_number(line, fault.kind.number() as u64);
+            put(line, b" at ");
+            put_number(line, fault.at as u64);
         }
-        Verdict::NoRoom => put(&mut line, b"no-room"),
+        Verdict::NoRoom => put(line, b"no-room"),
     }
-    put(&mut line, b"\n");
-    line
+    put(line, b"\n");
 }
 
-/// The line of a packet.
-pub fn packet_line(packet: &[u8]) -> TextLine
-    requires { length packet.now ≤ 1472 }
-    ensures { result.items ≡ packet_text packet.now }
+/// Appends the line of a packet.
+pub fn put_packet(line: &mut Pending, packet: &[u8])
+    requires few { length packet.now ≤ 1472 }
+    requires room { array_vec_len line.old + 2960 ≤ 8192 }
+    ensures { line.new.items ≡ line.old.items ++ packet_text packet.now }
 {
-    let mut line = TextLine::new();
-    put(&mut line, b"> ");
-    put_hex(&mut line, packet);
-    put(&mut line, b"\n");
-    line
+    put(line, b"> ");
+    put_hex(line, packet);
+    put(line, b"\n");
 }

@@ -17,7 +17,6 @@ use std::{env, io};
 #[cfg(test)]
 mod tests;
 
-
 fn main(rt: HostRuntime) -> ExitCode {
     let mut faults = rt.stderr();
     let args = match env::args(&rt) {

@@ -14,8 +14,14 @@ pub const MOST_BYTES: usize = 2048;
 /// What a line asks for.
 #[derive(Clone, Copy)]
 pub enum Request<'a> {
-    Tick { now: u64 },
-    Datagram { now: u64, from: Peer, bytes: &'a [u8] },
+    Tick {
+        now: u64,
+    },
+    Datagram {
+        now: u64,
+        from: Peer,
+        bytes: &'a [u8],
+    },
 }
 
 /// The fields of a line, where there are two or three.
@@ -66,7 +72,12 @@ fn tick<'a>(now: &[u8]) -> Result<Request<'a>, LineFault>
 }
 
 #[tactic(auto, unfolding(crate::specs::Requests::datagram_of))]
-fn datagram<'a>(now: &[u8], sender: &[u8], text: &[u8], room: &'a mut [u8]) -> Result<Request<'a>, LineFault>
+fn datagram<'a>(
+    now: &[u8],
+    sender: &[u8],
+    text: &[u8],
+    room: &'a mut [u8],
+) -> Result<Request<'a>, LineFault>
     requires { length text.now ≤ 2 * length room.old }
     ensures { event_asked result ≡ datagram_of now.now sender.now text.now }
 {

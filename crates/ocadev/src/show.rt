@@ -1,6 +1,6 @@
 //! The objects of a device, line by line.
-use oca_script::printing::{flush, print};
-use oca_script::text::{TextLine, put_number};
+use oca_script::printing::{flush, make_room, print};
+use oca_script::text::put_number;
 use oca_script::{Pending, WriteFailed};
 use oca_tree::{ObjectInfo, Tree};
 use oca_types::class_fields;
@@ -19,7 +19,11 @@ pub fn show<W: Write>(tree: &Tree, writer: &mut W) -> Result<(), WriteFailed> {
     flush(&mut pending, writer)
 }
 
-fn print_object<W: Write>(object: &ObjectInfo, pending: &mut Pending, writer: &mut W) -> Result<(), WriteFailed> {
+fn print_object<W: Write>(
+    object: &ObjectInfo,
+    pending: &mut Pending,
+    writer: &mut W,
+) -> Result<(), WriteFailed> {
     print_number(object.ono.0, pending, writer)?;
     let mut before: &[u8] = b" ";
     for field in class_fields(object.class).as_slice() {
@@ -34,8 +38,12 @@ fn print_object<W: Write>(object: &ObjectInfo, pending: &mut Pending, writer: &m
     print(pending, writer, b"\n")
 }
 
-fn print_number<W: Write>(n: u32, pending: &mut Pending, writer: &mut W) -> Result<(), WriteFailed> {
-    let mut text = TextLine::new();
-    put_number(&mut text, n as u64);
-    print(pending, writer, text.as_slice())
+fn print_number<W: Write>(
+    n: u32,
+    pending: &mut Pending,
+    writer: &mut W,
+) -> Result<(), WriteFailed> {
+    make_room(pending, writer, 20)?;
+    put_number(pending, n as u64);
+    Ok(())
 }

@@ -54,7 +54,14 @@ const OBJECTS: &[u8] = b"100 1.1.3 0 root
 ";
 
 /// The words, run on the input, give the status, and print just that.
-fn runs_as(rt: &(impl Abort + AllocGlobal), words: &[&str], input: &[u8], status: u8, output: &[u8], fault: &[u8]) {
+fn runs_as(
+    rt: &(impl Abort + AllocGlobal),
+    words: &[&str],
+    input: &[u8],
+    status: u8,
+    output: &[u8],
+    fault: &[u8],
+) {
     let mut from = PieceReader::new(input, 4000, usize::MAX);
     let mut to = ShortWriter::new(5000, usize::MAX);
     let mut faults = ShortWriter::new(5000, usize::MAX);
@@ -64,13 +71,25 @@ fn runs_as(rt: &(impl Abort + AllocGlobal), words: &[&str], input: &[u8], status
     assert_eq!(rt; answer, status);
 }
 
-fn replays_as(rt: &(impl Abort + AllocGlobal), script: &[u8], status: u8, output: &[u8], fault: &[u8]) {
+fn replays_as(
+    rt: &(impl Abort + AllocGlobal),
+    script: &[u8],
+    status: u8,
+    output: &[u8],
+    fault: &[u8],
+) {
     runs_as(rt, &["ocadev", "replay"], script, status, output, fault);
 }
 
 #[test]
 fn worked_examples(rt: HostRuntime) {
-    replays_as(&rt, GET_1, 0, b"served 1 0 0\n> 3b0001000000140300010000000b00000001000101\n", b"");
+    replays_as(
+        &rt,
+        GET_1,
+        0,
+        b"served 1 0 0\n> 3b0001000000140300010000000b00000001000101\n",
+        b"",
+    );
     replays_as(&rt, UNMUTES, 0, UNMUTED, b"");
     replays_as(&rt, LOCKS, 0, LOCKED, b"");
     replays_as(&rt, b"0 127.0.0.1:9001 3b0", 2, b"", b"line 1: hex\n");
@@ -102,13 +121,19 @@ quiet
 
 #[test]
 fn more_peers_than_sessions(rt: HostRuntime) -> Result<(), Fail> {
-    let mut device = Device::new(rt.alloc(), bench(rt.alloc()).expect(&rt, "the tree")).expect(&rt, "the device");
+    let mut device = Device::new(rt.alloc(), bench(rt.alloc()).expect(&rt, "the tree")).expect(
+        &rt,
+        "the device",
+    );
     let mut outbox = Outbox::new(rt.alloc()).expect(&rt, "the outbox");
     for port in 9001..9018 {
         let script = format!(in rt.alloc(); "0 127.0.0.1:{port} 3b00010000000b0400010001")?;
         let mut from = PieceReader::new(script.as_bytes(), 1000, usize::MAX);
         let mut to = ShortWriter::new(1000, usize::MAX);
-        assert_eq!(rt; replay(&mut device, &mut outbox, &mut from, &mut to), Ok(()));
+        assert_eq!(rt;
+            replay(&mut device, &mut outbox, &mut from, &mut to),
+            Ok(())
+        );
         let text = if port < 9017 {
             b"served 0 0 0\n> 3b00010000000b0400010001\n".as_slice()
         } else {
@@ -153,7 +178,13 @@ fn faults_of_a_line(rt: HostRuntime) {
     ] {
         replays_as(&rt, script, 2, b"", fault);
     }
-    replays_as(&rt, b"0 quiet\n#\nx quiet\n0 quiet\n", 2, b"quiet\n", b"line 3: moment\n");
+    replays_as(
+        &rt,
+        b"0 quiet\n#\nx quiet\n0 quiet\n",
+        2,
+        b"quiet\n",
+        b"line 3: moment\n",
+    );
 }
 
 #[test]
@@ -193,7 +224,10 @@ fn bad_words(rt: HostRuntime) {
 
 #[test]
 fn help(rt: HostRuntime) {
-    for words in [["ocadev", "--help"].as_slice(), &["ocadev", "replay", "--help"]] {
+    for words in [
+        ["ocadev", "--help"].as_slice(),
+        &["ocadev", "replay", "--help"],
+    ] {
         let mut from = PieceReader::new(GET_1, 1000, 0);
         let mut to = ShortWriter::new(1000, usize::MAX);
         let mut faults = ShortWriter::new(1000, usize::MAX);
@@ -210,7 +244,16 @@ fn pieces_of_each_size(rt: HostRuntime) {
         let mut to = ShortWriter::new(piece, usize::MAX);
         let mut faults = ShortWriter::new(piece, usize::MAX);
         let words = ["ocadev", "replay"];
-        assert_eq!(rt; run(rt.alloc(), words.as_slice(), &mut from, &mut to, &mut faults), 0);
+        assert_eq!(rt;
+            run(
+                rt.alloc(),
+                words.as_slice(),
+                &mut from,
+                &mut to,
+                &mut faults
+            ),
+            0
+        );
         assert!(rt; to.taken.as_slice() == UNMUTED);
         assert!(rt; faults.taken.is_empty());
     }
@@ -224,12 +267,21 @@ fn state_of(device: &Device) -> Option<Setting> {
 #[test]
 fn reader_fails_at_each_place(rt: HostRuntime) {
     for place in 0..UNMUTES.len() {
-        let mut device = Device::new(rt.alloc(), bench(rt.alloc()).expect(&rt, "the tree")).expect(&rt, "the device");
+        let mut device = Device::new(rt.alloc(), bench(rt.alloc()).expect(&rt, "the tree")).expect(
+            &rt,
+            "the device",
+        );
         let mut outbox = Outbox::new(rt.alloc()).expect(&rt, "the outbox");
         let mut from = PieceReader::new(UNMUTES, 50, place);
         let mut to = ShortWriter::new(1000, usize::MAX);
-        assert_eq!(rt; replay(&mut device, &mut outbox, &mut from, &mut to), Err(ReplayFault::Read));
-        let lines = UNMUTES[..place].iter().filter(|byte| **byte == b'\n').count();
+        assert_eq!(rt;
+            replay(&mut device, &mut outbox, &mut from, &mut to),
+            Err(ReplayFault::Read)
+        );
+        let lines = UNMUTES[..place]
+            .iter()
+            .filter(|byte| **byte == b'\n')
+            .count();
         let (text, state) = match lines {
             0 => (0, 1),
             1 | 2 => (58, 1),
@@ -243,12 +295,18 @@ fn reader_fails_at_each_place(rt: HostRuntime) {
 #[test]
 fn writer_fails_at_each_place(rt: HostRuntime) {
     for place in 0..UNMUTED.len() {
-        let mut device = Device::new(rt.alloc(), bench(rt.alloc()).expect(&rt, "the tree")).expect(&rt, "the device");
+        let mut device = Device::new(rt.alloc(), bench(rt.alloc()).expect(&rt, "the tree")).expect(
+            &rt,
+            "the device",
+        );
         let mut outbox = Outbox::new(rt.alloc()).expect(&rt, "the outbox");
         let mut from = PieceReader::new(UNMUTES, 30, usize::MAX);
         let mut to = ShortWriter::new(7, place);
         to.takes_nothing = place % 2 == 0;
-        assert_eq!(rt; replay(&mut device, &mut outbox, &mut from, &mut to), Err(ReplayFault::Write));
+        assert_eq!(rt;
+            replay(&mut device, &mut outbox, &mut from, &mut to),
+            Err(ReplayFault::Write)
+        );
         assert!(rt; to.taken.as_slice() == &UNMUTED[..place]);
         let state = if place < 58 { 1 } else { 2 };
         assert_eq!(rt; state_of(&device), Some(Setting::State(state)));
@@ -261,9 +319,22 @@ fn statuses_of_failing_ends(rt: HostRuntime) {
     let mut faults = ShortWriter::new(1000, usize::MAX);
     let mut from = PieceReader::new(UNMUTES, 30, 20);
     let mut to = ShortWriter::new(1000, usize::MAX);
-    assert_eq!(rt; run(rt.alloc(), words.as_slice(), &mut from, &mut to, &mut faults), 1);
+    assert_eq!(rt;
+        run(
+            rt.alloc(),
+            words.as_slice(),
+            &mut from,
+            &mut to,
+            &mut faults
+        ),
+        1
+    );
     assert!(rt; faults.taken.as_slice() == b"read failed\n".as_slice());
-    for words in [["ocadev", "replay"].as_slice(), &["ocadev", "show"], &["ocadev", "--help"]] {
+    for words in [
+        ["ocadev", "replay"].as_slice(),
+        &["ocadev", "show"],
+        &["ocadev", "--help"],
+    ] {
         let mut faults = ShortWriter::new(1000, usize::MAX);
         let mut from = PieceReader::new(UNMUTES, 30, usize::MAX);
         let mut to = ShortWriter::new(1000, 10);

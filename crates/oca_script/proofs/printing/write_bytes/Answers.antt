@@ -12,6 +12,7 @@ returns-then-count-eq0 g c =
     (Appends-more _ (g.W.Write.contents c.loop-done.writer) _ c.loop-done.done c.in-Ok.count c.args.bytes.now c.loop-done.invariant.1 c.in-Ok.ensures.bytes)
 
 pub loop-done-preserved : goal.loop-done-preserved
-loop-done-preserved g c =
-    (omega (arith, c.in-Ok.ensures.bound, length-take {A = ℕ}, length-drop {A = ℕ}),
-    Appends-more _ (g.W.Write.contents c.loop-done.writer) _ c.loop-done.done c.in-Ok.count c.args.bytes.now c.loop-done.invariant.1 c.in-Ok.ensures.bytes)
+loop-done-preserved g c = (
+  omega (arith, c.in-Ok.ensures.bound, length-take {A = ℕ}, length-drop {A = ℕ}),
+  Appends-more _ (g.W.Write.contents c.loop-done.writer) _ c.loop-done.done c.in-Ok.count c.args.bytes.now c.loop-done.invariant.1 c.in-Ok.ensures.bytes,
+)

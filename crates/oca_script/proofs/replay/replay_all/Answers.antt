@@ -2,7 +2,7 @@ use Rattle.oca_script.proofs.ReadLemmas.{outcome-failed, outcome-flushed, outcom
 use Rattle.oca_script.proofs.replay.replay_all.Goals as goal
 
 pub returns-then-is_write_fault : goal.returns-then-is_write_fault
-returns-then-is_write_fault g c = 
+returns-then-is_write_fault g c =
     outcome-failed g.L.Language.asked g.L.Language.serves _ _ _ (g.W.Write.contents c.read_script-ended.new.writer) c.new-pending.result.items c.read_script-ended.new.pending.items _ _ _ c.new-pending.ensures c.if-is_write_fault.ensures.yes c.read_script-ended.ensures
 
 pub returns-in_default : goal.returns-in_default

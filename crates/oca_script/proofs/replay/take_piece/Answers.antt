@@ -13,7 +13,7 @@ pub loop-end-preserved : goal.loop-end-preserved
 loop-end-preserved g c = record {
   number = omega (arith, c.in_ok-take_ended.ensures.number, c.in-Some.ensures.within, c.loop-end.invariant.number);
   does = piece-more g.L.Language.serves g.L.Language.asked _ c.loop-end.state _ _ _ _ _ _ c.loop-end.progress.number _ c.loop-end.progress.line.items _ c.loop-end.rest.now
-    c.in-Some.end.now c.in-Some.after.now c.in-Some.ensures.value c.clear.ensures (ap (λ (n : ℕ). n + 1) c.in_ok-take_ended.ensures.number) c.loop-end.invariant.does c.in_ok-take_ended.ensures.does;
+      c.in-Some.end.now c.in-Some.after.now c.in-Some.ensures.value c.clear.ensures (ap (λ (n : ℕ). n + 1) c.in_ok-take_ended.ensures.number) c.loop-end.invariant.does c.in_ok-take_ended.ensures.does;
 }
 
 pub returns-clause-does : goal.returns-clause-does

@@ -7,9 +7,9 @@ abbrev pub invariant-loop-end : goal.invariant-loop-end
 invariant-loop-end g l = record {
   number : l.progress.number + length l.rest ≤ l.fn.progress.number + length l.piece;
   does : Does g.L.Language.serves l.fn.state l.state (output (g.W.Write.contents l.fn.writer) l.fn.pending.items)
-    (output (g.W.Write.contents l.writer) l.pending.items) (Ok tt)
-    (λ (m : ℕ × List ℕ). script_from g.L.Language.asked l.fn.progress.number l.fn.progress.line.items (length l.piece + m.0) (l.piece ++ m.1))
-    (λ m. script_from g.L.Language.asked l.progress.number l.progress.line.items (length l.rest + m.0) (l.rest ++ m.1));
+      (output (g.W.Write.contents l.writer) l.pending.items) (Ok tt)
+      (λ (m : ℕ × List ℕ). script_from g.L.Language.asked l.fn.progress.number l.fn.progress.line.items (length l.piece + m.0) (l.piece ++ m.1))
+      (λ m. script_from g.L.Language.asked l.progress.number l.progress.line.items (length l.rest + m.0) (l.rest ++ m.1));
 }
 
 abbrev pub decreases-loop-end : goal.decreases-loop-end

@@ -7,8 +7,8 @@ use Rattle.oca_tree.specs.Trees.{IsSound}
 use Rattle.oca_tree.proofs.Adding.{no_fault, first_object, added_tree}
 use Rattle.oca_tree.proofs.builder.object_for.Goals as goal
 
-pub returns : goal.returns
-returns c =
+pub returns-clause-makes : goal.returns-clause-makes
+returns-clause-makes c =
     let few : length c.args.objects.now < 128 = omega arith in
     let number : 4096 ≤ c.args.ono.0 = omega arith in
     let free = sym c.if-contains.ensures in
