@@ -36,7 +36,7 @@ impl Model for Outbox {
 impl Outbox {
     ghost use Rattle.oca_device.specs.Outboxes.{bytes_of};
 
-    /// An empty outbox, with room for 122 packets, more than any datagram asks for. Refusal: `NoMemory`.
+    /// An empty outbox, with room for 122 packets, as many as a datagram can ask for. Refusal: `NoMemory`.
     pub fn new(alloc: Global) -> Result<Outbox, NoMemory>
         ensures { IfOk result (λ outbox. outbox ≡ []) }
     {
