@@ -1,4 +1,6 @@
 //! What no clause says: encodings and answers from outside, and each call once.
+mod sizes;
+
 use super::*;
 use std::process::Abort;
 
