@@ -31,7 +31,7 @@ returns-in_default c =
     let a = c.self.inside in
     let room = pushed_room a.handles.items c.args.command.now.handle a.handles.capacity (sym c.push_back.ensures.value ∙ c.in_default.is) in
     rw (← c.self.view_is, c.push_back.ensures.items, c.push_reserved.ensures.items)
-    (kept_more a.handles.items a.oldest a.cells.items c.self.invariant.0 a.handles.capacity a.floor c.args.command.now.handle c.copy_of.result room (c.self.invariant.4 room) ∙ ap (retained_after _) c.copy_of.ensures)
+    (kept_more a.handles.items a.oldest a.cells.items c.self.invariant.0 a.handles.capacity a.floor c.args.command.now.handle c.new.result room (c.self.invariant.4 room) ∙ ap (retained_after _) c.new.ensures)
 
 pub invariant_of-self-2 : goal.invariant_of-self-2
 invariant_of-self-2 c =
@@ -66,5 +66,5 @@ returns c =
       | else-at-len w ↦ inr w.self-is
     ] in
     rw (← c.self.view_is, c.push_back.ensures.items)
-    (kept_full a.handles.items a.oldest c.if-at-len.self a.cells.items c.self.invariant.0 a.handles.capacity a.floor c.raised_floor.result c.args.command.now.handle c.in-Some.pushed_out c.write.new.place
-    (omega (arith, full.0, c.self.invariant.1)) (omega (arith, full.0, c.self.invariant.0, c.self.invariant.2)) next full.1 c.raised_floor.ensures ∙ ap (retained_after _) c.write.ensures)
+    (kept_full a.handles.items a.oldest c.if-at-len.self a.cells.items c.self.invariant.0 a.handles.capacity a.floor c.raised_floor.result c.args.command.now.handle c.in-Some.pushed_out c.set.new.self
+    (omega (arith, full.0, c.self.invariant.1)) (omega (arith, full.0, c.self.invariant.0, c.self.invariant.2)) next full.1 c.raised_floor.ensures ∙ ap (retained_after _) c.set.ensures)
