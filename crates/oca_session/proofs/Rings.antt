@@ -10,8 +10,8 @@ use Rattle.std.specs.Prelude.{nat_lt, not, max, position, option_map}
 use Rattle.oca_types.specs.declared.words.Handle.{Handle}
 use Rattle.oca_session.specs.declared.cell.Cell.{Cell}
 use Rattle.oca_types.specs.Peers.{CommandFields}
-use Rattle.oca_session.specs.Accepted.{Entry, Fresh, duplicate_or_reused, Retained, entry_under, has_handle, higher_of, greatest}
-use Rattle.oca_session.specs.Judging.{judgement_by_window, is_above, retained_after}
+use Rattle.oca_session.specs.Accepted.{Entry, Fresh, Old, duplicate_or_reused, Retained, entry_under, has_handle, higher_of, greatest}
+use Rattle.oca_session.specs.Judging.{judgement_by_window, judge_entry, is_above, retained_after}
 use Rattle.oca_session.specs.PrivateCells.{AreBelow, judge_cell, turned, paired, entry_in, entries_of, is_handle}
 
 -- ---- places that are used in turn
@@ -332,3 +332,38 @@ pushed_room xs x size out = by_test (nat_lt (length xs) size) refl out
     by_test : (b : Bool) → nat_lt (length xs) size ≡ b → cond b None (slice_get (xs ++ x ∷ []) 0) ≡ None → length xs < size
     by_test true t e = grind (arith, nat_tests)
     by_test false t e = absurd (some xs e)
+
+-- ---- a command by what its handle has in the window
+
+pub judged_by_cell : (k : Retained) (c : CommandFields) (a : Cell)
+    → option_map (λ (e : Entry). duplicate_or_reused e c) (entry_under c.handle k.entries) ≡ Some (judge_cell a c) → judgement_by_window k c ≡ judge_cell a c
+judged_by_cell k c a h = by_found (entry_under c.handle k.entries) h
+  where
+    by_found : (o : Option Entry) → option_map (λ (e : Entry). duplicate_or_reused e c) o ≡ Some (judge_cell a c) → judge_entry o (is_above k.floor c.handle) c ≡ judge_cell a c
+    by_found None e = cc
+    by_found (Some e) is = cc
+
+pub judged_by_floor : (k : Retained) (c : CommandFields) (above : Bool)
+    → option_map (λ (e : Entry). duplicate_or_reused e c) (entry_under c.handle k.entries) ≡ None → is_above k.floor c.handle ≡ above
+    → judgement_by_window k c ≡ cond above Fresh Old
+judged_by_floor k c above h is = by_found (entry_under c.handle k.entries) h ∙ ap (λ b. cond b Fresh Old) is
+  where
+    by_found : (o : Option Entry) → option_map (λ (e : Entry). duplicate_or_reused e c) o ≡ None
+        → judge_entry o (is_above k.floor c.handle) c ≡ cond (is_above k.floor c.handle) Fresh Old
+    by_found None e = refl
+    by_found (Some e) is = cc
+
+pub not_above : (floor : Option ℕ) (f h : ℕ) → floor ≡ Some f → h ≤ f → is_above floor h ≡ false
+not_above floor f h is le = rw is not_lt
+  where
+    not_lt : nat_lt f h ≡ false
+    not_lt = grind (arith, nat_tests)
+
+pub above_one : (floor : Option ℕ) (f h : ℕ) → floor ≡ Some f → f < h → is_above floor h ≡ true
+above_one floor f h is lt = rw is is_lt
+  where
+    is_lt : nat_lt f h ≡ true
+    is_lt = grind (arith, nat_tests)
+
+pub above_none : (floor : Option ℕ) (h : ℕ) → floor ≡ None → is_above floor h ≡ true
+above_none floor h is = rw is refl

@@ -158,7 +158,7 @@ All-cons P x xs here rest (suc k) d within = rest k d (omega arith)
 All-tail : {X : Type 0} (P : X → Type 0) (x : X) (xs : List X) → All P (x ∷ xs) → All P xs
 All-tail P x xs all = λ k d within. all (suc k) d (omega arith)
 
-All-push : {X : Type 0} (P : X → Type 0) (xs : List X) (y : X) → All P xs → P y → All P (xs ++ y ∷ [])
+pub All-push : {X : Type 0} (P : X → Type 0) (xs : List X) (y : X) → All P xs → P y → All P (xs ++ y ∷ [])
 All-push P [] y all last = All-cons P y [] last (λ k d within. absurd (omega arith))
 All-push P (x ∷ xs) y all last =
     All-cons P x (xs ++ y ∷ []) (all 0 x (omega arith)) (All-push P xs y (All-tail P x xs all) last)

@@ -4,12 +4,13 @@ use Rattle.std.proofs.lemmas.List.Kept.{AllPairs-filter}
 use Rattle.std.proofs.lemmas.List.Elements.{All-take}
 use Rattle.oca_types.specs.Peers.{same_peer}
 use Rattle.oca_session.specs.Table.{lapsed, peers_of, forgotten, stays}
+use Rattle.oca_session.specs.PrivateQuiet.{IsQuietUntil}
 use Rattle.oca_session.specs.Sound.{IsSession, IsOnePerPeer}
 use Rattle.oca_session.proofs.Tables.{forgotten_lapsed}
 use Rattle.oca_session.proofs.sessions.Sessions.advance.Goals as goal
 
-pub invariant_of-self : goal.invariant_of-self
-invariant_of-self c =
+pub invariant_of-self-2 : goal.invariant_of-self-2
+invariant_of-self-2 c =
     let after = c.forget-self-inside.ensures in (
       c.self.invariant.0,
       omega (arith, after.fewer),
@@ -17,6 +18,7 @@ invariant_of-self c =
       after.sound c.self.inside.window c.self.invariant.3,
       subst IsOnePerPeer (sym after.front)
           (AllPairs-filter (λ s t. same_peer s.peer t.peer ≡ false) (stays c.max-self-inside.result) (take c.self.inside.count c.self.inside.slots.items) c.self.invariant.4),
+      subst (IsQuietUntil c.quiet_until.result) (ap (take c.forget-self-inside.result) c.deref-2.ensures.value) c.quiet_until.ensures,
     )
 
 pub returns-clause-forgotten : goal.returns-clause-forgotten

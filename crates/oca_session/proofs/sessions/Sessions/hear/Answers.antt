@@ -1,4 +1,4 @@
-use Rattle.std.proofs.Common.{ℕ, List, take, length, length-take, ◌≡◌, ◌<◌, ap, sym, ◌∙◌, subst, refl, arith, Some, None, ◌++◌, ◌∷◌, []}
+use Rattle.std.proofs.Common.{ℕ, List, take, length, length-take, ◌≡◌, ◌+◌, ◌*◌, ◌<◌, ◌≤◌, ap, sym, ◌∙◌, subst, refl, arith, Some, None, ◌++◌, ◌∷◌, []}
 use Rattle.std.specs.Prelude.{is_some, position}
 use Rattle.std.proofs.Math.ListN.{length-set}
 use Rattle.std.proofs.lemmas.List.Elements.{All-set}
@@ -81,13 +81,14 @@ invariant_of-self-2 c =
     let last = opened_in c.args.peer a.window m a.slots.items a.count _ _ below c.self.invariant.3 c.index_mut-slot-2.ensures.value c.open.ensures in
     let before : IsSession a.window c.index_mut-slot-2.result.now =
     subst (IsSession a.window) (sym c.index_mut-slot-2.ensures.value) (c.self.invariant.3 a.count c.index_mut-slot-2.result.now below) in
-    let new : c.open.new.self ≡ opened_session a.window c.args.peer m = c.open.ensures ∙ ap (λ n. opened_session n c.args.peer m) before.size in (
+    let new : c.open.new.self ≡ opened_session a.window c.args.peer m = c.open.ensures ∙ ap (λ n. opened_session n c.args.peer m) before.size in
+    let quiet : c.quiet_until-2.result ≤ m + 3 * 5000 = rw new at c.quiet_until-2.ensures in (
       c.self.invariant.0,
       omega arith,
       length-set a.slots.items a.count _ ∙ c.self.invariant.2,
       All-set (IsSession a.window) a.slots.items a.count _ (subst (IsSession a.window) (sym new) (opened_sound a.window c.args.peer m)) c.self.invariant.3,
       subst IsOnePerPeer (sym last) (IsOnePerPeer-push ss (opened_session a.window c.args.peer m) (none_known c.args.peer ss unplaced) c.self.invariant.4),
-      quiet_push a.quiet_until c.min-self-inside-2.result ss _ _ last c.self.invariant.5 (omega arith) (omega (arith, c.quiet_until-2.ensures, new)),
+      quiet_push a.quiet_until c.min-self-inside-2.result ss _ (opened_session a.window c.args.peer m) last c.self.invariant.5 (omega arith) (omega (arith, quiet)),
     )
 
 pub returns-clause-hears : goal.returns-clause-hears
