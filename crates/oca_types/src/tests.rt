@@ -324,9 +324,13 @@ fn classes_have_these_fields(rt: HostRuntime) {
 
 #[test]
 fn methods_of_the_classes(rt: HostRuntime) {
-    let known = |method| MethodKind::Known(method, access_of(method));
     let rows = [
-        (Class::Mute, 1, 1, known(Method::GetClassIdentification)),
+        (
+            Class::Mute,
+            1,
+            1,
+            MethodKind::Known(Method::GetClassIdentification, Access::Read),
+        ),
         (
             Class::Mute,
             1,
@@ -376,7 +380,12 @@ fn methods_of_the_classes(rt: HostRuntime) {
             MethodKind::Known(Method::GetState, Access::Read),
         ),
         (Class::Mute, 4, 3, MethodKind::Unknown),
-        (Class::Switch, 4, 10, known(Method::SetPositionEnableds)),
+        (
+            Class::Switch,
+            4,
+            10,
+            MethodKind::Known(Method::SetPositionEnableds, Access::Write),
+        ),
         (Class::Switch, 4, 11, MethodKind::Unknown),
         (Class::Switch, 5, 1, MethodKind::Unknown),
         (Class::Int16, 4, 1, MethodKind::Unknown),
