@@ -19,10 +19,13 @@ pub struct Cursor<'a> {
 }
 
 impl Clone for Cursor<'_> {
+    ghost use Rattle.std.specs.Prelude.{◌≡◌};
+    ghost use Rattle.oca_types.specs.Taking.{bytes_left};
+
+    ghost is_clone = { λ c d. bytes_left d ≡ bytes_left c };
+
     /// A cursor with the same bytes left.
-    fn clone(&self) -> Result<Self, AllocError>
-        ensures { IfOk result (λ c. bytes_left c ≡ bytes_left self.now) }
-    {
+    fn clone(&self) -> Result<Self, AllocError> {
         Ok(*self)
     }
 }

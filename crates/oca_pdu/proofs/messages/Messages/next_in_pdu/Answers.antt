@@ -1,6 +1,6 @@
 use Rattle.std.proofs.Common.{arith, length-take}
 use Rattle.oca_pdu.proofs.Walking.{messages_open, step_inside, left_inside}
-use Rattle.oca_pdu.proofs.walk.inside.Goals as goal
+use Rattle.oca_pdu.proofs.messages.Messages.next_in_pdu.Goals as goal
 
 pub slice_bounds-u32_in-end : goal.slice_bounds-u32_in-end
 slice_bounds-u32_in-end c =
@@ -17,8 +17,8 @@ split_at-requires c =
     let o = messages_open c.args.kind c.args.left c.args.inside.now c.requires.some c.requires.messages in
     omega (arith, o.within, c.u32_in-size.ensures)
 
-pub message-requires : goal.message-requires
-message-requires c =
+pub read_message-requires : goal.read_message-requires
+read_message-requires c =
     let o = messages_open c.args.kind c.args.left c.args.inside.now c.requires.some c.requires.messages in
     omega (arith, o.least, c.u32_in-size.ensures, c.split_at.ensures.front_len)
 
@@ -30,4 +30,4 @@ invariant_of-result c =
 pub returns : goal.returns
 returns c =
     let o = messages_open c.args.kind c.args.left c.args.inside.now c.requires.some c.requires.messages in
-    step_inside c.args.kind c.args.left c.u32_in-size.result c.args.inside.now c.split_at.result.0.now c.split_at.result.1.now _ _ o c.u32_in-size.ensures c.split_at.ensures.front c.split_at.ensures.back c.message.ensures
+    step_inside c.args.kind c.args.left c.u32_in-size.result c.args.inside.now c.split_at.result.0.now c.split_at.result.1.now _ _ o c.u32_in-size.ensures c.split_at.ensures.front c.split_at.ensures.back c.read_message.ensures

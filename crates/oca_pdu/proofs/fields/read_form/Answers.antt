@@ -1,5 +1,5 @@
 use Rattle.oca_pdu.proofs.Walking.{seconds_of, is_four, millis_of}
-use Rattle.oca_pdu.proofs.walk.form.Goals as goal
+use Rattle.oca_pdu.proofs.fields.read_form.Goals as goal
 
 pub u32_in-requires : goal.u32_in-requires
 u32_in-requires c = is_four c.args.bytes.now c.if-bytes-eq2.false c.requires
