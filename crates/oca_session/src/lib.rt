@@ -20,3 +20,6 @@ pub use window::Judged;
 
 #[cfg(test)]
 mod tests;
+
+
+
