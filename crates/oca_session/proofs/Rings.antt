@@ -181,8 +181,7 @@ module _ (o : ℕ) (xs : List Handle) (rs : List Cell) (same : length rs ≡ len
   pub found_front : (h k : ℕ) (front back : List Handle) → front ++ back ≡ xs → position (is_handle h) front ≡ Some k
       → (k < length (entries_of xs o rs)) × (entry_under h (entries_of xs o rs) ≡ slice_get (entries_of xs o rs) k)
   found_front h k front back all at =
-      let is = in_front (is_handle h) front back xs k all at in
-      (
+      let is = in_front (is_handle h) front back xs k all at in (
         rw length-entries is.0,
         found_at entry_in (has_handle h) (is_handle h) (λ x r. refl) xs (turned o rs) as_many (omega (arith, is.0, is.1)) ∙ ap (slice_get (entries_of xs o rs)) is.1,
       )
@@ -190,8 +189,7 @@ module _ (o : ℕ) (xs : List Handle) (rs : List Cell) (same : length rs ≡ len
   pub found_back : (h k : ℕ) (front back : List Handle) → front ++ back ≡ xs → position (is_handle h) front ≡ None → position (is_handle h) back ≡ Some k
       → (length front + k < length (entries_of xs o rs)) × (entry_under h (entries_of xs o rs) ≡ slice_get (entries_of xs o rs) (length front + k))
   found_back h k front back all none at =
-      let is = in_back (is_handle h) front back xs k all none at in
-      (
+      let is = in_back (is_handle h) front back xs k all none at in (
         rw length-entries is.0,
         found_at entry_in (has_handle h) (is_handle h) (λ x r. refl) xs (turned o rs) as_many (omega (arith, is.0, is.1)) ∙ ap (slice_get (entries_of xs o rs)) is.1,
       )
@@ -212,7 +210,7 @@ module _ (o : ℕ) (xs : List Handle) (rs : List Cell) (same : length rs ≡ len
   kept : (size n : ℕ) (qs : List Cell) (floor new : Option ℕ) (x : Handle) (r : Cell) → turned n qs ≡ drop (length (xs ++ x ∷ []) - size) (turned o rs ++ r ∷ [])
       → new ≡ higher_of floor (greatest (take (length (xs ++ x ∷ []) - size) (entries_of xs o rs ++ entry_in x r ∷ [])))
       → record { size = size; entries = entries_of (drop (length (xs ++ x ∷ []) - size) (xs ++ x ∷ [])) n qs; floor = new }
-        ≡ retained_after (record { size = size; entries = entries_of xs o rs; floor = floor }) (entry_in x r)
+      ≡ retained_after (record { size = size; entries = entries_of xs o rs; floor = floor }) (entry_in x r)
   kept size n qs floor new x r turns raised =
       let all : List Entry = entries_of xs o rs ++ entry_in x r ∷ [] in
       let long : length all - size ≡ length (xs ++ x ∷ []) - size = rw (length-append, length-append, length-entries) refl in
@@ -233,7 +231,7 @@ no_higher (Some f) = refl
 -- A window that is not full takes one more.
 pub kept_more : (xs : List Handle) (o : ℕ) (rs : List Cell) → length rs ≡ length xs → (size : ℕ) (floor : Option ℕ) (x : Handle) (r : Cell) → length xs < size → o ≡ 0
     → record { size = size; entries = entries_of (drop (length (xs ++ x ∷ []) - size) (xs ++ x ∷ [])) o (rs ++ r ∷ []); floor = floor }
-      ≡ retained_after (record { size = size; entries = entries_of xs o rs; floor = floor }) (entry_in x r)
+    ≡ retained_after (record { size = size; entries = entries_of xs o rs; floor = floor }) (entry_in x r)
 kept_more xs o rs same size floor x r room first =
     let none : length (xs ++ x ∷ []) - size ≡ 0 = rw length-append (omega (arith, room)) in
     let turns : turned o (rs ++ r ∷ []) ≡ turned o rs ++ r ∷ [] = rw first (turned_more rs r) in
@@ -248,7 +246,7 @@ first_out (x ∷ xs) (r ∷ rs) y same is = let e : x ≡ y = cc in ap (λ (z : 
 pub kept_full : (xs : List Handle) (o n : ℕ) (rs : List Cell) → length rs ≡ length xs → (size : ℕ) (floor : Option ℕ) (f : ℕ) (x y : Handle) (r : Cell) → length xs ≡ size → o < length rs
     → ((o + 1 ≡ length rs) × (n ≡ 0)) ⊎ (n ≡ o + 1) → slice_get (xs ++ x ∷ []) 0 ≡ Some y → higher_of floor (Some y.0) ≡ Some f
     → record { size = size; entries = entries_of (drop (length (xs ++ x ∷ []) - size) (xs ++ x ∷ [])) n (slice_set rs o r); floor = Some f }
-      ≡ retained_after (record { size = size; entries = entries_of xs o rs; floor = floor }) (entry_in x r)
+    ≡ retained_after (record { size = size; entries = entries_of xs o rs; floor = floor }) (entry_in x r)
 kept_full xs o n rs same size floor f x y r full within next out raised =
     let one : length (xs ++ x ∷ []) - size ≡ 1 = rw length-append (omega (arith, full)) in
     let many = as_many o xs rs same in

@@ -20,6 +20,3 @@ pub use window::Judged;
 
 #[cfg(test)]
 mod tests;
-
-
-
