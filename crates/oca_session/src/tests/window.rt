@@ -97,6 +97,7 @@ fn retains_the_reply(rt: HostRuntime) -> Result<(), Fail> {
         params,
     };
     let command = command(u32::MAX);
+    assert_eq!(rt; command.params.len(), 1);
     assert!(rt; sessions.is_known(A));
     if let Judged::Fresh = sessions.judge(A, &command) {
         sessions.keep(A, &command, &reply);
