@@ -6,3 +6,4 @@ pub mod Contents
 pub mod Untaken
 pub mod Links
 pub mod Steps
+pub mod PrivateSlots

@@ -5,6 +5,7 @@ mod answer;
 mod due;
 mod fault;
 mod reception;
+mod slot;
 
 pub use answer::Answer;
 pub use due::Due;
