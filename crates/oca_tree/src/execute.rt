@@ -4,27 +4,28 @@ ghost use Rattle.oca_types.specs.Peers.{fields_of};
 ghost use Rattle.oca_types.specs.Methods.{method_kind};
 ghost use Rattle.oca_types.specs.declared.class.MethodKind.TheVariants.{Known};
 ghost use Rattle.oca_tree.specs.Objects.{class_of};
+ghost use Rattle.oca_tree.specs.Locks.{lock_count};
 ghost use Rattle.oca_tree.specs.Trees.{IsTree, IsSound};
-ghost use Rattle.oca_tree.specs.Inside.{Understood, Answered, Executes};
+ghost use Rattle.oca_tree.specs.PrivateSteps.{IsRequestFor, IsAnsweredAs, Executes};
 
 use crate::answer::{answer_count, put_answer};
 use crate::change::change;
 use crate::object::Object;
-use crate::place::place_of;
+use crate::place::index_of;
 use crate::request::Request;
 use oca_types::{Access, Command, Method, MethodKind, Params, Peer, Status, method_of};
 
 /// What a command asks by this method of an object, or why it is refused.
-fn admitted(
+fn check_request<'a>(
     object: &Object,
     peer: Peer,
-    command: &Command<'_>,
+    command: &Command<'a>,
     method: Method,
     access: Access,
-) -> Result<Request, Status>
+) -> Result<Request<'a>, Status>
     requires sound { IsSound object.now }
     requires known { method_kind (class_of object.now.value) command.now.method ≡ Known method access }
-    ensures { Understood result object.now peer (fields_of command.now) }
+    ensures { IsRequestFor result object.now peer (fields_of command.now) }
 {
     if object.is_locked_for(peer, access) {
         return Err(Status::Locked);
@@ -42,33 +43,37 @@ fn admitted(
 }
 
 /// What a command asks of an object, or why it is refused.
-fn understood(object: &Object, peer: Peer, command: &Command<'_>) -> Result<Request, Status>
+fn request_for<'a>(
+    object: &Object,
+    peer: Peer,
+    command: &Command<'a>,
+) -> Result<Request<'a>, Status>
     requires { IsSound object.now }
-    ensures { Understood result object.now peer (fields_of command.now) }
+    ensures { IsRequestFor result object.now peer (fields_of command.now) }
 {
     match method_of(object.class(), command.method) {
-        MethodKind::Known(method, access) => admitted(object, peer, command, method, access),
+        MethodKind::Known(method, access) => check_request(object, peer, command, method, access),
         MethodKind::LeftOut => Err(Status::NotImplemented),
         MethodKind::Unknown => Err(Status::BadMethod),
     }
 }
 
 /// Finds what a command asks and answers it, or refuses it. It changes no object.
-fn answered(
+fn find_and_answer<'a>(
     objects: &[Object],
     peer: Peer,
-    command: &Command<'_>,
+    command: &Command<'a>,
     out: &mut Params,
-) -> Result<(usize, Request), Status>
+) -> Result<(usize, Request<'a>), Status>
     requires empty { out.old.items ≡ [] }
     requires tree { IsTree objects.now }
-    ensures { Answered result objects.now out.new.items peer (fields_of command.now) }
+    ensures { IsAnsweredAs result objects.now out.new.items peer (fields_of command.now) }
 {
-    let Some(at) = place_of(objects, command.target) else {
+    let Some(at) = index_of(objects, command.target) else {
         return Err(Status::BadOno);
     };
     let object = &objects[at];
-    let request = understood(object, peer, command)?;
+    let request = request_for(object, peer, command)?;
     if put_answer(out, objects, object, &request).is_err() {
         return Err(Status::BufferOverflow);
     }
@@ -76,21 +81,24 @@ fn answered(
     Ok((at, request))
 }
 
-/// Carries out a command, if it is not refused, and puts the answer into empty parameters.
+/// Carries out a command, if it is not refused, and puts the answer into empty parameters. `locks` counts the locks that are held.
 pub(crate) fn carry_out(
     objects: &mut [Object],
+    locks: &mut usize,
     peer: Peer,
     command: &Command<'_>,
     out: &mut Params,
 ) -> Result<u8, Status>
     requires empty { out.old.items ≡ [] }
     requires tree { IsTree objects.old }
+    requires count { locks.old ≡ lock_count objects.old }
     ensures done { Executes result objects.old objects.new out.new.items peer (fields_of command.now) }
     ensures tree { IsTree objects.new }
+    ensures count { locks.new ≡ lock_count objects.new }
 {
-    let (at, request) = answered(objects, peer, command, out)?;
+    let (at, request) = find_and_answer(objects, peer, command, out)?;
     let object = &mut objects[at];
-    let count = answer_count(&object.value, &request);
-    change(object, peer, request);
+    let count = answer_count(object, &request);
+    change(object, locks, peer, request);
     Ok(count)
 }
