@@ -1,4 +1,4 @@
-use Rattle.std.proofs.Common.{◌≡◌, ◌++◌, ◌+◌, ◌<◌, ℕ, List, length, ◌∙◌, ap, append_assoc, arith, length-append, refl}
+use Rattle.std.proofs.Common.{◌≡◌, ◌++◌, ◌+◌, ℕ, List, length, ◌∙◌, ap, append_assoc, arith, length-append, refl}
 use Rattle.std.specs.Prelude.{Result, Ok, Err, OnErr, IsErr}
 use Rattle.std.specs.Str.{chars}
 use Rattle.std.specs.Int.{w16, to_be_bytes}
