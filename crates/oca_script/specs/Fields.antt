@@ -8,15 +8,19 @@ use Rattle.oca_types.specs.declared.words.Peer.{Peer}
 
 -- ---- fields
 
--- b in front of the first field
+-- b in front of the first part
 abbrev pub onto_first : ℕ → List (List ℕ) → List (List ℕ)
 onto_first b [] = (b ∷ []) ∷ []
-onto_first b (f ∷ fs) = (b ∷ f) ∷ fs
+onto_first b (p ∷ ps) = (b ∷ p) ∷ ps
 
--- the fields of a line: what stands between single spaces, empty ones included
+-- what stands between separators, empty parts included
+abbrev pub split_on : ℕ → List ℕ → List (List ℕ)
+split_on separator [] = [] ∷ []
+split_on separator (b ∷ bs) = if b == separator then [] ∷ split_on separator bs else onto_first b (split_on separator bs)
+
+-- the fields of a line: what stands between single spaces
 abbrev pub fields : List ℕ → List (List ℕ)
-fields [] = [] ∷ []
-fields (b ∷ bs) = if b == 32 then [] ∷ fields bs else onto_first b (fields bs)
+fields line = split_on 32 line
 
 -- the fields that follow a space, where one was found
 abbrev pub fields_after : Option (List ℕ) → List (List ℕ)
