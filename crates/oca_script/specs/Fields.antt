@@ -1,5 +1,5 @@
 -- The fields of a script's line, and the values that they encode (profile).
-use Rattle.std.specs.Prelude.{ℕ, ◌+◌, ◌-◌, ◌*◌, ◌^◌, ◌==◌, ◌&&◌, ◌||◌, nat_le, nat_lt, if◌then◌else◌, List, [], ◌∷◌, length, codes, Option, Some, None}
+use Rattle.std.specs.Prelude.{◌≡◌, ℕ, ◌+◌, ◌++◌, ◌-◌, ◌*◌, ◌^◌, ◌==◌, ◌&&◌, ◌||◌, nat_le, nat_lt, if◌then◌else◌, List, [], ◌∷◌, length, codes, Option, Some, None}
 use Rattle.std.specs.Option.{option_map}
 use Rattle.std.specs.Result.{result_ok}
 use Rattle.std.specs.Str.{bytes_eq}
@@ -50,6 +50,12 @@ number_of most largest digits =
     if (length digits == 0) || nat_lt most (length digits) then None
     else at_most largest (value_after 0 digits)
 
+-- n is the number that the digits before a separator write, and `rest` is what stands after it
+pub record NumberBefore (separator most largest : ℕ) (text : List ℕ) (n : ℕ) (rest : List ℕ) : Type 0 where
+  pub digits : List ℕ
+  pub whole : text ≡ digits ++ separator ∷ rest
+  pub value : number_of most largest digits ≡ Some n
+
 -- a moment in milliseconds: one to twenty digits, in 64 bits
 abbrev pub moment_of : List ℕ → Option ℕ
 moment_of text = number_of 20 (2 ^ 64 - 1) text
@@ -73,6 +79,12 @@ peer_of text =
     then_in (number_of 3 255 s.0) (λ d.
     then_in (number_of 5 65535 s.1) (λ port.
     Some (record { ip = ((a * 256 + b) * 256 + c) * 256 + d; port = port }))))))))))
+
+-- the peer that the text before the first space writes, and `rest` is what stands after it
+pub record PeerBefore (text : List ℕ) (peer : Peer) (rest : List ℕ) : Type 0 where
+  pub field : List ℕ
+  pub parted : split_at 32 text ≡ Some (field, rest)
+  pub value : peer_of field ≡ Some peer
 
 -- ---- bytes
 
