@@ -9,3 +9,4 @@ pub mod Reports
 pub mod Replies
 pub mod Totals
 pub mod Laws
+pub mod LawByEvents

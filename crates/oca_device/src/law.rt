@@ -9,3 +9,10 @@ pub fn law_of_executions()
     ensures lawful { EveryHistoryIsLawful }
     ensures answered { EveryDatagramIsAnsweredByExecutions }
 {}
+
+ghost use Rattle.oca_device.specs.LawByEvents.{LawByEvents};
+
+/// Draft.
+pub fn law_by_events()
+    ensures law { LawByEvents }
+{}
