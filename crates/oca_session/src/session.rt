@@ -1,11 +1,11 @@
 //! One session.
-ghost use Rattle.std.specs.Prelude.{◌≡◌, ℕ, ◌<◌, List, IfOk};
-ghost use Rattle.oca_session.specs.Accepted.{Entry, Agrees, judgement, Fresh};
+ghost use Rattle.std.specs.Prelude.{◌≡◌, ℕ, ◌<◌, ◌≤◌, List, length, IfOk};
+ghost use Rattle.oca_session.specs.Accepted.{Entry, entry_of, Agrees, judgement, Fresh};
 ghost use Rattle.oca_session.specs.Judging.{judgement_of, judgement_from};
 ghost use Rattle.oca_session.specs.Table.{is_of, is_lapsed, stays, heard_at, with_heartbeat, opened, with_entry};
 
 use crate::window::{Judged, Window};
-use oca_types::{Handle, Peer, Reply};
+use oca_types::{Command, Handle, Peer, Reply};
 use std::alloc::{AllocError, Global};
 use std::marker::Model;
 
@@ -99,10 +99,11 @@ impl Place {
         self.window.judge(handle)
     }
 
-    pub fn keep(&mut self, handle: Handle, reply: Reply)
-        requires { judgement_from self.old.retained handle.0 ≡ Fresh }
-        ensures { self.new ≡ with_entry (record { handle = handle.0; reply = reply }) self.old }
+    pub fn keep(&mut self, command: &Command<'_>, reply: &Reply)
+        requires fresh { judgement_from self.old.retained command.now.handle.0 ≡ Fresh }
+        requires room { length command.now.params.now ≤ 1452 }
+        ensures { self.new ≡ with_entry (entry_of command.now reply.now) self.old }
     {
-        self.window.keep(handle, reply);
+        self.window.keep(command, reply);
     }
 }

@@ -1,7 +1,7 @@
 //! The sessions of all peers.
 ghost use Rattle.std.specs.Prelude.{◌≡◌, ℕ, ◌<◌, ◌≤◌, List, [], ◌∷◌, ◌++◌, length, IfOk, IsSome, IfSome, is_some, Some, vec_len, take, position, All, Contains, ◌==◌};
 ghost use Rattle.oca_types.specs.declared.words.Peer.{Peer};
-ghost use Rattle.oca_session.specs.Accepted.{Entry, judgement, Fresh};
+ghost use Rattle.oca_session.specs.Accepted.{Entry, entry_of, judgement, Fresh};
 ghost use Rattle.oca_session.specs.Judging.{judgement_of, judgement_from};
 ghost use Rattle.oca_session.specs.Table.{is_of, session_of, peers_of, lapsed, staying, forgotten};
 ghost use Rattle.oca_session.specs.Sound.{IsSession};
@@ -9,7 +9,7 @@ ghost use Rattle.oca_session.specs.Sound.{IsSession};
 use crate::session::Place;
 use crate::window::Judged;
 use arrayvec::ArrayVec;
-use oca_types::{Handle, NoMemory, Peer, Reply};
+use oca_types::{Command, Handle, NoMemory, Peer, Reply};
 use std::alloc::{AllocError, Global};
 use std::marker::Model;
 
@@ -167,29 +167,31 @@ impl Sessions {
 
     /// Adds a fresh command of a known peer, with its reply, to the accepted commands of the session. A full
     /// window pushes its oldest command out.
-    pub fn keep(&mut self, peer: Peer, handle: Handle, reply: Reply)
+    pub fn keep(&mut self, peer: Peer, command: &Command<'_>, reply: &Reply)
         requires known { IsSome (session_of peer self.old.sessions) }
-        requires fresh { IfSome (session_of peer self.old.sessions) (λ s. judgement_from s.retained handle.0 ≡ Fresh) }
+        requires fresh { IfSome (session_of peer self.old.sessions) (λ s. judgement_from s.retained command.now.handle.0 ≡ Fresh) }
+        requires room { length command.now.params.now ≤ 1452 }
         ensures retained { self.new ≡ with_sessions self.old
-            (changed peer (with_entry (record { handle = handle.0; reply = reply })) self.old.sessions) }
+            (changed peer (with_entry (entry_of command.now reply.now)) self.old.sessions) }
         ensures accepted { (w : ℕ) (A : List Entry) → AgreesAt peer w A self.old.sessions →
             self.new ≡ with_sessions self.old
-            (changed peer (with_accepted w (A ++ record { handle = handle.0; reply = reply } ∷ [])) self.old.sessions) }
+            (changed peer (with_accepted w (A ++ entry_of command.now reply.now ∷ [])) self.old.sessions) }
         ensures peers { peers_of self.new.sessions ≡ peers_of self.old.sessions }
         ensures known { (p : Peer) → is_some (session_of p self.new.sessions) ≡ is_some (session_of p self.old.sessions) }
     {
-        self.put(peer, handle, reply);
+        self.put(peer, command, reply);
     }
 
-    fn put(&mut self, peer: Peer, handle: Handle, reply: Reply)
+    fn put(&mut self, peer: Peer, command: &Command<'_>, reply: &Reply)
         requires known { IsSome (session_of peer self.old.sessions) }
-        requires fresh { IfSome (session_of peer self.old.sessions) (λ s. judgement_from s.retained handle.0 ≡ Fresh) }
+        requires fresh { IfSome (session_of peer self.old.sessions) (λ s. judgement_from s.retained command.now.handle.0 ≡ Fresh) }
+        requires room { length command.now.params.now ≤ 1452 }
         ensures retained { self.new ≡ with_sessions self.old
-            (changed peer (with_entry (record { handle = handle.0; reply = reply })) self.old.sessions) }
+            (changed peer (with_entry (entry_of command.now reply.now)) self.old.sessions) }
         ensures one { IsTable self.old }
     {
         let at = place_of_known(&self.places[..self.count], peer);
-        self.places[at].keep(handle, reply);
+        self.places[at].keep(command, reply);
     }
 }
 

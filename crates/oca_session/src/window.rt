@@ -1,11 +1,12 @@
 //! The reply window of one session.
-ghost use Rattle.std.specs.Prelude.{◌≡◌, ℕ, ◌<◌, List, [], ◌∷◌, ◌++◌, IfOk, Some};
+ghost use Rattle.std.specs.Prelude.{◌≡◌, ℕ, ◌<◌, ◌≤◌, List, [], ◌∷◌, ◌++◌, length, position, slice_get, option_map, IfOk, Some};
 ghost use Rattle.std.specs.Option.{option_copied};
-ghost use Rattle.oca_session.specs.Accepted.{Entry, retained_of, Agrees, judgement, Fresh, higher_of, entry_under, has_handle};
+ghost use Rattle.oca_session.specs.Accepted.{Entry, retained_of, Agrees, judgement, Fresh, higher_of, entry_under, entry_of};
 ghost use Rattle.oca_session.specs.Judging.{judgement_of, judgement_from, retained_after};
+ghost use Rattle.oca_session.specs.Places.{is_handle, entry_at};
 
 use circular_buffer::HeapCircularBuffer;
-use oca_types::{Handle, Reply};
+use oca_types::{Command, Handle, MethodId, Ono, Params, Reply};
 use std::alloc::{AllocError, Global};
 use std::marker::Model;
 
@@ -20,58 +21,43 @@ pub enum Judged<'a> {
     Old,
 }
 
-/// An accepted command of the window: its handle and the reply that it got.
+/// What a place holds of an accepted command: all but its handle, and the reply that it got.
 #[derive(Drop)]
-struct RetainedReply {
-    handle: Handle,
+struct Answered {
+    target: Ono,
+    method: MethodId,
+    count: u8,
+    params: Params,
     reply: Reply,
-}
-
-impl Model for RetainedReply {
-    ghost use Rattle.oca_session.specs.Accepted.{Entry};
-
-    ghost Value = { Entry };
-
-    ghost view = { λ a. record { handle = a.handle.0; reply = a.reply } };
-}
-
-impl RetainedReply {
-    fn has_handle(&self, handle: Handle) -> bool
-        ensures { result ≡ has_handle handle.0 self.now }
-    {
-        self.handle == handle
-    }
-
-    fn handle(&self) -> Handle
-        ensures { result.0 ≡ self.now.handle }
-    {
-        self.handle
-    }
-
-    fn reply(&self) -> &Reply
-        ensures { result.now ≡ self.now.reply }
-    {
-        &self.reply
-    }
 }
 
 /// The last accepted commands of a session with their replies, and the floor, the greatest handle that was
 /// pushed out of the window.
 #[derive(Drop)]
 pub struct Window {
-    entries: HeapCircularBuffer<RetainedReply>,
+    /// The handles, oldest first.
+    handles: HeapCircularBuffer<Handle>,
+    /// The commands and replies, in places that are used in turn once all are taken: that of the oldest command is at
+    /// `oldest`, and the others follow it round.
+    places: Vec<Answered>,
+    oldest: usize,
     floor: Option<u32>,
+    /// Above each handle that was accepted.
+    above: u64,
 }
 
 impl Model for Window {
-    ghost use Rattle.std.specs.Prelude.{◌<◌, ◌≤◌, length};
+    ghost use Rattle.std.specs.Prelude.{◌≡◌, ◌<◌, ◌≤◌, length, vec_capacity};
     ghost use Rattle.oca_session.specs.Accepted.{Retained};
+    ghost use Rattle.oca_session.specs.Places.{AreBelow, entries_of};
 
     ghost Value = { Retained };
 
-    ghost view = { λ a. record { size = a.entries.capacity; entries = a.entries.items; floor = a.floor } };
+    ghost view = { λ a. record { size = a.handles.capacity; entries = entries_of a.handles.items a.oldest a.places.items; floor = a.floor } };
 
-    ghost invariant = { λ a. (0 < a.entries.capacity) × (length a.entries.items ≤ a.entries.capacity) };
+    ghost invariant = { λ a. (length a.places.items ≡ length a.handles.items) × (length a.handles.items ≤ a.handles.capacity)
+        × (a.oldest < a.handles.capacity) × (a.handles.capacity ≤ vec_capacity a.places)
+        × (length a.handles.items < a.handles.capacity → a.oldest ≡ 0) × AreBelow a.above a.handles.items a.floor };
 }
 
 impl Window {
@@ -80,10 +66,14 @@ impl Window {
         requires { 0 < size }
         ensures { IfOk result (λ k. k ≡ retained_of size []) }
     {
-        let entries = HeapCircularBuffer::with_capacity(alloc, size)?;
+        let handles = HeapCircularBuffer::with_capacity(alloc, size)?;
+        let places = Vec::with_capacity(alloc, size)?;
         Ok(Window {
-            entries,
+            handles,
+            places,
+            oldest: 0,
             floor: None,
+            above: 0,
         })
     }
 
@@ -91,8 +81,11 @@ impl Window {
     pub fn clear(&mut self)
         ensures { self.new ≡ retained_of self.old.size [] }
     {
-        self.entries.clear();
+        self.handles.clear();
+        self.places.clear();
+        self.oldest = 0;
         self.floor = None;
+        self.above = 0;
     }
 
     /// Whether a command of this handle is fresh, a duplicate of one in the window, or too old.
@@ -103,23 +96,39 @@ impl Window {
         self.judge_retained(handle)
     }
 
-    /// What is retained under a handle.
-    #[tactic(auto, using(crate::proofs::Windows::found_in_parts))]
-    fn find(&self, handle: Handle) -> Option<&RetainedReply>
-        ensures { option_copied result ≡ entry_under handle.0 self.now.entries }
+    /// The reply that is retained under a handle.
+    fn find(&self, handle: Handle) -> Option<&Reply>
+        ensures { option_copied result ≡ option_map (λ e. e.reply) (entry_under handle.0 self.now.entries) }
     {
-        let (front, back) = self.entries.as_slices();
-        match entry_of(front, handle) {
-            Some(entry) => Some(entry),
-            None => entry_of(back, handle),
+        let (front, back) = self.handles.as_slices();
+        if let Some(at) = position_of(front, handle) {
+            return Some(self.reply_at(at));
+        }
+        let at = position_of(back, handle)?;
+        Some(self.reply_at(front.len() + at))
+    }
+
+    /// The reply of a command, counted from the oldest.
+    fn reply_at(&self, index: usize) -> &Reply
+        requires { index < length self.now.entries }
+        ensures { option_map (λ e. e.reply) (slice_get self.now.entries index) ≡ Some result.now }
+    {
+        let rest = self.places.len() - self.oldest;
+        if index < rest {
+            &self.places[self.oldest + index].reply
+        } else {
+            &self.places[index - rest].reply
         }
     }
 
     fn judge_retained(&self, handle: Handle) -> Judged<'_>
         ensures { judgement_of result ≡ judgement_from self.now handle.0 }
     {
-        if let Some(entry) = self.find(handle) {
-            return Judged::Kept(entry.reply());
+        if u64::from(handle.0) >= self.above {
+            return Judged::Fresh;
+        }
+        if let Some(reply) = self.find(handle) {
+            return Judged::Kept(reply);
         }
         match self.floor {
             Some(floor) if handle.0 <= floor => Judged::Old,
@@ -128,29 +137,84 @@ impl Window {
     }
 
     /// Retains a fresh command with its reply. A full window pushes its oldest out.
-    pub fn keep(&mut self, handle: Handle, reply: Reply)
-        requires { judgement_from self.old handle.0 ≡ Fresh }
-        ensures exact { self.new ≡ retained_after self.old (record { handle = handle.0; reply = reply }) }
-        ensures accepted { (w : ℕ) (A : List Entry) → Agrees w A self.old →
-            Agrees w (A ++ record { handle = handle.0; reply = reply } ∷ []) self.new }
+    pub fn keep(&mut self, command: &Command<'_>, reply: &Reply)
+        requires fresh { judgement_from self.old command.now.handle.0 ≡ Fresh }
+        requires room { length command.now.params.now ≤ 1452 }
+        ensures exact { self.new ≡ retained_after self.old (entry_of command.now reply.now) }
+        ensures accepted { (w : ℕ) (A : List Entry) → Agrees w A self.old → Agrees w (A ++ entry_of command.now reply.now ∷ []) self.new }
     {
-        self.put(RetainedReply { handle, reply });
+        self.put(command, reply);
     }
 
-    fn put(&mut self, entry: RetainedReply)
-        ensures { self.new ≡ retained_after self.old entry }
+    fn put(&mut self, command: &Command<'_>, reply: &Reply)
+        requires { length command.now.params.now ≤ 1452 }
+        ensures { self.new ≡ retained_after self.old (entry_of command.now reply.now) }
     {
-        if let Some(oldest) = self.entries.push_back(entry) {
-            self.floor = Some(raised_floor(self.floor, oldest.handle()));
-        }
+        self.above = self.above.max(u64::from(command.handle.0) + 1);
+        let Some(pushed_out) = self.handles.push_back(command.handle) else {
+            self.places.push_reserved(copy_of(command, reply));
+            return;
+        };
+        self.floor = Some(raised_floor(self.floor, pushed_out));
+        let at = self.oldest;
+        write(&mut self.places[at], command, reply);
+        self.oldest = if at + 1 == self.places.len() { 0 } else { at + 1 };
     }
 }
 
-/// The entry of a handle among these.
-fn entry_of(entries: &[RetainedReply], handle: Handle) -> Option<&RetainedReply>
-    ensures { option_copied result ≡ entry_under handle.0 entries.now }
+/// A command with its reply, for a place that none has had yet.
+fn copy_of(command: &Command<'_>, reply: &Reply) -> Answered
+    requires { length command.now.params.now ≤ 1452 }
+    ensures { entry_at command.now.handle result ≡ entry_of command.now reply.now }
 {
-    entries.iter().find(|entry| entry.has_handle(handle))
+    let mut answered = Answered {
+        target: command.target,
+        method: command.method,
+        count: command.count,
+        params: Params::new(),
+        reply: Reply {
+            status: reply.status,
+            count: reply.count,
+            params: Params::new(),
+        },
+    };
+    copy_params(&mut answered.params, command.params);
+    copy_params(&mut answered.reply.params, reply.params.as_slice());
+    answered
+}
+
+/// Writes a command and its reply in the place of others.
+fn write(place: &mut Answered, command: &Command<'_>, reply: &Reply)
+    requires { length command.now.params.now ≤ 1452 }
+    ensures { entry_at command.now.handle place.new ≡ entry_of command.now reply.now }
+{
+    place.target = command.target;
+    place.method = command.method;
+    place.count = command.count;
+    copy_params(&mut place.params, command.params);
+    place.reply.status = reply.status;
+    place.reply.count = reply.count;
+    copy_params(&mut place.reply.params, reply.params.as_slice());
+}
+
+/// Writes parameters in the place of others. Where they are as many, no cell is cleared first.
+fn copy_params(place: &mut Params, params: &[u8])
+    requires { length params.now ≤ 1452 }
+    ensures { place.new.items ≡ params.now }
+{
+    if place.len() == params.len() {
+        place.as_mut_slice().copy_from_slice(params);
+        return;
+    }
+    place.clear();
+    let _ = place.try_extend_from_slice(params);
+}
+
+/// Where a handle stands among these.
+fn position_of(handles: &[Handle], handle: Handle) -> Option<usize>
+    ensures { result ≡ position (is_handle handle.0) handles.now }
+{
+    handles.iter().position(|other| *other == handle)
 }
 
 /// The floor after a command of this handle was pushed out.
