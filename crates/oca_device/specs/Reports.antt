@@ -18,6 +18,7 @@ no_turns =
       executed = 0;
       kept = 0;
       old = 0;
+      reused = 0;
       malformed = 0;
       no_room = 0;
       oversize = 0;
@@ -34,6 +35,7 @@ added a b =
       executed = a.executed + b.executed;
       kept = a.kept + b.kept;
       old = a.old + b.old;
+      reused = a.reused + b.reused;
       malformed = a.malformed + b.malformed;
       no_room = a.no_room + b.no_room;
       oversize = a.oversize + b.oversize;
@@ -47,7 +49,7 @@ one_turn = record no_turns { turns = 1 }
 
 -- a turn with this verdict
 abbrev pub verdict_turn : Verdict → Report
-verdict_turn (verdicts.Served executed kept old) = record one_turn { executed = executed; kept = kept; old = old }
+verdict_turn (verdicts.Served executed kept old reused) = record one_turn { executed = executed; kept = kept; old = old; reused = reused }
 verdict_turn (verdicts.Malformed fault) = record one_turn { malformed = 1 }
 verdict_turn verdicts.NoRoom = record one_turn { no_room = 1 }
 

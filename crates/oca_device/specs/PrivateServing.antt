@@ -1,10 +1,11 @@
 -- What serving a datagram, its messages or one message makes of a device and its outbox, and how many answers there are at most.
-use Rattle.std.specs.Prelude.{◌≡◌, ℕ, ◌+◌, List, [], ◌∷◌, ◌++◌}
+use Rattle.std.specs.Prelude.{◌≡◌, ℕ, ◌+◌, List, [], ◌∷◌}
 use Rattle.oca_types.specs.declared.words.Peer.{Peer}
-use Rattle.oca_pdu.specs.Messages.{Msg, Command, Response, KeepAlive}
+use Rattle.oca_pdu.specs.Messages.{Msg, Command, Response, KeepAlive, Pdu}
 use Rattle.oca_pdu.specs.Reading.{read_datagram}
 use Rattle.oca_device.specs.declared.counts.Counts.{Counts}
 use Rattle.oca_device.specs.declared.verdict.Verdict.{Verdict}
+use Rattle.oca_device.specs.Groups.{with_answers, encodings}
 use Rattle.oca_device.specs.States.{State, after_message, after_messages, after_reading}
 use Rattle.oca_device.specs.Answers.{answer_to, answers_to_messages, answers_to_reading, packets_of, count_of, counts_of_messages, verdict_of_reading}
 use Rattle.oca_device.specs.Devices.{DeviceState, IsIn}
@@ -12,13 +13,13 @@ use Rattle.oca_device.specs.Devices.{DeviceState, IsIn}
 -- one message
 pub record Serves (w : ℕ) (new : DeviceState) (p : Peer) (m : Msg) (s : State) (before after : List (List ℕ)) (n : Counts) : Type 0 where
   pub device : IsIn w new (after_message w p m s)
-  pub packets : after ≡ before ++ packets_of (answer_to w p m s)
+  pub packets : (groups : List Pdu) → before ≡ encodings groups → after ≡ encodings (with_answers groups (answer_to w p m s))
   pub counts : n ≡ count_of w p m s
 
 -- several messages
 pub record ServesAll (w : ℕ) (new : DeviceState) (p : Peer) (ms : List Msg) (s : State) (before after : List (List ℕ)) (n : Counts) : Type 0 where
   pub device : IsIn w new (after_messages w p ms s)
-  pub packets : after ≡ before ++ packets_of (answers_to_messages w p ms s)
+  pub packets : (groups : List Pdu) → before ≡ encodings groups → after ≡ encodings (with_answers groups (answers_to_messages w p ms s))
   pub counts : n ≡ counts_of_messages w p ms s
 
 -- a datagram, when the clock has moved
