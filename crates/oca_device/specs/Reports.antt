@@ -1,5 +1,5 @@
 -- What a report says of the turns of the loop: a turn is one delivery of the end (profile).
-use Rattle.std.specs.Prelude.{ℕ, ◌+◌, nat_le, if◌then◌else◌, List, [], ◌∷◌, length}
+use Rattle.std.specs.Prelude.{ℕ, ◌+◌, nat_le, nat_lt, if◌then◌else◌, List, [], ◌∷◌, length}
 use Rattle.oca_net.specs.Deliveries.{Delivery, Datagram, Quiet, Failed}
 use Rattle.oca_net.specs.Ends.{largest_datagram}
 use Rattle.oca_tree.specs.declared.object.Object.{Object}
@@ -77,3 +77,7 @@ events_after_all (d ∷ deliveries) events = events_after_all deliveries (events
 abbrev pub report_of : ℕ → List Object → List Event → List Delivery → Report
 report_of w tree events [] = no_turns
 report_of w tree events (d ∷ deliveries) = added (turn_report w tree events d) (report_of w tree (events_after d events) deliveries)
+
+-- How often a loop of at most `bound` turns receives: once a turn, and once more, which answered Closed, where it took fewer turns.
+abbrev pub receives_of : ℕ → ℕ → ℕ
+receives_of turns bound = if nat_lt turns bound then turns + 1 else turns
