@@ -8,10 +8,11 @@ use Rattle.std.specs.List.{All, find, position_or_len}
 use Rattle.std.specs.Option.{IfSome}
 use Rattle.std.specs.Prelude.{nat_lt, not, max, position, option_map}
 use Rattle.oca_types.specs.declared.words.Handle.{Handle}
-use Rattle.oca_session.specs.declared.window.Answered.{Answered}
-use Rattle.oca_session.specs.Accepted.{Entry, Fresh, Retained, entry_under, has_handle, higher_of, greatest}
-use Rattle.oca_session.specs.Judging.{judgement_from, is_above, retained_after}
-use Rattle.oca_session.specs.Places.{AreBelow, turned, paired, entry_at, entries_of, is_handle}
+use Rattle.oca_session.specs.declared.cell.Cell.{Cell}
+use Rattle.oca_types.specs.Peers.{CommandFields}
+use Rattle.oca_session.specs.Accepted.{Entry, Fresh, Old, duplicate_or_reused, Retained, entry_under, has_handle, higher_of, greatest}
+use Rattle.oca_session.specs.Judging.{judgement_by_window, judge_entry, is_above, retained_after}
+use Rattle.oca_session.specs.PrivateCells.{AreBelow, judge_cell, turned, paired, entry_in, entries_of, is_handle}
 
 -- ---- places that are used in turn
 
@@ -156,23 +157,25 @@ module _ {X : Type 0} (p : X → Bool) where
 
 -- ---- the commands of a window
 
-module _ (o : ℕ) (xs : List Handle) (rs : List Answered) (same : length rs ≡ length xs) where
+module _ (o : ℕ) (xs : List Handle) (rs : List Cell) (same : length rs ≡ length xs) where
   as_many : length xs ≡ length (turned o rs)
   as_many = sym (length-turned o rs ∙ same)
 
   pub length-entries : length (entries_of xs o rs) ≡ length xs
-  length-entries = length-paired entry_at xs (turned o rs) as_many
+  length-entries = length-paired entry_in xs (turned o rs) as_many
 
-  -- the reply of the command at k, by its place
-  pub reply_before : (k : ℕ) (d : Answered) → k < length xs → o + k < length rs → option_map (λ e. e.reply) (slice_get (entries_of xs o rs) k) ≡ Some (get_or rs (o + k) d).reply
-  reply_before k d within before =
-      paired_right entry_at (λ e. e.reply) (λ a. a.reply) (λ x r. refl) xs (turned o rs) k d as_many within
-      ∙ ap (λ (a : Answered). Some a.reply) (turned_at o rs k d before)
+  -- what the command at k says of another under its handle, by its cell
+  pub cell_before : (c : CommandFields) (k : ℕ) (d : Cell) → k < length xs → o + k < length rs
+      → option_map (λ e. duplicate_or_reused e c) (slice_get (entries_of xs o rs) k) ≡ Some (judge_cell (get_or rs (o + k) d) c)
+  cell_before c k d within before =
+      paired_right entry_in (λ e. duplicate_or_reused e c) (λ a. judge_cell a c) (λ x r. refl) xs (turned o rs) k d as_many within
+      ∙ ap (λ (a : Cell). Some (judge_cell a c)) (turned_at o rs k d before)
 
-  pub reply_past : (k : ℕ) (d : Answered) → o ≤ length rs → k < length xs → length rs - o ≤ k → option_map (λ e. e.reply) (slice_get (entries_of xs o rs) k) ≡ Some (get_or rs (k - (length rs - o)) d).reply
-  reply_past k d small within past =
-      paired_right entry_at (λ e. e.reply) (λ a. a.reply) (λ x r. refl) xs (turned o rs) k d as_many within
-      ∙ ap (λ (a : Answered). Some a.reply) (turned_past o rs k d small past (omega (arith, same, within)))
+  pub cell_past : (c : CommandFields) (k : ℕ) (d : Cell) → o ≤ length rs → k < length xs → length rs - o ≤ k
+      → option_map (λ e. duplicate_or_reused e c) (slice_get (entries_of xs o rs) k) ≡ Some (judge_cell (get_or rs (k - (length rs - o)) d) c)
+  cell_past c k d small within past =
+      paired_right entry_in (λ e. duplicate_or_reused e c) (λ a. judge_cell a c) (λ x r. refl) xs (turned o rs) k d as_many within
+      ∙ ap (λ (a : Cell). Some (judge_cell a c)) (turned_past o rs k d small past (omega (arith, same, within)))
 
   -- the command of a handle, by where the handle stands
   pub found_front : (h k : ℕ) (front back : List Handle) → front ++ back ≡ xs → position (is_handle h) front ≡ Some k
@@ -181,7 +184,7 @@ module _ (o : ℕ) (xs : List Handle) (rs : List Answered) (same : length rs ≡
       let is = in_front (is_handle h) front back xs k all at in
       (
         rw length-entries is.0,
-        found_at entry_at (has_handle h) (is_handle h) (λ x r. refl) xs (turned o rs) as_many (omega (arith, is.0, is.1)) ∙ ap (slice_get (entries_of xs o rs)) is.1,
+        found_at entry_in (has_handle h) (is_handle h) (λ x r. refl) xs (turned o rs) as_many (omega (arith, is.0, is.1)) ∙ ap (slice_get (entries_of xs o rs)) is.1,
       )
 
   pub found_back : (h k : ℕ) (front back : List Handle) → front ++ back ≡ xs → position (is_handle h) front ≡ None → position (is_handle h) back ≡ Some k
@@ -190,28 +193,28 @@ module _ (o : ℕ) (xs : List Handle) (rs : List Answered) (same : length rs ≡
       let is = in_back (is_handle h) front back xs k all none at in
       (
         rw length-entries is.0,
-        found_at entry_at (has_handle h) (is_handle h) (λ x r. refl) xs (turned o rs) as_many (omega (arith, is.0, is.1)) ∙ ap (slice_get (entries_of xs o rs)) is.1,
+        found_at entry_in (has_handle h) (is_handle h) (λ x r. refl) xs (turned o rs) as_many (omega (arith, is.0, is.1)) ∙ ap (slice_get (entries_of xs o rs)) is.1,
       )
 
   pub found_nowhere : (h : ℕ) (front back : List Handle) → front ++ back ≡ xs → position (is_handle h) front ≡ None → position (is_handle h) back ≡ None
       → entry_under h (entries_of xs o rs) ≡ None
   found_nowhere h front back all none at =
-      found_none entry_at (has_handle h) (is_handle h) (λ x r. refl) xs (turned o rs) (in_neither (is_handle h) front back xs all none at)
+      found_none entry_in (has_handle h) (is_handle h) (λ x r. refl) xs (turned o rs) (in_neither (is_handle h) front back xs all none at)
 
   -- one more command, where the first k go
-  entries_push : (k n : ℕ) (qs : List Answered) (x : Handle) (r : Answered) → turned n qs ≡ drop k (turned o rs ++ r ∷ [])
-      → entries_of (drop k (xs ++ x ∷ [])) n qs ≡ drop k (entries_of xs o rs ++ entry_at x r ∷ [])
+  entries_push : (k n : ℕ) (qs : List Cell) (x : Handle) (r : Cell) → turned n qs ≡ drop k (turned o rs ++ r ∷ [])
+      → entries_of (drop k (xs ++ x ∷ [])) n qs ≡ drop k (entries_of xs o rs ++ entry_in x r ∷ [])
   entries_push k n qs x r turns =
-      ap (paired entry_at (drop k (xs ++ x ∷ []))) turns
-      ∙ paired_drop entry_at k (xs ++ x ∷ []) (turned o rs ++ r ∷ []) (rw (length-append, length-append) (ap (λ n. n + 1) as_many))
-      ∙ ap (drop k) (paired_push entry_at xs (turned o rs) x r as_many)
+      ap (paired entry_in (drop k (xs ++ x ∷ []))) turns
+      ∙ paired_drop entry_in k (xs ++ x ∷ []) (turned o rs ++ r ∷ []) (rw (length-append, length-append) (ap (λ n. n + 1) as_many))
+      ∙ ap (drop k) (paired_push entry_in xs (turned o rs) x r as_many)
 
-  kept : (size n : ℕ) (qs : List Answered) (floor new : Option ℕ) (x : Handle) (r : Answered) → turned n qs ≡ drop (length (xs ++ x ∷ []) - size) (turned o rs ++ r ∷ [])
-      → new ≡ higher_of floor (greatest (take (length (xs ++ x ∷ []) - size) (entries_of xs o rs ++ entry_at x r ∷ [])))
+  kept : (size n : ℕ) (qs : List Cell) (floor new : Option ℕ) (x : Handle) (r : Cell) → turned n qs ≡ drop (length (xs ++ x ∷ []) - size) (turned o rs ++ r ∷ [])
+      → new ≡ higher_of floor (greatest (take (length (xs ++ x ∷ []) - size) (entries_of xs o rs ++ entry_in x r ∷ [])))
       → record { size = size; entries = entries_of (drop (length (xs ++ x ∷ []) - size) (xs ++ x ∷ [])) n qs; floor = new }
-        ≡ retained_after (record { size = size; entries = entries_of xs o rs; floor = floor }) (entry_at x r)
+        ≡ retained_after (record { size = size; entries = entries_of xs o rs; floor = floor }) (entry_in x r)
   kept size n qs floor new x r turns raised =
-      let all : List Entry = entries_of xs o rs ++ entry_at x r ∷ [] in
+      let all : List Entry = entries_of xs o rs ++ entry_in x r ∷ [] in
       let long : length all - size ≡ length (xs ++ x ∷ []) - size = rw (length-append, length-append, length-entries) refl in
       let entries = entries_push (length (xs ++ x ∷ []) - size) n qs x r turns ∙ ap (λ k. drop k all) (sym long) in
       let high = raised ∙ ap (λ k. higher_of floor (greatest (take k all))) (sym long) in
@@ -228,35 +231,35 @@ no_higher None = refl
 no_higher (Some f) = refl
 
 -- A window that is not full takes one more.
-pub kept_more : (xs : List Handle) (o : ℕ) (rs : List Answered) → length rs ≡ length xs → (size : ℕ) (floor : Option ℕ) (x : Handle) (r : Answered) → length xs < size → o ≡ 0
+pub kept_more : (xs : List Handle) (o : ℕ) (rs : List Cell) → length rs ≡ length xs → (size : ℕ) (floor : Option ℕ) (x : Handle) (r : Cell) → length xs < size → o ≡ 0
     → record { size = size; entries = entries_of (drop (length (xs ++ x ∷ []) - size) (xs ++ x ∷ [])) o (rs ++ r ∷ []); floor = floor }
-      ≡ retained_after (record { size = size; entries = entries_of xs o rs; floor = floor }) (entry_at x r)
+      ≡ retained_after (record { size = size; entries = entries_of xs o rs; floor = floor }) (entry_in x r)
 kept_more xs o rs same size floor x r room first =
     let none : length (xs ++ x ∷ []) - size ≡ 0 = rw length-append (omega (arith, room)) in
     let turns : turned o (rs ++ r ∷ []) ≡ turned o rs ++ r ∷ [] = rw first (turned_more rs r) in
     kept o xs rs same size o (rs ++ r ∷ []) floor floor x r (rw none turns) (rw none (no_higher floor))
 
-first_out : (xs : List Handle) (rs : List Answered) (y : Handle) → length xs ≡ length rs → slice_get xs 0 ≡ Some y → greatest (take 1 (paired entry_at xs rs)) ≡ Some y.0
+first_out : (xs : List Handle) (rs : List Cell) (y : Handle) → length xs ≡ length rs → slice_get xs 0 ≡ Some y → greatest (take 1 (paired entry_in xs rs)) ≡ Some y.0
 first_out [] rs y same is = cc
 first_out (x ∷ xs) [] y same is = absurd (omega (arith, same))
 first_out (x ∷ xs) (r ∷ rs) y same is = let e : x ≡ y = cc in ap (λ (z : Handle). Some z.0) e
 
 -- A full window takes one more: the oldest goes out, may raise the floor, and leaves its place.
-pub kept_full : (xs : List Handle) (o n : ℕ) (rs : List Answered) → length rs ≡ length xs → (size : ℕ) (floor : Option ℕ) (f : ℕ) (x y : Handle) (r : Answered) → length xs ≡ size → o < length rs
+pub kept_full : (xs : List Handle) (o n : ℕ) (rs : List Cell) → length rs ≡ length xs → (size : ℕ) (floor : Option ℕ) (f : ℕ) (x y : Handle) (r : Cell) → length xs ≡ size → o < length rs
     → ((o + 1 ≡ length rs) × (n ≡ 0)) ⊎ (n ≡ o + 1) → slice_get (xs ++ x ∷ []) 0 ≡ Some y → higher_of floor (Some y.0) ≡ Some f
     → record { size = size; entries = entries_of (drop (length (xs ++ x ∷ []) - size) (xs ++ x ∷ [])) n (slice_set rs o r); floor = Some f }
-      ≡ retained_after (record { size = size; entries = entries_of xs o rs; floor = floor }) (entry_at x r)
+      ≡ retained_after (record { size = size; entries = entries_of xs o rs; floor = floor }) (entry_in x r)
 kept_full xs o n rs same size floor f x y r full within next out raised =
     let one : length (xs ++ x ∷ []) - size ≡ 1 = rw length-append (omega (arith, full)) in
     let many = as_many o xs rs same in
-    let first : greatest (take 1 (entries_of xs o rs ++ entry_at x r ∷ [])) ≡ Some y.0 =
-    ap (λ es. greatest (take 1 es)) (sym (paired_push entry_at xs (turned o rs) x r many))
+    let first : greatest (take 1 (entries_of xs o rs ++ entry_in x r ∷ [])) ≡ Some y.0 =
+    ap (λ es. greatest (take 1 es)) (sym (paired_push entry_in xs (turned o rs) x r many))
     ∙ first_out (xs ++ x ∷ []) (turned o rs ++ r ∷ []) y (rw (length-append, length-append) (ap (λ n. n + 1) many)) out in
     kept o xs rs same size n (slice_set rs o r) floor (Some f) x r (rw one (turned_next rs o n r within next)) (rw (one, first) (sym raised))
 
 -- ---- above all handles
 
-none_under : (a h : ℕ) (xs : List Handle) (rs : List Answered) → All (λ x. x.0 < a) xs → a ≤ h → entry_under h (paired entry_at xs rs) ≡ None
+none_under : (a h : ℕ) (xs : List Handle) (rs : List Cell) → All (λ x. x.0 < a) xs → a ≤ h → entry_under h (paired entry_in xs rs) ≡ None
 none_under a h [] rs below high = refl
 none_under a h (x ∷ xs) [] below high = refl
 none_under a h (x ∷ xs) (r ∷ rs) below high =
@@ -269,9 +272,9 @@ above_floor a h None below high = refl
 above_floor a h (Some f) below high = grind (arith, nat_tests)
 
 -- a handle above all is fresh
-pub fresh_above : (a h size o : ℕ) (xs : List Handle) (rs : List Answered) (floor : Option ℕ) → AreBelow a xs floor → a ≤ h
-    → judgement_from (record { size = size; entries = entries_of xs o rs; floor = floor }) h ≡ Fresh
-fresh_above a h size o xs rs floor below high = rw (none_under a h xs (turned o rs) below.0 high, above_floor a h floor below.1 high) refl
+pub fresh_above : (a size o : ℕ) (c : CommandFields) (xs : List Handle) (rs : List Cell) (floor : Option ℕ) → AreBelow a xs floor → a ≤ c.handle
+    → judgement_by_window (record { size = size; entries = entries_of xs o rs; floor = floor }) c ≡ Fresh
+fresh_above a size o c xs rs floor below high = rw (none_under a c.handle xs (turned o rs) below.0 high, above_floor a c.handle floor below.1 high) refl
 
 all_below_more : (a b : ℕ) (xs : List Handle) (x : Handle) → All (λ x. x.0 < a) xs → a ≤ b → x.0 < b → All (λ x. x.0 < b) (xs ++ x ∷ [])
 all_below_more a b [] x below le lt = All-cons (λ x. x.0 < b) x [] lt (λ k d within. absurd (omega (arith, within)))
@@ -329,3 +332,38 @@ pushed_room xs x size out = by_test (nat_lt (length xs) size) refl out
     by_test : (b : Bool) → nat_lt (length xs) size ≡ b → cond b None (slice_get (xs ++ x ∷ []) 0) ≡ None → length xs < size
     by_test true t e = grind (arith, nat_tests)
     by_test false t e = absurd (some xs e)
+
+-- ---- a command by what its handle has in the window
+
+pub judged_by_cell : (k : Retained) (c : CommandFields) (a : Cell)
+    → option_map (λ (e : Entry). duplicate_or_reused e c) (entry_under c.handle k.entries) ≡ Some (judge_cell a c) → judgement_by_window k c ≡ judge_cell a c
+judged_by_cell k c a h = by_found (entry_under c.handle k.entries) h
+  where
+    by_found : (o : Option Entry) → option_map (λ (e : Entry). duplicate_or_reused e c) o ≡ Some (judge_cell a c) → judge_entry o (is_above k.floor c.handle) c ≡ judge_cell a c
+    by_found None e = cc
+    by_found (Some e) is = cc
+
+pub judged_by_floor : (k : Retained) (c : CommandFields) (above : Bool)
+    → option_map (λ (e : Entry). duplicate_or_reused e c) (entry_under c.handle k.entries) ≡ None → is_above k.floor c.handle ≡ above
+    → judgement_by_window k c ≡ cond above Fresh Old
+judged_by_floor k c above h is = by_found (entry_under c.handle k.entries) h ∙ ap (λ b. cond b Fresh Old) is
+  where
+    by_found : (o : Option Entry) → option_map (λ (e : Entry). duplicate_or_reused e c) o ≡ None
+        → judge_entry o (is_above k.floor c.handle) c ≡ cond (is_above k.floor c.handle) Fresh Old
+    by_found None e = refl
+    by_found (Some e) is = cc
+
+pub not_above : (floor : Option ℕ) (f h : ℕ) → floor ≡ Some f → h ≤ f → is_above floor h ≡ false
+not_above floor f h is le = rw is not_lt
+  where
+    not_lt : nat_lt f h ≡ false
+    not_lt = grind (arith, nat_tests)
+
+pub above_one : (floor : Option ℕ) (f h : ℕ) → floor ≡ Some f → f < h → is_above floor h ≡ true
+above_one floor f h is lt = rw is is_lt
+  where
+    is_lt : nat_lt f h ≡ true
+    is_lt = grind (arith, nat_tests)
+
+pub above_none : (floor : Option ℕ) (h : ℕ) → floor ≡ None → is_above floor h ≡ true
+above_none floor h is = rw is refl

@@ -3,7 +3,8 @@
 use Rattle.std.specs.Prelude.{ℕ, ◌<◌, ◌==◌, Bool, List, [], ◌∷◌, ◌++◌, take, drop, Option, IfSome, All}
 use Rattle.oca_types.specs.declared.words.Handle.{Handle}
 use Rattle.oca_session.specs.declared.cell.Cell.{Cell}
-use Rattle.oca_session.specs.Accepted.{Entry}
+use Rattle.oca_types.specs.Peers.{CommandFields}
+use Rattle.oca_session.specs.Accepted.{Entry, Judgement, duplicate_or_reused}
 
 -- the handle is this one (profile)
 abbrev pub is_handle : ℕ → Handle → Bool
@@ -34,3 +35,7 @@ entries_of xs o cs = paired entry_in xs (turned o cs)
 -- each handle, and the floor, is below this number (profile)
 abbrev pub AreBelow : ℕ → List Handle → Option ℕ → Type 0
 AreBelow above xs floor = All (λ x. x.0 < above) xs × IfSome floor (λ f. f < above)
+
+-- what a cell says of a command under its handle (profile)
+abbrev pub judge_cell : Cell → CommandFields → Judgement
+judge_cell a c = duplicate_or_reused (entry_in (record { 0 = c.handle }) a) c

@@ -3,8 +3,8 @@ use Rattle.std.proofs.lemmas.List.{length-set}
 use Rattle.std.specs.Prelude.{Some}
 use Rattle.oca_session.specs.Judging.{retained_after}
 use Rattle.oca_session.proofs.Rings.{kept_more, kept_full, below_more, below_raised, pushed_full, pushed_room}
-use Rattle.oca_session.proofs.window.Window.put.Goals as goal
-use Rattle.oca_session.proofs.window.Window.put.Goals.{then-at-len, else-at-len}
+use Rattle.oca_session.proofs.window.ReplyWindow.put.Goals as goal
+use Rattle.oca_session.proofs.window.ReplyWindow.put.Goals.{then-at-len, else-at-len}
 
 pub invariant_of-self : goal.invariant_of-self
 invariant_of-self c =
@@ -14,7 +14,7 @@ invariant_of-self c =
     let room = pushed_room hs x a.handles.capacity (sym c.push_back.ensures.value ∙ c.in_default.is) in
     let long : length (drop (length (hs ++ x ∷ []) - a.handles.capacity) (hs ++ x ∷ [])) ≡ length hs + 1 =
     rw (length-drop, length-append) (omega (arith, room)) in
-    let more : length c.push_reserved.new.self.items ≡ length a.places.items + 1 = rw (c.push_reserved.ensures.items, length-append) refl in
+    let more : length c.push_reserved.new.self.items ≡ length a.cells.items + 1 = rw (c.push_reserved.ensures.items, length-append) refl in
     let le : a.above ≤ c.max-self-inside.result = omega arith in
     let lt : x.0 < c.max-self-inside.result = omega arith in
     rw c.push_back.ensures.items (
@@ -31,7 +31,7 @@ returns-in_default c =
     let a = c.self.inside in
     let room = pushed_room a.handles.items c.args.command.now.handle a.handles.capacity (sym c.push_back.ensures.value ∙ c.in_default.is) in
     rw (← c.self.view_is, c.push_back.ensures.items, c.push_reserved.ensures.items)
-    (kept_more a.handles.items a.oldest a.places.items c.self.invariant.0 a.handles.capacity a.floor c.args.command.now.handle c.copy_of.result room (c.self.invariant.4 room) ∙ ap (retained_after _) c.copy_of.ensures)
+    (kept_more a.handles.items a.oldest a.cells.items c.self.invariant.0 a.handles.capacity a.floor c.args.command.now.handle c.new.result room (c.self.invariant.4 room) ∙ ap (retained_after _) c.new.ensures)
 
 pub invariant_of-self-2 : goal.invariant_of-self-2
 invariant_of-self-2 c =
@@ -60,11 +60,11 @@ pub returns : goal.returns
 returns c =
     let a = c.self.inside in
     let full = pushed_full a.handles.items c.args.command.now.handle c.in-Some.pushed_out a.handles.capacity (sym c.push_back.ensures.value ∙ c.in-Some.is) in
-    let next : ((a.oldest + 1 ≡ length a.places.items) × (c.if-at-len.self ≡ 0)) ⊎ (c.if-at-len.self ≡ a.oldest + 1) =
+    let next : ((a.oldest + 1 ≡ length a.cells.items) × (c.if-at-len.self ≡ 0)) ⊎ (c.if-at-len.self ≡ a.oldest + 1) =
     elim c.if-at-len.branch [
       | then-at-len w ↦ inl (omega (arith, w.if-at-len.true, c.len.ensures), w.self-is)
       | else-at-len w ↦ inr w.self-is
     ] in
     rw (← c.self.view_is, c.push_back.ensures.items)
-    (kept_full a.handles.items a.oldest c.if-at-len.self a.places.items c.self.invariant.0 a.handles.capacity a.floor c.raised_floor.result c.args.command.now.handle c.in-Some.pushed_out c.write.new.place
-    (omega (arith, full.0, c.self.invariant.1)) (omega (arith, full.0, c.self.invariant.0, c.self.invariant.2)) next full.1 c.raised_floor.ensures ∙ ap (retained_after _) c.write.ensures)
+    (kept_full a.handles.items a.oldest c.if-at-len.self a.cells.items c.self.invariant.0 a.handles.capacity a.floor c.raised_floor.result c.args.command.now.handle c.in-Some.pushed_out c.set.new.self
+    (omega (arith, full.0, c.self.invariant.1)) (omega (arith, full.0, c.self.invariant.0, c.self.invariant.2)) next full.1 c.raised_floor.ensures ∙ ap (retained_after _) c.set.ensures)
