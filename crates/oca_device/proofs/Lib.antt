@@ -8,3 +8,9 @@ pub mod Bounds
 pub mod Turns
 pub mod Acceptance
 pub mod Messages
+pub mod Answering
+pub mod Sessions
+pub mod Standing
+pub mod GroupLaws
+pub mod Fitting
+pub mod Summaries
