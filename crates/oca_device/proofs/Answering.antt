@@ -56,7 +56,7 @@ AnswersUnder under done = (h : ℕ) (e : Entry) → entry_under h done ≡ Some 
 
 -- one command
 module _ (w : ℕ) (p : Peer) (c : CommandFields) (s : State) (under : ℕ → List Msg) where
-  A : List Entry
+  abbrev A : List Entry
   A = accepted (run p s.notes)
 
   command_answered : AreDistinct (commands_of A) →
@@ -85,15 +85,15 @@ messages_answered w p [] s under k d u = refl
 messages_answered w p (Command respond c ∷ ms) s under k d u =
     ap (λ (x : List Msg). cond respond x [] ++ answers_to_messages w p ms (after_command (judged_in w s p c) p c s))
     (command_answered w p c s under d
-    (λ yes. fresh_under (sym (accepts_same w (accepted (run p s.notes)) c.handle) ∙ yes) yes)
+    (λ is_so. fresh_under (sym (accepts_same w (accepted (run p s.notes)) c.handle) ∙ is_so) is_so)
     (λ e f. u c.handle e (found_later c.handle _ _ e (accepted_grows w p (Command respond c ∷ ms) s k) f)))
     ∙ respond_or respond (accepts_handle w (executed_of p s.notes) c.handle || is_duplicate w (executed_of p s.notes) c)
     ∙ ap (λ (x : State). here ++ answers_to_messages w p ms x) (after_judged w p c s)
     ∙ ap (λ (x : List Msg). here ++ x)
     (by (accepts_handle w (executed_of p s.notes) c.handle) refl
-    (λ yes. messages_answered w p ms (fresh_state p c s) under (fresh_known p c s) (distinct_next w p c s k d yes) (fresh_all yes)
+    (λ is_so. messages_answered w p ms (fresh_state p c s) under (fresh_known p c s) (distinct_next w p c s k d is_so) (fresh_all is_so)
     ∙ ap (λ (B : List CommandFields). replies w under B ms) (fresh_executed p c s k))
-    (λ no. messages_answered w p ms s under k d (same_all no)))
+    (λ is_not. messages_answered w p ms s under k d (same_all is_not)))
   where
     here : List Msg
     here = cond (respond && (accepts_handle w (executed_of p s.notes) c.handle || is_duplicate w (executed_of p s.notes) c)) (under c.handle) []
@@ -103,14 +103,14 @@ messages_answered w p (Command respond c ∷ ms) s under k d u =
     respond_or true b = refl
     respond_or false b = refl
     fresh_all : accepts_handle w (executed_of p s.notes) c.handle ≡ true → AnswersUnder under (accepted (run p (after_messages w p ms (fresh_state p c s)).notes))
-    fresh_all yes = subst (λ (x : State). AnswersUnder under (accepted (run p (after_messages w p ms x).notes)))
-        (after_judged w p c s ∙ ap (λ b. cond b (fresh_state p c s) s) yes) u
+    fresh_all is_so = subst (λ (x : State). AnswersUnder under (accepted (run p (after_messages w p ms x).notes)))
+        (after_judged w p c s ∙ ap (λ b. cond b (fresh_state p c s) s) is_so) u
     same_all : accepts_handle w (executed_of p s.notes) c.handle ≡ false → AnswersUnder under (accepted (run p (after_messages w p ms s).notes))
-    same_all no = subst (λ (x : State). AnswersUnder under (accepted (run p (after_messages w p ms x).notes)))
-        (after_judged w p c s ∙ ap (λ b. cond b (fresh_state p c s) s) no) u
+    same_all is_not = subst (λ (x : State). AnswersUnder under (accepted (run p (after_messages w p ms x).notes)))
+        (after_judged w p c s ∙ ap (λ b. cond b (fresh_state p c s) s) is_not) u
     fresh_under : accepts_handle w (executed_of p s.notes) c.handle ≡ true → accepts w (accepted (run p s.notes)) c.handle ≡ true →
         under c.handle ≡ response c.handle (reply_of s.tree p c) ∷ []
-    fresh_under yes new = fresh_all yes c.handle (entry_of p c s) (found_later c.handle _ _ (entry_of p c s)
+    fresh_under is_so new = fresh_all is_so c.handle (entry_of p c s) (found_later c.handle _ _ (entry_of p c s)
         (accepted_grows w p ms (fresh_state p c s) (fresh_known p c s))
         (ap (entry_under c.handle) (fresh_accepted p c s k) ∙ found_last (accepted (run p s.notes)) (entry_of p c s) (new_where_accepted w (accepted (run p s.notes)) c.handle new)))
     by : (b : Bool) → accepts_handle w (executed_of p s.notes) c.handle ≡ b →
@@ -189,13 +189,13 @@ messages_replied w p (Command respond c ∷ ms) s tree C k same rep =
     let fresh = fresh_state p c s in
     subst (λ (x : State). Replied tree (C ++ map (Executes p) (accepted_of w cs (Command respond c ∷ ms))) p (accepted (run p (after_messages w p ms x).notes))) (sym (after_judged w p c s))
     (by (accepts_handle w cs c.handle) refl
-    (λ yes. subst (λ (x : List Change). Replied tree x p (accepted (run p (after_messages w p ms fresh).notes)))
+    (λ is_so. subst (λ (x : List Change). Replied tree x p (accepted (run p (after_messages w p ms fresh).notes)))
     (ap (λ (x : List CommandFields). (C ++ Executes p c ∷ []) ++ map (Executes p) (accepted_of w x ms)) (fresh_executed p c s k)
     ∙ append_assoc C (Executes p c ∷ []) (map (Executes p) (accepted_of w (cs ++ c ∷ []) ms)))
     (messages_replied w p ms fresh tree (C ++ Executes p c ∷ []) (fresh_known p c s)
     (ap (λ (t : List Object). (execution t p c).tree) same ∙ sym (objects_both tree C (Executes p c ∷ [])))
     (subst (λ (x : List Entry). Replied tree (C ++ Executes p c ∷ []) p x) (sym (fresh_accepted p c s k))
-    (replied_fresh w p c s tree C A (accepts_same w A c.handle ∙ yes) same rep))))
+    (replied_fresh w p c s tree C A (accepts_same w A c.handle ∙ is_so) same rep))))
     (messages_replied w p ms s tree C k same rep))
   where
     by : (b : Bool) → accepts_handle w (executed_of p s.notes) c.handle ≡ b →

@@ -27,10 +27,10 @@ answers_counted (m ∷ ms) =
 -- ---- a command in 1,472 bytes has at most 1,445 bytes of parameters
 
 command_long : (c : CommandFields) → length (command_encoding c) ≡ 17 + length c.params
-command_long c = refl
+command_long c = omega arith
 
 frame_long : (type count : ℕ) (body : List ℕ) → length (pdu_frame type count body) ≡ 10 + length body
-frame_long type count body = refl
+frame_long type count body = omega arith
 
 commands_short : (respond : Bool) (cs : List CommandFields) (n : ℕ) → length (flat_map command_encoding cs) ≤ n → n ≤ 1462 → AllByRecursion IsShort (map (λ c. Command respond c) cs)
 commands_short respond [] n h few = tt

@@ -1,6 +1,6 @@
 -- Each answer fits into a datagram.
 use Rattle.std.proofs.Common.{◌≡◌, ℕ, ◌+◌, ◌≤◌, ◌<◌, Bool, true, false, cond, List, [], ◌∷◌, ◌++◌, length, refl, sym, ap, ◌∙◌, subst, arith}
-use Rattle.std.specs.Prelude.{map, nat_lt, nat_eq, ◌&&◌, ◌||◌, ⊤, Option, Some, None}
+use Rattle.std.specs.Prelude.{map, nat_lt, nat_eq, ◌&&◌, ◌||◌, ⊤, Option, Some, None, is_none}
 use Rattle.std.specs.List.{AllByRecursion}
 use Rattle.std.proofs.lemmas.Bool.Decides.{nat_tests}
 use Rattle.oca_types.specs.declared.words.Peer.{Peer}
@@ -63,7 +63,9 @@ found_short tree peer c None r e = none_long
 found_short tree peer c (Some o) None e = none_long
 found_short tree peer c (Some o) (Some r) e =
     status_short tree peer o r (status_of tree peer (Some o) c) (λ q. not_above (length (answer tree o r))
-    (sym (ap (λ (x : Option Request). on_both (λ o r. nat_lt 1452 (length (answer tree o r))) (Some o) x) e) ∙ last_line _ _ _ _ _ _ _ _ q))
+    (sym (ap (λ (x : Option Request). on_both (λ o r. nat_lt 1452 (length (answer tree o r))) (Some o) x) e) ∙ last_line (is_none (Some o)) (is_unknown (kind_at (Some o) c)) (is_left_out (kind_at (Some o) c)) (is_locked (Some o) (kind_at (Some o) c) peer) (is_none (request_at (Some o) (kind_at (Some o) c) c))
+    (on_both (λ x y. is_out_of_range x.value y) (Some o) (request_at (Some o) (kind_at (Some o) c) c)) (on_both (λ x y. is_invalid x.lockable x.lock y) (Some o) (request_at (Some o) (kind_at (Some o) c) c))
+    (on_both (λ x y. nat_lt 1452 (length (answer tree x y))) (Some o) (request_at (Some o) (kind_at (Some o) c) c)) q))
 
 pub execution_short : (tree : List Object) (peer : Peer) (c : CommandFields) → length (execution tree peer c).parameters ≤ 1452
 unfolding execution

@@ -1,6 +1,6 @@
 -- The groups of answers are there, and they are the only ones.
 use Rattle.std.proofs.Common.{◌≡◌, ℕ, ◌+◌, ◌≤◌, ◌<◌, Bool, true, false, cond, List, [], ◌∷◌, ◌++◌, length, refl, sym, ap, ◌∙◌, subst, arith, inl, inr}
-use Rattle.std.specs.Prelude.{map, nat_le, ⊤, ⊥, ◌⊎◌}
+use Rattle.std.specs.Prelude.{map, nat_le, ⊤}
 use Rattle.std.specs.List.{flat_map, AllByRecursion}
 use Rattle.std.proofs.lemmas.Bool.Decides.{nat_tests}
 use Rattle.std.proofs.lemmas.Grind.{flat_map-append}
@@ -15,7 +15,7 @@ abbrev size : List ResponseFields → ℕ
 size rs = length (pdu_encoding (Responses rs))
 
 size_is : (rs : List ResponseFields) → size rs ≡ 10 + length (flat_map response_encoding rs)
-size_is rs = refl
+size_is rs = omega arith
 
 size_more : (rs more : List ResponseFields) → size rs ≤ size (rs ++ more)
 size_more rs more = omega (arith, size_is rs, size_is (rs ++ more), ap length (flat_map-append response_encoding rs more), length-append (flat_map response_encoding rs) (flat_map response_encoding more))
@@ -24,7 +24,7 @@ size_one : (r : ResponseFields) → size (r ∷ []) ≡ 20 + length r.params
 size_one r = omega (arith, size_is (r ∷ []), length-append (response_encoding r) [], one r)
   where
     one : (r : ResponseFields) → length (response_encoding r) ≡ 10 + length r.params
-    one r = refl
+    one r = omega arith
 
 -- ---- neighbours, one after the other
 
@@ -194,8 +194,7 @@ tail_of [] = []
 tail_of (x ∷ xs) = xs
 
 same_response : (r s : ResponseFields) (xs ys : List Msg) → Response r ∷ xs ≡ Response s ∷ ys → r ≡ s
-unfolding fields_or
-unfolding head_or
+unfolding fields_or head_or
 same_response r s xs ys e = ap (λ (l : List Msg). fields_or r (head_or (Response r) l)) e
 
 same_tail : (r s : Msg) (xs ys : List Msg) → r ∷ xs ≡ s ∷ ys → xs ≡ ys
@@ -245,8 +244,7 @@ alive_or d (Response r) = d
 alive_or d (Command respond c) = d
 
 pub unique : (ps qs : List Pdu) → AreSound ps → AreSound qs → said_by ps ≡ said_by qs → ps ≡ qs
-unfolding alive_or
-unfolding head_or
+unfolding alive_or head_or
 unique [] [] h k e = refl
 unique [] (q ∷ qs) h k e = absurd (nothing_said q qs k.0.0 e)
 unique (p ∷ ps) [] h k e = absurd (nothing_said p ps h.0.0 (sym e))

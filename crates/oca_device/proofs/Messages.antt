@@ -200,9 +200,9 @@ heartbeat_both b (Response r ∷ xs) ys = heartbeat_both b xs ys
 
 pub distinct_next : (w : ℕ) (p : Peer) (c : CommandFields) (s : State) → is_known s.moment s.notes p ≡ true → AreDistinct (executed_of p s.notes) →
     accepts_handle w (executed_of p s.notes) c.handle ≡ true → AreDistinct (executed_of p (fresh_state p c s).notes)
-distinct_next w p c s k d yes =
+distinct_next w p c s k d is_so =
     subst (λ (x : List CommandFields). AreDistinct x) (sym (fresh_executed p c s k))
-    (subst (λ (b : Bool). AreDistinct (cond b (executed_of p s.notes ++ c ∷ []) (executed_of p s.notes))) yes (distinct_after w (executed_of p s.notes) c d))
+    (subst (λ (b : Bool). AreDistinct (cond b (executed_of p s.notes ++ c ∷ []) (executed_of p s.notes))) is_so (distinct_after w (executed_of p s.notes) c d))
 
 command_counted : (w : ℕ) (p : Peer) (c : CommandFields) (s : State) → AreDistinct (executed_of p s.notes) →
     count_of_command (judged_in w s p c) ≡ counted w (executed_of p s.notes) c
@@ -233,7 +233,7 @@ messages_counted w p (Command respond c ∷ ms) s k d =
     ∙ ap (λ (x : State). plus (counted w A c) (counts_of_messages w p ms x)) (after_judged w p c s)
     ∙ ap (λ (x : Counts). plus (counted w A c) x)
     (by (accepts_handle w A c.handle) refl
-    (λ yes. messages_counted w p ms (fresh_state p c s) (fresh_known p c s) (distinct_next w p c s k d yes)
+    (λ is_so. messages_counted w p ms (fresh_state p c s) (fresh_known p c s) (distinct_next w p c s k d is_so)
     ∙ ap (λ (B : List CommandFields). all_counted w B ms) (fresh_executed p c s k))
     (messages_counted w p ms s k d))
   where

@@ -1,6 +1,6 @@
 -- The state after events stands by what happened at them.
 use Rattle.std.proofs.Common.{◌≡◌, ℕ, Bool, true, false, cond, List, [], ◌∷◌, ◌++◌, refl, sym, ap, ◌∙◌, subst}
-use Rattle.std.specs.Prelude.{map, max, Result, Ok, Err, ⊥}
+use Rattle.std.specs.Prelude.{map, max, Result, Ok, Err}
 use Rattle.std.specs.List.{flat_map}
 use Rattle.std.proofs.lemmas.List.{append-nil}
 use Rattle.oca_types.specs.declared.words.Peer.{Peer}
@@ -94,10 +94,10 @@ passing w tree now s H h =
 
 -- a datagram that is let in
 module _ (w : ℕ) (tree : List Object) (p : Peer) (ms : List Msg) (s : State) (D : List Arrival) (C : List Change) (h : StandsAt w tree s s.moment D C) where
-  A : List CommandFields
+  abbrev A : List CommandFields
   A = accepted_by w s.moment p D
 
-  after : State
+  abbrev after : State
   after = after_messages w p ms (let_in p ms s)
 
   same_executed : executed_of p (let_in p ms s).notes ≡ A

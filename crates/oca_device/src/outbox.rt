@@ -96,7 +96,7 @@ impl Outbox {
         requires groups { AreGrouped self.old }
         ensures { IsGrouped (response handle.0 reply.now) self.old self.new }
     {
-        if join_last(&mut self.places[..self.count], handle, reply) {
+        if join_last(&mut self.places, self.count, handle, reply) {
             return;
         }
         make_place(&mut self.places, self.count);
@@ -116,15 +116,19 @@ impl Outbox {
     }
 }
 
-/// Adds a response to the last of these packets where that holds responses and has room for it, and answers whether it did.
-fn join_last(packets: &mut [Packet], handle: Handle, reply: &Reply) -> bool
-    requires { AreGrouped (bytes_of_packets packets.old) }
-    ensures { JoinsLast result (response handle.0 reply.now) (bytes_of_packets packets.old) (bytes_of_packets packets.new) }
+/// Adds a response to the last of the first `count` packets where that holds responses and has room for it, and answers whether
+/// it did.
+fn join_last(places: &mut Vec<Packet>, count: usize, handle: Handle, reply: &Reply) -> bool
+    requires within { count ≤ length places.old.items }
+    requires groups { AreGrouped (bytes_of_packets (take count places.old.items)) }
+    ensures joins { JoinsLast result (response handle.0 reply.now) (bytes_of_packets (take count places.old.items)) (bytes_of_packets (take count places.new.items)) }
+    ensures length { length places.new.items ≡ length places.old.items }
+    ensures room { vec_capacity places.new ≡ vec_capacity places.old }
 {
-    match packets.last_mut() {
-        Some(packet) => join(packet, handle, reply),
-        None => false,
+    if count == 0 {
+        return false;
     }
+    join(&mut places[count - 1], handle, reply)
 }
 
 /// Adds a response to the PDU of a packet where that is of responses and has room for it, and answers whether it did.
