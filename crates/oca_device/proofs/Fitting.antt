@@ -12,7 +12,7 @@ use Rattle.oca_pdu.specs.Messages.{Msg, Command, Response, KeepAlive}
 use Rattle.oca_tree.specs.declared.object.Object.{Object}
 use Rattle.oca_tree.specs.declared.request.Request.{Request}
 use Rattle.oca_tree.specs.Objects.{object_of}
-use Rattle.oca_tree.specs.Execution.{answer, execution, by_status, status_of, status_lines, first_that_applies, kind_at, request_at, is_unknown, is_left_out, is_locked, on_both}
+use Rattle.oca_tree.specs.Execution.{Execution, answer, execution, by_status, status_of, status_lines, first_that_applies, kind_at, request_at, is_unknown, is_left_out, is_locked, on_both}
 use Rattle.oca_tree.specs.Requests.{is_out_of_range, is_invalid}
 use Rattle.oca_tree.specs.Locks.{released}
 use Rattle.oca_device.specs.Groups.{IsAnswer}
@@ -78,13 +78,15 @@ execution_short tree peer c =
 abbrev AreAnswers : List Msg → Type 0
 AreAnswers ms = AllByRecursion IsAnswer ms
 
+abbrev its : Execution → ℕ → Msg
+its x h = Response (record { handle = h; status = status_number x.status; count = x.count; params = x.parameters })
+
 reply_fits : (p : Peer) (h : ℕ) (r : List Msg) (tree : List Object) (C : List Change) → AreAnswers r → AreAnswers (reply p h r tree C)
 reply_fits p h r tree [] a = a
 reply_fits p h r tree (Releases q ∷ C) a = reply_fits p h r (released tree q) C a
-reply_fits p h r tree (Executes q c ∷ C) a = reply_fits p h _ (execution tree q c).tree C (by (same_peer q p && nat_eq c.handle h))
+reply_fits p h r tree (Executes q c ∷ C) a = reply_fits p h (cond (same_peer q p && nat_eq c.handle h) (its (execution tree q c) h ∷ []) r) (execution tree q c).tree C (by (same_peer q p && nat_eq c.handle h))
   where
-    by : (b : Bool) → let x = execution tree q c in
-        AreAnswers (cond b (Response (record { handle = h; status = status_number x.status; count = x.count; params = x.parameters }) ∷ []) r)
+    by : (b : Bool) → AreAnswers (cond b (its (execution tree q c) h ∷ []) r)
     by true = (execution_short tree q c, tt)
     by false = a
 

@@ -1,6 +1,6 @@
 -- The notes of a peer and its admitted datagrams say the same of its session.
 use Rattle.std.proofs.Common.{◌≡◌, ℕ, Bool, true, false, cond, List, [], ◌∷◌, ◌++◌, length, refl, sym, ap, ◌∙◌, subst}
-use Rattle.std.specs.Prelude.{map, filter, not, ◌&&◌, ◌||◌, ◌-◌, ◌*◌, nat_le, nat_lt}
+use Rattle.std.specs.Prelude.{map, filter, not, ◌&&◌, ◌||◌, ◌-◌, ◌*◌, nat_le, nat_lt, if◌then◌else◌}
 use Rattle.std.proofs.lemmas.List.{append-nil}
 use Rattle.oca_types.specs.declared.words.Peer.{Peer}
 use Rattle.oca_types.specs.Peers.{same_peer, CommandFields}

@@ -218,11 +218,11 @@ answers_same exact w tree {E} e (datagram {H = H} p bytes now b ps is h) =
 pub verdict_same : ReadingIsExact → (w : ℕ) (tree : List Object) {E : List Event} {H' : List Happening} (p : Peer) (bytes : List ℕ) (now : ℕ) → Happened (Datagram p bytes now ∷ E) H' →
     let s = state_after w tree E in
     IsVerdict w bytes (verdict_of_reading w p (read_datagram bytes) (moved_to (max s.moment now) s)) H'
-verdict_same exact w tree {E} p bytes now (malformed q bytes now b is_other h) =
+verdict_same exact w tree {E} p bytes now (malformed q xs t b is_other h) =
     let s1 = moved_to (max (state_after w tree E).moment now) (state_after w tree E) in
     let found = read_other exact bytes b is_other in
     (found.0, found.1, ap (λ (r : Result (List Msg) PduFault). verdict_of_reading w p r s1) found.2)
-verdict_same exact w tree {E} p bytes now (datagram {H = H} q bytes now b ps is h) =
+verdict_same exact w tree {E} p bytes now (datagram {H = H} q xs t b ps is h) =
     let s = state_after w tree E in
     let s1 = moved_to (max s.moment now) s in
     ap (λ (r : Result (List Msg) PduFault). verdict_of_reading w p r s1) (read_messages exact bytes ps b is)
@@ -235,9 +235,9 @@ same_said p now xs ys H K e f = ap (λ (x : List Msg). Says p x ∷ Passes now �
 
 pub happened_once : OneListOfMessages → {E : List Event} {H K : List Happening} → Happened E H → Happened E K → H ≡ K
 happened_once one nothing nothing = refl
-happened_once one (tick now h) (tick now k) = ap (λ (x : List Happening). Passes now ∷ x) (happened_once one h k)
-happened_once one (malformed p bytes now b is_other h) (malformed p bytes now c is_other' k) = ap (λ (x : List Happening). Passes now ∷ x) (happened_once one h k)
-happened_once one (malformed p bytes now b is_other h) (datagram p bytes now c ps is k) = absurd (is_other ps is)
-happened_once one (datagram p bytes now b ps is h) (malformed p bytes now c is_other k) = absurd (is_other ps is)
-happened_once one (datagram {H = H} p bytes now b ps is h) (datagram {H = K} p bytes now c qs is' k) =
+happened_once one (tick now h) (tick t k) = ap (λ (x : List Happening). Passes now ∷ x) (happened_once one h k)
+happened_once one (malformed p bytes now b is_other h) (malformed q xs t c is_other' k) = ap (λ (x : List Happening). Passes now ∷ x) (happened_once one h k)
+happened_once one (malformed p bytes now b is_other h) (datagram q xs t c ps is k) = absurd (is_other ps is)
+happened_once one (datagram p bytes now b ps is h) (malformed q xs t c is_other k) = absurd (is_other ps is)
+happened_once one (datagram {H = H} p bytes now b ps is h) (datagram {H = K} q xs t c qs is' k) =
     same_said p now (flat_map messages_of ps) (flat_map messages_of qs) H K (one bytes ps qs is is') (happened_once one h k)

@@ -1,6 +1,6 @@
 -- Deliveries, replies and reports of one turn and of several.
 use Rattle.std.proofs.Common.{◌≡◌, ℕ, ◌+◌, ◌≤◌, ◌<◌, Bool, true, false, cond, List, [], ◌∷◌, ◌++◌, length, refl, sym, ap, ◌∙◌, subst, arith, length-append}
-use Rattle.std.specs.Prelude.{nat_le, take, slice_index_or}
+use Rattle.std.specs.Prelude.{nat_lt, nat_le, take, slice_index_or}
 use Rattle.std.proofs.lemmas.Bool.Decides.{nat_tests}
 use Rattle.std.proofs.lemmas.List.{append_assoc, append-nil, map-append, take_more}
 use Rattle.oca_types.specs.declared.words.Peer.{Peer}
@@ -14,7 +14,7 @@ use Rattle.oca_device.specs.Events.{Event}
 use Rattle.oca_device.specs.Events as event
 use Rattle.oca_device.specs.Answers.{packets, verdict}
 use Rattle.oca_device.specs.Devices.{DeviceState, Represents}
-use Rattle.oca_device.specs.Reports.{no_turns, one_turn, verdict_turn, added, turn_report, events_after, events_after_all, report_of}
+use Rattle.oca_device.specs.Reports.{no_turns, one_turn, verdict_turn, added, turn_report, events_after, events_after_all, report_of, receives_of}
 use Rattle.oca_device.specs.Replies.{Lacks, none, taken, missing, TakesReplies, ServesDeliveries, GoesOn, replies, replies_to, sent_to}
 use Rattle.oca_device.specs.PrivateTotals.{IsWithin}
 
