@@ -1,0 +1,94 @@
+//! What the amplifier's electronics do, and the objects by which a controller sets it.
+use oca_tree::{AddFault, Kind, MuteState, Setting, Spec, Tree, TreeBuilder};
+use oca_types::Ono;
+use std::alloc::Global;
+
+/// The root block.
+const ROOT: Ono = Ono(100);
+
+/// One channel: a mute, and a gain in tenths of a decibel.
+#[derive(Clone, Copy, Debug, PartialEq, Eq)]
+pub struct Channel {
+    pub muted: bool,
+    pub gain: i16,
+}
+
+/// Both channels, as the electronics were last told.
+#[derive(Clone, Copy, Debug, PartialEq, Eq)]
+pub struct Channels {
+    pub first: Channel,
+    pub second: Channel,
+}
+
+/// The objects: a block for each channel, 4096 and 5096, with a mute and a gain behind it.
+pub fn build(alloc: Global) -> Result<Tree, AddFault> {
+    let mut builder = TreeBuilder::new(alloc)?;
+    add_channel(&mut builder, 4096, "channel 1")?;
+    add_channel(&mut builder, 5096, "channel 2")?;
+    Ok(builder.finish())
+}
+
+fn add_channel(builder: &mut TreeBuilder, block: u32, role: &str) -> Result<(), AddFault>
+    requires { block < 4294967290 }
+{
+    let channel = Spec {
+        role,
+        lockable: true,
+        kind: Kind::Block,
+    };
+    let mute = Spec {
+        role: "mute",
+        lockable: true,
+        kind: Kind::Mute(MuteState::Muted),
+    };
+    let gain = Spec {
+        role: "gain",
+        lockable: true,
+        kind: Kind::Int16 {
+            setting: 0,
+            least: -800,
+            greatest: 100,
+        },
+    };
+    builder.add(ROOT, Ono(block), &channel)?;
+    builder.add(Ono(block), Ono(block + 1), &mute)?;
+    builder.add(Ono(block), Ono(block + 2), &gain)
+}
+
+impl Channels {
+    /// Both muted, at 0 dB.
+    pub fn new() -> Channels {
+        let channel = Channel {
+            muted: true,
+            gain: 0,
+        };
+        Channels {
+            first: channel,
+            second: channel,
+        }
+    }
+
+    /// Brings the electronics to what the objects say: whether that changed anything.
+    pub fn follow(&mut self, tree: &Tree) -> bool {
+        let wanted = Channels {
+            first: wanted(tree, 4096),
+            second: wanted(tree, 5096),
+        };
+        let changed = wanted != *self;
+        *self = wanted;
+        changed
+    }
+}
+
+/// What the objects say of a channel.
+fn wanted(tree: &Tree, block: u32) -> Channel
+    requires { block < 4294967290 }
+{
+    Channel {
+        muted: tree.setting_of(Ono(block + 1)) == Some(Setting::State(MuteState::Muted as u8)),
+        gain: match tree.setting_of(Ono(block + 2)) {
+            Some(Setting::Number { setting, .. }) => i16::try_from(setting).unwrap_or(0),
+            _ => 0,
+        },
+    }
+}

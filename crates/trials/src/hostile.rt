@@ -1,0 +1,220 @@
+//! Damaged datagrams: what a device refuses leaves it as it was, and what it accepts is what the writer writes.
+use crate::vectors::{COUNT, vector};
+use oca_device::{Device, Outbox, Verdict};
+use oca_pdu::{Message, Messages, check, write_command, write_keepalive};
+use oca_tree::bench;
+use oca_types::{NoMemory, Packet, Peer, Window};
+use std::alloc::Global;
+
+/// Who sends.
+const SENDER: Peer = Peer {
+    ip: 0x7f00_0001,
+    port: 9001,
+};
+
+/// What the trial found.
+#[derive(Clone, Copy, Debug, Default)]
+pub struct Tally {
+    /// Datagrams that were tried.
+    pub tried: u64,
+    /// Those that were refused, and left objects, sessions, retained replies and outbox as they were.
+    pub refused: u64,
+    /// Those that were accepted.
+    pub accepted: u64,
+    /// Accepted datagrams of one command or keep-alive, which the writer gave back.
+    pub written_back: u64,
+    /// Datagrams for which something else came out.
+    pub wrong: u64,
+}
+
+/// Two devices with the same history: one hears the damaged datagrams, the other does not.
+#[derive(Drop)]
+struct Bench {
+    tried: Device,
+    untouched: Device,
+    outbox: Outbox,
+    expected: Outbox,
+    tally: Tally,
+}
+
+impl Bench {
+    fn new(alloc: Global) -> Result<Bench, NoMemory> {
+        let mut bench = Bench {
+            tried: device(alloc)?,
+            untouched: device(alloc)?,
+            outbox: Outbox::new(alloc)?,
+            expected: Outbox::new(alloc)?,
+            tally: Tally::default(),
+        };
+        for number in [2, 4, 10, 12] {
+            bench.probe(vector(number));
+        }
+        Ok(bench)
+    }
+
+    /// Both devices hear the datagram: whether they answer alike.
+    fn probe(&mut self, bytes: &[u8]) -> bool {
+        self.outbox.clear();
+        self.expected.clear();
+        let _ = self.tried.datagram(SENDER, bytes, 0, &mut self.outbox);
+        let _ = self.untouched.datagram(SENDER, bytes, 0, &mut self.expected);
+        same_packets(&self.outbox, &self.expected)
+    }
+
+    /// Whether both devices have the same objects, sessions and retained replies, as far as duplicates of all retained
+    /// commands, one differing command and the readers of the tree show.
+    fn is_untouched(&mut self) -> bool {
+        self.outbox.is_empty()
+            && self.tried.sessions() == self.untouched.sessions()
+            && same_objects(&self.tried, &self.untouched)
+            && self.probe(vector(2))
+            && self.probe(vector(4))
+            && self.probe(vector(10))
+    }
+
+    /// Tries one datagram.
+    fn attempt(&mut self, bytes: &[u8]) {
+        self.tally.tried = self.tally.tried.saturating_add(1);
+        match check(bytes) {
+            Err(fault) => {
+                self.outbox.clear();
+                let verdict = self.tried.datagram(SENDER, bytes, 0, &mut self.outbox);
+                if is_malformed(verdict, fault) && self.is_untouched() {
+                    self.tally.refused = self.tally.refused.saturating_add(1);
+                } else {
+                    self.tally.wrong = self.tally.wrong.saturating_add(1);
+                }
+            }
+            Ok(datagram) => {
+                self.tally.accepted = self.tally.accepted.saturating_add(1);
+                match rewritten(datagram.messages()) {
+                    Some(packet) => {
+                        if packet.as_slice() == bytes {
+                            self.tally.written_back = self.tally.written_back.saturating_add(1);
+                        } else {
+                            self.tally.wrong = self.tally.wrong.saturating_add(1);
+                        }
+                    }
+                    None => {}
+                }
+            }
+        }
+    }
+}
+
+/// A bench device.
+fn device(alloc: Global) -> Result<Device, NoMemory> {
+    let Ok(tree) = bench(alloc) else {
+        return Err(NoMemory);
+    };
+    Device::new(alloc, tree, Window::default())
+}
+
+fn is_malformed(verdict: Verdict, fault: oca_pdu::PduFault) -> bool {
+    match verdict {
+        Verdict::Malformed(other) => other == fault,
+        _ => false,
+    }
+}
+
+fn same_packets(a: &Outbox, b: &Outbox) -> bool {
+    if a.len() != b.len() {
+        return false;
+    }
+    for i in 0..a.len() {
+        let alike = match (a.get(i), b.get(i)) {
+            (Some(x), Some(y)) => x.as_slice() == y.as_slice(),
+            _ => false,
+        };
+        if !alike {
+            return false;
+        }
+    }
+    true
+}
+
+fn same_objects(a: &Device, b: &Device) -> bool {
+    if a.tree().len() != b.tree().len() {
+        return false;
+    }
+    for i in 0..a.tree().len() {
+        let alike = match (a.tree().object_at(i), b.tree().object_at(i)) {
+            (Some(x), Some(y)) => {
+                x.ono == y.ono
+                    && a.tree().lock_of(x.ono) == b.tree().lock_of(x.ono)
+                    && a.tree().setting_of(x.ono) == b.tree().setting_of(x.ono)
+            }
+            _ => false,
+        };
+        if !alike {
+            return false;
+        }
+    }
+    true
+}
+
+/// The only message of a datagram once more, where it is a command or a keep-alive.
+fn rewritten(messages: Messages<'_>) -> Option<Packet> {
+    let mut packet = Packet::new();
+    let mut count = 0u32;
+    for message in messages {
+        if count == 1 {
+            return None;
+        }
+        count = 1;
+        let written = match message {
+            Message::Command { respond, command } => write_command(&mut packet, respond, &command),
+            Message::KeepAlive { form } => write_keepalive(&mut packet, form),
+            Message::Response { .. } => return None,
+        };
+        if written.is_err() {
+            return None;
+        }
+    }
+    Some(packet)
+}
+
+/// Each byte of each vector replaced by each other value, each prefix of each, and each followed by each.
+pub fn hostile(alloc: Global) -> Result<Tally, NoMemory> {
+    let mut bench = Bench::new(alloc)?;
+    for number in 0..COUNT {
+        changed_bytes(&mut bench, vector(number));
+        prefixes(&mut bench, vector(number));
+        for next in 0..COUNT {
+            followed(&mut bench, vector(number), vector(next));
+        }
+    }
+    Ok(bench.tally)
+}
+
+fn changed_bytes(bench: &mut Bench, bytes: &[u8]) {
+    let mut packet = Packet::new();
+    for at in 0..bytes.len() {
+        for value in 0..=255u8 {
+            packet.clear();
+            if value != bytes[at] && packet.try_extend_from_slice(bytes).is_ok() {
+                set(&mut packet, at, value);
+                bench.attempt(packet.as_slice());
+            }
+        }
+    }
+}
+
+fn set(packet: &mut Packet, at: usize, value: u8) {
+    if at < packet.len() {
+        packet[at] = value;
+    }
+}
+
+fn prefixes(bench: &mut Bench, bytes: &[u8]) {
+    for end in 0..bytes.len() {
+        bench.attempt(&bytes[..end]);
+    }
+}
+
+fn followed(bench: &mut Bench, first: &[u8], second: &[u8]) {
+    let mut packet = Packet::new();
+    if packet.try_extend_from_slice(first).is_ok() && packet.try_extend_from_slice(second).is_ok() {
+        bench.attempt(packet.as_slice());
+    }
+}

@@ -1,0 +1,111 @@
+//! Trials over the built code that would be too long for proved tests, and measurements.
+//!
+//! `trials`: damaged datagrams against a bench device. `trials calls`: the names of the calls that take memory, and `trials
+//! call NAME`: one of them. `trials bench KIND COUNT served|made`: datagrams in memory, handed to a device or only made.
+//! `trials echo COUNT`: so many datagrams answered by a bare loop at a socket.
+#![tactic(auto)]
+
+mod calls;
+mod core_bench;
+mod echo;
+mod hostile;
+mod vectors;
+
+use calls::{Answered, NAMES, call};
+use core_bench::Kind;
+use std::net::Net;
+use std::process::ExitCode;
+use std::rt::Runtime;
+use std::{env, io};
+
+fn main(rt: HostRuntime) -> ExitCode {
+    let Ok(args) = env::args(&rt) else {
+        return said(&rt, "no memory", 1);
+    };
+    let Ok(words) = args.collect::<Vec<String>>(rt.alloc()) else {
+        return said(&rt, "no memory", 1);
+    };
+    match words.as_slice() {
+        [_] => damaged(&rt),
+        [_, word] if word.as_str() == "calls" => names(&rt),
+        [_, word, name] if word.as_str() == "call" => one_call(&rt, name.as_str()),
+        [_, word, count] if word.as_str() == "echo" => echoed(&rt, count.as_str()),
+        [_, word, kind, count, way] if word.as_str() == "bench" => {
+            measured(&rt, kind.as_str(), count.as_str(), way.as_str())
+        }
+        _ => said(&rt, "bad words", 2),
+    }
+}
+
+/// Prints a line where it is no fault, and else on standard error.
+fn said<R: Runtime>(rt: &R, text: &str, status: u8) -> ExitCode {
+    let _ = if status == 0 {
+        println!(rt; "{text}")
+    } else {
+        eprintln!(rt; "{text}")
+    };
+    ExitCode::from(status)
+}
+
+/// The damaged datagrams.
+fn damaged<R: Runtime + AllocGlobal>(rt: &R) -> ExitCode {
+    let Ok(tally) = hostile::hostile(rt.alloc()) else {
+        return said(rt, "no memory", 1);
+    };
+    let _ = println!(rt;
+        "damaged datagrams: {} tried, {} refused with nothing changed, {} accepted, {} of them written back alike, {} wrong",
+        tally.tried,
+        tally.refused,
+        tally.accepted,
+        tally.written_back,
+        tally.wrong
+    );
+    ExitCode::from(if tally.wrong == 0 { 0 } else { 1 })
+}
+
+/// A bare loop at a socket.
+fn echoed<R: Runtime + Net>(rt: &R, count: &str) -> ExitCode {
+    let Ok(count) = count.parse::<u32>() else {
+        return said(rt, "bad words", 2);
+    };
+    match echo::echo(rt, count) {
+        Ok(()) => ExitCode::SUCCESS,
+        Err(_) => said(rt, "socket failed", 1),
+    }
+}
+
+fn names<R: Runtime + AllocGlobal>(rt: &R) -> ExitCode {
+    for name in NAMES {
+        let _ = println!(rt; "{name}");
+    }
+    ExitCode::SUCCESS
+}
+
+fn one_call<R: Runtime + AllocGlobal>(rt: &R, name: &str) -> ExitCode {
+    match call(rt.alloc(), name) {
+        Answered::Done => said(rt, "done", 0),
+        Answered::NoMemory => said(rt, "no memory", 1),
+        Answered::Wrong => said(rt, "wrong", 3),
+        Answered::Unknown => said(rt, "bad words", 2),
+    }
+}
+
+/// Datagrams in memory.
+fn measured<R: Runtime + AllocGlobal>(rt: &R, kind: &str, count: &str, way: &str) -> ExitCode {
+    let kind = match kind {
+        "single" => Kind::Single,
+        "packed" => Kind::Packed,
+        "copies" => Kind::Copies,
+        _ => return said(rt, "bad words", 2),
+    };
+    let (Ok(count), true) = (count.parse::<u32>(), way == "served" || way == "made") else {
+        return said(rt, "bad words", 2);
+    };
+    match core_bench::run(rt.alloc(), kind, count, way == "served") {
+        Ok(packets) => {
+            let _ = println!(rt; "{packets} packets");
+            ExitCode::SUCCESS
+        }
+        Err(_) => said(rt, "no memory", 1),
+    }
+}
