@@ -8,7 +8,7 @@ use Rattle.oca_control.specs.declared.due.Due.{Due}
 use Rattle.oca_control.specs.declared.due.Due.TheVariants as dues
 use Rattle.oca_control.specs.Answers.{AnswerFields}
 use Rattle.oca_control.specs.Untaken.{Untaken, first_due, given_out, waits, answered, answer_under, without_handle}
-use Rattle.oca_control.specs.Links.{Request, command_under, Decision, GivesCommand, GivesKeepAlive, GivesNothing, IsLost}
+use Rattle.oca_control.specs.Links.{Request, command_under, due_bytes, Decision, GivesCommand, GivesKeepAlive, GivesNothing, IsLost}
 
 -- what a slot holds of a command
 pub record Kept : Type 0 where
@@ -84,3 +84,13 @@ after_decision now (Some (GivesCommand c)) us = map (given_out now c.handle) us
 after_decision now (Some GivesKeepAlive) us = us
 after_decision now (Some GivesNothing) us = us
 after_decision now (Some IsLost) us = us
+
+abbrev pub bytes_decided : Option Decision → List ℕ
+bytes_decided None = []
+bytes_decided (Some d) = due_bytes d
+
+-- The handle is the lowest due one from low on and below next; or none of them is due.
+abbrev pub IsLowestDue : ℕ → List (Option Kept) → ℕ → ℕ → Option ℕ → Type 0
+IsLowestDue now slots low next None = first_due now (untaken_from low (next - low) slots) ≡ None
+IsLowestDue now slots low next (Some h) = (low ≤ h) × (h < next) × (kept_is_due now (kept_at h slots) ≡ true)
+    × (first_due now (untaken_from low (next - low) slots) ≡ first_due now (untaken_at h (kept_at h slots)))

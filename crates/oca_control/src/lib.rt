@@ -6,6 +6,7 @@ mod due;
 mod fault;
 mod reception;
 mod slot;
+mod table;
 
 pub use answer::Answer;
 pub use due::Due;
