@@ -4,6 +4,7 @@
 mod answer;
 mod due;
 mod fault;
+mod link;
 mod reception;
 mod slot;
 mod table;
@@ -11,4 +12,5 @@ mod table;
 pub use answer::Answer;
 pub use due::Due;
 pub use fault::ControlFault;
+pub use link::Link;
 pub use reception::Reception;

@@ -5,7 +5,7 @@ ghost use Rattle.std.specs.Option.{option_map};
 ghost use Rattle.oca_control.specs.Answers.{answer_fields};
 ghost use Rattle.oca_control.specs.Untaken.{new_untaken, has_room, first_due, waits, answered, answer_under, without_handle};
 ghost use Rattle.oca_control.specs.Links.{command_under, due_answer};
-ghost use Rattle.oca_control.specs.PrivateSlots.{IsTable, untaken_from, untaken_at, kept_at, kept_is_due, handle_left, first_decided, after_decision, bytes_decided, IsLowestDue};
+ghost use Rattle.oca_control.specs.PrivateSlots.{IsTable, untaken_from, untaken_at, kept_at, kept_is_due, handle_left, first_decided, after_decision, bytes_decided, IsLowestDue, IsPlaceOf};
 
 use crate::answer::Answer;
 use crate::due::Due;
@@ -82,15 +82,16 @@ impl Table {
         ensures packet { packet.new.items ≡ bytes_decided (first_decided now self.old.untaken) }
         ensures state { self.new ≡ record { next = self.old.next; untaken = after_decision now (first_decided now self.old.untaken) self.old.untaken } }
     {
-        let at = lowest_due(&self.slots, self.low, self.next, now)?;
+        let Some(at) = lowest_due(&self.slots, self.low, self.next, now) else {
+            return None;
+        };
         let handle = Handle(at as u32);
         let slot = &mut self.slots[place(at)];
-        if slot.may_repeat() {
-            slot.give_out(handle, now, packet);
-            Some(Due::Send(handle))
-        } else {
-            Some(Due::Lost)
+        if !slot.may_repeat() {
+            return Some(Due::Lost);
         }
+        slot.give_out(handle, now, packet);
+        Some(Due::Send(handle))
     }
 
     /// Stores an answer, and answers whether a command waited for it.
@@ -99,11 +100,10 @@ impl Table {
         ensures new { result ≡ list_any (waits handle.0) self.old.untaken }
         ensures state { self.new ≡ record { next = self.old.next; untaken = map (answered handle.0 (record { status = status; count = count; params = params.now })) self.old.untaken } }
     {
-        let handle = u64::from(handle.0);
-        if handle < self.low || self.next <= handle {
+        let Some(at) = place_of(handle, self.low, self.next) else {
             return false;
-        }
-        let slot = &mut self.slots[place(handle)];
+        };
+        let slot = &mut self.slots[at];
         if !slot.waits() {
             return false;
         }
@@ -116,11 +116,10 @@ impl Table {
         ensures answer { option_map answer_fields result ≡ answer_under handle.0 self.old.untaken }
         ensures state { self.new ≡ record { next = self.old.next; untaken = if is_some (answer_under handle.0 self.old.untaken) then without_handle handle.0 self.old.untaken else self.old.untaken } }
     {
-        let handle = u64::from(handle.0);
-        if handle < self.low || self.next <= handle {
+        let Some(at) = place_of(handle, self.low, self.next) else {
             return None;
-        }
-        let answer = self.slots[place(handle)].take();
+        };
+        let answer = self.slots[at].take();
         self.low = lowest_held(&self.slots, self.low, self.next);
         answer
     }
@@ -132,6 +131,18 @@ fn place(handle: u64) -> usize
     ensures within { result < 32 }
 {
     (handle % 32) as usize
+}
+
+/// The slot of a handle from `low` on and below `next`; of others none.
+fn place_of(handle: Handle, low: u64, next: u64) -> Option<usize>
+    ensures { IsPlaceOf handle.0 low next result }
+{
+    let handle = u64::from(handle.0);
+    if low <= handle && handle < next {
+        Some(place(handle))
+    } else {
+        None
+    }
 }
 
 /// The lowest due handle from `low` on and below `next`.
