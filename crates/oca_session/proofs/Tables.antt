@@ -367,7 +367,7 @@ quiet_in q r items count at new quiet le mine =
     let before = lower q r (take count items) quiet le in
     elim (lt_or_le at count) [
       | inl lt ↦ subst (IsQuietUntil r) (sym (take-set-lt count items at new lt))
-        (All-set (λ s. r ≤ s.heard + 3 * s.heartbeat) (take count items) at new mine before)
+          (All-set (λ s. r ≤ s.heard + 3 * s.heartbeat) (take count items) at new mine before)
       | inr ge ↦ subst (IsQuietUntil r) (sym (take-set-le count items at new ge)) before
     ]
 

@@ -27,7 +27,7 @@ returns-in_default-floor c =
     let same = ap (λ (k : Retained). k.floor) (sym c.self.view_is) in
     elim c.in_default-floor.branch [
       | in_default-floor-via-in-Some-floor+else-command-floor w ↦ sym (judged_by_floor c.args.self.now q true (c.in_default.ensures q)
-        (above_one _ w.in-Some-floor.floor q.handle (same ∙ w.in-Some-floor.is) w.if-command-floor.false))
+          (above_one _ w.in-Some-floor.floor q.handle (same ∙ w.in-Some-floor.is) w.if-command-floor.false))
       | in_default-floor-via-in_default-floor w ↦ sym (judged_by_floor c.args.self.now q true (c.in_default.ensures q)
-        (above_none _ q.handle (same ∙ w.in_default-floor.is)))
+          (above_none _ q.handle (same ∙ w.in_default-floor.is)))
     ]
