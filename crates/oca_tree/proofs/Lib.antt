@@ -8,3 +8,4 @@ pub mod Sound
 pub mod Adding
 pub mod Executing
 pub mod Endings
+pub mod Locking

@@ -34,6 +34,7 @@ fn put_item(out: &mut Params, object: &Object, deep: bool) -> Result<(), PutFaul
     Ok(())
 }
 
+/// Whether the object is one of those that are listed for the block.
 fn is_listed(objects: &[Object], object: &Object, block: Ono, deep: bool) -> bool
     ensures { result ≡ is_listed objects.now block.0 deep object.now }
 {
@@ -44,6 +45,7 @@ fn is_listed(objects: &[Object], object: &Object, block: Ono, deep: bool) -> boo
     }
 }
 
+/// How many objects are listed for the block.
 #[tactic(auto, using(crate::proofs::Positions::counted))]
 fn listed_count(objects: &[Object], block: Ono, deep: bool) -> usize
     ensures few { result ≤ length objects.now }
@@ -55,6 +57,7 @@ fn listed_count(objects: &[Object], block: Ono, deep: bool) -> usize
         .count()
 }
 
+/// What is listed of each object.
 fn put_items(out: &mut Params, objects: &[Object], block: Ono, deep: bool) -> Result<(), PutFault>
     ensures { Puts result out.old.items out.new.items (flat_map (item_encoding deep) (filter (is_listed objects.now block.0 deep) objects.now)) }
 {
@@ -75,18 +78,21 @@ fn put_members(out: &mut Params, objects: &[Object], block: Ono, deep: bool) -> 
     put_items(out, objects, block, deep)
 }
 
+/// The number of a mute's state.
 pub(crate) fn mute_number(state: MuteState) -> u8
     ensures { result ≡ mute_number state }
 {
     state as u8
 }
 
+/// The number of a polarity's state.
 pub(crate) fn polarity_number(state: PolarityState) -> u8
     ensures { result ≡ polarity_number state }
 {
     state as u8
 }
 
+/// The state of a mute or a polarity.
 fn put_state(out: &mut Params, value: &Value) -> Result<(), PutFault>
     ensures { Puts result out.old.items out.new.items (state_encoding value.now) }
 {
@@ -107,6 +113,7 @@ fn put_position(out: &mut Params, switch: &Switch) -> Result<(), PutFault>
     put_u16(out, (switch.names.len() - 1) as u16)
 }
 
+/// Texts, one after another.
 fn put_texts(out: &mut Params, texts: &[Text]) -> Result<(), PutFault>
     ensures { Puts result out.old.items out.new.items (flat_map text_encoding texts.now) }
 {
@@ -116,6 +123,7 @@ fn put_texts(out: &mut Params, texts: &[Text]) -> Result<(), PutFault>
     Ok(())
 }
 
+/// Booleans, one after another.
 fn put_bools(out: &mut Params, truths: &[bool]) -> Result<(), PutFault>
     ensures { Puts result out.old.items out.new.items (flat_map bool_encoding truths.now) }
 {
@@ -125,6 +133,7 @@ fn put_bools(out: &mut Params, truths: &[bool]) -> Result<(), PutFault>
     Ok(())
 }
 
+/// An OcaList of texts.
 fn put_text_list(out: &mut Params, texts: &[Text]) -> Result<(), PutFault>
     requires { length texts.now ≤ 16 }
     ensures { Puts result out.old.items out.new.items (list_encoding text_encoding texts.now) }
@@ -133,6 +142,7 @@ fn put_text_list(out: &mut Params, texts: &[Text]) -> Result<(), PutFault>
     put_texts(out, texts)
 }
 
+/// An OcaList of Booleans.
 fn put_bool_list(out: &mut Params, truths: &[bool]) -> Result<(), PutFault>
     requires { length truths.now ≤ 16 }
     ensures { Puts result out.old.items out.new.items (list_encoding bool_encoding truths.now) }
@@ -142,7 +152,11 @@ fn put_bool_list(out: &mut Params, truths: &[bool]) -> Result<(), PutFault>
 }
 
 /// What a switch answers.
-fn put_switch_answer(out: &mut Params, switch: &Switch, request: &SwitchRequest<'_>) -> Result<(), PutFault>
+fn put_switch_answer(
+    out: &mut Params,
+    switch: &Switch,
+    request: &SwitchRequest<'_>,
+) -> Result<(), PutFault>
     requires sound { IsSoundSwitch switch.now }
     requires there { is_bad_position switch.now request.now ≡ false }
     ensures { Puts result out.old.items out.new.items (joined (position_parameters switch.now request.now)) }
@@ -163,7 +177,11 @@ fn put_switch_answer(out: &mut Params, switch: &Switch, request: &SwitchRequest<
 
 /// What a switch answers; any other value answers nothing to it.
 #[tactic(auto, unfolding(crate::specs::Requests::is_out_of_range, crate::specs::Trees::IsSoundValue))]
-fn put_position_answer(out: &mut Params, value: &Value, request: &SwitchRequest<'_>) -> Result<(), PutFault>
+fn put_position_answer(
+    out: &mut Params,
+    value: &Value,
+    request: &SwitchRequest<'_>,
+) -> Result<(), PutFault>
     requires sound { IsSoundValue value.now }
     requires there { is_out_of_range value.now (AsSwitch request.now) ≡ false }
     ensures { Puts result out.old.items out.new.items (joined (switch_parameters value.now request.now)) }

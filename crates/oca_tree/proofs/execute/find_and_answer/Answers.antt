@@ -26,4 +26,4 @@ returns c =
     let is = puts_ok c.put_answer.result c.args.out.now.items c.put_answer.new.out.items _ (sym c.if-is_err.ensures.value) c.put_answer.ensures in
     let is' = rw c.requires.empty at is in
     answered_at c.args.objects.now c.args.peer (fields_of c.args.command.now) c.in-Some.at c.index-objects-at.result c.in_ok-request.request c.put_answer.new.out.items
-    c.in-Some.ensures.place c.index-objects-at.is c.in_ok-request.ensures is' (omega arith) c.requires.tree
+    c.in-Some.ensures.index c.index-objects-at.is c.in_ok-request.ensures is' (omega arith) c.requires.tree

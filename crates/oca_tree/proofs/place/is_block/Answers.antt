@@ -3,7 +3,7 @@ use Rattle.std.specs.Prelude.{Option}
 use Rattle.std.specs.Option.{option_map_or}
 use Rattle.oca_tree.specs.Places.{Place}
 use Rattle.oca_tree.proofs.Chains.{place_there, place_absent}
-use Rattle.oca_tree.proofs.place.is_block_at.Goals as goal
+use Rattle.oca_tree.proofs.place.is_block.Goals as goal
 
 pub returns-in-Some : goal.returns-in-Some
 returns-in-Some c =
