@@ -59,4 +59,4 @@ pdus_short (p ∷ ps) n h few =
     both_short (messages_of p) (flat_map messages_of ps) (pdu_short p (omega (arith, parts))) (pdus_short ps n (omega (arith, parts)) few)
 
 pub all_short : (ps : List Pdu) (bytes : List ℕ) → IsDatagram ps bytes → AllByRecursion IsShort (flat_map messages_of ps)
-all_short ps bytes h = pdus_short ps (length bytes) (omega (arith, ap length h.bytes_are)) h.short
+all_short ps bytes h = pdus_short ps (length bytes) (omega (arith, ap length h.bytes_are)) h.within_limit
