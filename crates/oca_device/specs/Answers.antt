@@ -38,10 +38,12 @@ answer_to w p (Command respond c) s = if respond then answer_to_command (judged_
 answer_to w p (KeepAlive form) s = KeepAlive form ∷ []
 answer_to w p (Response r) s = []
 
+-- the answers to messages, in order
 abbrev pub answers_to_messages : ℕ → Peer → List Msg → State → List Msg
 answers_to_messages w p [] s = []
 answers_to_messages w p (m ∷ messages) s = answer_to w p m s ++ answers_to_messages w p messages (after_message w p m s)
 
+-- the answers to what was read of a datagram
 abbrev pub answers_to_reading : ℕ → Peer → Result (List Msg) PduFault → State → List Msg
 answers_to_reading w p (Err fault) s = []
 answers_to_reading w p (Ok messages) s = if admits s p then answers_to_messages w p messages (noted p (Admitted messages) s) else []
@@ -70,9 +72,11 @@ packets w tree events e = packets_of (answers w tree events e)
 abbrev pub counts : ℕ → ℕ → ℕ → ℕ → Counts
 counts executed kept old reused = record { executed = executed; kept = kept; old = old; reused = reused }
 
+-- both together
 abbrev pub plus : Counts → Counts → Counts
 plus a b = counts (a.executed + b.executed) (a.kept + b.kept) (a.old + b.old) (a.reused + b.reused)
 
+-- one command
 abbrev pub count_of_command : Judgement → Counts
 count_of_command Fresh = counts 1 0 0 0
 count_of_command (Duplicate reply) = counts 0 1 0 0
@@ -85,10 +89,12 @@ count_of w p (Command respond c) s = count_of_command (judged_in w s p c)
 count_of w p (KeepAlive form) s = counts 0 0 0 0
 count_of w p (Response r) s = counts 0 0 0 0
 
+-- all commands of messages
 abbrev pub counts_of_messages : ℕ → Peer → List Msg → State → Counts
 counts_of_messages w p [] s = counts 0 0 0 0
 counts_of_messages w p (m ∷ messages) s = plus (count_of w p m s) (counts_of_messages w p messages (after_message w p m s))
 
+-- the verdict with these numbers
 abbrev pub served : Counts → Verdict
 served n = verdicts.Served n.executed n.kept n.old n.reused
 

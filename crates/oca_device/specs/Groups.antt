@@ -60,6 +60,7 @@ last_with (Responses rs) (Command respond c) = Responses rs ∷ pdu_of (Command 
 last_with (OneKeepAlive form) m = OneKeepAlive form ∷ pdu_of m ∷ []
 last_with (Commands respond cs) m = Commands respond cs ∷ pdu_of m ∷ []
 
+-- one or more groups with one more answer
 abbrev pub from_with : Pdu → List Pdu → Msg → List Pdu
 from_with p [] m = last_with p m
 from_with p (q ∷ groups) m = p ∷ from_with q groups m

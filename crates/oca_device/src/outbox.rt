@@ -82,8 +82,8 @@ impl Outbox {
         self.count = 0;
     }
 
-    /// The packets.
-    fn packets(&self) -> &[Packet]
+    /// The packets, in order: at most 122.
+    pub fn packets(&self) -> &[Packet]
         ensures packets { bytes_of_packets result.now ≡ self.now }
         ensures most { length result.now ≤ 122 }
     {
