@@ -9,3 +9,4 @@ pub mod Adding
 pub mod Executing
 pub mod Endings
 pub mod Locking
+pub mod Keyed

@@ -17,6 +17,7 @@ ghost use Rattle.oca_tree.specs.declared.request.Request.TheVariants.{Switch as 
 ghost use Rattle.oca_tree.specs.declared.request.SwitchRequest.TheVariants.{GetPosition};
 
 use crate::object::{MuteState, Object, PolarityState, Range, Switch, Value};
+use crate::objects::Objects;
 use crate::place::reaches;
 use crate::put::{put_bool, put_class, put_number, put_text, put_u8, put_u16, put_u32};
 use crate::request::{Request, SwitchRequest};
@@ -35,7 +36,7 @@ fn put_item(out: &mut Params, object: &Object, deep: bool) -> Result<(), PutFaul
 }
 
 /// Whether the object is one of those that are listed for the block.
-fn is_listed(objects: &[Object], object: &Object, block: Ono, deep: bool) -> bool
+fn is_listed(objects: &Objects, object: &Object, block: Ono, deep: bool) -> bool
     ensures { result ≡ is_listed objects.now block.0 deep object.now }
 {
     if deep {
@@ -47,21 +48,22 @@ fn is_listed(objects: &[Object], object: &Object, block: Ono, deep: bool) -> boo
 
 /// How many objects are listed for the block.
 #[tactic(auto, using(crate::proofs::Positions::counted))]
-fn listed_count(objects: &[Object], block: Ono, deep: bool) -> usize
+fn listed_count(objects: &Objects, block: Ono, deep: bool) -> usize
     ensures few { result ≤ length objects.now }
     ensures count { result ≡ length (filter (is_listed objects.now block.0 deep) objects.now) }
 {
     objects
+        .as_slice()
         .iter()
         .filter(|object| is_listed(objects, object, block, deep))
         .count()
 }
 
 /// What is listed of each object.
-fn put_items(out: &mut Params, objects: &[Object], block: Ono, deep: bool) -> Result<(), PutFault>
+fn put_items(out: &mut Params, objects: &Objects, block: Ono, deep: bool) -> Result<(), PutFault>
     ensures { Puts result out.old.items out.new.items (flat_map (item_encoding deep) (filter (is_listed objects.now block.0 deep) objects.now)) }
 {
-    for object in objects {
+    for object in objects.as_slice() {
         if is_listed(objects, object, block, deep) {
             put_item(out, object, deep)?;
         }
@@ -70,7 +72,7 @@ fn put_items(out: &mut Params, objects: &[Object], block: Ono, deep: bool) -> Re
 }
 
 /// The members of a block, or all that lie in it however deep.
-fn put_members(out: &mut Params, objects: &[Object], block: Ono, deep: bool) -> Result<(), PutFault>
+fn put_members(out: &mut Params, objects: &Objects, block: Ono, deep: bool) -> Result<(), PutFault>
     requires { length objects.now ≤ 128 }
     ensures { Puts result out.old.items out.new.items (list_encoding (item_encoding deep) (filter (is_listed objects.now block.0 deep) objects.now)) }
 {
@@ -261,7 +263,7 @@ pub(crate) fn answer_count(object: &Object, request: &Request<'_>) -> u8
 #[tactic(auto, unfolding(crate::specs::Execution::parameters))]
 pub(crate) fn put_answer(
     out: &mut Params,
-    objects: &[Object],
+    objects: &Objects,
     object: &Object,
     request: &Request<'_>,
 ) -> Result<(), PutFault>

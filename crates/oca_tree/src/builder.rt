@@ -3,11 +3,13 @@ ghost use Rattle.std.specs.Prelude.{◌≡◌, ◌≤◌, ◌<◌, [], ◌∷◌
 ghost use Rattle.std.specs.List.{list_any};
 ghost use Rattle.oca_tree.specs.Kinds.{IsOfType};
 ghost use Rattle.oca_tree.specs.Building.{Adds, value_of, switch, number, has_bad_name, is_long, root};
+ghost use Rattle.oca_tree.specs.Objects.{object_of};
 ghost use Rattle.oca_tree.specs.Trees.{IsTree, IsSoundValue};
 ghost use Rattle.oca_tree.specs.PrivateSteps.{Makes, MakesValue};
 ghost use Rattle.oca_tree.specs.declared.builder.AddFault.TheVariants.{NoMemory};
 
 use crate::object::{MuteState, NumberKind, Object, PolarityState, Range, Switch, Value};
+use crate::objects::Objects;
 use crate::place::{contains, depth, is_block};
 use crate::tree::Tree;
 use arrayvec::ArrayVec;
@@ -343,7 +345,7 @@ fn value_of(kind: &Kind<'_>) -> Option<Value>
 /// The object to be added, or the first fault that applies.
 #[tactic(auto, unfolding(crate::specs::Building::add_fault))]
 fn object_for(
-    objects: &[Object],
+    objects: &Objects,
     container: Ono,
     ono: Ono,
     spec: &Spec<'_>,
@@ -351,6 +353,7 @@ fn object_for(
     requires { IsTree objects.now }
     ensures makes { Makes result objects.now container.0 ono.0 spec.now }
     ensures room { OnOk result (length objects.now < 128) }
+    ensures free { IfOk result (λ o. object_of objects.now o.ono.0 ≡ None) }
 {
     if objects.len() >= 128 {
         return Err(AddFault::Full);
@@ -391,20 +394,19 @@ fn object_for(
 /// A tree to which objects are added. Contracts see the list of them in order of adding.
 #[derive(Drop)]
 pub struct TreeBuilder {
-    objects: Vec<Object>,
+    objects: Objects,
 }
 
 impl Model for TreeBuilder {
-    ghost use Rattle.std.specs.Prelude.{List, ◌≤◌};
-    ghost use Rattle.std.specs.Vec.{vec_capacity};
+    ghost use Rattle.std.specs.Prelude.{List};
     ghost use Rattle.oca_tree.specs.declared.object.Object.{Object as Item};
     ghost use Rattle.oca_tree.specs.Trees.{IsTree};
 
     ghost Value = { List Item };
 
-    ghost view = { λ t. t.objects.items };
+    ghost view = { λ t. t.objects };
 
-    ghost invariant = { λ t. IsTree t.objects.items × (128 ≤ vec_capacity t.objects) };
+    ghost invariant = { λ t. IsTree t.objects };
 }
 
 impl TreeBuilder {
@@ -414,7 +416,7 @@ impl TreeBuilder {
         ensures ok { IfOk result (λ builder. builder ≡ root ∷ []) }
         ensures err { IfErr result (λ e. e ≡ NoMemory) }
     {
-        let mut objects = Vec::with_capacity(alloc, 128).map_err(|_| AddFault::NoMemory)?;
+        let mut objects = Objects::new(alloc).map_err(|_| AddFault::NoMemory)?;
         let Some(role) = Text::new("root") else {
             unreachable!()
         };
@@ -428,10 +430,8 @@ impl TreeBuilder {
             value: Value::Block,
             lock: None,
         };
-        match objects.push(root) {
-            Ok(()) => Ok(TreeBuilder { objects }),
-            Err(_) => unreachable!(),
-        }
+        objects.push(root);
+        Ok(TreeBuilder { objects })
     }
 
     /// Adds an object at the end: enabled, unlocked and with an empty label. It is refused by the first
@@ -441,10 +441,8 @@ impl TreeBuilder {
         ensures { Adds result self.old self.new container.0 ono.0 spec.now }
     {
         let object = object_for(&self.objects, container, ono, spec)?;
-        match self.objects.push(object) {
-            Ok(()) => Ok(()),
-            Err(_) => unreachable!(),
-        }
+        self.objects.push(object);
+        Ok(())
     }
 
     /// The tree of the objects that were added.

@@ -9,8 +9,8 @@ ghost use Rattle.oca_tree.specs.Trees.{IsTree, IsSound};
 ghost use Rattle.oca_tree.specs.PrivateSteps.{IsRequestFor, IsAnsweredAs, Executes};
 
 use crate::answer::{answer_count, put_answer};
-use crate::change::change;
 use crate::object::Object;
+use crate::objects::Objects;
 use crate::place::index_of;
 use crate::request::Request;
 use oca_types::{Access, Command, Method, MethodKind, Params, Peer, Status, method_of};
@@ -60,7 +60,7 @@ fn request_for<'a>(
 
 /// Finds what a command asks and answers it, or refuses it. It changes no object.
 fn find_and_answer<'a>(
-    objects: &[Object],
+    objects: &Objects,
     peer: Peer,
     command: &Command<'a>,
     out: &mut Params,
@@ -72,7 +72,7 @@ fn find_and_answer<'a>(
     let Some(at) = index_of(objects, command.target) else {
         return Err(Status::BadOno);
     };
-    let object = &objects[at];
+    let object = objects.object_at(at);
     let request = request_for(object, peer, command)?;
     if put_answer(out, objects, object, &request).is_err() {
         return Err(Status::BufferOverflow);
@@ -83,7 +83,7 @@ fn find_and_answer<'a>(
 
 /// Carries out a command, if it is not refused, and puts the answer into empty parameters. `locks` counts the locks that are held.
 pub(crate) fn carry_out(
-    objects: &mut [Object],
+    objects: &mut Objects,
     locks: &mut usize,
     peer: Peer,
     command: &Command<'_>,
@@ -97,8 +97,7 @@ pub(crate) fn carry_out(
     ensures count { locks.new ≡ lock_count objects.new }
 {
     let (at, request) = find_and_answer(objects, peer, command, out)?;
-    let object = &mut objects[at];
-    let count = answer_count(object, &request);
-    change(object, locks, peer, request);
+    let count = answer_count(objects.object_at(at), &request);
+    objects.change_at(at, locks, peer, request);
     Ok(count)
 }

@@ -13,6 +13,7 @@ mod execute;
 mod held;
 mod laws;
 mod object;
+mod objects;
 mod place;
 mod put;
 mod request;

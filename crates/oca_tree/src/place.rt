@@ -1,60 +1,53 @@
 //! Where objects stand: found by their number, and the chain of containers above them.
-ghost use Rattle.std.specs.Prelude.{◌≡◌, ◌==◌, ◌≤◌, length, slice_index_or, is_some, IfNone, IfSome, Some, None};
-ghost use Rattle.std.specs.Option.{option_map};
+ghost use Rattle.std.specs.Prelude.{◌≡◌, ◌==◌, ◌<◌, ◌≤◌, length, slice_index_or, is_some, IfNone, IfSome, Some, None};
 ghost use Rattle.std.specs.List.{position};
+ghost use Rattle.std.specs.Option.{option_map};
 ghost use Rattle.oca_tree.specs.Objects.{has_number, object_of};
-ghost use Rattle.oca_tree.specs.Places.{places, place_at, is_block, depth, reaches};
 ghost use Rattle.oca_tree.specs.declared.object.Object.{Object};
+ghost use Rattle.oca_tree.specs.Places.{places, place_at, is_block, depth, reaches};
 
-use crate::object::Object;
+use crate::objects::Objects;
 use oca_types::Ono;
 
-/// The index of the first object with this number.
-fn position_of(objects: &[Object], ono: Ono) -> Option<usize>
-    ensures { result ≡ position (has_number ono.0) objects.now }
-{
-    objects.iter().position(|object| object.ono == ono)
-}
-
 /// The index of the object with this number, counted from 0 in order of adding.
-pub(crate) fn index_of(objects: &[Object], ono: Ono) -> Option<usize>
+pub(crate) fn index_of(objects: &Objects, ono: Ono) -> Option<usize>
     ensures index { result ≡ position (has_number ono.0) objects.now }
-    ensures some { is_some result ≡ is_some (object_of objects.now ono.0) }
+    ensures within { IfSome result (λ at. at < length objects.now) }
     ensures absent { IfNone result (object_of objects.now ono.0 ≡ None) }
     ensures found { IfSome result (λ at. (d : Object) → object_of objects.now ono.0 ≡ Some (slice_index_or objects.now at d)) }
 {
-    position_of(objects, ono)
+    objects.index_of(ono)
 }
 
 /// Whether there is an object with this number.
-pub(crate) fn contains(objects: &[Object], ono: Ono) -> bool
+pub(crate) fn contains(objects: &Objects, ono: Ono) -> bool
     ensures { result ≡ is_some (object_of objects.now ono.0) }
 {
-    index_of(objects, ono).is_some()
+    objects.find(ono).is_some()
 }
 
 /// The container of the object with this number.
-fn container_of(objects: &[Object], ono: Ono) -> Option<Ono>
+fn container_of(objects: &Objects, ono: Ono) -> Option<Ono>
     ensures { option_map (λ n. n.0) result ≡ option_map (λ p. p.container) (place_at (places objects.now) ono.0) }
 {
-    match index_of(objects, ono) {
-        Some(at) => Some(objects[at].container),
+    match objects.find(ono) {
+        Some(object) => Some(object.container),
         None => None,
     }
 }
 
 /// Whether there is a block with this number.
-pub(crate) fn is_block(objects: &[Object], ono: Ono) -> bool
+pub(crate) fn is_block(objects: &Objects, ono: Ono) -> bool
     ensures { result ≡ is_block (places objects.now) ono.0 }
 {
-    match index_of(objects, ono) {
-        Some(at) => objects[at].value.is_block(),
+    match objects.find(ono) {
+        Some(object) => object.value.is_block(),
         None => false,
     }
 }
 
 /// How deep the object with this number stands: 1 at the root, and 0 where it is not there.
-pub(crate) fn depth(objects: &[Object], ono: Ono) -> usize
+pub(crate) fn depth(objects: &Objects, ono: Ono) -> usize
     ensures { result ≡ depth (places objects.now) ono.0 }
 {
     let mut depth = 0;
@@ -70,7 +63,7 @@ pub(crate) fn depth(objects: &[Object], ono: Ono) -> usize
 }
 
 /// Whether the chain of containers that begins with this one reaches the block.
-pub(crate) fn reaches(objects: &[Object], block: Ono, container: Ono) -> bool
+pub(crate) fn reaches(objects: &Objects, block: Ono, container: Ono) -> bool
     ensures { result ≡ reaches (places objects.now) block.0 container.0 }
 {
     let mut current = container;

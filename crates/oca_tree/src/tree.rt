@@ -9,7 +9,7 @@ ghost use Rattle.oca_tree.specs.Readers.{info_of, info_at, lock_at, value_settin
 use crate::answer::{mute_number, polarity_number};
 use crate::execute::carry_out;
 use crate::object::{Lock, Object, Value};
-use crate::place::index_of;
+use crate::objects::Objects;
 use oca_types::{Class, Command, Ono, Params, Peer, Status, Text};
 use std::marker::Model;
 
@@ -58,7 +58,7 @@ pub enum Setting {
 /// The objects of a device. Contracts see the list of them in order of adding.
 #[derive(Drop)]
 pub struct Tree {
-    objects: Vec<Object>,
+    objects: Objects,
     /// How many of the objects are locked.
     locks: usize,
 }
@@ -71,18 +71,18 @@ impl Model for Tree {
 
     ghost Value = { List Item };
 
-    ghost view = { λ t. t.objects.items };
+    ghost view = { λ t. t.objects };
 
-    ghost invariant = { λ t. IsTree t.objects.items × (t.locks ≡ lock_count t.objects.items) };
+    ghost invariant = { λ t. IsTree t.objects × (t.locks ≡ lock_count t.objects) };
 }
 
 impl Tree {
     /// The tree of these objects.
-    pub(crate) fn of(objects: Vec<Object>) -> Tree
-        requires { IsTree objects.items }
-        ensures { result ≡ objects.items }
+    pub(crate) fn of(objects: Objects) -> Tree
+        requires { IsTree objects }
+        ensures { result ≡ objects }
     {
-        let locks = count_locks(&objects);
+        let locks = count_locks(objects.as_slice());
         Tree { objects, locks }
     }
 
@@ -113,7 +113,7 @@ impl Tree {
         ensures { self.new ≡ released self.old peer }
     {
         if self.locks > 0 {
-            release_all(&mut self.objects, &mut self.locks, peer);
+            self.objects.release(&mut self.locks, peer);
         }
     }
 
@@ -130,7 +130,7 @@ impl Tree {
     pub fn object_at(&self, index: usize) -> Option<ObjectInfo>
         ensures { result ≡ info_at self.now index }
     {
-        match self.objects.get(index) {
+        match self.objects.as_slice().get(index) {
             Some(object) => Some(info_of(object)),
             None => None,
         }
@@ -164,11 +164,11 @@ fn info_of(object: &Object) -> ObjectInfo
 }
 
 /// The lock of the object with this number.
-fn lock_in(objects: &[Object], ono: Ono) -> Option<Lock>
+fn lock_in(objects: &Objects, ono: Ono) -> Option<Lock>
     ensures { result ≡ lock_at objects.now ono.0 }
 {
-    match index_of(objects, ono) {
-        Some(at) => objects[at].lock,
+    match objects.find(ono) {
+        Some(object) => object.lock,
         None => None,
     }
 }
@@ -193,11 +193,11 @@ fn value_setting(value: &Value) -> Option<Setting>
 }
 
 /// How the object with this number is set.
-fn setting_in(objects: &[Object], ono: Ono) -> Option<Setting>
+fn setting_in(objects: &Objects, ono: Ono) -> Option<Setting>
     ensures { result ≡ setting_at objects.now ono.0 }
 {
-    match index_of(objects, ono) {
-        Some(at) => value_setting(&objects[at].value),
+    match objects.find(ono) {
+        Some(object) => value_setting(&object.value),
         None => None,
     }
 }
@@ -211,17 +211,4 @@ fn count_locks(objects: &[Object]) -> usize
         .iter()
         .filter(|object| object.lock.is_some())
         .count()
-}
-
-/// Takes every lock of the peer off, and counts them no longer.
-fn release_all(objects: &mut [Object], locks: &mut usize, peer: Peer)
-    requires tree { IsTree objects.old }
-    requires count { locks.old ≡ lock_count objects.old }
-    ensures tree { IsTree objects.new }
-    ensures count { locks.new ≡ lock_count objects.new }
-    ensures objects { objects.new ≡ released objects.old peer }
-{
-    for object in objects.iter_mut() {
-        object.release(locks, peer);
-    }
 }
