@@ -1,6 +1,7 @@
 -- What the parts of a turn, and the turns, add up to.
 use Rattle.std.proofs.Common.{◌≡◌, ℕ, zero, suc, ◌+◌, ◌-◌, ◌*◌, ◌<◌, ◌≤◌, Bool, true, false, cond, List, [], ◌∷◌, ◌++◌, length, refl, sym, ap, ◌∙◌, subst, arith, length-append}
-use Rattle.std.specs.Prelude.{IsTrue, ◌||◌, count_by}
+use Rattle.std.specs.Prelude.{IsTrue, ◌||◌, ◌&&◌, not, nat_lt, count_by}
+use Rattle.std.proofs.lemmas.Bool.Decides.{nat_tests}
 use Rattle.std.specs.List.{list_any, flat_map}
 use Rattle.std.proofs.lemmas.List.{append_assoc, append-nil}
 use Rattle.std.proofs.lemmas.Grind.{flat_map-append}
@@ -14,8 +15,8 @@ use Rattle.oca_control.specs.Steps.{ReceivesDatagram}
 use Rattle.oca_control.specs.declared.due.Due.{Due}
 use Rattle.oca_control.specs.declared.due.Due.TheVariants as dues
 use Rattle.oca_control.specs.declared.report.DriveReport.{DriveReport}
-use Rattle.oca_control.specs.Links.{LinkState, Decision, GivesCommand, GivesKeepAlive, GivesNothing, IsLost, decision, gone_on, due_answer, due_bytes}
-use Rattle.oca_control.specs.Driving.{answered_by, HearsDatagram, is_command, is_keep_alive, is_lost, goes_on, decisions_from, link_from, given_to, all_given_to, Drives, NoTurn, OneMore, DrivesTurn, is_failed_delivery, report_of, Lacks, none, kept, missing, TakesGiven, DrivesTelling, DrivesAny}
+use Rattle.oca_control.specs.Links.{LinkState, Decision, GivesCommand, GivesKeepAlive, GivesNothing, IsLost, decision, gone_on, due_answer, due_bytes, after_due}
+use Rattle.oca_control.specs.Driving.{answered_by, HearsDatagram, is_command, is_keep_alive, is_lost, goes_on, decisions_from, link_from, given_to, all_given_to, Drives, NoTurn, OneMore, DrivesTurn, is_failed_delivery, report_of, Lacks, none, kept, missing, TakesGiven, DrivesTelling, DrivesAny, receives_of}
 use Rattle.oca_control.specs.PrivateDriving.{added, IsWithin, given_report, TurnTelling, TurnAny, IsUnchanged}
 
 -- ---- what an end took
@@ -422,3 +423,35 @@ telling_closed a b c d1 d2 d3 t1 t2 t3 r f u =
 
 pub any_closed : (a b c : LinkState) (r : DriveReport) → DrivesAny a b r → c ≡ b → DrivesAny a c r
 any_closed a b c r f e = subst (λ (l : LinkState). DrivesAny a l r) (sym e) f
+
+-- nothing that is given out changes the address
+pub device_stays : (d : Decision) (now : ℕ) (l : LinkState) → (after_due d now l).device ≡ l.device
+device_stays (GivesCommand c) now l = refl
+device_stays GivesKeepAlive now l = refl
+device_stays GivesNothing now l = refl
+device_stays IsLost now l = refl
+
+-- how often was received
+and_false : (b : Bool) → (b && false) ≡ false
+and_false true = refl
+and_false false = refl
+
+pub receives_lost : (r : DriveReport) (turns : ℕ) → r.lost ≡ true → receives_of r turns ≡ r.turns
+receives_lost r turns lost = ap (λ b. r.turns + cond (nat_lt r.turns turns && not b) 1 0) lost ∙ ap (λ b. r.turns + cond b 1 0) (and_false (nat_lt r.turns turns)) ∙ none_more r.turns
+  where
+    none_more : (n : ℕ) → n + 0 ≡ n
+    none_more n = omega arith
+
+pub receives_closed : (r : DriveReport) (turns : ℕ) → r.lost ≡ false → r.turns < turns → receives_of r turns ≡ r.turns + 1
+receives_closed r turns going below = ap (λ b. r.turns + cond (b && not r.lost) 1 0) (lower r.turns turns below) ∙ ap (λ b. r.turns + cond (not b) 1 0) going
+  where
+    lower : (a b : ℕ) → a < b → nat_lt a b ≡ true
+    lower a b p = grind (arith, nat_tests)
+
+pub receives_all : (r : DriveReport) (turns : ℕ) → turns ≤ r.turns → receives_of r turns ≡ r.turns
+receives_all r turns over = ap (λ b. r.turns + cond (b && not r.lost) 1 0) (upper r.turns turns over) ∙ none_more r.turns
+  where
+    none_more : (n : ℕ) → n + 0 ≡ n
+    none_more n = omega arith
+    upper : (a b : ℕ) → b ≤ a → nat_lt a b ≡ false
+    upper a b p = grind (arith, nat_tests)
