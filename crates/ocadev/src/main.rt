@@ -14,8 +14,6 @@ use fault::RunFault;
 use std::process::ExitCode;
 use std::{env, io};
 
-#[cfg(test)]
-mod tests;
 
 fn main(rt: HostRuntime) -> ExitCode {
     let mut faults = rt.stderr();

@@ -2,7 +2,8 @@
 ghost use Rattle.std.specs.Prelude.{◌≡◌, ◌≤◌, ◌*◌, length};
 ghost use Rattle.std.specs.Option.{ok_or};
 ghost use Rattle.oca_script.specs.Fields.{fields, moment_of};
-ghost use Rattle.ocadev.specs.Requests.{AreFields, FieldsWithin, is_quiet as quiet_word, tick_of, datagram_of, asked_event, event_asked};
+ghost use Rattle.ocadev.specs.Requests.{is_quiet as quiet_word, tick_of, datagram_of, asked_event};
+ghost use Rattle.ocadev.specs.PrivateRequests.{AreFields, FieldsWithin, event_asked};
 
 use oca_script::LineFault;
 use oca_script::field::{first_field, hex_bytes, peer};

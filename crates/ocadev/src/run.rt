@@ -4,7 +4,7 @@ use super::replay::replay;
 use super::show::show;
 use super::words::{Asked, asked_for};
 use oca_device::{Device, Outbox};
-use oca_script::printing::write_bytes;
+use oca_script::{FromReader, Printer, ToWriter};
 use oca_tree::{Tree, bench};
 use std::alloc::Global;
 use std::convert::AsStr;
@@ -31,19 +31,25 @@ pub fn report<F: Write>(fault: RunFault, faults: &mut F) -> u8 {
     fault.status()
 }
 
+/// Does what the words ask for.
 fn served<S: AsStr, R: Read, W: Write>(
     alloc: Global,
     words: &[S],
     reader: &mut R,
     writer: &mut W,
 ) -> Result<(), RunFault> {
+    let mut printer = Printer::new(ToWriter::new(writer));
     match asked_for(alloc, words)? {
         Asked::Replay => {
             let (mut device, mut outbox) = start(alloc)?;
-            replay(&mut device, &mut outbox, reader, writer)?;
+            let mut source = FromReader::new(reader);
+            replay(&mut device, &mut outbox, &mut source, &mut printer)?;
         }
-        Asked::Show => show(&bench_tree(alloc)?, writer)?,
-        Asked::Help(text) => write_bytes(writer, text.as_bytes())?,
+        Asked::Show => show(&bench_tree(alloc)?, &mut printer)?,
+        Asked::Help(text) => {
+            printer.print(text.as_bytes())?;
+            printer.flush()?;
+        }
     }
     Ok(())
 }
@@ -60,6 +66,7 @@ fn start(alloc: Global) -> Result<(Device, Outbox), RunFault> {
     Ok((device, outbox))
 }
 
+/// The objects of the bench device.
 fn bench_tree(alloc: Global) -> Result<Tree, RunFault> {
     bench(alloc).map_err(|_| RunFault::NoMemory)
 }
