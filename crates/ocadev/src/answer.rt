@@ -3,7 +3,7 @@ ghost use Rattle.std.specs.Prelude.{◌≡◌, ◌+◌, ◌++◌, ◌≤◌, len
 ghost use Rattle.std.specs.List.{flat_map};
 ghost use Rattle.oca_script.specs.Ends.{output};
 ghost use Rattle.oca_script.specs.Printing.{Prints};
-ghost use Rattle.ocadev.specs.Printing.{verdict_text, packet_text};
+ghost use Rattle.ocadev.specs.Printing.{verdict_text, reused_text, packet_text};
 
 use oca_device::{Outbox, Verdict};
 use oca_script::{Printer, Sink, WriteFailed};
@@ -62,6 +62,7 @@ fn put_verdict<W: Sink>(printer: &mut Printer<W>, verdict: Verdict)
             executed,
             kept,
             old,
+            reused,
         } => {
             printer.put(b"served ");
             printer.put_number(executed as u64);
@@ -69,6 +70,7 @@ fn put_verdict<W: Sink>(printer: &mut Printer<W>, verdict: Verdict)
             printer.put_number(kept as u64);
             printer.put(b" ");
             printer.put_number(old as u64);
+            put_reused(printer, reused);
         }
         Verdict::Malformed(fault) => {
             printer.put(b"malformed ");
@@ -79,6 +81,18 @@ fn put_verdict<W: Sink>(printer: &mut Printer<W>, verdict: Verdict)
         Verdict::NoRoom => printer.put(b"no-room"),
     }
     printer.put(b"\n");
+}
+
+/// Holds how many commands asked something else under a kept handle, where there are any.
+fn put_reused<W: Sink>(printer: &mut Printer<W>, reused: u32)
+    requires { length printer.old.held + 28 ≤ 8192 }
+    ensures value { printer.new ≡ output printer.old.contents (printer.old.held ++ reused_text reused) printer.old.failed }
+    ensures len { length printer.new.held ≤ length printer.old.held + 28 }
+{
+    if reused != 0 {
+        printer.put(b" reused ");
+        printer.put_number(reused as u64);
+    }
 }
 
 /// Holds the line of a packet.

@@ -2,6 +2,7 @@
 ghost use Rattle.std.specs.Prelude.{◌≡◌};
 ghost use Rattle.ocadev.specs.Faults.{exit_status};
 
+use oca_net::BindFault;
 use oca_script::{LineFault, ReplayFault, WriteFailed};
 use thiserror::Error;
 
@@ -26,6 +27,9 @@ pub enum RunFault {
     /// The script has more than 16,777,216 bytes.
     #[error("too much input")]
     TooMuch,
+    /// The socket could not be bound.
+    #[error("socket failed")]
+    Socket,
 }
 
 impl RunFault {
@@ -35,7 +39,11 @@ impl RunFault {
     {
         match self {
             RunFault::BadWords | RunFault::Line(_, _) => 2,
-            RunFault::NoMemory | RunFault::Read | RunFault::Write | RunFault::TooMuch => 1,
+            RunFault::NoMemory
+            | RunFault::Read
+            | RunFault::Write
+            | RunFault::TooMuch
+            | RunFault::Socket => 1,
         }
     }
 }
@@ -64,5 +72,19 @@ impl From<WriteFailed> for RunFault {
 
     fn from(_fault: WriteFailed) -> RunFault {
         RunFault::Write
+    }
+}
+
+impl From<BindFault> for RunFault {
+    ghost use Rattle.std.specs.Prelude.{◌≡◌};
+    ghost use Rattle.ocadev.specs.Faults.{bind_fault};
+
+    ghost from_gives = { λ fault r. r ≡ bind_fault fault };
+
+    fn from(fault: BindFault) -> RunFault {
+        match fault {
+            BindFault::Io => RunFault::Socket,
+            BindFault::NoMemory => RunFault::NoMemory,
+        }
     }
 }
