@@ -125,7 +125,7 @@ pub fn asked_for<S: AsStr>(alloc: Global, words: &[S]) -> Result<Asked, RunFault
 fn asked_by_matches(matches: &ArgMatches<'_>) -> Option<Asked> {
     match matches.subcommand() {
         Some(("replay", options)) => Some(Asked::Replay(window(options)?)),
-        Some(("serve", options)) => Some(Asked::Serve(serving(options)?)),
+        Some(("serve", options)) => Some(Asked::Serve(serving_of(options)?)),
         Some(("show", _)) => Some(Asked::Show),
         _ => None,
     }
@@ -140,7 +140,7 @@ fn window(options: &ArgMatches<'_>) -> Option<Window> {
 }
 
 /// Where to serve: 1 to 5 digits of a port, 1 to 10 of turns, and an address `a.b.c.d`.
-fn serving(options: &ArgMatches<'_>) -> Option<Serving> {
+fn serving_of(options: &ArgMatches<'_>) -> Option<Serving> {
     let ip = match options.get_str("ip") {
         Some(text) => address(text.as_bytes())?,
         None => LOOPBACK,
