@@ -66,6 +66,18 @@ abbrev pub then_in : {A B : Type 0} → Option A → (A → Option B) → Option
 then_in None f = None
 then_in (Some x) f = f x
 
+-- an address: a.b.c.d, each number in decimal digits
+unfoldable pub address_of : List ℕ → Option ℕ
+address_of text =
+    then_in (split_at 46 text) (λ p.
+    then_in (split_at 46 p.1) (λ q.
+    then_in (split_at 46 q.1) (λ r.
+    then_in (number_of 3 255 p.0) (λ a.
+    then_in (number_of 3 255 q.0) (λ b.
+    then_in (number_of 3 255 r.0) (λ c.
+    then_in (number_of 3 255 r.1) (λ d.
+    Some (((a * 256 + b) * 256 + c) * 256 + d))))))))
+
 -- a peer: a.b.c.d:port, each number in decimal digits
 unfoldable pub peer_of : List ℕ → Option Peer
 peer_of text =
