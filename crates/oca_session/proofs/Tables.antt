@@ -12,7 +12,7 @@ use Rattle.std.proofs.lemmas.Bool.Decides.{nat_tests}
 use Rattle.oca_types.specs.declared.words.Peer.{Peer}
 use Rattle.oca_types.specs.Peers.{same_peer}
 use Rattle.oca_session.specs.Accepted.{Entry, Agrees}
-use Rattle.oca_session.specs.Table.{Session, is_of, session_of, peers_of, changed, opened, heard_at, with_heartbeat, with_entry, with_accepted, is_lapsed, lapsed, stays, forgotten, AgreesAt}
+use Rattle.oca_session.specs.Table.{Session, is_of, session_of, peers_of, changed, opened_session, heard_at, with_heartbeat, with_entry, with_accepted, is_lapsed, lapsed, stays, forgotten, AgreesAt}
 use Rattle.oca_session.specs.Sound.{IsSession, IsOnePerPeer}
 use Rattle.oca_session.proofs.Windows.{retained_after_agreed}
 
@@ -316,14 +316,14 @@ entry_sound w e s h = record { size = h.size; least = h.least; most = h.most }
 
 -- ---- an opened session
 
-pub opened_sound : (w : ℕ) (p : Peer) (moment : ℕ) → IsSession w (opened w p moment)
+pub opened_sound : (w : ℕ) (p : Peer) (moment : ℕ) → IsSession w (opened_session w p moment)
 opened_sound w p moment = record { size = refl; least = omega arith; most = omega arith }
 
 -- a session that is opened at the first free place stands last
 pub opened_in : (p : Peer) (w moment : ℕ) (items : List Session) (count : ℕ) (old new : Session) → count < length items →
-    All (IsSession w) items → old ≡ get_or items count old → new ≡ opened old.retained.size p moment →
-    take (count + 1) (set items count new) ≡ take count items ++ opened w p moment ∷ []
+    All (IsSession w) items → old ≡ get_or items count old → new ≡ opened_session old.retained.size p moment →
+    take (count + 1) (set items count new) ≡ take count items ++ opened_session w p moment ∷ []
 opened_in p w moment items count old new below all was is =
     let before : IsSession w old = subst (IsSession w) (sym was) (all count old below) in
     take_more_set items count new below
-    ∙ ap (λ s. take count items ++ s ∷ []) (is ∙ ap (λ n. opened n p moment) before.size)
+    ∙ ap (λ s. take count items ++ s ∷ []) (is ∙ ap (λ n. opened_session n p moment) before.size)

@@ -41,7 +41,7 @@ fn serve(sessions: &mut Sessions, peer: Peer, handle: u32) -> Served {
     }
     match sessions.judge(peer, Handle(handle)) {
         Judged::Fresh => {
-            sessions.keep(peer, Handle(handle), reply_to(handle));
+            sessions.keep(peer, Handle(handle), &reply_to(handle));
             Served::Executed
         }
         Judged::Kept(reply) => Served::Repeated(reply.count),
@@ -130,7 +130,7 @@ fn retains_the_reply(rt: HostRuntime) -> Result<(), Fail> {
     };
     assert!(rt; sessions.is_known(A));
     if let Judged::Fresh = sessions.judge(A, Handle(u32::MAX)) {
-        sessions.keep(A, Handle(u32::MAX), reply);
+        sessions.keep(A, Handle(u32::MAX), &reply);
     }
     assert!(rt; sessions.is_known(A));
     let Judged::Kept(reply) = sessions.judge(A, Handle(u32::MAX)) else {

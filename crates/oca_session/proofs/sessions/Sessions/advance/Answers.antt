@@ -16,15 +16,15 @@ invariant_of-self c =
       omega (arith, after.length, c.self.invariant.2),
       after.sound c.self.inside.window c.self.invariant.3,
       subst IsOnePerPeer (sym after.front)
-          (AllPairs-filter (λ s t. same_peer s.peer t.peer ≡ false) (stays c.max-self-inside.result) (take c.self.inside.count c.self.inside.places.items) c.self.invariant.4),
+          (AllPairs-filter (λ s t. same_peer s.peer t.peer ≡ false) (stays c.max-self-inside.result) (take c.self.inside.count c.self.inside.slots.items) c.self.invariant.4),
     )
 
 pub returns-clause-forgotten : goal.returns-clause-forgotten
 returns-clause-forgotten c =
     let a = c.self.inside in
     let m = c.max-self-inside in
-    let ss = take a.count a.places.items in
-    let among = forgotten_lapsed a.window m.result ss (All-take (IsSession a.window) a.count a.places.items c.self.invariant.3) in
+    let ss = take a.count a.slots.items in
+    let among = forgotten_lapsed a.window m.result ss (All-take (IsSession a.window) a.count a.slots.items c.self.invariant.3) in
     let answered = c.lapsed_of-lapsed.ensures ∙ ap (λ xs. lapsed m.result (take a.count xs)) c.deref.ensures.value in
     rw (← c.self.view_is)
     (subst (λ t. All (Contains c.lapsed_of-lapsed.result.items) (peers_of (forgotten t ss))) m.ensures
