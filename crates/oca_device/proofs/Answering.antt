@@ -107,7 +107,7 @@ messages_answered w p (KeepAlive form ∷ ms) s k d =
 messages_answered w p (Response r ∷ ms) s k d = messages_answered w p ms s k d
 
 -- a datagram
-reading_answered : (w : ℕ) (p : Peer) (r : Result (List Msg) PduFault) (s : State) → IsDistinct nat_eq (executed_handles p s.notes) →
+pub reading_answered : (w : ℕ) (p : Peer) (r : Result (List Msg) PduFault) (s : State) → IsDistinct nat_eq (executed_handles p s.notes) →
     answers_to_reading w p r s ≡ answers_by_executions w p r s (after_reading w p r s).notes
 reading_answered w p (Err fault) s d = refl
 reading_answered w p (Ok ms) s d =

@@ -20,7 +20,7 @@ use Rattle.oca_device.proofs.Joins.{handles_of, accepts_joins, joined_both, dist
 
 -- ---- changes one after another
 
-tree_both : (tree : List Object) (xs ys : List Change) → tree_after tree (xs ++ ys) ≡ tree_after (tree_after tree xs) ys
+pub tree_both : (tree : List Object) (xs ys : List Change) → tree_after tree (xs ++ ys) ≡ tree_after (tree_after tree xs) ys
 tree_both tree [] ys = refl
 tree_both tree (x ∷ xs) ys = tree_both (changed_by x tree) xs ys
 
@@ -194,7 +194,7 @@ messages_run w p (Response r ∷ ms) s k = messages_run w p ms s k
 other_note : (n : Note) (notes : List Note) (q : Peer) → same_peer n.peer q ≡ false → notes_of q (n ∷ notes) ≡ notes_of q notes
 other_note n notes q h = ap (λ b. cond b (n ∷ notes_of q notes) (notes_of q notes)) h
 
-messages_other : (w : ℕ) (p q : Peer) (ms : List Msg) (s : State) → same_peer p q ≡ false → notes_of q (after_messages w p ms s).notes ≡ notes_of q s.notes
+pub messages_other : (w : ℕ) (p q : Peer) (ms : List Msg) (s : State) → same_peer p q ≡ false → notes_of q (after_messages w p ms s).notes ≡ notes_of q s.notes
 messages_other w p q [] s h = refl
 messages_other w p q (Command respond c ∷ ms) s h =
     by_judgement (judged_in w s p c.handle)
@@ -257,7 +257,7 @@ history_changed w tree (e ∷ events) =
 
 -- ---- the clock
 
-messages_moment : (w : ℕ) (p : Peer) (ms : List Msg) (s : State) → (after_messages w p ms s).moment ≡ s.moment
+pub messages_moment : (w : ℕ) (p : Peer) (ms : List Msg) (s : State) → (after_messages w p ms s).moment ≡ s.moment
 messages_moment w p [] s = refl
 messages_moment w p (Command respond c ∷ ms) s =
     by_judgement (judged_in w s p c.handle) (messages_moment w p ms (fresh_state p c s)) (messages_moment w p ms s)

@@ -10,7 +10,7 @@ use Rattle.oca_device.specs.Laws.{joins, after_handle, joined}
 abbrev pub handles_of : List Entry → List ℕ
 handles_of es = map (λ e. e.handle) es
 
-abbrev has : ℕ → List ℕ → Bool
+abbrev pub has : ℕ → List ℕ → Bool
 has h xs = list_any (λ x. nat_eq x h) xs
 
 -- ---- tests on entries and on their handles
@@ -67,10 +67,10 @@ found_in_front h (x ∷ es) more e p = by_test (nat_eq x.handle h) p (found_in_f
     by_test true q ih = q
     by_test false q ih = ih q
 
-equal_self : (a : ℕ) → nat_eq a a ≡ true
+pub equal_self : (a : ℕ) → nat_eq a a ≡ true
 equal_self a = grind (arith, nat_tests)
 
-equal_is : (a b : ℕ) → nat_eq a b ≡ true → a ≡ b
+pub equal_is : (a b : ℕ) → nat_eq a b ≡ true → a ≡ b
 equal_is a b h = grind (arith, nat_tests)
 
 -- the entry of a handle that was not there before

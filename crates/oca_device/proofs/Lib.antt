@@ -8,3 +8,9 @@ pub mod Turns
 pub mod Joins
 pub mod Histories
 pub mod Answering
+pub mod ByEvents
+pub mod Bridge
+pub mod Bridge2
+pub mod Bridge3
+pub mod Bridge4
+pub mod Bridge5

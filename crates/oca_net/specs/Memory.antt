@@ -9,8 +9,9 @@ use Rattle.oca_net.specs.declared.memory.Scripted.TheVariants as scripted
 use Rattle.oca_net.specs.Deliveries.{Delivery, Datagram, Quiet, Failed, Sent}
 use Rattle.oca_net.specs.Ends.{largest_datagram, one_more, failures_after, failures_sent, taken_after}
 
--- What an end in memory has delivered, what it will deliver, what it took and for how many it has room, the number of the
--- next send and of the one that fails, whether it has answered Closed, and its count of failures.
+-- What an end in memory has delivered (the latest last), what it will deliver (the next first), what it took (the latest
+-- last) and for how many it has room, the number of the next send and of the one that fails, whether it has answered
+-- Closed, and its counts of failures and of receives.
 pub record MemoryState : Type 0 where
   pub delivered : List Delivery
   pub to_come : List Delivery
@@ -20,6 +21,7 @@ pub record MemoryState : Type 0 where
   pub fail_send : Option ℕ
   pub closed : Bool
   pub failures : ℕ
+  pub receives : ℕ
 
 -- an entry of a script
 abbrev pub delivery_of : Scripted → Delivery
@@ -38,7 +40,7 @@ sent_of x = record { to = x.0; bytes = x.1.items }
 abbrev pub sent_packets : List (Peer × ArrayVec ℕ) → List Sent
 sent_packets packets = map sent_of packets
 
--- a new one
+-- a new one has delivered and taken nothing, and counted nothing
 abbrev pub new_memory : List Delivery → ℕ → Option ℕ → MemoryState
 new_memory script room fail_send =
     record {
@@ -50,6 +52,7 @@ new_memory script room fail_send =
       fail_send = fail_send;
       closed = false;
       failures = 0;
+      receives = 0;
     }
 
 -- how an entry is heard, and what the packet then holds: a datagram of more than 1,472 bytes is oversize
@@ -83,6 +86,7 @@ after_next [] e =
       fail_send = e.fail_send;
       closed = true;
       failures = e.failures;
+      receives = one_more e.receives;
     }
 after_next (d ∷ rest) e =
     record {
@@ -94,6 +98,7 @@ after_next (d ∷ rest) e =
       fail_send = e.fail_send;
       closed = e.closed;
       failures = failures_after (heard_of d) e.failures;
+      receives = one_more e.receives;
     }
 
 -- the end after a receive
@@ -121,4 +126,5 @@ after_send e to bytes =
       fail_send = e.fail_send;
       closed = e.closed;
       failures = failures_sent (takes e) e.failures;
+      receives = e.receives;
     }

@@ -1,5 +1,5 @@
 //! An end in memory, for tests and for running a link without a network.
-ghost use Rattle.std.specs.Prelude.{◌≡◌, ◌+◌, ◌<◌, ◌≤◌, [], ◌∷◌, ◌++◌, length, IfOk, true, vec_len, vec_capacity};
+ghost use Rattle.std.specs.Prelude.{◌≡◌, ◌+◌, ◌<◌, ◌≤◌, [], ◌∷◌, ◌++◌, length, IfOk, IsTrue, true, vec_len, vec_capacity};
 ghost use Rattle.oca_net.specs.Ends.{largest_datagram, one_more};
 ghost use Rattle.oca_net.specs.Memory.{delivery_of, deliveries_of, heard_of, bytes_of, sent_packets, new_memory, next_heard, next_bytes, after_receive, takes, after_send};
 
@@ -36,6 +36,7 @@ pub struct MemoryEnd {
     fail_send: Option<u64>,
     closed: bool,
     failures: u64,
+    receives: u64,
 }
 
 impl Model for MemoryEnd {
@@ -54,6 +55,7 @@ impl Model for MemoryEnd {
       fail_send = a.fail_send;
       closed = a.closed;
       failures = a.failures;
+      receives = a.receives;
     } };
 
     ghost invariant = { λ a. (a.next ≤ length a.script.items) × (length a.taken.items ≤ a.room) × (a.room ≤ vec_capacity a.taken) };
@@ -68,7 +70,8 @@ impl MemoryEnd {
         room: usize,
         fail_send: Option<u64>,
     ) -> Result<MemoryEnd, NoMemory>
-        ensures { IfOk result (λ e. e ≡ new_memory (deliveries_of script.items) room fail_send) }
+        ensures new { IfOk result (λ e. e ≡ new_memory (deliveries_of script.items) room fail_send) }
+        ensures telling { IfOk result (λ e. IsTrue (⟦<MemoryEnd as End>⟧.tells e)) }
     {
         let taken = Vec::with_capacity(alloc, room).map_err(|_| NoMemory)?;
         Ok(MemoryEnd {
@@ -80,6 +83,7 @@ impl MemoryEnd {
             fail_send,
             closed: false,
             failures: 0,
+            receives: 0,
         })
     }
 
@@ -116,6 +120,8 @@ impl End for MemoryEnd {
 
     ghost failures = { λ e. e.failures };
 
+    ghost receives = { λ e. e.receives };
+
     /// Delivers the next entry of the script; behind the last it answers `Closed`.
     fn receive(&mut self, packet: &mut Packet) -> Heard
         ensures heard { result ≡ next_heard self.old.to_come }
@@ -123,6 +129,7 @@ impl End for MemoryEnd {
         ensures end { self.new ≡ after_receive self.old }
     {
         packet.clear();
+        step(&mut self.receives);
         if self.next == self.script.len() {
             self.closed = true;
             return Heard::Closed;

@@ -11,6 +11,7 @@ pub record IsWithin (m : ℕ) (r : Report) : Type 0 where
   pub executed : r.executed ≤ m
   pub kept : r.kept ≤ m
   pub old : r.old ≤ m
+  pub reused : r.reused ≤ m
   pub malformed : r.malformed ≤ m
   pub no_room : r.no_room ≤ m
   pub oversize : r.oversize ≤ m
