@@ -1,0 +1,139 @@
+-- THE CONTROLLER: its link to a device, and what each call makes of it (*profile*). Moments are in milliseconds.
+use Rattle.std.specs.Prelude.{ℕ, ◌+◌, ◌-◌, ◌==◌, nat_lt, nat_le, max, Bool, true, false, if◌then◌else◌, List, [], ◌∷◌, ◌++◌, map, length, Option, Some, None, is_some, Result, Ok, Err}
+use Rattle.oca_types.specs.declared.words.Peer.{Peer}
+use Rattle.oca_types.specs.declared.words.Handle.{Handle}
+use Rattle.oca_types.specs.Peers.{CommandFields, same_peer}
+use Rattle.oca_pdu.specs.declared.message.Form.TheVariants.{Seconds}
+use Rattle.oca_pdu.specs.Messages.{Msg, Pdu, Commands, OneKeepAlive}
+use Rattle.oca_pdu.specs.Encoding.{pdu_encoding}
+use Rattle.oca_control.specs.declared.fault.ControlFault.{ControlFault}
+use Rattle.oca_control.specs.declared.fault.ControlFault.TheVariants as faults
+use Rattle.oca_control.specs.declared.due.Due.{Due}
+use Rattle.oca_control.specs.declared.due.Due.TheVariants as dues
+use Rattle.oca_control.specs.declared.reception.Reception.{Reception}
+use Rattle.oca_control.specs.declared.reception.Reception.TheVariants as receptions
+use Rattle.oca_control.specs.Untaken.{Untaken, new_untaken, has_room, first_due, given_out, hears_all, answers_by_all, answer_under, without_handle}
+
+-- The device's address, the present moment, the handle of the next command or none, the moment when something was given out
+-- last, whether the link is lost, its span, and the untaken commands.
+pub record LinkState : Type 0 where
+  pub device : Peer
+  pub moment : ℕ
+  pub next : Option ℕ
+  pub sent : ℕ
+  pub lost : Bool
+  pub span : ℕ
+  pub untaken : List Untaken
+
+-- a new link
+abbrev pub new_link : Peer → ℕ → ℕ → ℕ → LinkState
+new_link device first now span =
+    record { device = device; moment = now; next = Some first; sent = now; lost = false; span = span; untaken = [] }
+
+-- A moment earlier than one already seen counts as the one already seen.
+abbrev pub present : ℕ → LinkState → ℕ
+present now l = max l.moment now
+
+-- SUBMIT. What a command asks, before it has a handle (AES70-3).
+pub record Request : Type 0 where
+  pub target : ℕ
+  pub level : ℕ
+  pub index : ℕ
+  pub count : ℕ
+  pub params : List ℕ
+
+abbrev pub command_under : ℕ → Request → CommandFields
+command_under h r =
+    record { handle = h; target = r.target; level = r.level; index = r.index; count = r.count; params = r.params }
+
+-- A datagram of one command holds at most so many bytes of parameters.
+abbrev pub most_params : ℕ
+most_params = 1445
+
+-- the answer where this is the next handle, or none is left
+abbrev pub submission_under : Request → Option ℕ → LinkState → Result Handle ControlFault
+submission_under r None l = Err faults.HandlesSpent
+submission_under r (Some h) l =
+    if has_room l.span h l.untaken then (if nat_lt most_params (length r.params) then Err faults.TooLong else Ok (record { 0 = h }))
+    else Err faults.SpanFull
+
+-- what `submit` answers
+abbrev pub submission : Request → LinkState → Result Handle ControlFault
+submission r l = if l.lost then Err faults.Lost else submission_under r l.next l
+
+-- After 4294967295 no handle is left.
+abbrev pub handle_after : ℕ → Option ℕ
+handle_after h = if h == 4294967295 then None else Some (h + 1)
+
+-- the link after it: a refusal changes nothing, and keeps no moment
+abbrev pub after_submission : Result Handle ControlFault → Request → ℕ → LinkState → LinkState
+after_submission (Err fault) r now l = l
+after_submission (Ok h) r now l =
+    record l { moment = present now l; next = handle_after h.0; untaken = l.untaken ++ new_untaken (command_under h.0 r) ∷ [] }
+
+abbrev pub submitted : Request → ℕ → LinkState → LinkState
+submitted r now l = after_submission (submission r l) r now l
+
+-- DUE. What is to be given out: a command, a keep-alive or nothing; or the link is lost.
+pub data Decision : Type 0 where
+  GivesCommand : (command : CommandFields) → Decision
+  GivesKeepAlive : Decision
+  GivesNothing : Decision
+  IsLost : Decision
+
+-- The due command with the lowest handle decides: if it was given out 20 times already, the link is lost. With none, a
+-- keep-alive is given out 2,500 ms after anything was.
+abbrev pub decision_among : ℕ → ℕ → Option Untaken → Decision
+decision_among now sent None = if nat_le 2500 (now - sent) then GivesKeepAlive else GivesNothing
+decision_among now sent (Some u) = if nat_lt u.times 20 then GivesCommand u.command else IsLost
+
+-- what is decided; a link that is lost stays lost
+abbrev pub decision : ℕ → LinkState → Decision
+decision now l = if l.lost then IsLost else decision_among (present now l) l.sent (first_due (present now l) l.untaken)
+
+-- what `due` answers
+abbrev pub due_answer : Decision → Due
+due_answer (GivesCommand c) = dues.Send (record { 0 = c.handle })
+due_answer GivesKeepAlive = dues.KeepAlive
+due_answer GivesNothing = dues.Nothing
+due_answer IsLost = dues.Lost
+
+-- the bytes that it gives out: a PDU of type 1 with the command alone, or a keep-alive of 5 seconds (AES70-3)
+abbrev pub due_bytes : Decision → List ℕ
+due_bytes (GivesCommand c) = pdu_encoding (Commands true (c ∷ []))
+due_bytes GivesKeepAlive = pdu_encoding (OneKeepAlive (Seconds 5))
+due_bytes GivesNothing = []
+due_bytes IsLost = []
+
+-- the link after it, at the present moment
+abbrev pub after_due : Decision → ℕ → LinkState → LinkState
+after_due (GivesCommand c) now l = record l { moment = now; sent = now; untaken = map (given_out now c.handle) l.untaken }
+after_due GivesKeepAlive now l = record l { moment = now; sent = now }
+after_due GivesNothing now l = record l { moment = now }
+after_due IsLost now l = record l { moment = now; lost = true }
+
+abbrev pub gone_on : ℕ → LinkState → LinkState
+gone_on now l = after_due (decision now l) (present now l) l
+
+-- DATAGRAM. What it answers of messages, or of bytes that are no datagram.
+abbrev pub reception_of : Option (List Msg) → List Untaken → Reception
+reception_of None us = receptions.Malformed
+reception_of (Some messages) us =
+    if answers_by_all messages us == 0 then receptions.NothingNew else receptions.Answered (answers_by_all messages us)
+
+-- what `datagram` answers: the address is looked at first
+abbrev pub reception : Peer → Option (List Msg) → LinkState → Reception
+reception from content l = if same_peer from l.device then reception_of content l.untaken else receptions.Stranger
+
+abbrev pub hears_content : Option (List Msg) → List Untaken → List Untaken
+hears_content None us = us
+hears_content (Some messages) us = hears_all messages us
+
+-- the link after it: it keeps the moment, whatever it answers
+abbrev pub received : Peer → Option (List Msg) → ℕ → LinkState → LinkState
+received from content now l =
+    record l { moment = present now l; untaken = if same_peer from l.device then hears_content content l.untaken else l.untaken }
+
+-- TAKE. The link without the command of the handle, where it has an answer.
+abbrev pub taken : ℕ → LinkState → LinkState
+taken h l = record l { untaken = if is_some (answer_under h l.untaken) then without_handle h l.untaken else l.untaken }

@@ -1,0 +1,86 @@
+-- For private contracts: where the untaken commands lie in memory. The command of the handle h lies in the slot number h modulo
+-- 32, and the handle itself is not stored.
+use Rattle.std.specs.Prelude.{◌≡◌, ℕ, zero, suc, ◌+◌, ◌-◌, ◌%◌, ◌<◌, ◌≤◌, ◌^◌, ◌==◌, nat_lt, nat_le, Bool, true, false, not, ◌&&◌, ◌||◌, if◌then◌else◌, List, [], ◌∷◌, ◌++◌, map, length, Option, Some, None, is_none, is_some, slice_index_or}
+use Rattle.std.specs.List.{list_any}
+use Rattle.std.specs.Option.{option_map, option_and_then}
+use Rattle.oca_pdu.specs.Messages.{Pdu, Commands}
+use Rattle.oca_control.specs.declared.due.Due.{Due}
+use Rattle.oca_control.specs.declared.due.Due.TheVariants as dues
+use Rattle.oca_control.specs.Answers.{AnswerFields}
+use Rattle.oca_control.specs.Untaken.{Untaken, first_due, given_out, waits, answered, answer_under, without_handle}
+use Rattle.oca_control.specs.Links.{Request, command_under, Decision, GivesCommand, GivesKeepAlive, GivesNothing, IsLost}
+
+-- what a slot holds of a command
+pub record Kept : Type 0 where
+  pub request : Request
+  pub times : ℕ
+  pub last : ℕ
+  pub answer : Option AnswerFields
+
+abbrev pub new_kept : Request → Kept
+new_kept r = record { request = r; times = 0; last = 0; answer = None }
+
+abbrev pub kept_is_due : ℕ → Option Kept → Bool
+kept_is_due now None = false
+kept_is_due now (Some k) = is_none k.answer && (k.times == 0 || nat_le 250 (now - k.last))
+
+abbrev pub kept_waits : Option Kept → Bool
+kept_waits None = false
+kept_waits (Some k) = is_none k.answer
+
+abbrev pub kept_answer : Option Kept → Option AnswerFields
+kept_answer None = None
+kept_answer (Some k) = k.answer
+
+-- given out once more
+abbrev pub kept_given : ℕ → Kept → Kept
+kept_given now k = record { request = k.request; times = k.times + 1; last = now; answer = k.answer }
+
+abbrev pub kept_answered : AnswerFields → Kept → Kept
+kept_answered answer k = record { request = k.request; times = k.times; last = k.last; answer = Some answer }
+
+-- the command of the handle, where its slot holds one
+abbrev pub untaken_at : ℕ → Option Kept → List Untaken
+untaken_at h None = []
+untaken_at h (Some k) = (record { command = command_under h k.request; times = k.times; last = k.last; answer = k.answer }) ∷ []
+
+-- the slot of the handle
+abbrev pub kept_at : ℕ → List (Option Kept) → Option Kept
+kept_at h slots = slice_index_or slots (h % 32) None
+
+-- the commands of n handles from lo on
+unfoldable pub untaken_from : ℕ → ℕ → List (Option Kept) → List Untaken
+untaken_from lo zero slots = []
+untaken_from lo (suc n) slots = untaken_at lo (kept_at lo slots) ++ untaken_from (lo + 1) n slots
+
+-- the handle of the next command, 4294967296 where none is left, and the untaken commands
+pub record TableState : Type 0 where
+  pub next : ℕ
+  pub untaken : List Untaken
+
+-- The lowest untaken handle is low, or nothing is untaken and it is the next. All that is untaken lies in 32 handles.
+pub record IsTable (low next : ℕ) (slots : List (Option Kept)) : Type 0 where
+  pub ordered : low ≤ next
+  pub near : next ≤ low + 32
+  pub last : next ≤ 4294967296
+  pub all : length slots ≡ 32
+  pub lowest : low < next → kept_at low slots ≡ None → ⊥
+
+-- the next handle, where one is left
+abbrev pub handle_left : ℕ → Option ℕ
+handle_left next = if nat_lt next 4294967296 then Some next else None
+
+-- what the first due command decides, where there is one
+abbrev pub decided : Untaken → Decision
+decided u = if nat_lt u.times 20 then GivesCommand u.command else IsLost
+
+abbrev pub first_decided : ℕ → List Untaken → Option Decision
+first_decided now us = option_map decided (first_due now us)
+
+-- the untaken commands after that
+abbrev pub after_decision : ℕ → Option Decision → List Untaken → List Untaken
+after_decision now None us = us
+after_decision now (Some (GivesCommand c)) us = map (given_out now c.handle) us
+after_decision now (Some GivesKeepAlive) us = us
+after_decision now (Some GivesNothing) us = us
+after_decision now (Some IsLost) us = us

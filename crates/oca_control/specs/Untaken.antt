@@ -1,0 +1,85 @@
+-- The commands whose answers have not been taken (*profile*). In a list of them the lowest handle stands first.
+use Rattle.std.specs.Prelude.{ℕ, ◌+◌, ◌-◌, ◌==◌, nat_lt, nat_le, Bool, true, false, not, ◌&&◌, ◌||◌, if◌then◌else◌, List, [], ◌∷◌, map, filter, Option, Some, None, is_none, is_some}
+use Rattle.std.specs.List.{list_any, list_all}
+use Rattle.oca_types.specs.Peers.{CommandFields}
+use Rattle.oca_pdu.specs.Messages.{ResponseFields, Msg, Command, Response, KeepAlive}
+use Rattle.oca_control.specs.Answers.{AnswerFields, answer_in}
+
+-- A command, how often and when last it was given out, and its answer where one came. Moments are in milliseconds; the last
+-- one of a command that was never given out says nothing.
+pub record Untaken : Type 0 where
+  pub command : CommandFields
+  pub times : ℕ
+  pub last : ℕ
+  pub answer : Option AnswerFields
+
+-- a command that was submitted now
+abbrev pub new_untaken : CommandFields → Untaken
+new_untaken c = record { command = c; times = 0; last = 0; answer = None }
+
+-- A new handle lies below each untaken one plus the span.
+abbrev pub has_room : ℕ → ℕ → List Untaken → Bool
+has_room s h us = list_all (λ u. nat_lt h (u.command.handle + s)) us
+
+-- A command is due while it is unanswered, and was never given out or was given out 250 ms ago or earlier.
+abbrev pub is_due : ℕ → Untaken → Bool
+is_due now u = is_none u.answer && (u.times == 0 || nat_le 250 (now - u.last))
+
+-- the due command with the lowest handle
+abbrev pub first_due : ℕ → List Untaken → Option Untaken
+first_due now [] = None
+first_due now (u ∷ us) = if is_due now u then Some u else first_due now us
+
+-- the command of the handle is given out now
+abbrev pub given_out : ℕ → ℕ → Untaken → Untaken
+given_out now h u =
+    record {
+      command = u.command;
+      times = if u.command.handle == h then u.times + 1 else u.times;
+      last = if u.command.handle == h then now else u.last;
+      answer = u.answer;
+    }
+
+-- the command of the handle has no answer yet
+abbrev pub waits : ℕ → Untaken → Bool
+waits h u = (u.command.handle == h) && is_none u.answer
+
+-- the command of the handle gets the answer, unless it has one
+abbrev pub answered : ℕ → AnswerFields → Untaken → Untaken
+answered h answer u =
+    record { command = u.command; times = u.times; last = u.last; answer = if waits h u then Some answer else u.answer }
+
+-- after a message: a response brings an answer; commands and keep-alives are ignored
+abbrev pub hears : Msg → List Untaken → List Untaken
+hears (Response r) us = map (answered r.handle (answer_in r)) us
+hears (KeepAlive form) us = us
+hears (Command respond c) us = us
+
+-- after messages, in order
+abbrev pub hears_all : List Msg → List Untaken → List Untaken
+hears_all [] us = us
+hears_all (m ∷ messages) us = hears_all messages (hears m us)
+
+-- how many commands a message answers: 1 or none
+abbrev pub answers_by : Msg → List Untaken → ℕ
+answers_by (Response r) us = if list_any (waits r.handle) us then 1 else 0
+answers_by (KeepAlive form) us = 0
+answers_by (Command respond c) us = 0
+
+-- how many commands messages answer, in order: a second response to one counts nothing
+abbrev pub answers_by_all : List Msg → List Untaken → ℕ
+answers_by_all [] us = 0
+answers_by_all (m ∷ messages) us = answers_by m us + answers_by_all messages (hears m us)
+
+-- the answer that is held under the handle
+abbrev pub answer_under : ℕ → List Untaken → Option AnswerFields
+answer_under h [] = None
+answer_under h (u ∷ us) = if u.command.handle == h then u.answer else answer_under h us
+
+-- those with another handle
+abbrev pub without_handle : ℕ → List Untaken → List Untaken
+without_handle h us = filter (λ u. not (u.command.handle == h)) us
+
+-- a command is held under the handle
+abbrev pub holds : ℕ → List Untaken → Bool
+holds h us = list_any (λ u. u.command.handle == h) us

@@ -1,0 +1,22 @@
+//! Why a command is not submitted.
+
+/// Why a command is not submitted, in the order of the tests. The numbers are promised (*profile*).
+#[derive(Clone, Copy, Debug, PartialEq, Eq)]
+pub enum ControlFault {
+    /// The link is lost.
+    Lost = 1,
+    /// The handle 4294967295 was given out: none is left.
+    HandlesSpent = 2,
+    /// The next handle would not lie below the lowest untaken one plus the span.
+    SpanFull = 3,
+    /// The parameters have more than 1,445 bytes.
+    TooLong = 4,
+}
+
+const _: () = prove!(ControlFault::Lost as u8 == 1);
+
+const _: () = prove!(ControlFault::HandlesSpent as u8 == 2);
+
+const _: () = prove!(ControlFault::SpanFull as u8 == 3);
+
+const _: () = prove!(ControlFault::TooLong as u8 == 4);

@@ -1,0 +1,160 @@
+//! The place of one command and its answer.
+ghost use Rattle.std.specs.Prelude.{◌≡◌, ◌<◌, ◌≤◌, [], ◌∷◌, length, Some, None, true, is_some, IsSomeAnd, IfSome, IsTrue, if◌then◌else◌, nat_lt};
+ghost use Rattle.std.specs.Option.{option_map};
+ghost use Rattle.oca_pdu.specs.Messages.{Commands};
+ghost use Rattle.oca_pdu.specs.Encoding.{pdu_encoding};
+ghost use Rattle.oca_control.specs.Answers.{answer_fields};
+ghost use Rattle.oca_control.specs.Links.{command_under};
+ghost use Rattle.oca_control.specs.PrivateSlots.{new_kept, kept_is_due, kept_waits, kept_answer, kept_given, kept_answered};
+
+use crate::answer::Answer;
+use arrayvec::ArrayVec;
+use oca_pdu::write_command;
+use oca_types::{Command, Handle, MethodId, Ono, Packet, Params};
+use std::marker::Model;
+
+/// A place for one command and its answer. It is written in place: nothing of its size is moved.
+#[derive(Drop)]
+pub struct Slot {
+    held: bool,
+    answered: bool,
+    times: u8,
+    last: u64,
+    target: Ono,
+    method: MethodId,
+    count: u8,
+    params: ArrayVec<u8, 1445>,
+    answer: Answer,
+}
+
+impl Model for Slot {
+    ghost use Rattle.std.specs.Prelude.{Option, Some, None, if◌then◌else◌};
+    ghost use Rattle.oca_control.specs.Answers.{answer_fields};
+    ghost use Rattle.oca_control.specs.PrivateSlots.{Kept};
+
+    ghost Value = { Option Kept };
+
+    ghost view = { λ s. if s.held then Some (record {
+      request = record { target = s.target.0; level = s.method.level; index = s.method.index; count = s.count; params = s.params.items };
+      times = s.times;
+      last = s.last;
+      answer = if s.answered then Some (answer_fields s.answer) else None;
+    }) else None };
+}
+
+impl Default for Slot {
+    fn default() -> Slot {
+        Slot {
+            held: false,
+            answered: false,
+            times: 0,
+            last: 0,
+            target: Ono(0),
+            method: MethodId { level: 0, index: 0 },
+            count: 0,
+            params: ArrayVec::new(),
+            answer: Answer {
+                status: 0,
+                count: 0,
+                params: Params::new(),
+            },
+        }
+    }
+}
+
+impl Slot {
+    /// Whether a command is held.
+    pub fn is_held(&self) -> bool
+        ensures { result ≡ is_some self.now }
+    {
+        self.held
+    }
+
+    /// Whether a command is held and due.
+    pub fn is_due(&self, now: u64) -> bool
+        ensures { result ≡ kept_is_due now self.now }
+    {
+        self.held
+            && !self.answered
+            && (self.times == 0 || now.saturating_sub(self.last) >= 250)
+    }
+
+    /// Whether a command is held and has no answer.
+    pub fn waits(&self) -> bool
+        ensures { result ≡ kept_waits self.now }
+    {
+        self.held && !self.answered
+    }
+
+    /// Whether the command may be given out once more.
+    pub fn may_repeat(&self) -> bool
+        ensures { IfSome self.now (λ k. result ≡ nat_lt k.times 20) }
+    {
+        self.times < 20
+    }
+
+    /// Puts a command in.
+    pub fn put(&mut self, target: Ono, method: MethodId, count: u8, params: &[u8])
+        requires { length params.now ≤ 1445 }
+        ensures { self.new ≡ Some (new_kept (record { target = target.0; level = method.level; index = method.index; count = count; params = params.now })) }
+    {
+        self.held = true;
+        self.answered = false;
+        self.times = 0;
+        self.last = 0;
+        self.target = target;
+        self.method = method;
+        self.count = count;
+        self.params.clear();
+        let _ = self.params.try_extend_from_slice(params);
+    }
+
+    /// Gives the command out once more, under its handle.
+    pub fn give_out(&mut self, handle: Handle, now: u64, packet: &mut Packet)
+        requires few { IsSomeAnd self.old (λ k. k.times < 20) }
+        requires empty { packet.old.items ≡ [] }
+        ensures packet { IfSome self.old (λ k. packet.new.items ≡ pdu_encoding (Commands true (command_under handle.0 k.request ∷ []))) }
+        ensures slot { self.new ≡ option_map (kept_given now) self.old }
+    {
+        let command = Command {
+            handle,
+            target: self.target,
+            method: self.method,
+            count: self.count,
+            params: self.params.as_slice(),
+        };
+        let _ = write_command(packet, true, &command);
+        self.times += 1;
+        self.last = now;
+    }
+
+    /// Stores the answer.
+    pub fn store(&mut self, status: u8, count: u8, params: &[u8])
+        requires { length params.now ≤ 1452 }
+        ensures { self.new ≡ option_map (kept_answered (record { status = status; count = count; params = params.now })) self.old }
+    {
+        self.answered = true;
+        self.answer.status = status;
+        self.answer.count = count;
+        self.answer.params.clear();
+        let _ = self.answer.params.try_extend_from_slice(params);
+    }
+
+    /// Takes the answer, where there is one, and the command with it.
+    pub fn take(&mut self) -> Option<Answer>
+        ensures answer { option_map answer_fields result ≡ kept_answer self.old }
+        ensures slot { self.new ≡ (if is_some (kept_answer self.old) then None else self.old) }
+    {
+        if !(self.held && self.answered) {
+            return None;
+        }
+        self.held = false;
+        let mut params = Params::new();
+        let _ = params.try_extend_from_slice(self.answer.params.as_slice());
+        Some(Answer {
+            status: self.answer.status,
+            count: self.answer.count,
+            params,
+        })
+    }
+}
