@@ -9,7 +9,8 @@ use Rattle.oca_pdu.specs.Messages.{ResponseFields, Commands, Responses}
 use Rattle.oca_pdu.specs.Encoding.{pdu_encoding}
 use Rattle.oca_tree.specs.declared.object.Object.{Object}
 use Rattle.oca_device.specs.declared.verdict.Verdict.TheVariants as verdicts
-use Rattle.oca_device.specs.Notes.{What, Admitted, Heartbeat, Executed, Note}
+use Rattle.oca_device.specs.Events.{Event, Datagram, Tick}
+use Rattle.oca_device.specs.Notes.{Noted, Admitted, Heartbeat, Executed, Note}
 use Rattle.oca_device.specs.States.{state_after, reply_of}
 use Rattle.oca_control.specs.Answers.{AnswerFields}
 use Rattle.oca_control.specs.Untaken.{Untaken, answer_under}
@@ -32,7 +33,7 @@ pub record Execution : Type 0 where
   pub command : CommandFields
   pub reply : Reply
 
-abbrev pub executed_in : What → List Execution
+abbrev pub executed_in : Noted → List Execution
 executed_in (Admitted messages) = []
 executed_in (Heartbeat ms) = []
 executed_in (Executed objects command reply) = (record { objects = objects; command = command; reply = reply }) ∷ []
@@ -55,30 +56,42 @@ answer_of reply = record { status = status_number reply.status; count = reply.co
 
 -- ---- THE LAW OF ANSWERS
 
+-- the link of this peer submitted the command
+abbrev pub WasSubmitted : Peer → CommandFields → List SubmittedCommand → Type 0
+WasSubmitted p c submitted = let it : SubmittedCommand = record { peer = p; command = c } in IsIn it submitted
+
+-- the link of this peer handed this answer on, under the handle
+abbrev pub WasHandedOn : Peer → ℕ → AnswerFields → List TakenAnswer → Type 0
+WasHandedOn p h answer taken = let it : TakenAnswer = record { peer = p; handle = h; answer = answer } in IsIn it taken
+
+-- The execution was of a datagram of the peer that held its command alone, on the objects as the clock left them when it came.
+pub record CameWithADatagram (p : Peer) (x : Execution) (n : Network) : Type 0 where
+  pub later : List Event
+  pub before : List Event
+  pub now : ℕ
+  pub events : n.events ≡ later ++ Datagram p (pdu_encoding (Commands true (x.command ∷ []))) now ∷ before
+  pub objects : x.objects ≡ (state_after n.window n.tree (Tick now ∷ before)).tree
+
 -- The answer is what an execution gave, of the very command that the peer's link submitted under the handle, for that peer.
 -- Where the peer's session was never forgotten, it is the only execution for the peer under that handle.
 pub record IsAnswerOfItsCommand (p : Peer) (h : ℕ) (answer : AnswerFields) (n : Network) : Type 0 where
   pub execution : Execution
   pub executed : IsIn execution (executions_for p n)
-  pub submitted : let it : SubmittedCommand = record { peer = p; command = execution.command } in IsIn it n.submitted
+  pub came : CameWithADatagram p execution n
+  pub submitted : WasSubmitted p execution.command n.submitted
   pub handle : execution.command.handle ≡ h
   pub reply : execution.reply ≡ reply_of execution.objects p execution.command
   pub answer_is : answer ≡ answer_of execution.reply
   pub only : KeepsItsSession p n.events → executions_under h (executions_for p n) ≡ execution ∷ []
 
--- No two commands that a link submitted have one handle.
-abbrev pub SubmitsUnderNewHandles : Network → Type 0
-SubmitsUnderNewHandles n = (p : Peer) (c d : CommandFields) →
-    (let it : SubmittedCommand = record { peer = p; command = c } in IsIn it n.submitted) →
-    (let it : SubmittedCommand = record { peer = p; command = d } in IsIn it n.submitted) →
-    c.handle ≡ d.handle → c ≡ d
-
--- Of each answer that a link holds, and of each that one handed on:
+-- Of each answer that a link holds, and of each that it handed on; and no two commands that it submitted have one handle.
 pub record AnswersItsCommands (n : Network) : Type 0 where
   pub held : (i : ℕ) (l : PeerLink) (h : ℕ) (answer : AnswerFields) → slice_get n.links i ≡ Some l → answer_under h l.link.untaken ≡ Some answer →
       IsAnswerOfItsCommand l.peer h answer n
-  pub handed_on : (t : TakenAnswer) → IsIn t n.taken → IsAnswerOfItsCommand t.peer t.handle t.answer n
-  pub handles : SubmitsUnderNewHandles n
+  pub handed_on : (i : ℕ) (l : PeerLink) (h : ℕ) (answer : AnswerFields) → slice_get n.links i ≡ Some l → WasHandedOn l.peer h answer n.taken →
+      IsAnswerOfItsCommand l.peer h answer n
+  pub handles : (i : ℕ) (l : PeerLink) (c d : CommandFields) → slice_get n.links i ≡ Some l → WasSubmitted l.peer c n.submitted →
+      WasSubmitted l.peer d n.submitted → c.handle ≡ d.handle → c ≡ d
 
 -- Over every schedule, for all sizes:
 abbrev pub EveryScheduleAnswersItsCommands : Type 0
