@@ -1,8 +1,9 @@
 -- Handles in order, and what is kept for each in places that are used in turn.
-use Rattle.std.proofs.Common.{◌≡◌, ◌⊎◌, inl, inr, ℕ, zero, suc, ◌+◌, ◌-◌, ◌<◌, ◌≤◌, ◌==◌, Bool, true, false, cond, List, [], ◌∷◌, ◌++◌, length, take, drop, get_or, slice_get, slice_set, Option, Some, None, refl, sym, ap, ◌∙◌, arith, append_assoc, append-nil, length-append}
+use Rattle.std.proofs.Common.{subst, ◌≡◌, ◌⊎◌, inl, inr, ℕ, zero, suc, ◌+◌, ◌-◌, ◌<◌, ◌≤◌, ◌==◌, Bool, true, false, cond, List, [], ◌∷◌, ◌++◌, length, take, drop, get_or, slice_get, slice_set, Option, Some, None, refl, sym, ap, ◌∙◌, arith, append_assoc, append-nil, length-append}
 use Rattle.std.proofs.lemmas.Bool.Decides.{nat_tests}
-use Rattle.std.proofs.lemmas.List.{length-drop, length-take, drop_more, take_more_set, drop-set-lt, drop_all, take_all, length-set, get_or-drop, get_or_append_left, get_or-append_right, get_or-take}
-use Rattle.std.proofs.lemmas.List.Elements.{All-cons, All-tail, All-drop}
+use Rattle.std.proofs.lemmas.List.{get_or_default, length-drop, length-take, drop_more, take_more_set, drop-set-lt, drop_all, take_all, length-set, get_or-drop, get_or_append_left, get_or-append_right, get_or-take}
+use Rattle.std.proofs.lemmas.List.Elements.{All-append, All-cons, All-tail, All-drop}
+use Rattle.std.proofs.lemmas.List.Quantifiers.{all_pairs_push}
 use Rattle.std.proofs.lemmas.Option.{get_or_from_slice_get}
 use Rattle.std.specs.List.{All, find, position_or_len}
 use Rattle.std.specs.Option.{IfSome}
@@ -10,9 +11,9 @@ use Rattle.std.specs.Prelude.{nat_lt, not, max, position, option_map}
 use Rattle.oca_types.specs.declared.words.Handle.{Handle}
 use Rattle.oca_session.specs.declared.cell.Cell.{Cell}
 use Rattle.oca_types.specs.Peers.{CommandFields}
-use Rattle.oca_session.specs.Accepted.{Entry, Fresh, duplicate_or_reused, Retained, entry_under, has_handle, higher_of, greatest}
-use Rattle.oca_session.specs.Judging.{judgement_by_window, is_above, retained_after}
-use Rattle.oca_session.specs.PrivateCells.{AreBelow, judge_cell, turned, paired, entry_in, entries_of, is_handle}
+use Rattle.oca_session.specs.Accepted.{Entry, Fresh, Duplicate, Reused, Old, asks_the_same, duplicate_or_reused, Retained, entry_under, has_handle, higher_of, greatest}
+use Rattle.oca_session.specs.Judging.{judgement_by_window, judge_entry, is_above, retained_after}
+use Rattle.oca_session.specs.PrivateCells.{AreBelow, AreDistinct, judge_cell, turned, paired, entry_in, entries_of, is_handle}
 
 -- ---- places that are used in turn
 
@@ -105,55 +106,53 @@ module _ {X Y Z : Type 0} (f : X → Y → Z) where
         by_test true n past found = absurd (omega (arith, past))
         by_test false n past found = found (omega (arith, past))
 
--- ---- where a handle stands, from where it stands in two parts
+-- ---- where a handle stands among distinct ones
 
-module _ {X : Type 0} (p : X → Bool) where
-  pub position_parts : (xs ys : List X) → position_or_len p (xs ++ ys) ≡ cond (nat_lt (position_or_len p xs) (length xs)) (position_or_len p xs) (length xs + position_or_len p ys)
-  position_parts [] ys = omega arith
-  position_parts (x ∷ xs) ys = by_test (p x) (position_or_len p xs) (position_or_len p (xs ++ ys)) (position_parts xs ys)
-    where
-      by_test : (b : Bool) (n m : ℕ) → m ≡ cond (nat_lt n (length xs)) n (length xs + position_or_len p ys) →
-          cond (not b) (1 + m) 0 ≡ cond (nat_lt (cond (not b) (1 + n) 0) (length (x ∷ xs))) (cond (not b) (1 + n) 0) (length (x ∷ xs) + position_or_len p ys)
-      by_test true n m h = grind (arith, nat_tests)
-      by_test false n m h = grind (arith, nat_tests)
+other_handle : (x y h : ℕ) → (y == h) ≡ true → (y == x) ≡ false → (x == h) ≡ false
+other_handle x y h same other = grind (arith, nat_tests)
 
-  is_at : (xs : List X) (k : ℕ) → position p xs ≡ Some k → (k < length xs) × (position_or_len p xs ≡ k)
-  is_at xs k h = by_test (nat_lt (position_or_len p xs) (length xs)) (position_or_len p xs) refl h
-    where
-      by_test : (b : Bool) (n : ℕ) → nat_lt n (length xs) ≡ b → cond b (Some n) None ≡ Some k → (k < length xs) × (n ≡ k)
-      by_test true n t e = let same : n ≡ k = cc in (grind (arith, nat_tests), same)
-      by_test false n t e = cc
+distinct_tail : (x : Handle) (xs : List Handle) → AreDistinct (x ∷ xs) → AreDistinct xs
+distinct_tail x xs distinct = λ i j d before within. distinct (suc i) (suc j) d (omega (arith, before)) (omega (arith, within))
 
-  is_none : (xs : List X) → position p xs ≡ None → length xs ≤ position_or_len p xs
-  is_none xs h = by_test (nat_lt (position_or_len p xs) (length xs)) (position_or_len p xs) refl h
-    where
-      by_test : (b : Bool) (n : ℕ) → nat_lt n (length xs) ≡ b → cond b (Some n) None ≡ None → length xs ≤ n
-      by_test true n t e = cc
-      by_test false n t e = grind (arith, nat_tests)
+only_place : (h : ℕ) (xs : List Handle) (i : ℕ) (d : Handle) → AreDistinct xs → i < length xs → is_handle h (get_or xs i d) ≡ true → position_or_len (is_handle h) xs ≡ i
+only_place h [] i d distinct within here = absurd (omega (arith, within))
+only_place h (x ∷ xs) zero d distinct within here = rw here refl
+only_place h (x ∷ xs) (suc i) d distinct within here =
+    let no : is_handle h x ≡ false = other_handle x.0 (get_or xs i d).0 h here (distinct 0 (suc i) d (omega arith) within) in
+    let one : 1 + i ≡ suc i = omega arith in
+    let rest = only_place h xs i d (distinct_tail x xs distinct) (omega (arith, within)) here in
+    rw (no, rest) one
 
-  pub in_front : (xs ys zs : List X) (k : ℕ) → xs ++ ys ≡ zs → position p xs ≡ Some k → (k < length zs) × (position_or_len p zs ≡ k)
-  in_front xs ys zs k all h =
-      let at = is_at xs k h in
-      let n = position_or_len p xs in
-      let whole = sym (ap (position_or_len p) all) ∙ position_parts xs ys in
-      let long : length zs ≡ length xs + length ys = sym (ap length all) ∙ length-append xs ys in
-      (omega (arith, at.0, long), grind (arith, nat_tests, whole, at.0, at.1))
+no_place : (h : ℕ) (xs : List Handle) → All (λ x. is_handle h x ≡ false) xs → length xs ≤ position_or_len (is_handle h) xs
+no_place h [] none = omega arith
+no_place h (x ∷ xs) none =
+    let no : is_handle h x ≡ false = none 0 x (omega arith) in
+    let rest = no_place h xs (All-tail (λ x. is_handle h x ≡ false) x xs none) in
+    rw no (omega (arith, rest))
 
-  pub in_back : (xs ys zs : List X) (k : ℕ) → xs ++ ys ≡ zs → position p xs ≡ None → position p ys ≡ Some k → (length xs + k < length zs) × (position_or_len p zs ≡ length xs + k)
-  in_back xs ys zs k all none h =
-      let at = is_at ys k h in
-      let past = is_none xs none in
-      let whole = sym (ap (position_or_len p) all) ∙ position_parts xs ys in
-      let long : length zs ≡ length xs + length ys = sym (ap length all) ∙ length-append xs ys in
-      (omega (arith, at.0, long), grind (arith, nat_tests, whole, at.0, at.1, past))
+-- one more is the last that is looked at
+pub none_from : (h : ℕ) (xs : List Handle) (i : ℕ) (x : Handle) → x ≡ get_or xs i x → is_handle h x ≡ false
+    → ((k : ℕ) (d : Handle) → i + 1 ≤ k → k < length xs → is_handle h (get_or xs k d) ≡ false)
+    → (k : ℕ) (d : Handle) → i ≤ k → k < length xs → is_handle h (get_or xs k d) ≡ false
+none_from h xs i x was other above k d from within = elim (at_or_above i k from) [
+  | inl e ↦ rw (← e) (ap (is_handle h) (get_or_default xs i d x (omega (arith, e, within)) ∙ sym was) ∙ other)
+  | inr more ↦ above k d more within
+]
+  where
+    at_or_above : (i k : ℕ) → i ≤ k → (i ≡ k) ⊎ (i + 1 ≤ k)
+    at_or_above i k le = grind arith
 
-  pub in_neither : (xs ys zs : List X) → xs ++ ys ≡ zs → position p xs ≡ None → position p ys ≡ None → length zs ≤ position_or_len p zs
-  in_neither xs ys zs all none h =
-      let past = is_none xs none in
-      let past' = is_none ys h in
-      let whole = sym (ap (position_or_len p) all) ∙ position_parts xs ys in
-      let long : length zs ≡ length xs + length ys = sym (ap length all) ∙ length-append xs ys in
-      grind (arith, nat_tests, whole, long, past, past')
+distinct_drop : (k : ℕ) (xs : List Handle) → AreDistinct xs → AreDistinct (drop k xs)
+distinct_drop k xs distinct = λ i j d before within.
+    rw (get_or-drop k xs i d, get_or-drop k xs j d) (distinct (k + i) (k + j) d (omega (arith, before)) (omega (arith, within, length-drop k xs)))
+
+-- one more handle that none had
+pub distinct_more : (k : ℕ) (xs : List Handle) (x : Handle) → AreDistinct xs → All (λ y. is_handle x.0 y ≡ false) xs → AreDistinct (drop k (xs ++ x ∷ []))
+distinct_more k xs x distinct none =
+    distinct_drop k (xs ++ x ∷ []) (all_pairs_push (λ x y. is_handle x.0 y ≡ false) xs x distinct (λ i d within. swapped (get_or xs i d).0 x.0 (none i d within)))
+  where
+    swapped : (a b : ℕ) → (a == b) ≡ false → (b == a) ≡ false
+    swapped a b other = grind (arith, nat_tests)
 
 -- ---- the commands of a window
 
@@ -178,28 +177,51 @@ module _ (o : ℕ) (xs : List Handle) (rs : List Cell) (same : length rs ≡ len
       ∙ ap (λ (a : Cell). Some (judge_cell a c)) (turned_past o rs k d small past (omega (arith, same, within)))
 
   -- the command of a handle, by where the handle stands
-  pub found_front : (h k : ℕ) (front back : List Handle) → front ++ back ≡ xs → position (is_handle h) front ≡ Some k
+  pub found_here : (h k : ℕ) (d : Handle) → AreDistinct xs → k < length xs → is_handle h (get_or xs k d) ≡ true
       → (k < length (entries_of xs o rs)) × (entry_under h (entries_of xs o rs) ≡ slice_get (entries_of xs o rs) k)
-  found_front h k front back all at =
-      let is = in_front (is_handle h) front back xs k all at in
-      (
-        rw length-entries is.0,
-        found_at entry_in (has_handle h) (is_handle h) (λ x r. refl) xs (turned o rs) as_many (omega (arith, is.0, is.1)) ∙ ap (slice_get (entries_of xs o rs)) is.1,
+  found_here h k d distinct within here =
+      let is = only_place h xs k d distinct within here in (
+        rw length-entries within,
+        found_at entry_in (has_handle h) (is_handle h) (λ x r. refl) xs (turned o rs) as_many (omega (arith, is, within)) ∙ ap (slice_get (entries_of xs o rs)) is,
       )
 
-  pub found_back : (h k : ℕ) (front back : List Handle) → front ++ back ≡ xs → position (is_handle h) front ≡ None → position (is_handle h) back ≡ Some k
+  pub found_front : (h k : ℕ) (front back : List Handle) (d : Handle) → AreDistinct xs → front ++ back ≡ xs → k < length front → is_handle h (get_or front k d) ≡ true
+      → (k < length (entries_of xs o rs)) × (entry_under h (entries_of xs o rs) ≡ slice_get (entries_of xs o rs) k)
+  found_front h k front back d distinct all within here =
+      let long : length xs ≡ length front + length back = sym (ap length all) ∙ length-append front back in
+      let there : get_or xs k d ≡ get_or front k d = ap (λ zs. get_or zs k d) (sym all) ∙ get_or_append_left front back d k within in
+      found_here h k d distinct (omega (arith, long, within)) (ap (is_handle h) there ∙ here)
+
+  pub found_back : (h k : ℕ) (front back : List Handle) (d : Handle) → AreDistinct xs → front ++ back ≡ xs → k < length back → is_handle h (get_or back k d) ≡ true
       → (length front + k < length (entries_of xs o rs)) × (entry_under h (entries_of xs o rs) ≡ slice_get (entries_of xs o rs) (length front + k))
-  found_back h k front back all none at =
-      let is = in_back (is_handle h) front back xs k all none at in
-      (
-        rw length-entries is.0,
-        found_at entry_in (has_handle h) (is_handle h) (λ x r. refl) xs (turned o rs) as_many (omega (arith, is.0, is.1)) ∙ ap (slice_get (entries_of xs o rs)) is.1,
-      )
+  found_back h k front back d distinct all within here =
+      let long : length xs ≡ length front + length back = sym (ap length all) ∙ length-append front back in
+      let back_at : length front + k - length front ≡ k = omega arith in
+      let there : get_or xs (length front + k) d ≡ get_or back k d =
+      ap (λ zs. get_or zs (length front + k) d) (sym all)
+      ∙ get_or-append_right front back (length front) (length front + k) d refl (omega arith) ∙ ap (λ n. get_or back n d) back_at in
+      found_here h (length front + k) d distinct (omega (arith, long, within)) (ap (is_handle h) there ∙ here)
 
-  pub found_nowhere : (h : ℕ) (front back : List Handle) → front ++ back ≡ xs → position (is_handle h) front ≡ None → position (is_handle h) back ≡ None
+  pub found_nowhere : (h : ℕ) (front back : List Handle) → front ++ back ≡ xs → All (λ x. is_handle h x ≡ false) front → All (λ x. is_handle h x ≡ false) back
       → entry_under h (entries_of xs o rs) ≡ None
-  found_nowhere h front back all none at =
-      found_none entry_in (has_handle h) (is_handle h) (λ x r. refl) xs (turned o rs) (in_neither (is_handle h) front back xs all none at)
+  found_nowhere h front back all none none' =
+      let whole = subst (All (λ x. is_handle h x ≡ false)) all (All-append (λ x. is_handle h x ≡ false) front back none none') in
+      found_none entry_in (has_handle h) (is_handle h) (λ x r. refl) xs (turned o rs) (no_place h xs whole)
+
+  -- no handle is that of a command that is not found
+  pub not_retained : (h : ℕ) → entry_under h (entries_of xs o rs) ≡ None → All (λ x. is_handle h x ≡ false) xs
+  not_retained h none = by_pairs xs (turned o rs) as_many none
+    where
+      by_pairs : (xs : List Handle) (ys : List Cell) → length xs ≡ length ys → entry_under h (paired entry_in xs ys) ≡ None → All (λ x. is_handle h x ≡ false) xs
+      by_pairs [] ys same none = λ k d within. absurd (omega (arith, within))
+      by_pairs (x ∷ xs) [] same none = absurd (omega (arith, same))
+      by_pairs (x ∷ xs) (y ∷ ys) same none =
+          let parts = by_test (is_handle h x) none in
+          All-cons (λ x. is_handle h x ≡ false) x xs parts.0 (by_pairs xs ys (omega (arith, same)) parts.1)
+        where
+          by_test : (b : Bool) → cond b (Some (entry_in x y)) (entry_under h (paired entry_in xs ys)) ≡ None → (b ≡ false) × (entry_under h (paired entry_in xs ys) ≡ None)
+          by_test true e = cc
+          by_test false e = (refl, e)
 
   -- one more command, where the first k go
   entries_push : (k n : ℕ) (qs : List Cell) (x : Handle) (r : Cell) → turned n qs ≡ drop k (turned o rs ++ r ∷ [])
@@ -212,7 +234,7 @@ module _ (o : ℕ) (xs : List Handle) (rs : List Cell) (same : length rs ≡ len
   kept : (size n : ℕ) (qs : List Cell) (floor new : Option ℕ) (x : Handle) (r : Cell) → turned n qs ≡ drop (length (xs ++ x ∷ []) - size) (turned o rs ++ r ∷ [])
       → new ≡ higher_of floor (greatest (take (length (xs ++ x ∷ []) - size) (entries_of xs o rs ++ entry_in x r ∷ [])))
       → record { size = size; entries = entries_of (drop (length (xs ++ x ∷ []) - size) (xs ++ x ∷ [])) n qs; floor = new }
-        ≡ retained_after (record { size = size; entries = entries_of xs o rs; floor = floor }) (entry_in x r)
+      ≡ retained_after (record { size = size; entries = entries_of xs o rs; floor = floor }) (entry_in x r)
   kept size n qs floor new x r turns raised =
       let all : List Entry = entries_of xs o rs ++ entry_in x r ∷ [] in
       let long : length all - size ≡ length (xs ++ x ∷ []) - size = rw (length-append, length-append, length-entries) refl in
@@ -233,7 +255,7 @@ no_higher (Some f) = refl
 -- A window that is not full takes one more.
 pub kept_more : (xs : List Handle) (o : ℕ) (rs : List Cell) → length rs ≡ length xs → (size : ℕ) (floor : Option ℕ) (x : Handle) (r : Cell) → length xs < size → o ≡ 0
     → record { size = size; entries = entries_of (drop (length (xs ++ x ∷ []) - size) (xs ++ x ∷ [])) o (rs ++ r ∷ []); floor = floor }
-      ≡ retained_after (record { size = size; entries = entries_of xs o rs; floor = floor }) (entry_in x r)
+    ≡ retained_after (record { size = size; entries = entries_of xs o rs; floor = floor }) (entry_in x r)
 kept_more xs o rs same size floor x r room first =
     let none : length (xs ++ x ∷ []) - size ≡ 0 = rw length-append (omega (arith, room)) in
     let turns : turned o (rs ++ r ∷ []) ≡ turned o rs ++ r ∷ [] = rw first (turned_more rs r) in
@@ -248,7 +270,7 @@ first_out (x ∷ xs) (r ∷ rs) y same is = let e : x ≡ y = cc in ap (λ (z : 
 pub kept_full : (xs : List Handle) (o n : ℕ) (rs : List Cell) → length rs ≡ length xs → (size : ℕ) (floor : Option ℕ) (f : ℕ) (x y : Handle) (r : Cell) → length xs ≡ size → o < length rs
     → ((o + 1 ≡ length rs) × (n ≡ 0)) ⊎ (n ≡ o + 1) → slice_get (xs ++ x ∷ []) 0 ≡ Some y → higher_of floor (Some y.0) ≡ Some f
     → record { size = size; entries = entries_of (drop (length (xs ++ x ∷ []) - size) (xs ++ x ∷ [])) n (slice_set rs o r); floor = Some f }
-      ≡ retained_after (record { size = size; entries = entries_of xs o rs; floor = floor }) (entry_in x r)
+    ≡ retained_after (record { size = size; entries = entries_of xs o rs; floor = floor }) (entry_in x r)
 kept_full xs o n rs same size floor f x y r full within next out raised =
     let one : length (xs ++ x ∷ []) - size ≡ 1 = rw length-append (omega (arith, full)) in
     let many = as_many o xs rs same in
@@ -332,3 +354,50 @@ pushed_room xs x size out = by_test (nat_lt (length xs) size) refl out
     by_test : (b : Bool) → nat_lt (length xs) size ≡ b → cond b None (slice_get (xs ++ x ∷ []) 0) ≡ None → length xs < size
     by_test true t e = grind (arith, nat_tests)
     by_test false t e = absurd (some xs e)
+
+-- ---- a command by what its handle has in the window
+
+pub judged_by_cell : (k : Retained) (c : CommandFields) (a : Cell)
+    → option_map (λ (e : Entry). duplicate_or_reused e c) (entry_under c.handle k.entries) ≡ Some (judge_cell a c) → judgement_by_window k c ≡ judge_cell a c
+judged_by_cell k c a h = by_found (entry_under c.handle k.entries) h
+  where
+    by_found : (o : Option Entry) → option_map (λ (e : Entry). duplicate_or_reused e c) o ≡ Some (judge_cell a c) → judge_entry o (is_above k.floor c.handle) c ≡ judge_cell a c
+    by_found None e = cc
+    by_found (Some e) is = cc
+
+pub judged_by_floor : (k : Retained) (c : CommandFields) (above : Bool)
+    → option_map (λ (e : Entry). duplicate_or_reused e c) (entry_under c.handle k.entries) ≡ None → is_above k.floor c.handle ≡ above
+    → judgement_by_window k c ≡ cond above Fresh Old
+judged_by_floor k c above h is = by_found (entry_under c.handle k.entries) h ∙ ap (λ b. cond b Fresh Old) is
+  where
+    by_found : (o : Option Entry) → option_map (λ (e : Entry). duplicate_or_reused e c) o ≡ None
+        → judge_entry o (is_above k.floor c.handle) c ≡ cond (is_above k.floor c.handle) Fresh Old
+    by_found None e = refl
+    by_found (Some e) is = cc
+
+pub not_above : (floor : Option ℕ) (f h : ℕ) → floor ≡ Some f → h ≤ f → is_above floor h ≡ false
+not_above floor f h is le = rw is not_lt
+  where
+    not_lt : nat_lt f h ≡ false
+    not_lt = grind (arith, nat_tests)
+
+pub above_one : (floor : Option ℕ) (f h : ℕ) → floor ≡ Some f → f < h → is_above floor h ≡ true
+above_one floor f h is lt = rw is is_lt
+  where
+    is_lt : nat_lt f h ≡ true
+    is_lt = grind (arith, nat_tests)
+
+pub above_none : (floor : Option ℕ) (h : ℕ) → floor ≡ None → is_above floor h ≡ true
+above_none floor h is = rw is refl
+
+-- a fresh command's handle is not retained
+pub fresh_not_retained : (k : Retained) (c : CommandFields) → judgement_by_window k c ≡ Fresh → entry_under c.handle k.entries ≡ None
+fresh_not_retained k c fresh = by_found (entry_under c.handle k.entries) fresh
+  where
+    repeated : (b : Bool) (e : Entry) → cond b (Duplicate e.reply) Reused ≡ Fresh → ⊥
+    repeated true e is = cc
+    repeated false e is = cc
+
+    by_found : (o : Option Entry) → judge_entry o (is_above k.floor c.handle) c ≡ Fresh → o ≡ None
+    by_found None is = refl
+    by_found (Some e) is = absurd (repeated (asks_the_same e.command c) e is)

@@ -1,6 +1,6 @@
 -- What a window keeps (private contracts alone cite it): the handles in order, and a cell for each, found by counting from the
 -- oldest (profile).
-use Rattle.std.specs.Prelude.{ℕ, ◌<◌, ◌==◌, Bool, List, [], ◌∷◌, ◌++◌, take, drop, Option, IfSome, All}
+use Rattle.std.specs.Prelude.{◌≡◌, ℕ, ◌<◌, ◌==◌, Bool, false, List, [], ◌∷◌, ◌++◌, take, drop, Option, IfSome, All, AllPairs}
 use Rattle.oca_types.specs.declared.words.Handle.{Handle}
 use Rattle.oca_session.specs.declared.cell.Cell.{Cell}
 use Rattle.oca_types.specs.Peers.{CommandFields}
@@ -31,6 +31,10 @@ entry_in x a =
 -- the accepted commands whose handles are these, where the cell of the first is at o (profile)
 abbrev pub entries_of : List Handle → ℕ → List Cell → List Entry
 entries_of xs o cs = paired entry_in xs (turned o cs)
+
+-- no two handles are the same (profile)
+abbrev pub AreDistinct : List Handle → Type 0
+AreDistinct xs = AllPairs (λ x y. is_handle x.0 y ≡ false) xs
 
 -- each handle, and the floor, is below this number (profile)
 abbrev pub AreBelow : ℕ → List Handle → Option ℕ → Type 0

@@ -7,7 +7,8 @@
 //!
 //! All memory is taken in [`Sessions::new`]. That no other call takes any is read in the code, and no clause
 //! says it: after `new` the vectors are written by index, and by `push_reserved` within their capacity, which
-//! its contract keeps; the ring overwrites its oldest item.
+//! its contract keeps; the ring overwrites its oldest item. A window of w commands takes some 2,948 w bytes in
+//! each of the 16 sessions, which are touched as commands come.
 #![tactic(auto)]
 
 mod cell;

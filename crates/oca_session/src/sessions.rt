@@ -2,6 +2,7 @@
 ghost use Rattle.std.specs.Prelude.{◌≡◌, ℕ, ◌<◌, ◌≤◌, List, [], ◌∷◌, ◌++◌, length, IfOk, IsSome, IfSome, is_some, Some, vec_len, take, position, All, Contains, ◌==◌};
 ghost use Rattle.oca_types.specs.declared.words.Peer.{Peer};
 ghost use Rattle.oca_types.specs.Peers.{fields_of};
+ghost use Rattle.oca_types.specs.Sizes.{window_size};
 ghost use Rattle.oca_session.specs.Accepted.{Entry, judgement, Fresh};
 ghost use Rattle.oca_session.specs.Judging.{as_judgement, judgement_by_window};
 ghost use Rattle.oca_session.specs.Table.{is_of, session_of, peers_of, lapsed, staying, forgotten};
@@ -11,7 +12,7 @@ ghost use Rattle.oca_session.specs.PrivateQuiet.{IsQuietUntil};
 use crate::slot::Slot;
 use crate::window::Judged;
 use arrayvec::ArrayVec;
-use oca_types::{Command, NoMemory, Peer, Reply};
+use oca_types::{Command, NoMemory, Peer, Reply, Window};
 use std::alloc::{AllocError, Global};
 use std::marker::Model;
 
@@ -65,19 +66,12 @@ impl Sessions {
     ghost use Rattle.oca_session.specs.Table.{with_moment_and_sessions, with_sessions, present, changed, with_heartbeat, with_entry, with_accepted, Hears, IsKnownAfter, AgreesAt};
     ghost use Rattle.oca_session.specs.Sound.{IsTable};
 
-    /// No session, at the moment 0, with reply windows of 32 commands. Takes all the memory that the sessions
-    /// will need, and answers `NoMemory` where that is refused.
-    pub fn new(alloc: Global) -> Result<Sessions, NoMemory>
-        ensures { IfOk result (λ t. t ≡ record { window = 32; moment = 0; sessions = [] }) }
+    /// No session, at the moment 0. Each session will have a reply window of this size, for as long as there are
+    /// these sessions. Takes all the memory that they will need, and answers `NoMemory` where that is refused.
+    pub fn new(alloc: Global, window: Window) -> Result<Sessions, NoMemory>
+        ensures { IfOk result (λ t. t ≡ record { window = window_size window; moment = 0; sessions = [] }) }
     {
-        Sessions::with_window(alloc, 32)
-    }
-
-    /// No session, with reply windows of this size.
-    fn with_window(alloc: Global, window: usize) -> Result<Sessions, NoMemory>
-        requires { 0 < window }
-        ensures { IfOk result (λ t. t ≡ record { window = window; moment = 0; sessions = [] }) }
-    {
+        let window = usize::from(window.get());
         match spare_slots(alloc, window) {
             Ok(slots) => Ok(Sessions {
                 window,

@@ -1,5 +1,6 @@
 //! The reply window of one session.
-ghost use Rattle.std.specs.Prelude.{◌≡◌, ℕ, ◌<◌, ◌≤◌, List, [], ◌∷◌, ◌++◌, length, position, slice_get, option_map, IfOk, Some};
+ghost use Rattle.std.specs.Prelude.{◌≡◌, ℕ, ◌<◌, ◌≤◌, List, [], ◌∷◌, ◌++◌, length, slice_get, slice_index_or, option_map, IfOk, MatchOption, All, Some, true, false};
+ghost use Rattle.oca_types.specs.declared.words.Handle.{Handle};
 ghost use Rattle.oca_types.specs.Peers.{CommandFields, fields_of};
 ghost use Rattle.oca_session.specs.Accepted.{Entry, retained_of, Agrees, judgement, Fresh, higher_of, entry_under, duplicate_or_reused};
 ghost use Rattle.oca_session.specs.Judging.{as_judgement, judgement_by_window, retained_after};
@@ -42,7 +43,7 @@ pub struct ReplyWindow {
 impl Model for ReplyWindow {
     ghost use Rattle.std.specs.Prelude.{◌≡◌, ◌<◌, ◌≤◌, length, vec_capacity};
     ghost use Rattle.oca_session.specs.Accepted.{Retained};
-    ghost use Rattle.oca_session.specs.PrivateCells.{AreBelow, entries_of};
+    ghost use Rattle.oca_session.specs.PrivateCells.{AreBelow, AreDistinct, entries_of};
 
     ghost Value = { Retained };
 
@@ -50,7 +51,8 @@ impl Model for ReplyWindow {
 
     ghost invariant = { λ a. (length a.cells.items ≡ length a.handles.items) × (length a.handles.items ≤ a.handles.capacity)
         × (a.oldest < a.handles.capacity) × (a.handles.capacity ≤ vec_capacity a.cells)
-        × (length a.handles.items < a.handles.capacity → a.oldest ≡ 0) × AreBelow a.above a.handles.items a.floor };
+        × (length a.handles.items < a.handles.capacity → a.oldest ≡ 0) × AreBelow a.above a.handles.items a.floor
+        × AreDistinct a.handles.items };
 }
 
 impl ReplyWindow {
@@ -89,17 +91,18 @@ impl ReplyWindow {
         self.judge_retained(command)
     }
 
-    /// The cell of the command that is retained under a handle.
+    /// The cell of the command that is retained under a handle. The latest are looked at first, since duplicates
+    /// are mostly of them.
     fn find(&self, handle: Handle) -> Option<&Cell>
         ensures { (c : CommandFields) → option_map (λ e. duplicate_or_reused e c) (entry_under handle.0 self.now.entries)
             ≡ option_map (λ a. judge_cell a.now c) result }
     {
         let (front, back) = self.handles.as_slices();
-        if let Some(at) = index_of(front, handle) {
-            return Some(self.cell_at(at));
+        if let Some(at) = last_index_of(back, handle) {
+            return Some(self.cell_at(front.len() + at));
         }
-        let at = index_of(back, handle)?;
-        Some(self.cell_at(front.len() + at))
+        let at = last_index_of(front, handle)?;
+        Some(self.cell_at(at))
     }
 
     /// The cell of a command, counted from the oldest.
@@ -143,9 +146,10 @@ impl ReplyWindow {
         self.put(command, reply);
     }
 
-    /// Retains a command with its reply.
+    /// Retains a fresh command with its reply.
     fn put(&mut self, command: &Command<'_>, reply: &Reply)
-        requires { length command.now.params.now ≤ 1445 }
+        requires fresh { judgement_by_window self.old (fields_of command.now) ≡ Fresh }
+        requires room { length command.now.params.now ≤ 1445 }
         ensures { self.new ≡ retained_after self.old (record { command = fields_of command.now; reply = reply.now }) }
     {
         self.above = self.above.max(u64::from(command.handle.0) + 1);
@@ -175,11 +179,19 @@ fn judge_by_cell<'a>(cell: &'a Cell, command: &Command<'_>) -> Judged<'a>
     }
 }
 
-/// Where a handle stands among these.
-fn index_of(handles: &[Handle], handle: Handle) -> Option<usize>
-    ensures { result ≡ position (is_handle handle.0) handles.now }
+/// Where a handle stands last among these.
+fn last_index_of(handles: &[Handle], handle: Handle) -> Option<usize>
+    ensures { MatchOption result (All (λ x. is_handle handle.0 x ≡ false) handles.now)
+        (λ i. (i < length handles.now) × ((d : Handle) → is_handle handle.0 (slice_index_or handles.now i d) ≡ true)) }
 {
-    handles.iter().position(|other| *other == handle)
+    let mut at = handles.len();
+    while at > 0 {
+        at -= 1;
+        if handles[at] == handle {
+            return Some(at);
+        }
+    }
+    None
 }
 
 /// The floor after a command of this handle was pushed out.

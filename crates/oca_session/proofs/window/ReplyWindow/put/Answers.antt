@@ -1,10 +1,23 @@
 use Rattle.std.proofs.Common.{◌≡◌, ◌⊎◌, inl, inr, ℕ, ◌+◌, ◌-◌, ◌≤◌, ◌<◌, ◌∷◌, [], ◌++◌, length, drop, length-append, length-drop, sym, ap, ◌∙◌, arith, refl}
 use Rattle.std.proofs.lemmas.List.{length-set}
 use Rattle.std.specs.Prelude.{Some}
-use Rattle.oca_session.specs.Judging.{retained_after}
-use Rattle.oca_session.proofs.Rings.{kept_more, kept_full, below_more, below_raised, pushed_full, pushed_room}
+use Rattle.std.specs.Prelude.{All, false}
+use Rattle.oca_types.specs.declared.words.Command.{Command}
+use Rattle.oca_types.specs.Peers.{fields_of}
+use Rattle.oca_session.specs.declared.window.ReplyWindow.TheInside.{Inside}
+use Rattle.oca_session.specs.Accepted.{Retained, Fresh, entry_under}
+use Rattle.oca_session.specs.PrivateCells.{is_handle, entries_of}
+use Rattle.oca_session.specs.Judging.{retained_after, judgement_by_window}
+use Rattle.oca_session.proofs.Rings.{distinct_more, not_retained, fresh_not_retained, kept_more, kept_full, below_more, below_raised, pushed_full, pushed_room}
 use Rattle.oca_session.proofs.window.ReplyWindow.put.Goals as goal
 use Rattle.oca_session.proofs.window.ReplyWindow.put.Goals.{then-at-len, else-at-len}
+
+-- no handle of the window is that of the fresh command
+none : (a : Inside) (k : Retained) → record { size = a.handles.capacity; entries = entries_of a.handles.items a.oldest a.cells.items; floor = a.floor } ≡ k → (q : Command)
+    → length a.cells.items ≡ length a.handles.items → judgement_by_window k (fields_of q) ≡ Fresh → All (λ x. is_handle q.handle.0 x ≡ false) a.handles.items
+none a k is q same fresh =
+    not_retained a.oldest a.handles.items a.cells.items same q.handle.0
+    (ap (λ (r : Retained). entry_under q.handle.0 r.entries) is ∙ fresh_not_retained k (fields_of q) fresh)
 
 pub invariant_of-self : goal.invariant_of-self
 invariant_of-self c =
@@ -24,6 +37,7 @@ invariant_of-self c =
       omega (arith, c.self.invariant.3, c.push_reserved.ensures.capacity),
       λ few. c.self.invariant.4 room,
       below_more a.above c.max-self-inside.result _ hs a.floor x c.self.invariant.5 le lt,
+      distinct_more _ hs x c.self.invariant.6 (none c.self.inside c.args.self.now c.self.view_is c.args.command.now c.self.invariant.0 c.requires.fresh),
     )
 
 pub returns-in_default : goal.returns-in_default
@@ -31,7 +45,7 @@ returns-in_default c =
     let a = c.self.inside in
     let room = pushed_room a.handles.items c.args.command.now.handle a.handles.capacity (sym c.push_back.ensures.value ∙ c.in_default.is) in
     rw (← c.self.view_is, c.push_back.ensures.items, c.push_reserved.ensures.items)
-    (kept_more a.handles.items a.oldest a.cells.items c.self.invariant.0 a.handles.capacity a.floor c.args.command.now.handle c.copy_of.result room (c.self.invariant.4 room) ∙ ap (retained_after _) c.copy_of.ensures)
+    (kept_more a.handles.items a.oldest a.cells.items c.self.invariant.0 a.handles.capacity a.floor c.args.command.now.handle c.new.result room (c.self.invariant.4 room) ∙ ap (retained_after _) c.new.ensures)
 
 pub invariant_of-self-2 : goal.invariant_of-self-2
 invariant_of-self-2 c =
@@ -54,6 +68,7 @@ invariant_of-self-2 c =
       c.self.invariant.3,
       λ few. absurd (omega (arith, few, long)),
       below_raised a.above c.max-self-inside.result _ hs a.floor c.args.command.now.handle c.in-Some.pushed_out c.raised_floor.result c.self.invariant.5 le lt full.1 c.raised_floor.ensures,
+      distinct_more _ hs c.args.command.now.handle c.self.invariant.6 (none c.self.inside c.args.self.now c.self.view_is c.args.command.now c.self.invariant.0 c.requires.fresh),
     )
 
 pub returns : goal.returns
@@ -66,5 +81,5 @@ returns c =
       | else-at-len w ↦ inr w.self-is
     ] in
     rw (← c.self.view_is, c.push_back.ensures.items)
-    (kept_full a.handles.items a.oldest c.if-at-len.self a.cells.items c.self.invariant.0 a.handles.capacity a.floor c.raised_floor.result c.args.command.now.handle c.in-Some.pushed_out c.write.new.place
-    (omega (arith, full.0, c.self.invariant.1)) (omega (arith, full.0, c.self.invariant.0, c.self.invariant.2)) next full.1 c.raised_floor.ensures ∙ ap (retained_after _) c.write.ensures)
+    (kept_full a.handles.items a.oldest c.if-at-len.self a.cells.items c.self.invariant.0 a.handles.capacity a.floor c.raised_floor.result c.args.command.now.handle c.in-Some.pushed_out c.set.new.self
+    (omega (arith, full.0, c.self.invariant.1)) (omega (arith, full.0, c.self.invariant.0, c.self.invariant.2)) next full.1 c.raised_floor.ensures ∙ ap (retained_after _) c.set.ensures)
