@@ -1,6 +1,8 @@
 -- A PDU behind others.
 use Rattle.std.proofs.Common.{◌≡◌, ℕ, ◌+◌, ◌*◌, ◌≤◌, ◌<◌, ◌^◌, Bool, List, [], ◌∷◌, ◌++◌, length, sym, ap, ◌∙◌, append_assoc, arith, length-append}
+use Rattle.std.specs.Prelude.{Result, Ok, Err, OnOk, OnErr}
 use Rattle.std.specs.Int.{w16}
+use Rattle.arrayvec.specs.ArrayVec.{ArrayVec as Items}
 use Rattle.std.specs.List.{flat_map}
 use Rattle.std.proofs.lemmas.List.{append-nil}
 use Rattle.std.proofs.lemmas.List.Concat.{flat_map-cons}
@@ -20,10 +22,10 @@ pub adds : (p : Pdu) (old new : List ℕ) → PduFits p → new ≡ old ++ pdu_e
 adds p old new fits is short ps all parts =
     let one : flat_map pdu_encoding (p ∷ []) ≡ pdu_encoding p = append-nil (pdu_encoding p) in
     record {
-      some = omega (arith, length-append ps (p ∷ []));
-      each = each-append PduFits ps (p ∷ []) all (fits, tt);
+      nonempty = omega (arith, length-append ps (p ∷ []));
+      well_formed = each-append PduFits ps (p ∷ []) all (fits, tt);
       bytes_are = is ∙ ap (λ (l : List ℕ). l ++ pdu_encoding p) parts ∙ ap (λ (l : List ℕ). flat_map pdu_encoding ps ++ l) (sym one) ∙ sym (flat_map-append pdu_encoding ps (p ∷ []));
-      short = short;
+      within_limit = short;
     }
 
 -- a PDU of one message
@@ -81,11 +83,21 @@ joins_responses rs r old new fits was is short =
     let all : List ResponseFields = rs ++ r ∷ [] in
     let len : length new ≡ 10 + length (flat_map response_encoding all) = ap length is ∙ responses_len all in
     record {
-      some = omega arith;
-      each = ((omega (arith, length-append rs (r ∷ [])), omega (arith, ten_each all, len, short), each-append ResponseFits rs (r ∷ []) was.each.0.2 (fits, tt), omega (arith, len, short)), tt);
+      nonempty = omega arith;
+      well_formed = ((omega (arith, length-append rs (r ∷ [])), omega (arith, ten_each all, len, short), each-append ResponseFits rs (r ∷ []) was.well_formed.0.2 (fits, tt), omega (arith, len, short)), tt);
       bytes_are = is ∙ sym (append-nil (pdu_encoding (Responses all)));
-      short = short;
+      within_limit = short;
     }
 
 pub is_responses : (rs : List ResponseFields) (bytes : List ℕ) → IsDatagram (Responses rs ∷ []) bytes → IsResponses rs bytes
 is_responses rs bytes s = s.bytes_are ∙ append-nil (pdu_encoding (Responses rs))
+
+-- ---- what holds responses
+
+pub holds_one : (r : ResponseFields) (old new : List ℕ) → old ≡ [] → new ≡ old ++ pdu_encoding (Responses (r ∷ [])) → HoldsResponses new
+holds_one r old new none is = (r ∷ [], is ∙ ap (λ (l : List ℕ). l ++ pdu_encoding (Responses (r ∷ []))) none)
+
+pub holds_more : {T E : Type 0} (result : Result T E) (r : ResponseFields) (old new : Items ℕ) → HoldsResponses old.items
+    → ((rs : List ResponseFields) → IsResponses rs old.items → OnOk result (IsResponses (rs ++ r ∷ []) new.items)) → OnErr result (new ≡ old) → HoldsResponses new.items
+holds_more (Ok x) r old new holds ok err = (holds.0 ++ r ∷ [], ok holds.0 holds.1)
+holds_more (Err e) r old new holds ok err = (holds.0, ap (λ (v : Items ℕ). v.items) err ∙ holds.1)

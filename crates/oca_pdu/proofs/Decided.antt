@@ -304,7 +304,7 @@ some_pdu (q ∷ qs) h = omega arith
 is_datagram : (bytes : List ℕ) (qs : List Pdu) (rest : List ℕ) → 0 < length bytes → length bytes ≤ 1472 → AllByRecursion PduFits qs → bytes ≡ flat_map pdu_encoding qs ++ rest → length rest ≡ 0 → DatagramOrFault bytes
 is_datagram bytes qs rest some short all parts none =
     let whole : bytes ≡ flat_map pdu_encoding qs = parts ∙ ap (λ (l : List ℕ). flat_map pdu_encoding qs ++ l) (nil_from_length rest none) ∙ append-nil (flat_map pdu_encoding qs) in
-    inl (qs, record { some = some_pdu qs (omega (arith, ap length whole, some)); each = all; bytes_are = whole; short = short })
+    inl (qs, record { nonempty = some_pdu qs (omega (arith, ap length whole, some)); well_formed = all; bytes_are = whole; within_limit = short })
 
 go_on : (n : ℕ) (bytes : List ℕ) (qs : List Pdu) (rest : List ℕ) → 0 < length bytes → length bytes ≤ 1472 → AllByRecursion PduFits qs → bytes ≡ flat_map pdu_encoding qs ++ rest → length rest ≤ n → IsBytes rest → DatagramOrFault bytes
 go_on zero bytes qs rest some short all parts le fits = is_datagram bytes qs rest some short all parts (omega (arith, le))

@@ -216,7 +216,7 @@ pub datagram_again : (qs : List Pdu) (bytes : List ℕ) → IsDatagram qs bytes 
 unfolding read_datagram
 datagram_again qs bytes s =
     let len : length bytes ≡ length (flat_map pdu_encoding qs) = ap length s.bytes_are in
-    let some : eqb (length bytes) 0 ≡ false = ne_eqb _ _ (λ e. omega (arith, e, len, pdus_some qs s.some)) in
-    let short : ltb 1472 (length bytes) ≡ false = le-ltb _ _ s.short in
-    let read : pdus_at (length bytes) 0 bytes ≡ Ok (flat_map messages_of qs) = ap (pdus_at (length bytes) 0) s.bytes_are ∙ pdus_again qs (length bytes) 0 s.each (omega (arith, len)) in
+    let some : eqb (length bytes) 0 ≡ false = ne_eqb _ _ (λ e. omega (arith, e, len, pdus_some qs s.nonempty)) in
+    let short : ltb 1472 (length bytes) ≡ false = le-ltb _ _ s.within_limit in
+    let read : pdus_at (length bytes) 0 bytes ≡ Ok (flat_map messages_of qs) = ap (pdus_at (length bytes) 0) s.bytes_are ∙ pdus_again qs (length bytes) 0 s.well_formed (omega (arith, len)) in
     rw (some, short) read

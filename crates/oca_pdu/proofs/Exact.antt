@@ -9,7 +9,7 @@ use Rattle.oca_pdu.specs.Datagrams.{read_or_none}
 use Rattle.std.proofs.lemmas.List.{append-nil}
 use Rattle.std.proofs.lemmas.Grind.{flat_map-append}
 use Rattle.oca_pdu.specs.Reading.{read_datagram}
-use Rattle.oca_pdu.specs.Laws.{OneListOfMessages, OneFirstFault, NoFaultOfADatagram, ReadingIsExact, WrittenIsReadBack, AreBytes}
+use Rattle.oca_pdu.specs.Laws.{OneListOfMessages, OneFirstFault, NoFaultOfADatagram, DatagramOrFault, ReadingIsExact, WrittenIsReadBack, AreBytes}
 use Rattle.oca_pdu.proofs.MessageLoop.{ok_is}
 use Rattle.oca_pdu.specs.FirstFault.{IsFirstFault}
 use Rattle.oca_pdu.proofs.Refused.{datagram_refused}
@@ -89,3 +89,6 @@ not_refused ps bytes f p e = not_both (read_datagram bytes) (flat_map messages_o
 pub read_back : WrittenIsReadBack
 read_back ps p bytes are =
     datagram_again (ps ++ p ∷ []) bytes are ∙ ap (λ (l : List Msg). Ok l) (flat_map-append messages_of ps (p ∷ []) ∙ ap (λ (l : List Msg). flat_map messages_of ps ++ l) (append-nil (messages_of p)))
+
+pub decided : DatagramOrFault
+decided bytes fits = datagram_decided bytes (IsBytes-each bytes fits)

@@ -99,7 +99,7 @@ few (q ∷ r ∷ qs) short = omega (arith, (take_all (q ∷ r ∷ qs)).messages,
 
 within : (qs : List Pdu) (bytes : List ℕ) → IsDatagram qs bytes → IsWithinLimits (flat_map messages_of qs)
 within qs bytes are =
-    let short : length (flat_map pdu_encoding qs) ≤ 1472 = omega (arith, ap length are.bytes_are, are.short) in
+    let short : length (flat_map pdu_encoding qs) ≤ 1472 = omega (arith, ap length are.bytes_are, are.within_limit) in
     let all = take_all qs in
     record { messages = few qs short; commands = omega (arith, all.commands, short); no_responses = omega (arith, all.answered, short) }
 

@@ -8,11 +8,11 @@ abbrev pub Agrees : {X Y : Type 0} → Result X PduFault → Result Y PduFault �
 Agrees (Ok x) read = is_ok read ≡ true
 Agrees (Err f) read = read ≡ Err f
 
--- what is behind what was read
+-- what is after what was read
 abbrev pub behind : {A : Type 0} → Result (A × List ℕ) PduFault → Result (List ℕ) PduFault
 behind read = read >>= λ x. Ok x.1
 
--- The check passes with what is behind, where reading gives something, and else its fault is that of reading.
+-- The check passes with what is after, where reading gives something, and else its fault is that of reading.
 abbrev pub Leaves : {X A : Type 0} → (X → List ℕ) → Result X PduFault → Result (A × List ℕ) PduFault → Type 0
 Leaves view (Ok x) read = behind read ≡ Ok (view x)
 Leaves view (Err f) read = read ≡ Err f

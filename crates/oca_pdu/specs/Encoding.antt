@@ -68,7 +68,7 @@ PduFits (OneKeepAlive form) = FormFits form
 
 -- The bytes are the encodings of these PDUs, one or more (AES70-3), and at most 1,472 (profile).
 pub record IsDatagram (ps : List Pdu) (bytes : List ℕ) : Type 0 where
-  pub some : 0 < length ps
-  pub each : AllByRecursion PduFits ps
+  pub nonempty : 0 < length ps
+  pub well_formed : AllByRecursion PduFits ps
   pub bytes_are : bytes ≡ flat_map pdu_encoding ps
-  pub short : length bytes ≤ 1472
+  pub within_limit : length bytes ≤ 1472

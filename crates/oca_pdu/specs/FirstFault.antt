@@ -1,6 +1,6 @@
 -- The first fault of bytes that are no datagram (profile). The checks are made in the order of the rules below: of the whole,
 -- then PDU by PDU, and in a PDU message by message. A rule says that its check fails and that those before it hold. A field that
--- is not wholly inside the datagram fails in its turn; behind PduSize there is none, since the PDU then lies inside and has at
+-- is not wholly inside the datagram fails in its turn; after PduSize there is none, since the PDU then lies inside and has at
 -- least 12 bytes.
 use Rattle.std.specs.Prelude.{◌≡◌, ◌≢◌, ℕ, ◌+◌, ◌<◌, ◌≤◌, ◌^◌, ◌⊎◌, Bool, List, [], ◌∷◌, ◌++◌, length}
 use Rattle.std.specs.List.{flat_map, AllByRecursion}
@@ -22,11 +22,11 @@ pub data MessagesFail {X : Type 0} (encoding : X → List ℕ) (Fits : X → Typ
   MessageCutOff : (before : List X) (rest : List ℕ) → AllByRecursion Fits before → body ≡ flat_map encoding before ++ rest → length before < count
       → 0 < length rest → length rest < 4
       → IsFaultAt f MessageSize (p + 10 + length (flat_map encoding before)) → MessagesFail encoding Fits least count p body f
-  -- the message's size is below the least, or the message would end behind the PDU
+  -- the message's size is below the least, or the message would end after the PDU
   MessageOfWrongSize : (before : List X) (rest : List ℕ) (size : ℕ) (behind : List ℕ) → AllByRecursion Fits before → body ≡ flat_map encoding before ++ rest → length before < count
       → rest ≡ unsigned_encoding w32 size ++ behind → size < 2 ^ 32 → (size < least) ⊎ (length rest < size)
       → IsFaultAt f MessageSize (p + 10 + length (flat_map encoding before)) → MessagesFail encoding Fits least count p body f
-  -- behind the last message, the PDU goes on
+  -- after the last message, the PDU goes on
   BytesLeft : (before : List X) (rest : List ℕ) → AllByRecursion Fits before → body ≡ flat_map encoding before ++ rest → length before ≡ count
       → 0 < length rest
       → IsFaultAt f Count (p + 8) → MessagesFail encoding Fits least count p body f
@@ -55,7 +55,7 @@ pub data PduFails (p : ℕ) (rest : List ℕ) (f : PduFault) : Type 0 where
   -- PduSize is below 11
   SizeTooSmall : (size : ℕ) (behind : List ℕ) → rest ≡ 0x3B ∷ unsigned_encoding w16 1 ++ unsigned_encoding w32 size ++ behind → size < 11
       → IsFaultAt f PduSize (p + 3) → PduFails p rest f
-  -- the PDU, which has the sync and PduSize bytes, ends behind the datagram
+  -- the PDU, which has the sync and PduSize bytes, ends after the datagram
   PduCutOff : (size : ℕ) (behind : List ℕ) → rest ≡ 0x3B ∷ unsigned_encoding w16 1 ++ unsigned_encoding w32 size ++ behind → size < 2 ^ 32 → 11 ≤ size → length rest < 1 + size
       → IsFaultAt f Truncated (p + 3) → PduFails p rest f
   -- PduType is not 0, 1, 3 or 4

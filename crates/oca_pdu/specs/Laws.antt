@@ -1,5 +1,5 @@
 -- What holds of the encodings and of reading, for every list of bytes.
-use Rattle.std.specs.Prelude.{◌≡◌, ℕ, ◌<◌, ◌↔◌, List, [], ◌∷◌, ◌++◌, Ok, Err}
+use Rattle.std.specs.Prelude.{◌≡◌, ℕ, ◌<◌, ◌↔◌, ◌⊎◌, List, [], ◌∷◌, ◌++◌, Ok, Err}
 use Rattle.std.specs.List.{flat_map, AllByRecursion}
 use Rattle.oca_pdu.specs.declared.fault.PduFault.{PduFault}
 use Rattle.oca_pdu.specs.Messages.{Msg, Pdu, messages_of}
@@ -23,6 +23,10 @@ OneFirstFault = (bytes : List ℕ) (f g : PduFault) → IsFirstFault bytes f →
 abbrev pub NoFaultOfADatagram : Type 0
 NoFaultOfADatagram = (bytes : List ℕ) (ps : List Pdu) (f : PduFault) → IsDatagram ps bytes → IsFirstFault bytes f → ⊥
 
+-- Bytes are a datagram or have a first fault.
+abbrev pub DatagramOrFault : Type 0
+DatagramOrFault = (bytes : List ℕ) → AreBytes bytes → ((ps : List Pdu) × IsDatagram ps bytes) ⊎ ((f : PduFault) × IsFirstFault bytes f)
+
 -- Reading gives exactly the messages of a datagram, and exactly the first fault of other bytes.
 pub record ReadsExactly (bytes : List ℕ) : Type 0 where
   pub messages : (ms : List Msg) → (read_datagram bytes ≡ Ok ms) ↔ ((ps : List Pdu) × IsDatagram ps bytes × (flat_map messages_of ps ≡ ms))
@@ -31,6 +35,6 @@ pub record ReadsExactly (bytes : List ℕ) : Type 0 where
 abbrev pub ReadingIsExact : Type 0
 ReadingIsExact = (bytes : List ℕ) → AreBytes bytes → ReadsExactly bytes
 
--- A PDU that was appended to others is read back behind their messages.
+-- A PDU that was appended to others is read back after their messages.
 abbrev pub WrittenIsReadBack : Type 0
 WrittenIsReadBack = (ps : List Pdu) (p : Pdu) (bytes : List ℕ) → IsDatagram (ps ++ p ∷ []) bytes → read_datagram bytes ≡ Ok (flat_map messages_of ps ++ messages_of p)

@@ -1,6 +1,6 @@
--- Reading a datagram from left to right: its messages, or its first fault. The code takes the same
--- steps. That they give what the encodings and the first fault say is the law `ReadingIsExact` of Laws; layers above
--- cite `read_datagram` as the messages of the bytes.
+-- Reading a datagram from left to right: its messages, or its first fault. The code takes the same steps, and so this module,
+-- and `messages_left` of Datagrams, which cites it, speak of offsets, as no other definition does. That reading gives what the
+-- encodings and the first fault say is the law `ReadingIsExact` of Laws: who reads Encoding and FirstFault needs nothing of this.
 use Rattle.std.specs.Prelude.{ℕ, zero, suc, ◌+◌, ◌-◌, Bool, true, false, ◌||◌, not, List, [], ◌∷◌, ◌++◌, length, take, drop, slice_index, Result, Ok, Err, nat_lt, ◌==◌, Option, Some, None, if◌then◌else◌}
 use Rattle.std.specs.Int.{Width, w16, w32, byte_len, from_be_bytes}
 use Rattle.oca_pdu.specs.declared.fault.PduFault.{PduFault}
@@ -52,7 +52,7 @@ message_in kinds.Response bytes = Response (record {
   params = drop 10 bytes;
 })
 
--- the message at m, and what is behind it in its PDU
+-- the message at m, and what is after it in its PDU
 unfoldable pub message_at : Kind → ℕ → List ℕ → Result (Msg × List ℕ) PduFault
 message_at kind m bytes =
     if nat_lt (length bytes) 4 then fault MessageSize m
@@ -73,7 +73,7 @@ abbrev pub content_of : ℕ → Option Content
 content_of type = if type == 0 then Some (contents.Messages kinds.Command) else (if type == 1 then Some (contents.Messages kinds.CommandWithResponse)
     else (if type == 3 then Some (contents.Messages kinds.Response) else (if type == 4 then Some contents.KeepAlive else None)))
 
--- what the PDU at p holds, with this MessageCount and these bytes behind the header
+-- what the PDU at p holds, with this MessageCount and these bytes after the header
 unfoldable pub content_at : Option Content → ℕ → ℕ → List ℕ → Result (List Msg) PduFault
 content_at None count p body = fault PduType (p + 7)
 content_at (Some (contents.Messages kind)) count p body = if count == 0 then fault Count (p + 8) else messages_at kind count p (p + 10) body
@@ -83,7 +83,7 @@ content_at (Some contents.KeepAlive) count p body = if not (count == 1) then fau
 unfoldable pub inside_at : ℕ → List ℕ → Result (List Msg) PduFault
 inside_at p bytes = content_at (content_of (slice_index bytes 7)) (number_at w16 8 bytes) p (drop 10 bytes)
 
--- the messages of the PDU at p, and what is behind it
+-- the messages of the PDU at p, and what is after it
 unfoldable pub pdu_at : ℕ → List ℕ → Result (List Msg × List ℕ) PduFault
 pdu_at p bytes =
     if not (slice_index bytes 0 == 0x3B) then fault Sync p

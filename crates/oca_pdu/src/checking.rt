@@ -11,9 +11,10 @@ ghost use Rattle.oca_pdu.specs.Checking.{Agrees, Leaves};
 use crate::datagram::Datagram;
 use crate::fault::{PduFault, PduFaultKind};
 use crate::fields;
-use crate::message::{Content, Kind};
+use crate::message::{Content, HEADER_BYTES, Kind, SYNC};
+use oca_types::MOST_BYTES;
 
-/// What is behind the message at `at`.
+/// What is after the message at `at`, with which the bytes begin. Refusal: `MessageSize`.
 #[tactic(auto, unfolding(crate::specs::Reading::message_at))]
 fn check_message(kind: Kind, at: u16, bytes: &[u8]) -> Result<&[u8], PduFault>
     ensures exact { Leaves (λ x. x.now) result (message_at kind at bytes.now) }
@@ -30,7 +31,7 @@ fn check_message(kind: Kind, at: u16, bytes: &[u8]) -> Result<&[u8], PduFault>
     Ok(&bytes[size..])
 }
 
-/// The messages of the PDU at `pdu`, which are to be `count` and all of the bytes.
+/// Checks the messages of the PDU at `pdu`, which are to be `count` and all of the bytes. Refusals: `Count`, `MessageSize`.
 fn check_messages(kind: Kind, count: u16, pdu: u16, bytes: &[u8]) -> Result<(), PduFault>
     requires { pdu + 10 + length bytes.now ≤ 1472 }
     ensures { Agrees result (messages_at kind count pdu (pdu + 10) bytes.now) }
@@ -51,6 +52,7 @@ fn check_messages(kind: Kind, count: u16, pdu: u16, bytes: &[u8]) -> Result<(), 
     }
 }
 
+/// Checks the keep-alive of the PDU at `pdu`, which is all of the bytes. Refusal: `MessageSize`.
 #[tactic(auto, unfolding(crate::specs::Reading::keep_alive_at))]
 fn check_keep_alive(pdu: u16, bytes: &[u8]) -> Result<(), PduFault>
     requires { pdu + 10 ≤ 1472 }
@@ -62,7 +64,7 @@ fn check_keep_alive(pdu: u16, bytes: &[u8]) -> Result<(), PduFault>
     }
 }
 
-/// The inside of the PDU at `pdu`, which is all of the bytes.
+/// Checks PduType, MessageCount and the messages of the PDU at `pdu`, which is all of the bytes.
 #[tactic(auto, unfolding(crate::specs::Reading::inside_at, crate::specs::Reading::content_at))]
 fn check_inside(pdu: u16, bytes: &[u8]) -> Result<(), PduFault>
     requires least { 12 ≤ length bytes.now }
@@ -73,7 +75,7 @@ fn check_inside(pdu: u16, bytes: &[u8]) -> Result<(), PduFault>
         return Err(PduFaultKind::PduType.at(pdu + 7));
     };
     let count = fields::u16_in(&bytes[8..10]);
-    let body = &bytes[10..];
+    let body = &bytes[HEADER_BYTES..];
     let wrong_count = PduFaultKind::Count.at(pdu + 8);
     match content {
         Content::Messages(_) if count == 0 => Err(wrong_count),
@@ -83,7 +85,7 @@ fn check_inside(pdu: u16, bytes: &[u8]) -> Result<(), PduFault>
     }
 }
 
-/// What is behind the PDU at `pdu`, with which the bytes begin.
+/// What is after the PDU at `pdu`, with which the bytes begin. Refuses it at the first check that fails.
 #[tactic(auto, unfolding(crate::specs::Reading::pdu_at), using(crate::proofs::Agreeing::passes_on))]
 fn check_pdu(pdu: u16, bytes: &[u8]) -> Result<&[u8], PduFault>
     requires some { 0 < length bytes.now }
@@ -91,7 +93,7 @@ fn check_pdu(pdu: u16, bytes: &[u8]) -> Result<&[u8], PduFault>
     ensures exact { Leaves (λ x. x.now) result (pdu_at pdu bytes.now) }
     ensures shorter { IfOk result (λ x. length x.now < length bytes.now) }
 {
-    if bytes[0] != 0x3B {
+    if bytes[0] != SYNC {
         return Err(PduFaultKind::Sync.at(pdu));
     }
     if bytes.len() < 3 {
@@ -115,6 +117,7 @@ fn check_pdu(pdu: u16, bytes: &[u8]) -> Result<&[u8], PduFault>
     Ok(rest)
 }
 
+/// Checks the PDUs that are all of the bytes, from left to right.
 fn check_pdus(bytes: &[u8]) -> Result<(), PduFault>
     requires { length bytes.now ≤ 1472 }
     ensures { Agrees result (pdus_at (length bytes.now) 0 bytes.now) }
@@ -130,6 +133,7 @@ fn check_pdus(bytes: &[u8]) -> Result<(), PduFault>
     Ok(())
 }
 
+/// Checks the number of bytes, and then the PDUs.
 #[tactic(auto, unfolding(crate::specs::Reading::read_datagram))]
 fn check_all(bytes: &[u8]) -> Result<(), PduFault>
     ensures { Agrees result (read_datagram bytes.now) }
@@ -137,8 +141,8 @@ fn check_all(bytes: &[u8]) -> Result<(), PduFault>
     if bytes.is_empty() {
         return Err(PduFaultKind::Empty.at(0));
     }
-    if bytes.len() > 1472 {
-        return Err(PduFaultKind::TooLong.at(1472));
+    if bytes.len() > MOST_BYTES {
+        return Err(PduFaultKind::TooLong.at(MOST_BYTES as u16));
     }
     check_pdus(bytes)
 }

@@ -3,7 +3,6 @@ ghost use Rattle.std.specs.Prelude.{IsTrue, is_ok};
 ghost use Rattle.oca_pdu.specs.Reading.{read_datagram};
 
 use crate::messages::Messages;
-use crate::walk;
 
 /// The bytes of a well-formed datagram, seen as its messages.
 #[derive(Clone, Copy)]
@@ -23,6 +22,6 @@ impl<'a> Datagram<'a> {
         ensures all { messages_left result ≡ datagram_messages self.now }
         ensures limits { IsWithinLimits (messages_left result) }
     {
-        walk::start(self.bytes)
+        Messages::start(self.bytes)
     }
 }

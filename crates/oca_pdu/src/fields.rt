@@ -1,13 +1,13 @@
 //! The fields of messages and of a PDU's header, read from bytes that are long enough.
-ghost use Rattle.std.specs.Prelude.{◌≡◌, ◌≤◌, length};
+ghost use Rattle.std.specs.Prelude.{◌≡◌, ◌≤◌, ◌∷◌, [], IsTrue, is_ok, Ok, length};
 ghost use Rattle.std.specs.Int.{w16, w32, from_be_bytes};
 ghost use Rattle.oca_pdu.specs.Messages.{msg_of};
-ghost use Rattle.oca_pdu.specs.Reading.{least_size, message_in, content_of};
+ghost use Rattle.oca_pdu.specs.Reading.{least_size, message_in, content_of, keep_alive_at};
 
-use crate::message::{Content, Kind, Message};
+use crate::message::{COMMAND_BYTES, Content, Form, Kind, Message, RESPONSE_BYTES};
 use oca_types::{Command, Handle, MethodId, Ono};
 
-/// The number in two bytes.
+/// The number in two bytes, the highest first.
 pub fn u16_in(bytes: &[u8]) -> u16
     requires { length bytes.now ≡ 2 }
     ensures { result ≡ from_be_bytes w16 bytes.now }
@@ -15,7 +15,7 @@ pub fn u16_in(bytes: &[u8]) -> u16
     u16::from_be_bytes([bytes[0], bytes[1]])
 }
 
-/// The number in four bytes.
+/// The number in four bytes, the highest first.
 pub fn u32_in(bytes: &[u8]) -> u32
     requires { length bytes.now ≡ 4 }
     ensures { result ≡ from_be_bytes w32 bytes.now }
@@ -28,8 +28,8 @@ pub fn least(kind: Kind) -> usize
     ensures { result ≡ least_size kind }
 {
     match kind {
-        Kind::Command | Kind::CommandWithResponse => 17,
-        Kind::Response => 10,
+        Kind::Command | Kind::CommandWithResponse => COMMAND_BYTES,
+        Kind::Response => RESPONSE_BYTES,
     }
 }
 
@@ -47,7 +47,7 @@ pub fn content(pdu_type: u8) -> Option<Content>
 }
 
 /// The message that is all of the bytes.
-pub fn message(kind: Kind, bytes: &[u8]) -> Message<'_>
+pub fn read_message(kind: Kind, bytes: &[u8]) -> Message<'_>
     requires { least_size kind ≤ length bytes.now }
     ensures { msg_of result ≡ message_in kind bytes.now }
 {
@@ -75,5 +75,17 @@ pub fn message(kind: Kind, bytes: &[u8]) -> Message<'_>
     Message::Command {
         respond: matches!(kind, Kind::CommandWithResponse),
         command,
+    }
+}
+
+/// The time of a keep-alive.
+pub fn read_form(bytes: &[u8]) -> Form
+    requires { IsTrue (is_ok (keep_alive_at 0 bytes.now)) }
+    ensures { keep_alive_at 0 bytes.now ≡ Ok (msg_of (Message.KeepAlive result) ∷ []) }
+{
+    if bytes.len() == 2 {
+        Form::Seconds(u16_in(bytes))
+    } else {
+        Form::Millis(u32_in(bytes))
     }
 }

@@ -1,5 +1,5 @@
 //! Laws of the encodings, of the first fault and of reading. Nothing here runs: each contract is its law.
-ghost use Rattle.oca_pdu.specs.Laws.{OneListOfMessages, OneFirstFault, NoFaultOfADatagram, ReadingIsExact, WrittenIsReadBack};
+ghost use Rattle.oca_pdu.specs.Laws.{OneListOfMessages, OneFirstFault, NoFaultOfADatagram, DatagramOrFault, ReadingIsExact, WrittenIsReadBack};
 
 /// Bytes are the encodings of one list of messages at most.
 pub fn law_one_list_of_messages()
@@ -16,12 +16,17 @@ pub fn law_no_fault_of_a_datagram()
     ensures { NoFaultOfADatagram }
 {}
 
+/// Bytes are a datagram or have a first fault.
+pub fn law_datagram_or_fault()
+    ensures { DatagramOrFault }
+{}
+
 /// Reading gives exactly the messages of a datagram, and exactly the first fault of other bytes.
 pub fn law_reading()
     ensures { ReadingIsExact }
 {}
 
-/// What a writer appends to a packet is read back behind the messages that it held.
+/// What a writer appends to a packet is read back after the messages that it held.
 pub fn law_written_is_read_back()
     ensures { WrittenIsReadBack }
 {}

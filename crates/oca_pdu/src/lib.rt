@@ -13,15 +13,14 @@ mod fields;
 mod laws;
 mod message;
 mod messages;
-mod walk;
 mod writing;
 
 pub use checking::check;
 pub use datagram::Datagram;
 pub use fault::{PduFault, PduFaultKind, WriteFault};
 pub use laws::{
-    law_no_fault_of_a_datagram, law_one_first_fault, law_one_list_of_messages, law_reading,
-    law_written_is_read_back,
+    law_datagram_or_fault, law_no_fault_of_a_datagram, law_one_first_fault,
+    law_one_list_of_messages, law_reading, law_written_is_read_back,
 };
 pub use message::{Form, Message};
 pub use messages::Messages;

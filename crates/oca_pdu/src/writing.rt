@@ -11,9 +11,10 @@ ghost use Rattle.oca_pdu.specs.Writing.{AddsPdu, IsResponses, HoldsResponses, re
 
 use crate::fault::WriteFault;
 use crate::fields;
-use crate::message::Form;
-use oca_types::{Command, Handle, Packet, Reply};
+use crate::message::{COMMAND_BYTES, Form, HEADER_BYTES, RESPONSE_BYTES, SYNC};
+use oca_types::{Command, Handle, MOST_BYTES, Packet, Reply};
 
+/// Appends bytes for which there is room.
 fn put(packet: &mut Packet, bytes: &[u8])
     requires { array_vec_len packet.old + length bytes.now ≤ 1472 }
     ensures { packet.new.items ≡ packet.old.items ++ bytes.now }
@@ -37,8 +38,8 @@ pub fn write_command(
     ensures err { OnErr result (packet.new ≡ packet.old) }
 {
     let params = command.params;
-    let room = 1472 - packet.len();
-    if room < 27 || room - 27 < params.len() {
+    let room = MOST_BYTES - packet.len();
+    if room < HEADER_BYTES + COMMAND_BYTES || room - (HEADER_BYTES + COMMAND_BYTES) < params.len() {
         return Err(WriteFault::TooLong);
     }
     put(packet, &command_front(respond, command));
@@ -52,7 +53,7 @@ fn command_front(respond: bool, command: &Command) -> [u8; 27]
     ensures bytes { result ++ command.now.params.now ≡ pdu_encoding (Commands respond (fields_of command.now ∷ [])) }
     ensures fits { CommandFits (fields_of command.now) }
 {
-    let size = 17 + command.params.len() as u32;
+    let size = COMMAND_BYTES as u32 + command.params.len() as u32;
     let [p0, p1, p2, p3] = (9 + size).to_be_bytes();
     let [s0, s1, s2, s3] = size.to_be_bytes();
     let [h0, h1, h2, h3] = command.handle.0.to_be_bytes();
@@ -60,7 +61,7 @@ fn command_front(respond: bool, command: &Command) -> [u8; 27]
     let [l0, l1] = command.method.level.to_be_bytes();
     let [i0, i1] = command.method.index.to_be_bytes();
     [
-        0x3B,
+        SYNC,
         0,
         1,
         p0,
@@ -102,8 +103,9 @@ pub fn write_response(packet: &mut Packet, handle: Handle, reply: &Reply) -> Res
     ensures err { OnErr result (packet.new ≡ packet.old) }
 {
     let params = reply.params.as_slice();
-    let room = 1472 - packet.len();
-    if room < 20 || room - 20 < params.len() {
+    let room = MOST_BYTES - packet.len();
+    let needed = HEADER_BYTES + RESPONSE_BYTES + params.len();
+    if room < needed {
         return Err(WriteFault::TooLong);
     }
     put(packet, &response_front(handle, reply));
@@ -118,7 +120,7 @@ fn response_head(handle: Handle, reply: &Reply) -> [u8; 10]
 {
     let Handle(handle) = handle;
     let (status, count) = (reply.status.number(), reply.count);
-    let size = 10 + reply.params.len() as u32;
+    let size = RESPONSE_BYTES as u32 + reply.params.len() as u32;
     let [s0, s1, s2, s3] = size.to_be_bytes();
     let [h0, h1, h2, h3] = handle.to_be_bytes();
     [s0, s1, s2, s3, h0, h1, h2, h3, status, count]
@@ -133,7 +135,7 @@ fn response_front(handle: Handle, reply: &Reply) -> [u8; 20]
     let [p0, p1, p2, p3] = size.to_be_bytes();
     let [s0, s1, s2, s3, h0, h1, h2, h3, status, count] = response_head(handle, reply);
     [
-        0x3B, 0, 1, p0, p1, p2, p3, 3, 0, 1, s0, s1, s2, s3, h0, h1, h2, h3, status, count,
+        SYNC, 0, 1, p0, p1, p2, p3, 3, 0, 1, s0, s1, s2, s3, h0, h1, h2, h3, status, count,
     ]
 }
 
@@ -168,8 +170,8 @@ pub fn extend_response(packet: &mut Packet, handle: Handle, reply: &Reply) -> Re
     ensures err { OnErr result (packet.new ≡ packet.old) }
 {
     let params = reply.params.as_slice();
-    let room = 1472 - packet.len();
-    if room < 10 || room - 10 < params.len() {
+    let room = MOST_BYTES - packet.len();
+    if room < RESPONSE_BYTES || room - RESPONSE_BYTES < params.len() {
         return Err(WriteFault::TooLong);
     }
     let size = packet.len() + 9 + params.len();
@@ -193,6 +195,7 @@ pub fn write_keepalive(packet: &mut Packet, form: Form) -> Result<(), WriteFault
     }
 }
 
+/// Appends bytes. Refusal: `TooLong` where the packet would pass 1,472 bytes, and the packet is unchanged.
 fn append(packet: &mut Packet, bytes: &[u8]) -> Result<(), WriteFault>
     ensures room { IsOk result ↔ (length packet.old.items + length bytes.now ≤ 1472) }
     ensures ok { OnOk result (packet.new.items ≡ packet.old.items ++ bytes.now) }
@@ -203,18 +206,20 @@ fn append(packet: &mut Packet, bytes: &[u8]) -> Result<(), WriteFault>
         .map_err(|_| WriteFault::TooLong)
 }
 
+/// A PDU of one keep-alive in seconds.
 fn seconds_pdu(seconds: u16) -> [u8; 12]
     ensures bytes { result ≡ pdu_encoding (OneKeepAlive (Form.Seconds seconds)) }
     ensures fits { FormFits (Form.Seconds seconds) }
 {
     let [a, b] = seconds.to_be_bytes();
-    [0x3B, 0, 1, 0, 0, 0, 11, 4, 0, 1, a, b]
+    [SYNC, 0, 1, 0, 0, 0, 11, 4, 0, 1, a, b]
 }
 
+/// A PDU of one keep-alive in milliseconds.
 fn millis_pdu(millis: u32) -> [u8; 14]
     ensures bytes { result ≡ pdu_encoding (OneKeepAlive (Form.Millis millis)) }
     ensures fits { FormFits (Form.Millis millis) }
 {
     let [a, b, c, d] = millis.to_be_bytes();
-    [0x3B, 0, 1, 0, 0, 0, 13, 4, 0, 1, a, b, c, d]
+    [SYNC, 0, 1, 0, 0, 0, 13, 4, 0, 1, a, b, c, d]
 }

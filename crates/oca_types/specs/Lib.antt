@@ -3,6 +3,7 @@ pub mod Texts
 pub mod Characters
 pub mod Reading
 pub mod Taking
+pub mod Putting
 pub mod Status
 pub mod Peers
 pub mod Sizes

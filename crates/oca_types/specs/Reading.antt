@@ -1,4 +1,4 @@
--- Reading a value from the front of a list of bytes (AES70-3): the value and the bytes behind it, or nothing. Each take of a
+-- Reading a value from the front of a list of bytes (AES70-3): the value and the bytes after it, or nothing. Each take of a
 -- cursor states that it answers by its function here, and states beside it that this is what the encodings say.
 use Rattle.std.specs.Prelude.{ℕ, ◌==◌, ◌&&◌, nat_lt, not, Bool, if◌then◌else◌, List, [], ◌∷◌, length, take, drop, Option, Some, None, ℤ, option_and_then, find}
 use Rattle.std.specs.List.{range_with_len}
@@ -23,7 +23,7 @@ bool_at (b ∷ bytes) = Some (not (b == 0), bytes)
 abbrev pub is_text_of : ℕ → List ℕ → Bool
 is_text_of n text = is_utf8 text && (length (chars text) == n)
 
--- the front of 0 to 64 bytes that is UTF-8 of n scalar values, and the bytes behind it (64 is the profile's)
+-- the shortest front of at most 64 bytes that is UTF-8 of n scalar values, and the bytes after it (64 is the profile's)
 unfoldable pub text_front : ℕ → List ℕ → Option (List ℕ × List ℕ)
 text_front n bytes = option_map (λ k. (take k bytes, drop k bytes)) (find (λ k. is_text_of n (take k bytes)) (range_with_len 0 65))
 

@@ -120,6 +120,7 @@ pub enum MethodKind {
     Unknown,
 }
 
+/// The method of OcaRoot, DefLevel 1, with this MethodIndex.
 fn root_method(index: u16) -> Option<Method>
     ensures { result ≡ row_at root_methods index }
 {
@@ -134,6 +135,7 @@ fn root_method(index: u16) -> Option<Method>
     })
 }
 
+/// The method of OcaWorker, DefLevel 2, with this MethodIndex.
 fn worker_method(index: u16) -> Option<Method>
     ensures { result ≡ row_at worker_methods index }
 {
@@ -147,6 +149,7 @@ fn worker_method(index: u16) -> Option<Method>
     }
 }
 
+/// The method of OcaBlock, DefLevel 3, with this MethodIndex.
 fn block_method(index: u16) -> Option<Method>
     ensures { result ≡ row_at block_methods index }
 {
@@ -157,6 +160,7 @@ fn block_method(index: u16) -> Option<Method>
     }
 }
 
+/// The method of OcaMute and OcaPolarity, DefLevel 4, with this MethodIndex.
 fn state_method(index: u16) -> Option<Method>
     ensures { result ≡ row_at state_methods index }
 {
@@ -167,6 +171,7 @@ fn state_method(index: u16) -> Option<Method>
     }
 }
 
+/// The method of OcaSwitch, DefLevel 4, with this MethodIndex.
 fn switch_method(index: u16) -> Option<Method>
     ensures { result ≡ row_at switch_methods index }
 {
@@ -185,6 +190,7 @@ fn switch_method(index: u16) -> Option<Method>
     }
 }
 
+/// The method of a basic actuator, DefLevel 5, with this MethodIndex.
 fn setting_method(index: u16) -> Option<Method>
     ensures { result ≡ row_at setting_methods index }
 {
@@ -275,6 +281,7 @@ pub fn class_fields(class: Class) -> ArrayVec<u16, 5>
     }
 }
 
+/// These fields of an identifier, of which there are at most 5.
 fn fields(numbers: &[u16]) -> ArrayVec<u16, 5>
     requires { length numbers.now ≤ 5 }
     ensures { result.items ≡ numbers.now }

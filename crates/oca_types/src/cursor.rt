@@ -10,15 +10,29 @@ ghost use Rattle.oca_types.specs.Taking.{bytes_left, Takes, TakesEach, IsCutShor
 
 use crate::fault::ReadFault;
 use crate::text::{Text, chars_at};
+use std::alloc::AllocError;
 
 /// What is left of a slice. Each take answers the value whose encoding is at the front (AES70-3) and
 /// goes past exactly that encoding; after a refusal the cursor is as it was.
-#[derive(Clone, Copy)]
 pub struct Cursor<'a> {
     rest: &'a [u8],
 }
 
-/// The first `n` bytes, and those behind them.
+impl Clone for Cursor<'_> {
+    ghost use Rattle.std.specs.Prelude.{◌≡◌};
+    ghost use Rattle.oca_types.specs.Taking.{bytes_left};
+
+    ghost is_clone = { λ c d. bytes_left d ≡ bytes_left c };
+
+    /// A cursor with the same bytes left.
+    fn clone(&self) -> Result<Self, AllocError> {
+        Ok(*self)
+    }
+}
+
+impl Copy for Cursor<'_> {}
+
+/// The first `n` bytes, and those after them.
 fn split(bytes: &[u8], n: usize) -> Result<(&[u8], &[u8]), ReadFault>
     ensures ok { IfOk result (λ x. (bytes.now ≡ x.0.now ++ x.1.now) × (length x.0.now ≡ n) × IsBytes x.0.now) }
     ensures short { IfErr result (λ e. (e ≡ Short) × (length bytes.now < n) × IsBytes bytes.now) }
@@ -34,6 +48,7 @@ impl<'a> Cursor<'a> {
         Cursor { rest: bytes }
     }
 
+    /// The first `n` bytes. Refusal: `Short`, and the cursor is unchanged.
     fn take_bytes(&mut self, n: usize) -> Result<&'a [u8], ReadFault>
         ensures ok { IfOk result (λ front. (self.old.rest.now ≡ front.now ++ self.new.rest.now) × (length front.now ≡ n) × IsBytes front.now) }
         ensures err { OnErr result (self.new ≡ self.old) }

@@ -26,4 +26,7 @@ pub use put::{
 pub use sizes::{Span, Window};
 pub use status::Status;
 pub use text::Text;
-pub use words::{Command, Handle, MethodId, NoMemory, Ono, Packet, Params, Peer, Reply};
+pub use words::{
+    Command, Handle, MOST_BYTES, MOST_PARAMETER_BYTES, MethodId, NoMemory, Ono, Packet, Params,
+    Peer, Reply,
+};

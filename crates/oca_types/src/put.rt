@@ -4,17 +4,18 @@ ghost use Rattle.std.specs.Str.{chars};
 ghost use Rattle.std.specs.Int.{w8, w16, w32, w64};
 ghost use Rattle.oca_types.specs.Numbers.{unsigned_encoding, signed_encoding, bool_encoding};
 ghost use Rattle.oca_types.specs.Texts.{text_encoding};
+ghost use Rattle.oca_types.specs.Putting.{Puts};
 ghost use Rattle.oca_types.specs.Classes.{class_identification_encoding};
 
 use crate::class::{Class, class_fields};
 use crate::fault::PutFault;
 use crate::text::Text;
-use crate::words::Params;
+use crate::words::{MOST_PARAMETER_BYTES, Params};
 
 /// Appends bytes.
 fn put_bytes(params: &mut Params, bytes: &[u8]) -> Result<(), PutFault>
     ensures full { IsErr result ↔ (1452 < length params.old.items + length bytes.now) }
-    ensures ok { OnOk result (params.new.items ≡ params.old.items ++ bytes.now) }
+    ensures puts { Puts result params.old.items params.new.items bytes.now }
     ensures err { OnErr result (params.new ≡ params.old) }
 {
     params
@@ -25,7 +26,7 @@ fn put_bytes(params: &mut Params, bytes: &[u8]) -> Result<(), PutFault>
 /// Appends a Uint8 (AES70-3). Refusal: `Full`, and the parameters are unchanged.
 pub fn put_u8(params: &mut Params, value: u8) -> Result<(), PutFault>
     ensures full { IsErr result ↔ (1452 < length params.old.items + 1) }
-    ensures ok { OnOk result (params.new.items ≡ params.old.items ++ unsigned_encoding w8 value) }
+    ensures puts { Puts result params.old.items params.new.items (unsigned_encoding w8 value) }
     ensures err { OnErr result (params.new ≡ params.old) }
 {
     put_bytes(params, &u8::to_be_bytes(value))
@@ -34,7 +35,7 @@ pub fn put_u8(params: &mut Params, value: u8) -> Result<(), PutFault>
 /// Appends a Uint16 (AES70-3). Refusal: `Full`, and the parameters are unchanged.
 pub fn put_u16(params: &mut Params, value: u16) -> Result<(), PutFault>
     ensures full { IsErr result ↔ (1452 < length params.old.items + 2) }
-    ensures ok { OnOk result (params.new.items ≡ params.old.items ++ unsigned_encoding w16 value) }
+    ensures puts { Puts result params.old.items params.new.items (unsigned_encoding w16 value) }
     ensures err { OnErr result (params.new ≡ params.old) }
 {
     put_bytes(params, &u16::to_be_bytes(value))
@@ -43,7 +44,7 @@ pub fn put_u16(params: &mut Params, value: u16) -> Result<(), PutFault>
 /// Appends a Uint32 (AES70-3). Refusal: `Full`, and the parameters are unchanged.
 pub fn put_u32(params: &mut Params, value: u32) -> Result<(), PutFault>
     ensures full { IsErr result ↔ (1452 < length params.old.items + 4) }
-    ensures ok { OnOk result (params.new.items ≡ params.old.items ++ unsigned_encoding w32 value) }
+    ensures puts { Puts result params.old.items params.new.items (unsigned_encoding w32 value) }
     ensures err { OnErr result (params.new ≡ params.old) }
 {
     put_bytes(params, &u32::to_be_bytes(value))
@@ -52,7 +53,7 @@ pub fn put_u32(params: &mut Params, value: u32) -> Result<(), PutFault>
 /// Appends a Uint64 (AES70-3). Refusal: `Full`, and the parameters are unchanged.
 pub fn put_u64(params: &mut Params, value: u64) -> Result<(), PutFault>
     ensures full { IsErr result ↔ (1452 < length params.old.items + 8) }
-    ensures ok { OnOk result (params.new.items ≡ params.old.items ++ unsigned_encoding w64 value) }
+    ensures puts { Puts result params.old.items params.new.items (unsigned_encoding w64 value) }
     ensures err { OnErr result (params.new ≡ params.old) }
 {
     put_bytes(params, &u64::to_be_bytes(value))
@@ -61,7 +62,7 @@ pub fn put_u64(params: &mut Params, value: u64) -> Result<(), PutFault>
 /// Appends an Int8 (AES70-3). Refusal: `Full`, and the parameters are unchanged.
 pub fn put_i8(params: &mut Params, value: i8) -> Result<(), PutFault>
     ensures full { IsErr result ↔ (1452 < length params.old.items + 1) }
-    ensures ok { OnOk result (params.new.items ≡ params.old.items ++ signed_encoding w8 value) }
+    ensures puts { Puts result params.old.items params.new.items (signed_encoding w8 value) }
     ensures err { OnErr result (params.new ≡ params.old) }
 {
     put_bytes(params, &i8::to_be_bytes(value))
@@ -70,7 +71,7 @@ pub fn put_i8(params: &mut Params, value: i8) -> Result<(), PutFault>
 /// Appends an Int16 (AES70-3). Refusal: `Full`, and the parameters are unchanged.
 pub fn put_i16(params: &mut Params, value: i16) -> Result<(), PutFault>
     ensures full { IsErr result ↔ (1452 < length params.old.items + 2) }
-    ensures ok { OnOk result (params.new.items ≡ params.old.items ++ signed_encoding w16 value) }
+    ensures puts { Puts result params.old.items params.new.items (signed_encoding w16 value) }
     ensures err { OnErr result (params.new ≡ params.old) }
 {
     put_bytes(params, &i16::to_be_bytes(value))
@@ -79,7 +80,7 @@ pub fn put_i16(params: &mut Params, value: i16) -> Result<(), PutFault>
 /// Appends an Int32 (AES70-3). Refusal: `Full`, and the parameters are unchanged.
 pub fn put_i32(params: &mut Params, value: i32) -> Result<(), PutFault>
     ensures full { IsErr result ↔ (1452 < length params.old.items + 4) }
-    ensures ok { OnOk result (params.new.items ≡ params.old.items ++ signed_encoding w32 value) }
+    ensures puts { Puts result params.old.items params.new.items (signed_encoding w32 value) }
     ensures err { OnErr result (params.new ≡ params.old) }
 {
     put_bytes(params, &i32::to_be_bytes(value))
@@ -88,7 +89,7 @@ pub fn put_i32(params: &mut Params, value: i32) -> Result<(), PutFault>
 /// Appends an Int64 (AES70-3). Refusal: `Full`, and the parameters are unchanged.
 pub fn put_i64(params: &mut Params, value: i64) -> Result<(), PutFault>
     ensures full { IsErr result ↔ (1452 < length params.old.items + 8) }
-    ensures ok { OnOk result (params.new.items ≡ params.old.items ++ signed_encoding w64 value) }
+    ensures puts { Puts result params.old.items params.new.items (signed_encoding w64 value) }
     ensures err { OnErr result (params.new ≡ params.old) }
 {
     put_bytes(params, &i64::to_be_bytes(value))
@@ -97,7 +98,7 @@ pub fn put_i64(params: &mut Params, value: i64) -> Result<(), PutFault>
 /// Appends an OcaBoolean (AES70-3), as 0 or 1. Refusal: `Full`, and the parameters are unchanged.
 pub fn put_bool(params: &mut Params, value: bool) -> Result<(), PutFault>
     ensures full { IsErr result ↔ (1452 < length params.old.items + 1) }
-    ensures ok { OnOk result (params.new.items ≡ params.old.items ++ bool_encoding value) }
+    ensures puts { Puts result params.old.items params.new.items (bool_encoding value) }
     ensures err { OnErr result (params.new ≡ params.old) }
 {
     put_u8(params, u8::from(value))
@@ -115,11 +116,11 @@ fn scalar_count(text: &str) -> u16
 /// Refusal: `Full`, and the parameters are unchanged.
 pub fn put_text(params: &mut Params, value: &Text) -> Result<(), PutFault>
     ensures full { IsErr result ↔ (1452 < length params.old.items + length (text_encoding value.now)) }
-    ensures ok { OnOk result (params.new.items ≡ params.old.items ++ text_encoding value.now) }
+    ensures puts { Puts result params.old.items params.new.items (text_encoding value.now) }
     ensures err { OnErr result (params.new ≡ params.old) }
 {
     let text = value.as_str();
-    if 1452 - params.len() < 2 + text.len() {
+    if MOST_PARAMETER_BYTES - params.len() < 2 + text.len() {
         return Err(PutFault::Full);
     }
     put_u16(params, scalar_count(text))?;
@@ -130,11 +131,11 @@ pub fn put_text(params: &mut Params, value: &Text) -> Result<(), PutFault>
 /// (*profile*). Refusal: `Full`, and the parameters are unchanged.
 pub fn put_class_identification(params: &mut Params, class: Class) -> Result<(), PutFault>
     ensures full { IsErr result ↔ (1452 < length params.old.items + length (class_identification_encoding class)) }
-    ensures ok { OnOk result (params.new.items ≡ params.old.items ++ class_identification_encoding class) }
+    ensures puts { Puts result params.old.items params.new.items (class_identification_encoding class) }
     ensures err { OnErr result (params.new ≡ params.old) }
 {
     let fields = class_fields(class);
-    if 1452 - params.len() < 4 + 2 * fields.len() {
+    if MOST_PARAMETER_BYTES - params.len() < 4 + 2 * fields.len() {
         return Err(PutFault::Full);
     }
     put_u16(params, fields.len() as u16)?;

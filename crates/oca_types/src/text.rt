@@ -61,7 +61,7 @@ impl Default for Text {
     }
 }
 
-/// The first `count` characters, and what is behind them.
+/// The first `count` characters, and what is after them.
 fn split_chars(text: &str, count: u16) -> Option<(&str, &str)>
     ensures some { IfSome result (λ x. HasChars count x.0.now × (text.now ≡ x.0.now ++ x.1.now)) }
     ensures none { IfNone result ((n : ℕ) × (n < count) × HasChars n text.now) }
@@ -77,7 +77,8 @@ fn split_chars(text: &str, count: u16) -> Option<(&str, &str)>
     Some((front, rest))
 }
 
-/// `count` characters at the front, and what is behind them.
+/// `count` characters at the front, and what is after them. Refusals: `Short` where the bytes are cut short, and
+/// `NotUtf8` where they are neither cut short nor begin with so many characters.
 pub fn chars_at(bytes: &[u8], count: u16) -> Result<(&str, &[u8]), ReadFault>
     ensures ok { IfOk result (λ x. HasChars count x.0.now × (bytes.now ≡ x.0.now ++ x.1.now)) }
     ensures refusal { IfErr result (λ e. IsCharsRefusal count bytes.now e) }

@@ -1,6 +1,7 @@
 //! Names for objects, commands, methods and peers, and the command and the reply that carry them.
 use crate::status::Status;
 use arrayvec::ArrayVec;
+use thiserror::Error;
 
 /// An object number (ONo): the number of an object in its device (AES70-1).
 #[derive(Clone, Copy, Debug, PartialEq, Eq, Hash)]
@@ -29,11 +30,18 @@ pub struct Peer {
     pub port: u16,
 }
 
+/// How many bytes a datagram has at most (*profile*).
+pub const MOST_BYTES: usize = 1472;
+
+/// How many bytes the parameters of a response have at most: those that a datagram holds beside the header of a PDU
+/// and the other fields of one response (*profile*).
+pub const MOST_PARAMETER_BYTES: usize = 1452;
+
 /// The parameters of a response: at most 1,452 bytes.
-pub type Params = ArrayVec<u8, 1452>;
+pub type Params = ArrayVec<u8, MOST_PARAMETER_BYTES>;
 
 /// A datagram that is sent: at most 1,472 bytes.
-pub type Packet = ArrayVec<u8, 1472>;
+pub type Packet = ArrayVec<u8, MOST_BYTES>;
 
 /// A command: what its handle is, which object and method it calls, its ParamCount and the bytes of
 /// its parameters (AES70-3).
@@ -63,5 +71,6 @@ pub struct Reply {
 }
 
 /// Memory was refused. Where this is a call's only fault, its number is 1.
-#[derive(Clone, Copy, Debug, PartialEq, Eq)]
+#[derive(Clone, Copy, Debug, PartialEq, Eq, Error)]
+#[error("no memory")]
 pub struct NoMemory;

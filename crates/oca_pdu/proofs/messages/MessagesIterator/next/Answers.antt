@@ -13,4 +13,4 @@ returns-then-is_empty-clause-steps c =
 pub returns-clause-steps : goal.returns-clause-steps
 returns-clause-steps c =
     let none : c.args.self.now.left ≡ 0 = omega arith in
-    only_pdus c.args.self.now.kind c.args.self.now.left c.args.self.now.inside.now c.args.self.now.rest.now none ∙ c.behind.ensures
+    only_pdus c.args.self.now.kind c.args.self.now.left c.args.self.now.inside.now c.args.self.now.rest.now none ∙ c.first_of_pdus.ensures
