@@ -1,3 +1,4 @@
 pub mod Deliveries
 pub mod Ends
 pub mod Memory
+pub mod Sockets

@@ -2,14 +2,17 @@
 //!
 //! The device and the controller receive and send through the trait [`End`] alone. An end may tell what
 //! it delivered and what it took; then a proof about a loop over it can say what that loop did.
-//! [`MemoryEnd`] tells: it delivers a script and keeps what it took.
+//! [`MemoryEnd`] tells: it delivers a script and keeps what it took. [`UdpEnd`] is a UDP socket, and tells nothing.
 #![tactic(auto)]
 
+mod count;
 mod end;
 mod memory;
+mod udp;
 
 pub use end::{End, Heard};
 pub use memory::{MemoryEnd, Scripted};
+pub use udp::{BindFault, UdpEnd};
 
 #[cfg(test)]
 mod tests;

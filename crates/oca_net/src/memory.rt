@@ -1,8 +1,9 @@
 //! An end in memory, for tests and for running a link without a network.
 ghost use Rattle.std.specs.Prelude.{◌≡◌, ◌+◌, ◌<◌, ◌≤◌, [], ◌∷◌, ◌++◌, length, IfOk, IsTrue, true, vec_len, vec_capacity};
-ghost use Rattle.oca_net.specs.Ends.{largest_datagram, one_more};
+ghost use Rattle.oca_net.specs.Ends.{largest_datagram};
 ghost use Rattle.oca_net.specs.Memory.{delivery_of, deliveries_of, heard_of, bytes_of, sent_packets, new_memory, next_heard, next_bytes, after_receive, takes, after_send};
 
+use crate::count::step;
 use crate::end::{End, Heard};
 use oca_types::{NoMemory, Packet, Peer};
 use std::alloc::Global;
@@ -158,13 +159,6 @@ impl End for MemoryEnd {
             false
         }
     }
-}
-
-/// Counts one more, up to the last value.
-fn step(count: &mut u64)
-    ensures { count.new ≡ one_more count.old }
-{
-    *count = count.saturating_add(1);
 }
 
 /// Puts an entry's datagram in the packet.

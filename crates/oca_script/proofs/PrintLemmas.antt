@@ -1,11 +1,12 @@
 -- Facts on what is written.
-use Rattle.std.proofs.Common.{◌≡◌, ℕ, zero, suc, zero-add, ◌-◌, subst, length-drop, ◌+◌, List, [], ◌∷◌, ◌++◌, length, take, drop, Option, Some, None, Result, Ok, Err, refl, sym, ap, ◌∙◌, arith, append_assoc, append-nil}
+use Rattle.std.proofs.Common.{◌≡◌, ℕ, zero, suc, Bool, true, zero-add, ◌-◌, subst, length-drop, ◌+◌, List, [], ◌∷◌, ◌++◌, length, take, drop, Option, Some, None, Result, Ok, Err, refl, sym, ap, ◌∙◌, arith, append_assoc, append-nil}
 use Rattle.std.proofs.lemmas.List.{take-append-drop}
 use Rattle.std.proofs.Math.Seq.{take-length, take-nil, drop-nil}
 use Rattle.std.specs.Io.KnownBytes.{Appends, Keeps}
 use Rattle.std.proofs.KnownBytes.{Appends-nil, Appends-trans}
 use Rattle.oca_script.specs.declared.fault.WriteFailed.{WriteFailed}
-use Rattle.oca_script.specs.Printing.{AppendsFront, Emits, Prints, WritesAll}
+use Rattle.oca_script.specs.Ends.{Output, output}
+use Rattle.oca_script.specs.Printing.{AppendsFront, Emits, Prints, PrintsAll, PrintsPart, WritesBytes}
 
 pub front-of : (a b : Option (List ℕ)) (n : ℕ) (x : List ℕ) → Appends a b (take n x) → AppendsFront a b x
 front-of a b n x h = record { front = take n x; rest = drop n x; whole = sym (take-append-drop n x); appends = h }
@@ -48,44 +49,93 @@ Emits-then a b c p q r x y h k = record {
       ∙ ap (λ (l : List ℕ). h.sent ++ l) k.whole ∙ sym (append_assoc h.sent k.sent r);
 }
 
--- the flush failed, and the text is lost too
-pub prints-lost : (r : Result Unit WriteFailed) (e f : WriteFailed) (a b : Option (List ℕ)) (p q s text : List ℕ) → r ≡ Err e → Prints (Err f) a p b q [] → Prints r a p b s text
-prints-lost r e f a b p q s text is h =
-    subst (λ (z : Result Unit WriteFailed). Prints z a p b s text) (sym is) (
-      h.0 ++ text,
-      record {
-        sent = h.1.sent;
-        appends = h.1.appends;
-        whole = ap (λ (l : List ℕ). l ++ text) (sym (append-nil p) ∙ h.1.whole) ∙ append_assoc h.1.sent h.0 text;
-      },
-    )
+-- ---- with what is held
 
--- after a flush the text is held
-pub prints-flushed : (u : Unit {0}) (a b : Option (List ℕ)) (p q s text : List ℕ) → q ≡ [] → s ≡ q ++ text → Prints (Ok u) a p b q [] → Prints (Ok tt) a p b s text
-prints-flushed u a b p q s text empty held h = record {
-  sent = h.sent;
-  appends = h.appends;
-  whole = ap (λ (l : List ℕ). l ++ text) (sym (append-nil p) ∙ h.whole) ∙ append_assoc h.sent q text ∙ ap (λ (l : List ℕ). h.sent ++ l) (sym held);
+pub PrintsAll-then : (a b c : Output) (x y : List ℕ) → PrintsAll a b x → PrintsAll b c y → PrintsAll a c (x ++ y)
+PrintsAll-then a b c x y h k = record {
+  emits = Emits-then _ _ _ _ _ _ _ _ h.emits k.emits;
+  failed = k.failed ∙ h.failed;
 }
 
--- after a flush the text goes to the writer
-pub prints-past : (r : Result Unit WriteFailed) (u : Unit {0}) (a b c : Option (List ℕ)) (p q text : List ℕ) → q ≡ [] → Prints (Ok u) a p b q [] → WritesAll r b c text → Prints r a p c q text
-prints-past (Ok x) u a b c p q text empty h k = record {
-  sent = h.sent ++ text;
-  appends = Appends-trans a b c h.sent text h.appends k;
-  whole = front_of_all ∙ sym (append-nil (h.sent ++ text)) ∙ ap (λ (l : List ℕ). (h.sent ++ text) ++ l) (sym empty);
-}
-  where
-    front_of_all : p ++ text ≡ h.sent ++ text
-    front_of_all = ap (λ (l : List ℕ). l ++ text) (sym (append-nil p) ∙ h.whole ∙ ap (λ (l : List ℕ). h.sent ++ l) empty ∙ append-nil h.sent)
-prints-past (Err x) u a b c p q text empty h k = (
-  k.rest,
-  record {
-    sent = h.sent ++ k.front;
-    appends = Appends-trans a b c h.sent k.front h.appends k.appends;
-    whole = ap (λ (l : List ℕ). l ++ text) (sym (append-nil p) ∙ h.whole ∙ ap (λ (l : List ℕ). h.sent ++ l) empty ∙ append-nil h.sent)
-        ∙ ap (λ (l : List ℕ). h.sent ++ l) k.whole ∙ sym (append_assoc h.sent k.front k.rest);
-  },
-)
+pub PrintsPart-then : (a b c : Output) (x y : List ℕ) → PrintsAll a b x → PrintsPart b c y → PrintsPart a c (x ++ y)
+PrintsPart-then a b c x y h k = record { lost = k.lost; emits = Emits-then _ _ _ _ _ _ _ _ h.emits k.emits; failed = k.failed }
 
-pub ruleset print_rules = (Emits-held, prints-flushed, prints-past)
+pub PrintsAll-nil : (a : Output) → PrintsAll a a []
+PrintsAll-nil a = record { emits = Emits-nil a.contents a.held; failed = refl }
+
+-- the bytes are held
+pub prints-held : (a : Output) (held text : List ℕ) → held ≡ a.held ++ text → PrintsAll a (output a.contents held a.failed) text
+prints-held a held text e = record {
+  emits = subst (Emits a.contents a.contents a.held text) (sym e) (Emits-held a.contents a.held text);
+  failed = refl;
+}
+
+-- what was held is lost, and the text too
+pub prints-lost : (a b : Output) (s text : List ℕ) → PrintsPart a b [] → PrintsPart a (output b.contents s b.failed) text
+prints-lost a b s text h = record {
+  lost = h.lost ++ text;
+  emits = record {
+    sent = h.emits.sent;
+    appends = h.emits.appends;
+    whole = ap (λ (l : List ℕ). l ++ text) (sym (append-nil a.held) ∙ h.emits.whole) ∙ append_assoc h.emits.sent h.lost text;
+  };
+  failed = h.failed;
+}
+
+-- after what was held was handed on the text is held
+pub prints-flushed : (a b : Output) (s text : List ℕ) → b.held ≡ [] → s ≡ b.held ++ text → PrintsAll a b [] → PrintsAll a (output b.contents s b.failed) text
+prints-flushed a b s text empty held h =
+    subst (λ (l : List ℕ). PrintsAll a (output b.contents s b.failed) l) refl (PrintsAll-then a b (output b.contents s b.failed) [] text h (prints-held b s text held))
+
+-- a failed write is handed up
+pub prints-err : (r : Result Unit WriteFailed) (e : WriteFailed) (a b : Output) (text : List ℕ) → r ≡ Err e → PrintsPart a b [] → Prints r a b text
+prints-err r e a b text is h = subst (λ (z : Result Unit WriteFailed). Prints z a b text) (sym is) (prints-lost a b b.held text h)
+
+all_sent : (a b : Output) → b.held ≡ [] → (h : PrintsAll a b []) → a.held ≡ h.emits.sent
+all_sent a b empty h = sym (append-nil a.held) ∙ h.emits.whole ∙ ap (λ (l : List ℕ). h.emits.sent ++ l) empty ∙ append-nil h.emits.sent
+
+-- what was held was handed on, and then the bytes were written
+pub prints-past : (r : Result Unit WriteFailed) (a : Output) (u v : Option (List ℕ)) (held text : List ℕ) (f g : Bool) → held ≡ [] → PrintsAll a (output u held f) []
+    → WritesBytes r (output u [] f) (output v [] g) text → Prints r a (output v held g) text
+prints-past (Ok x) a u v held text f g empty h k = record {
+  emits = record {
+    sent = h.emits.sent ++ text;
+    appends = Appends-trans a.contents u v h.emits.sent text h.emits.appends k.0;
+    whole = ap (λ (l : List ℕ). l ++ text) (all_sent a (output u held f) empty h) ∙ sym (append-nil (h.emits.sent ++ text)) ∙ ap (λ (l : List ℕ). (h.emits.sent ++ text) ++ l) (sym empty);
+  };
+  failed = k.1 ∙ h.failed;
+}
+prints-past (Err x) a u v held text f g empty h k = record {
+  lost = k.0.rest;
+  emits = record {
+    sent = h.emits.sent ++ k.0.front;
+    appends = Appends-trans a.contents u v h.emits.sent k.0.front h.emits.appends k.0.appends;
+    whole = ap (λ (l : List ℕ). l ++ text) (all_sent a (output u held f) empty h) ∙ ap (λ (l : List ℕ). h.emits.sent ++ l) k.0.whole ∙ sym (append_assoc h.emits.sent k.0.front k.0.rest);
+  };
+  failed = k.1;
+}
+
+-- a write failed after n bytes
+pub writes-failed : (r : Result Unit WriteFailed) (e : WriteFailed) (a b c : Option (List ℕ)) (f g : Bool) (n : ℕ) (bytes : List ℕ) → r ≡ Err e → Appends a b (take n bytes) → Keeps b c → g ≡ true
+    → WritesBytes r (output a [] f) (output c [] g) bytes
+writes-failed r e a b c f g n bytes is h k t =
+    subst (λ (z : Result Unit WriteFailed). WritesBytes z (output a [] f) (output c [] g) bytes) (sym is) (front-of a c n bytes (Appends-kept a b c (take n bytes) h k), t)
+
+-- all of what was held was written, and nothing is held then
+pub prints-written : (u : Unit {0}) (a b : Output) (held now : List ℕ) → now ≡ held → WritesBytes (Ok u) a b now
+    → PrintsAll (output a.contents held a.failed) (output b.contents [] b.failed) []
+prints-written u a b held now e h = record {
+  emits = record { sent = held; appends = subst (Appends a.contents b.contents) e h.0; whole = refl };
+  failed = h.1;
+}
+
+-- a write failed
+pub prints-unwritten : (f : WriteFailed) (a b : Output) (held now : List ℕ) → now ≡ held → WritesBytes (Err f) a b now
+    → PrintsPart (output a.contents held a.failed) (output b.contents held b.failed) []
+prints-unwritten f a b held now e h = record {
+  lost = h.0.rest;
+  emits = record { sent = h.0.front; appends = h.0.appends; whole = append-nil held ∙ sym e ∙ h.0.whole };
+  failed = h.1;
+}
+
+pub ruleset print_rules = (prints-held, prints-flushed)

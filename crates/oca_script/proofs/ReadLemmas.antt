@@ -1,5 +1,5 @@
--- A replay, by what the reader gave so far.
-use Rattle.std.proofs.Common.{◌≡◌, ℕ, ◌+◌, ◌-◌, ◌≤◌, List, [], ◌∷◌, ◌++◌, length, Option, Some, None, Result, Ok, Err, refl, sym, ap, ◌∙◌, arith, append_assoc, append-nil, subst, length-append}
+-- A replay, by what the source gave so far.
+use Rattle.std.proofs.Common.{◌≡◌, ℕ, ◌+◌, ◌-◌, ◌≤◌, Bool, true, false, List, [], ◌∷◌, ◌++◌, length, Option, Some, None, Result, Ok, Err, refl, sym, ap, ◌∙◌, arith, append_assoc, append-nil, subst, length-append}
 use Rattle.std.specs.Prelude.{OnOk, IfSome}
 use Rattle.std.specs.Io.KnownBytes.{Appends, Consumes, Keeps, IsAtEnd}
 use Rattle.std.proofs.KnownBytes.{Consumes-nil, Consumes-trans, Consumes-kept}
@@ -7,13 +7,14 @@ use Rattle.oca_script.specs.declared.fault.LineFault.{LineFault}
 use Rattle.oca_script.specs.declared.fault.ReplayFault.{ReplayFault}
 use Rattle.oca_script.specs.declared.fault.ReplayFault.TheVariants.{Line, Read, Write, TooMuch}
 use Rattle.oca_script.specs.declared.progress.Progress.{Progress}
-use Rattle.oca_script.specs.Printing.{Emits, AppendsFront}
+use Rattle.oca_script.specs.Ends.{Input, Output}
+use Rattle.oca_script.specs.Printing.{Emits, AppendsFront, PrintsAll, PrintsPart, WritesWhole, WritesFront}
 use Rattle.oca_script.specs.Script.{Script, script, script_from, behind, ends_by, line_then, parsed}
-use Rattle.oca_script.specs.Replaying.{Runs, BeginsWith, Ends, known_bytes, Outcome, Replays, Writes}
-use Rattle.oca_script.specs.Steps.{Output, output, Printed, Leads, Does, Performs, Performance}
-use Rattle.oca_script.proofs.PrintLemmas.{Emits-then}
+use Rattle.oca_script.specs.Replaying.{Runs, BeginsWith, Ends, known_bytes, Outcome, Replays, Reads, ReadFails, Writes}
+use Rattle.oca_script.specs.PrivateSteps.{Printed, PrintedAtEnd, AccountsFor, Step, Performs, Performance, is_end_failure}
+use Rattle.oca_script.proofs.PrintLemmas.{PrintsAll-nil, PrintsAll-then, PrintsPart-then}
 use Rattle.oca_script.proofs.ScriptLemmas.{script_from-end, script_from-too_much}
-use Rattle.oca_script.proofs.StepLemmas.{Runs-then, Printed-then, Does-then, Does-at, Does-as, Does-nothing, behind-behind}
+use Rattle.oca_script.proofs.StepLemmas.{Runs-then, Printed-then, Step-then, Step-at, Step-as, Step-nothing, Step-unread, behind-behind}
 
 known-end : (o : Option (List ℕ)) → IsAtEnd o → known_bytes o ≡ []
 known-end None h = refl
@@ -21,52 +22,56 @@ known-end (Some xs) h = h
 
 module _ {S R : Type 0} (asked : List (List ℕ) → Result R LineFault) (serves : S → R → S → List ℕ → Type 0) where
   -- so far
-  pub record Reading (old new : S) (was is : Output) (had has : Option (List ℕ)) (progress : Progress) (left : ℕ) : Type 0 where
+  pub record Reading (old new : S) (was is : Output) (had has : Input) (progress : Progress) (left : ℕ) : Type 0 where
     pub taken : List ℕ
-    pub consumes : Consumes had has taken
+    pub consumes : Consumes had.remaining has.remaining taken
+    pub unfailed : has.failed ≡ had.failed
     pub counted : length taken + left ≡ 16777216
     pub numbered : progress.number + left ≤ 16777217
-    pub does : Does {X = List ℕ} serves old new was is (Ok tt) (λ more. script asked (taken ++ more)) (λ more. script_from asked progress.number progress.line.items left more)
+    pub step : Step {X = List ℕ} serves old new was is (Ok tt) (λ more. script asked (taken ++ more)) (λ more. script_from asked progress.number progress.line left more)
 
-  pub reading-start : (d : S) (w : Output) (r : Option (List ℕ)) (p : Progress) → p.line.items ≡ [] → p.number ≡ 1 → Reading d d w w r r p 16777216
+  pub reading-start : (d : S) (w : Output) (r : Input) (p : Progress) → p.line ≡ [] → p.number ≡ 1 → Reading d d w w r r p 16777216
   reading-start d w r p e f = record {
     taken = [];
-    consumes = Consumes-nil r;
+    consumes = Consumes-nil r.remaining;
+    unfailed = refl;
     counted = refl;
     numbered = omega arith;
-    does = Does-nothing serves d w (Ok tt) _ _ (λ more.
+    step = Step-nothing serves d w (Ok tt) _ _ (PrintsAll-nil w) (λ more.
         ap (λ n. script_from asked n [] 16777216 more) (sym f) ∙ ap (λ (l : List ℕ). script_from asked p.number l 16777216 more) (sym e));
   }
 
-  -- what is held is handed to the writer
-  pub reading-flushed : (a b : S) (u : Output) (v w : Option (List ℕ)) (held holds : List ℕ) (had has : Option (List ℕ)) (p : Progress) (left : ℕ) → Reading a b u (output v held) had has p left
-      → Emits v w held [] holds → Reading a b u (output w holds) had has p left
-  reading-flushed a b u v w held holds had has p left h e = record {
+  -- what is held is handed to the sink
+  pub reading-flushed : (a b : S) (u v w : Output) (had has : Input) (p : Progress) (left : ℕ) → Reading a b u v had has p left
+      → PrintsAll v w [] → Reading a b u w had has p left
+  reading-flushed a b u v w had has p left h e = record {
     taken = h.taken;
     consumes = h.consumes;
+    unfailed = h.unfailed;
     counted = h.counted;
     numbered = h.numbered;
-    does = Does-then serves a b b u (output v held) (output w holds) (Ok tt) _ _ _ h.does
-        (record { requests = []; text = []; runs = (refl, refl); prints = e; leads = λ more. refl });
+    step = Step-then serves a b b u v w (Ok tt) _ _ _ h.step
+        (record { requests = []; text = []; runs = (refl, refl); prints = e; accounts = λ more. refl });
   }
 
   -- a further piece
-  pub reading-more : (a b c : S) (u v w : Output) (had has after : Option (List ℕ)) (p q : Progress) (left rest : ℕ) (piece : List ℕ) → Reading a b u v had has p left → Consumes has after piece
+  pub reading-more : (a b c : S) (u v w : Output) (had has after : Input) (p q : Progress) (left rest : ℕ) (piece : List ℕ) → Reading a b u v had has p left → Consumes has.remaining after.remaining piece → after.failed ≡ has.failed
       → rest + length piece ≡ left → q.number ≤ p.number + length piece
-      → Does {X = ℕ × List ℕ} serves b c v w (Ok tt) (λ m. script_from asked p.number p.line.items (length piece + m.0) (piece ++ m.1)) (λ m. script_from asked q.number q.line.items m.0 m.1)
+      → Step {X = ℕ × List ℕ} serves b c v w (Ok tt) (λ m. script_from asked p.number p.line (length piece + m.0) (piece ++ m.1)) (λ m. script_from asked q.number q.line m.0 m.1)
       → Reading a c u w had after q rest
-  reading-more a b c u v w had has after p q left rest piece h k n few d = record {
+  reading-more a b c u v w had has after p q left rest piece h k f n few d = record {
     taken = h.taken ++ piece;
-    consumes = Consumes-trans had has after h.taken piece h.consumes k;
+    consumes = Consumes-trans had.remaining has.remaining after.remaining h.taken piece h.consumes k;
+    unfailed = f ∙ h.unfailed;
     counted = let e = h.counted in omega (arith, length-append h.taken piece);
     numbered = let e = h.numbered in omega arith;
-    does = Does-as serves a c u w (Ok tt) _ _ _ _ (λ more. ap (script asked) (append_assoc h.taken piece more)) (λ more. refl)
-        (Does-then serves a b c u v w (Ok tt) (λ more. script asked (h.taken ++ (piece ++ more))) (λ more. script_from asked p.number p.line.items left (piece ++ more))
-        (λ more. script_from asked q.number q.line.items rest more)
-        (Does-at serves (λ more. piece ++ more) a b u v (Ok tt) _ _ h.does)
-        (Does-as serves b c v w (Ok tt) _ _ _ _
-        (λ more. ap (λ m. script_from asked p.number p.line.items m (piece ++ more)) same) (λ more. refl)
-        (Does-at serves (λ (more : List ℕ). at_rest more) b c v w (Ok tt) _ _ d)));
+    step = Step-as serves a c u w (Ok tt) _ _ _ _ (λ more. ap (script asked) (append_assoc h.taken piece more)) (λ more. refl)
+        (Step-then serves a b c u v w (Ok tt) (λ more. script asked (h.taken ++ (piece ++ more))) (λ more. script_from asked p.number p.line left (piece ++ more))
+        (λ more. script_from asked q.number q.line rest more)
+        (Step-at serves (λ more. piece ++ more) a b u v (Ok tt) _ _ h.step)
+        (Step-as serves b c v w (Ok tt) _ _ _ _
+        (λ more. ap (λ m. script_from asked p.number p.line m (piece ++ more)) same) (λ more. refl)
+        (Step-at serves (λ (more : List ℕ). at_rest more) b c v w (Ok tt) _ _ d)));
   }
     where
       same : left ≡ length piece + rest
@@ -76,51 +81,66 @@ module _ {S R : Type 0} (asked : List (List ℕ) → Result R LineFault) (serves
       at_rest more = (rest, more)
 
   -- the result, where the bytes in front of `rest` lead to it
-  ends-from : (fault : ReplayFault) (asks after : List ℕ → Script R) (given rest : List ℕ) (requests : List R) → asks rest ≡ script asked given → Leads (Err fault) asks after requests
+  ends-from : (fault : ReplayFault) (asks after : List ℕ → Script R) (given rest : List ℕ) (requests : List R) → asks rest ≡ script asked given → AccountsFor (Err fault) asks after requests
       → Ends (Err fault) (script asked given) requests
   ends-from (Line n w) asks after given rest requests e h = sym e ∙ h rest
   ends-from Read asks after given rest requests e h = let k = h rest in (k.0, sym e ∙ k.1)
   ends-from Write asks after given rest requests e h = let k = h rest in (k.0, sym e ∙ k.1)
   ends-from TooMuch asks after given rest requests e h = sym e ∙ h rest
 
+  at_end : (r : Result Unit ReplayFault) (u v : Output) (text : List ℕ) → Printed r u v text → PrintedAtEnd r u v text
+  at_end (Ok x) u v text h = h
+  at_end (Err (Line n w)) u v text h = h
+  at_end (Err Read) u v text h = absurd h
+  at_end (Err Write) u v text h = h
+  at_end (Err TooMuch) u v text h = h
+
   -- a fault
   performs-fault : (a b : S) (u v : Output) (fault : ReplayFault) (asks after : List ℕ → Script R) (given rest : List ℕ) → asks rest ≡ script asked given
-      → Does {X = List ℕ} serves a b u v (Err fault) asks after → Performs asked serves a b u v (Err fault) given
+      → Step {X = List ℕ} serves a b u v (Err fault) asks after → Performs asked serves a b u v (Err fault) given
   performs-fault a b u v fault asks after given rest e h = record {
     requests = h.requests;
     text = h.text;
     runs = h.runs;
-    prints = h.prints;
-    ends = ends-from fault asks after given rest h.requests e h.leads;
+    prints = at_end (Err fault) u v h.text h.prints;
+    ends = ends-from fault asks after given rest h.requests e h.accounts;
   }
 
+  -- a read did not fail, and neither does the result say so
+  not_read : (fault : ReplayFault) (before after : Bool) → (fault ≡ Read → ⊥) → after ≡ before → ReadFails (Err fault) before after
+  not_read (Line n w) before after other e = e
+  not_read Read before after other e = absurd (other refl)
+  not_read Write before after other e = e
+  not_read TooMuch before after other e = e
+
   -- a fault behind a piece
-  fails : (a b c : S) (u v w : Output) (had has after : Option (List ℕ)) (p : Progress) (left : ℕ) (piece : List ℕ) (fault : ReplayFault) (rest : List ℕ → Script R)
-      → Reading a b u v had has p left → Consumes has after piece → length piece ≤ left + 1
-      → Does {X = List ℕ} serves b c v w (Err fault) (λ more. script_from asked p.number p.line.items left (piece ++ more)) rest → Performance asked serves a c u w had after (Err fault)
-  fails a b c u v w had has after p left piece fault rest h k n d = (
+  fails : (a b c : S) (u v w : Output) (had has after : Input) (p : Progress) (left : ℕ) (piece : List ℕ) (fault : ReplayFault) (rest : List ℕ → Script R)
+      → Reading a b u v had has p left → Consumes has.remaining after.remaining piece → after.failed ≡ has.failed → length piece ≤ left + 1
+      → Step {X = List ℕ} serves b c v w (Err fault) (λ more. script_from asked p.number p.line left (piece ++ more)) rest → Performance asked serves a c u w had after (Err fault)
+  fails a b c u v w had has after p left piece fault rest h k f n d = (
     h.taken ++ piece,
     record {
-      consumes = Consumes-trans had has after h.taken piece h.consumes k;
+      consumes = Consumes-trans had.remaining has.remaining after.remaining h.taken piece h.consumes k;
       bounded = let e = h.counted in omega (arith, length-append h.taken piece);
       ended = tt;
+      failed = not_read fault had.failed after.failed (λ e. Step-unread serves b c v w (Err fault) _ rest d (ap Err e)) (f ∙ h.unfailed);
     },
-    performs-fault a c u w fault (λ more. script asked (h.taken ++ (piece ++ more))) rest ((h.taken ++ piece) ++ known_bytes after) (known_bytes after)
-        (ap (script asked) (sym (append_assoc h.taken piece (known_bytes after))))
-        (Does-then serves a b c u v w (Err fault) (λ more. script asked (h.taken ++ (piece ++ more))) (λ more. script_from asked p.number p.line.items left (piece ++ more)) rest
-        (Does-at serves (λ more. piece ++ more) a b u v (Ok tt) _ _ h.does) d),
+    performs-fault a c u w fault (λ more. script asked (h.taken ++ (piece ++ more))) rest ((h.taken ++ piece) ++ known_bytes after.remaining) (known_bytes after.remaining)
+        (ap (script asked) (sym (append_assoc h.taken piece (known_bytes after.remaining))))
+        (Step-then serves a b c u v w (Err fault) (λ more. script asked (h.taken ++ (piece ++ more))) (λ more. script_from asked p.number p.line left (piece ++ more)) rest
+        (Step-at serves (λ more. piece ++ more) a b u v (Ok tt) _ _ h.step) d),
   )
 
   -- a fault in a piece
-  pub reading-fails : (a b c : S) (u v w : Output) (had has after : Option (List ℕ)) (p : Progress) (left : ℕ) (piece : List ℕ) (r : Result Unit ReplayFault) (fault : ReplayFault) (rest : ℕ × List ℕ → Script R)
-      → r ≡ Err fault → Reading a b u v had has p left → Consumes has after piece → length piece ≤ left
-      → Does {X = ℕ × List ℕ} serves b c v w (Err fault) (λ m. script_from asked p.number p.line.items (length piece + m.0) (piece ++ m.1)) rest → Performance asked serves a c u w had after r
-  reading-fails a b c u v w had has after p left piece r fault rest is h k n d =
+  pub reading-fails : (a b c : S) (u v w : Output) (had has after : Input) (p : Progress) (left : ℕ) (piece : List ℕ) (r : Result Unit ReplayFault) (fault : ReplayFault) (rest : ℕ × List ℕ → Script R)
+      → r ≡ Err fault → Reading a b u v had has p left → Consumes has.remaining after.remaining piece → after.failed ≡ has.failed → length piece ≤ left
+      → Step {X = ℕ × List ℕ} serves b c v w (Err fault) (λ m. script_from asked p.number p.line (length piece + m.0) (piece ++ m.1)) rest → Performance asked serves a c u w had after r
+  reading-fails a b c u v w had has after p left piece r fault rest is h k f n d =
       subst (Performance asked serves a c u w had after) (sym is)
-      (fails a b c u v w had has after p left piece fault (λ more. rest (at_rest more)) h k (omega arith)
-      (Does-as serves b c v w (Err fault) _ _ _ _
-      (λ more. ap (λ m. script_from asked p.number p.line.items m (piece ++ more)) same) (λ more. refl)
-      (Does-at serves (λ (more : List ℕ). at_rest more) b c v w (Err fault) _ _ d)))
+      (fails a b c u v w had has after p left piece fault (λ more. rest (at_rest more)) h k f (omega arith)
+      (Step-as serves b c v w (Err fault) _ _ _ _
+      (λ more. ap (λ m. script_from asked p.number p.line m (piece ++ more)) same) (λ more. refl)
+      (Step-at serves (λ (more : List ℕ). at_rest more) b c v w (Err fault) _ _ d)))
     where
       same : left ≡ length piece + (left - length piece)
       same = omega arith
@@ -128,54 +148,57 @@ module _ {S R : Type 0} (asked : List (List ℕ) → Result R LineFault) (serves
       at_rest : List ℕ → ℕ × List ℕ
       at_rest more = (left - length piece, more)
 
-  -- the reader failed
-  pub reading-read_failed : (a b : S) (u v : Output) (had has after : Option (List ℕ)) (p : Progress) (left : ℕ) (r : Result Unit ReplayFault) → r ≡ Err Read
-      → Reading a b u v had has p left → Keeps has after → Performance asked serves a b u v had after r
-  reading-read_failed a b u v had has after p left r is h k = subst (Performance asked serves a b u v had after) (sym is) (
+  -- a read failed
+  pub reading-read_failed : (a b : S) (u v : Output) (had has after : Input) (p : Progress) (left : ℕ) (r : Result Unit ReplayFault) → r ≡ Err Read
+      → Reading a b u v had has p left → v.held ≡ [] → Keeps has.remaining after.remaining → after.failed ≡ true → Performance asked serves a b u v had after r
+  reading-read_failed a b u v had has after p left r is h none k f = subst (Performance asked serves a b u v had after) (sym is) (
     h.taken,
     record {
-      consumes = Consumes-kept had has after h.taken h.consumes k;
+      consumes = Consumes-kept had.remaining has.remaining after.remaining h.taken h.consumes k;
       bounded = let e = h.counted in omega arith;
       ended = tt;
+      failed = f;
     },
     record {
-      requests = h.does.requests;
-      text = h.does.text;
-      runs = h.does.runs;
-      prints = h.does.prints;
-      ends = (script_from asked p.number p.line.items left (known_bytes after), h.does.leads (known_bytes after));
+      requests = h.step.requests;
+      text = h.step.text;
+      runs = h.step.runs;
+      prints = (h.step.prints, none);
+      ends = (script_from asked p.number p.line left (known_bytes after.remaining), h.step.accounts (known_bytes after.remaining));
     },
   )
 
-  -- the writer failed
-  pub reading-write_failed : (a b : S) (u : Output) (v w : Option (List ℕ)) (held holds rest : List ℕ) (had has : Option (List ℕ)) (p : Progress) (left : ℕ)
-      → Reading a b u (output v held) had has p left → Emits v w held [] rest → Performance asked serves a b u (output w holds) had has (Err Write)
-  reading-write_failed a b u v w held holds rest had has p left h e = (
+  -- a write failed
+  pub reading-write_failed : (a b : S) (u v w : Output) (had has : Input) (p : Progress) (left : ℕ)
+      → Reading a b u v had has p left → PrintsPart v w [] → Performance asked serves a b u w had has (Err Write)
+  reading-write_failed a b u v w had has p left h e = (
     h.taken,
     record {
       consumes = h.consumes;
       bounded = let e = h.counted in omega arith;
       ended = tt;
+      failed = h.unfailed;
     },
     record {
-      requests = h.does.requests;
-      text = h.does.text ++ [];
-      runs = subst (λ (t : List ℕ). Runs serves a h.does.requests b t) (sym (append-nil h.does.text)) h.does.runs;
-      prints = (rest, Emits-then _ _ _ _ _ _ _ _ h.does.prints e);
-      ends = (script_from asked p.number p.line.items left (known_bytes has), h.does.leads (known_bytes has));
+      requests = h.step.requests;
+      text = h.step.text ++ [];
+      runs = subst (λ (t : List ℕ). Runs serves a h.step.requests b t) (sym (append-nil h.step.text)) h.step.runs;
+      prints = PrintsPart-then u v w h.step.text [] h.step.prints e;
+      ends = (script_from asked p.number p.line left (known_bytes has.remaining), h.step.accounts (known_bytes has.remaining));
     },
   )
 
   -- a byte more than counts
-  pub reading-too_much : (a b : S) (u v : Output) (had has after : Option (List ℕ)) (p : Progress) (left : ℕ) (piece : List ℕ) → Reading a b u v had has p left → Consumes has after piece → left ≡ 0
-      → length piece ≡ 1 → length p.line.items ≤ 4096 → Performance asked serves a b u v had after (Err TooMuch)
-  reading-too_much a b u v had has after p left [] h k none one short = absurd (omega arith)
-  reading-too_much a b u v had has after p left (x ∷ xs) h k none one short =
-      fails a b b u v v had has after p left (x ∷ xs) TooMuch (λ more. script_from asked p.number p.line.items left more) h k (omega arith)
-      (Does-nothing serves b v (Err TooMuch) _ _ (λ more. ap (λ n. script_from asked p.number p.line.items n (x ∷ (xs ++ more))) none ∙ script_from-too_much asked p.number p.line.items x (xs ++ more) short))
+  pub reading-too_much : (a b : S) (u v : Output) (had has after : Input) (p : Progress) (left : ℕ) (piece : List ℕ) → Reading a b u v had has p left
+      → Consumes has.remaining after.remaining piece → after.failed ≡ has.failed → left ≡ 0
+      → length piece ≡ 1 → length p.line ≤ 4096 → Performance asked serves a b u v had after (Err TooMuch)
+  reading-too_much a b u v had has after p left [] h k f none one short = absurd (omega arith)
+  reading-too_much a b u v had has after p left (x ∷ xs) h k f none one short =
+      fails a b b u v v had has after p left (x ∷ xs) TooMuch (λ more. script_from asked p.number p.line left more) h k f (omega arith)
+      (Step-nothing serves b v (Err TooMuch) _ _ (PrintsAll-nil v) (λ more. ap (λ n. script_from asked p.number p.line n (x ∷ (xs ++ more))) none ∙ script_from-too_much asked p.number p.line x (xs ++ more) short))
 
   last-ends : (r : Result Unit ReplayFault) (k : ℕ) (line : List ℕ) (xs ys : List R) (s : Script R) (left : ℕ) → s ≡ behind xs (script_from asked k line left [])
-      → Leads {X = Script R} r (λ s. line_then k (parsed asked line) s) (λ s. s) ys → Ends r s (xs ++ ys)
+      → AccountsFor {X = Script R} r (λ s. line_then k (parsed asked line) s) (λ s. s) ys → Ends r s (xs ++ ys)
   last-ends r k line xs ys s left e h = shown r h
     where
       ended : List R → Script R
@@ -187,7 +210,7 @@ module _ {S R : Type 0} (asked : List (List ℕ) → Result R LineFault) (serves
       from_end : s ≡ behind xs (line_then k (parsed asked line) last)
       from_end = e ∙ ap (behind xs) (script_from-end asked k line left)
 
-      shown : (r : Result Unit ReplayFault) → Leads {X = Script R} r (λ s. line_then k (parsed asked line) s) (λ s. s) ys → Ends r s (xs ++ ys)
+      shown : (r : Result Unit ReplayFault) → AccountsFor {X = Script R} r (λ s. line_then k (parsed asked line) s) (λ s. s) ys → Ends r s (xs ++ ys)
       shown (Ok u) h = from_end ∙ ap (behind xs) (h last) ∙ behind-behind xs ys last ∙ ap (λ (l : List R). ended l) (append-nil (xs ++ ys))
       shown (Err (Line n w)) h = from_end ∙ ap (behind xs) (h last)
       shown (Err Read) h = let k = h last in (k.0, from_end ∙ ap (behind xs) k.1 ∙ behind-behind xs ys k.0)
@@ -195,47 +218,62 @@ module _ {S R : Type 0} (asked : List (List ℕ) → Result R LineFault) (serves
       shown (Err TooMuch) h = from_end ∙ ap (behind xs) (h last)
 
   -- the end of the input, and the last line
-  ends : (a b c : S) (u v w : Output) (had has after : Option (List ℕ)) (p : Progress) (left : ℕ) (line : List ℕ) (r : Result Unit ReplayFault) → Reading a b u v had has p left
-      → Consumes has after [] → IsAtEnd after → line ≡ p.line.items → Does {X = Script R} serves b c v w r (λ s. line_then p.number (parsed asked line) s) (λ s. s) → Performance asked serves a c u w had after r
-  ends a b c u v w had has after p left line r h k end same d =
-      let leads : Leads {X = Script R} r (λ s. line_then p.number (parsed asked p.line.items) s) (λ s. s) d.requests =
-      subst (λ (l : List ℕ). Leads {X = Script R} r (λ s. line_then p.number (parsed asked l) s) (λ s. s) d.requests) same d.leads in (
+  ends : (a b c : S) (u v w : Output) (had has after : Input) (p : Progress) (left : ℕ) (line : List ℕ) (r : Result Unit ReplayFault) → Reading a b u v had has p left
+      → Consumes has.remaining after.remaining [] → after.failed ≡ has.failed → IsAtEnd after.remaining → line ≡ p.line
+      → Step {X = Script R} serves b c v w r (λ s. line_then p.number (parsed asked line) s) (λ s. s) → Performance asked serves a c u w had after r
+  ends a b c u v w had has after p left line r h k f end same d =
+      let accounts : AccountsFor {X = Script R} r (λ s. line_then p.number (parsed asked p.line) s) (λ s. s) d.requests =
+      subst (λ (l : List ℕ). AccountsFor {X = Script R} r (λ s. line_then p.number (parsed asked l) s) (λ s. s) d.requests) same d.accounts in (
         h.taken,
         record {
-          consumes = subst (Consumes had after) (append-nil h.taken) (Consumes-trans had has after h.taken [] h.consumes k);
+          consumes = subst (Consumes had.remaining after.remaining) (append-nil h.taken) (Consumes-trans had.remaining has.remaining after.remaining h.taken [] h.consumes k);
           bounded = let e = h.counted in omega arith;
           ended = on_ok r;
+          failed = unread r (Step-unread serves b c v w r _ _ d);
         },
         record {
-          requests = h.does.requests ++ d.requests;
-          text = h.does.text ++ d.text;
-          runs = Runs-then serves a b c h.does.requests d.requests h.does.text d.text h.does.runs d.runs;
-          prints = Printed-then r u v w h.does.text d.text h.does.prints d.prints;
-          ends = last-ends r p.number p.line.items h.does.requests d.requests (script asked (h.taken ++ known_bytes after)) left
-              (h.does.leads (known_bytes after) ∙ ap (λ (l : List ℕ). behind h.does.requests (script_from asked p.number p.line.items left l)) (known-end after end)) leads;
+          requests = h.step.requests ++ d.requests;
+          text = h.step.text ++ d.text;
+          runs = Runs-then serves a b c h.step.requests d.requests h.step.text d.text h.step.runs d.runs;
+          prints = at_end r u w (h.step.text ++ d.text) (Printed-then r u v w h.step.text d.text h.step.prints d.prints);
+          ends = last-ends r p.number p.line h.step.requests d.requests (script asked (h.taken ++ known_bytes after.remaining)) left
+              (h.step.accounts (known_bytes after.remaining) ∙ ap (λ (l : List ℕ). behind h.step.requests (script_from asked p.number p.line left l)) (known-end after.remaining end)) accounts;
         },
       )
     where
-      on_ok : (r : Result Unit ReplayFault) → OnOk r (IsAtEnd after)
+      on_ok : (r : Result Unit ReplayFault) → OnOk r (IsAtEnd after.remaining)
       on_ok (Ok x) = end
       on_ok (Err x) = tt
 
-  pub reading-ends : (a b c : S) (u v w : Output) (had has after : Option (List ℕ)) (p : Progress) (left : ℕ) (piece line : List ℕ) (r : Result Unit ReplayFault) → Reading a b u v had has p left
-      → Consumes has after piece → length piece ≡ 0 → (length piece ≡ 0 → IsAtEnd after) → line ≡ p.line.items → Does {X = Script R} serves b c v w r (λ s. line_then p.number (parsed asked line) s) (λ s. s)
-      → Performance asked serves a c u w had after r
-  reading-ends a b c u v w had has after p left [] line r h k none end same d = ends a b c u v w had has after p left line r h k (end refl) same d
-  reading-ends a b c u v w had has after p left (x ∷ xs) line r h k none end same d = absurd (omega arith)
+      unread : (r : Result Unit ReplayFault) → (r ≡ Err Read → ⊥) → ReadFails r had.failed after.failed
+      unread (Ok x) other = f ∙ h.unfailed
+      unread (Err x) other = not_read x had.failed after.failed (λ e. other (ap Err e)) (f ∙ h.unfailed)
+
+  pub reading-ends : (a b c : S) (u v w : Output) (had has after : Input) (p : Progress) (left : ℕ) (piece line : List ℕ) (r : Result Unit ReplayFault) → Reading a b u v had has p left
+      → Consumes has.remaining after.remaining piece → after.failed ≡ has.failed → length piece ≡ 0 → (length piece ≡ 0 → IsAtEnd after.remaining) → line ≡ p.line
+      → Step {X = Script R} serves b c v w r (λ s. line_then p.number (parsed asked line) s) (λ s. s) → Performance asked serves a c u w had after r
+  reading-ends a b c u v w had has after p left [] line r h k f none end same d = ends a b c u v w had has after p left line r h k f (end refl) same d
+  reading-ends a b c u v w had has after p left (x ∷ xs) line r h k f none end same d = absurd (omega arith)
 
   -- ---- the whole
 
-  -- printed into a buffer that was empty, and flushed: written
-  written : (r : Result Unit ReplayFault) (a b c : Option (List ℕ)) (held q text : List ℕ) → Emits a b [] text held → Emits b c held [] q → q ≡ [] → Appends a c text
-  written r a b c held q text h k none =
-      let both = Emits-then a b c [] held q text [] h k in
-      subst (Appends a c) (sym (append-nil both.sent) ∙ ap (λ (l : List ℕ). both.sent ++ l) (sym none) ∙ sym both.whole ∙ append-nil text) both.appends
+  -- all that was printed is written, and nothing held
+  whole : (a c : Output) (text : List ℕ) → PrintsAll a c text → c.held ≡ [] → WritesWhole a c text
+  whole a c text h none = record {
+    appends = subst (Appends a.contents c.contents) (sym (append-nil h.emits.sent) ∙ ap (λ (l : List ℕ). h.emits.sent ++ l) (sym none) ∙ sym h.emits.whole) h.emits.appends;
+    none_held = none;
+    failed = h.failed;
+  }
 
-  front : (a c : Option (List ℕ)) (text rest : List ℕ) → Emits a c [] text rest → AppendsFront a c text
-  front a c text rest h = record { front = h.sent; rest = rest; whole = h.whole; appends = h.appends }
+  -- printed, and then handed on
+  written : (a b c : Output) (text : List ℕ) → PrintsAll a b text → PrintsAll b c [] → c.held ≡ [] → WritesWhole a c text
+  written a b c text h k none = whole a c text (subst (PrintsAll a c) (append-nil text) (PrintsAll-then a b c text [] h k)) none
+
+  front : (a c : Output) (text : List ℕ) → PrintsPart a c text → WritesFront a c text
+  front a c text h = record {
+    front = record { front = h.emits.sent; rest = h.lost; whole = h.emits.whole; appends = h.emits.appends };
+    failed = h.failed;
+  }
 
   begins : (r : Result Unit ReplayFault) (s : Script R) (requests : List R) → Ends r s requests → BeginsWith requests s
   begins (Ok u) s requests h = (ends_by (Ok tt), h ∙ ap (λ (l : List R). ended l) (sym (append-nil requests)))
@@ -253,75 +291,88 @@ module _ {S R : Type 0} (asked : List (List ℕ) → Result R LineFault) (serves
       ended : List R → Script R
       ended l = record { requests = l; ending = Err TooMuch }
 
-  -- the writer failed within the replay
-  failed : (a b : S) (u v : Option (List ℕ)) (held holds : List ℕ) (had has : Option (List ℕ)) → held ≡ [] → Performance asked serves a b (output u held) (output v holds) had has (Err Write)
-      → Outcome asked serves a b u v had has (Err Write)
-  failed a b u v held holds had has none h = (
+  -- a read or a write failed within the replay
+  pub outcome-failed : (a b : S) (u v : Output) (had has : Input) (r : Result Unit ReplayFault) → is_end_failure r ≡ true
+      → Performance asked serves a b u v had has r → Outcome asked serves a b u v had has r
+  outcome-failed a b u v had has r is h = (
     h.0,
     h.1,
     record {
       requests = h.2.requests;
       text = h.2.text;
       runs = h.2.runs;
-      writes = front u v h.2.text h.2.prints.0 (subst (λ (l : List ℕ). Emits u v l h.2.text h.2.prints.0) none h.2.prints.1);
+      writes = by_result r is h.2.prints;
       ends = h.2.ends;
     },
   )
+    where
+      by_result : (r : Result Unit ReplayFault) → is_end_failure r ≡ true → PrintedAtEnd r u v h.2.text → Writes r u v h.2.text
+      by_result (Ok x) is p = cc is
+      by_result (Err (Line n f)) is p = cc is
+      by_result (Err Read) is p = whole u v h.2.text p.0 p.1
+      by_result (Err Write) is p = front u v h.2.text p
+      by_result (Err TooMuch) is p = cc is
 
-  pub outcome-failed : (a b : S) (u v : Option (List ℕ)) (held holds : List ℕ) (had has : Option (List ℕ)) (r : Result Unit ReplayFault) → held ≡ [] → r ≡ Err Write
-      → Performance asked serves a b (output u held) (output v holds) had has r → Outcome asked serves a b u v had has (Err Write)
-  outcome-failed a b u v held holds had has r none is h =
-      failed a b u v held holds had has none (subst (Performance asked serves a b (output u held) (output v holds) had has) is h)
-
-  -- all was flushed
-  pub outcome-flushed : (a b : S) (u v w : Option (List ℕ)) (held holds q : List ℕ) (had has : Option (List ℕ)) (r : Result Unit ReplayFault) → held ≡ [] → (r ≡ Err Write → ⊥)
-      → Performance asked serves a b (output u held) (output v holds) had has r → Emits v w holds [] q → q ≡ [] → Outcome asked serves a b u w had has r
-  outcome-flushed a b u v w held holds q had has r none other h e empty = (
+  -- all was handed on
+  pub outcome-flushed : (a b : S) (u v w : Output) (had has : Input) (r : Result Unit ReplayFault) → is_end_failure r ≡ false
+      → Performance asked serves a b u v had has r → PrintsAll v w [] → w.held ≡ [] → Outcome asked serves a b u w had has r
+  outcome-flushed a b u v w had has r is h e empty = (
     h.0,
     h.1,
     record {
       requests = h.2.requests;
       text = h.2.text;
       runs = h.2.runs;
-      writes = by_result r other (subst (λ (l : List ℕ). Printed r (output u l) (output v holds) h.2.text) none h.2.prints);
+      writes = by_result r is h.2.prints;
       ends = h.2.ends;
     },
   )
     where
-      by_result : (r : Result Unit ReplayFault) → (r ≡ Err Write → ⊥) → Printed r (output u []) (output v holds) h.2.text → Writes r u w h.2.text
-      by_result (Ok x) other p = written (Ok x) u v w holds q h.2.text p e empty
-      by_result (Err (Line n f)) other p = written (Ok tt) u v w holds q h.2.text p e empty
-      by_result (Err Read) other p = written (Ok tt) u v w holds q h.2.text p e empty
-      by_result (Err Write) other p = absurd (other refl)
-      by_result (Err TooMuch) other p = written (Ok tt) u v w holds q h.2.text p e empty
+      by_result : (r : Result Unit ReplayFault) → is_end_failure r ≡ false → PrintedAtEnd r u v h.2.text → Writes r u w h.2.text
+      by_result (Ok x) is p = written u v w h.2.text p e empty
+      by_result (Err (Line n f)) is p = written u v w h.2.text p e empty
+      by_result (Err Read) is p = cc is
+      by_result (Err Write) is p = cc is
+      by_result (Err TooMuch) is p = written u v w h.2.text p e empty
 
-  -- the last flush failed
-  pub outcome-unflushed : (a b : S) (u v w : Option (List ℕ)) (held holds q : List ℕ) (had has : Option (List ℕ)) (r : Result Unit ReplayFault) → held ≡ [] → (r ≡ Err Write → ⊥)
-      → Performance asked serves a b (output u held) (output v holds) had has r → Emits v w holds [] q → Outcome asked serves a b u w had has (Err Write)
-  outcome-unflushed a b u v w held holds q had has r none other h e = (
+  unfailed : (r : Result Unit ReplayFault) (before after : Bool) → is_end_failure r ≡ false → ReadFails r before after → after ≡ before
+  unfailed (Ok x) before after is h = h
+  unfailed (Err (Line n f)) before after is h = h
+  unfailed (Err Read) before after is h = cc is
+  unfailed (Err Write) before after is h = cc is
+  unfailed (Err TooMuch) before after is h = h
+
+  -- the last write failed
+  pub outcome-unflushed : (a b : S) (u v w : Output) (had has : Input) (r : Result Unit ReplayFault) → is_end_failure r ≡ false
+      → Performance asked serves a b u v had has r → PrintsPart v w [] → Outcome asked serves a b u w had has (Err Write)
+  outcome-unflushed a b u v w had has r is h e = (
     h.0,
-    record { consumes = h.1.consumes; bounded = h.1.bounded; ended = tt },
+    record { consumes = h.1.consumes; bounded = h.1.bounded; ended = tt; failed = unfailed r had.failed has.failed is h.1.failed },
     record {
       requests = h.2.requests;
-      text = h.2.text ++ [];
-      runs = subst (λ (t : List ℕ). Runs serves a h.2.requests b t) (sym (append-nil h.2.text)) h.2.runs;
-      writes = by_result r other (subst (λ (l : List ℕ). Printed r (output u l) (output v holds) h.2.text) none h.2.prints);
-      ends = begins r (script asked (h.0 ++ known_bytes has)) h.2.requests h.2.ends;
+      text = h.2.text;
+      runs = h.2.runs;
+      writes = by_result r is h.2.prints;
+      ends = begins r (script asked (h.0 ++ known_bytes has.remaining)) h.2.requests h.2.ends;
     },
   )
     where
-      lost : Emits u v [] h.2.text holds → AppendsFront u w (h.2.text ++ [])
-      lost p = front u w (h.2.text ++ []) q (Emits-then u v w [] holds q h.2.text [] p e)
+      lost : PrintsAll u v h.2.text → WritesFront u w h.2.text
+      lost p = front u w h.2.text (subst (PrintsPart u w) (append-nil h.2.text) (PrintsPart-then u v w h.2.text [] p e))
 
-      by_result : (r : Result Unit ReplayFault) → (r ≡ Err Write → ⊥) → Printed r (output u []) (output v holds) h.2.text → AppendsFront u w (h.2.text ++ [])
-      by_result (Ok x) other p = lost p
-      by_result (Err (Line n f)) other p = lost p
-      by_result (Err Read) other p = lost p
-      by_result (Err Write) other p = absurd (other refl)
-      by_result (Err TooMuch) other p = lost p
+      by_result : (r : Result Unit ReplayFault) → is_end_failure r ≡ false → PrintedAtEnd r u v h.2.text → WritesFront u w h.2.text
+      by_result (Ok x) is p = lost p
+      by_result (Err (Line n f)) is p = lost p
+      by_result (Err Read) is p = cc is
+      by_result (Err Write) is p = cc is
+      by_result (Err TooMuch) is p = lost p
 
   -- what was known is what was given
-  pub outcome-known : (a b : S) (u v had has : Option (List ℕ)) (r : Result Unit ReplayFault) → Outcome asked serves a b u v had has r → IfSome had (λ given. Replays asked serves a b u v r given)
-  outcome-known a b u v None has r h = tt
-  outcome-known a b u v (Some xs) None r h = absurd h.1.consumes
-  outcome-known a b u v (Some xs) (Some ys) r h = subst (λ (l : List ℕ). Replays asked serves a b u v r l) (sym h.1.consumes) h.2
+  pub outcome-known : (a b : S) (u v : Output) (had has : Input) (r : Result Unit ReplayFault) → Outcome asked serves a b u v had has r
+      → IfSome had.remaining (λ given. Replays asked serves a b u v r given)
+  outcome-known a b u v had has r h = known had.remaining has.remaining h.1.consumes h.2
+    where
+      known : (x y : Option (List ℕ)) → Consumes x y h.0 → Replays asked serves a b u v r (h.0 ++ known_bytes y) → IfSome x (λ given. Replays asked serves a b u v r given)
+      known None y e k = tt
+      known (Some xs) None e k = absurd e
+      known (Some xs) (Some ys) e k = subst (λ (l : List ℕ). Replays asked serves a b u v r l) (sym e) k

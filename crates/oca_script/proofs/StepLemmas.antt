@@ -6,28 +6,22 @@ use Rattle.oca_script.specs.declared.fault.ReplayFault.{ReplayFault}
 use Rattle.oca_script.specs.declared.fault.ReplayFault.TheVariants.{Line, Read, Write, TooMuch}
 use Rattle.oca_script.specs.declared.fault.Stop.{Stop}
 use Rattle.oca_script.specs.declared.fault.Stop.TheVariants as stop
-use Rattle.oca_script.specs.Printing.{Emits}
+use Rattle.oca_script.specs.Ends.{Output}
+use Rattle.oca_script.specs.Printing.{PrintsAll, PrintsPart}
 use Rattle.oca_script.specs.Script.{Script, behind, ends_by, line_then, parsed, parsed_by}
-use Rattle.oca_script.specs.Replaying.{Runs, Takes}
-use Rattle.oca_script.specs.Steps.{Output, output, Printed, Leads, Does}
-use Rattle.oca_script.proofs.PrintLemmas.{Emits-nil, Emits-then}
+use Rattle.oca_script.specs.Replaying.{Runs, ServesLine}
+use Rattle.oca_script.specs.PrivateSteps.{Printed, AccountsFor, Step}
+use Rattle.oca_script.proofs.PrintLemmas.{PrintsAll-nil, PrintsAll-then, PrintsPart-then}
 use Rattle.oca_script.proofs.ScriptLemmas.{asks-long}
 
 -- ---- what is printed
 
-pub Printed-then : (r : Result Unit ReplayFault) (a b c : Output) (x y : List ℕ) → Printed (Ok tt) a b x → Printed r b c y → Printed r a c (x ++ y)
-Printed-then (Ok u) a b c x y h k = Emits-then _ _ _ _ _ _ _ _ h k
-Printed-then (Err (Line n w)) a b c x y h k = Emits-then _ _ _ _ _ _ _ _ h k
-Printed-then (Err Read) a b c x y h k = Emits-then _ _ _ _ _ _ _ _ h k
-Printed-then (Err Write) a b c x y h k = (k.0, Emits-then _ _ _ _ _ _ _ _ h k.1)
-Printed-then (Err TooMuch) a b c x y h k = Emits-then _ _ _ _ _ _ _ _ h k
-
-pub Printed-nil : (r : Result Unit ReplayFault) (a : Output) → Printed r a a []
-Printed-nil (Ok u) a = Emits-nil a.contents a.held
-Printed-nil (Err (Line n w)) a = Emits-nil a.contents a.held
-Printed-nil (Err Read) a = Emits-nil a.contents a.held
-Printed-nil (Err Write) a = (a.held, Emits-nil a.contents a.held)
-Printed-nil (Err TooMuch) a = Emits-nil a.contents a.held
+pub Printed-then : (r : Result Unit ReplayFault) (a b c : Output) (x y : List ℕ) → PrintsAll a b x → Printed r b c y → Printed r a c (x ++ y)
+Printed-then (Ok u) a b c x y h k = PrintsAll-then a b c x y h k
+Printed-then (Err (Line n w)) a b c x y h k = PrintsAll-then a b c x y h k
+Printed-then (Err Read) a b c x y h k = k
+Printed-then (Err Write) a b c x y h k = PrintsPart-then a b c x y h k
+Printed-then (Err TooMuch) a b c x y h k = PrintsAll-then a b c x y h k
 
 -- ---- requests
 
@@ -49,157 +43,165 @@ behind-behind {R} xs ys s = ap behind_as (sym (append_assoc xs ys s.requests))
 
 -- ---- what was asked
 
-pub Leads-then : {R X : Type 0} (r : Result Unit ReplayFault) (asks mid rest : X → Script R) (xs ys : List R)
-    → ((x : X) → asks x ≡ behind xs (mid x)) → Leads r mid rest ys → Leads r asks rest (xs ++ ys)
-Leads-then (Ok u) asks mid rest xs ys h k = λ x. h x ∙ ap (behind xs) (k x) ∙ behind-behind xs ys (rest x)
-Leads-then (Err (Line n w)) asks mid rest xs ys h k = λ x. h x ∙ ap (behind xs) (k x)
-Leads-then (Err Read) asks mid rest xs ys h k = λ x. ((k x).0, h x ∙ ap (behind xs) (k x).1 ∙ behind-behind xs ys (k x).0)
-Leads-then (Err Write) asks mid rest xs ys h k = λ x. ((k x).0, h x ∙ ap (behind xs) (k x).1 ∙ behind-behind xs ys (k x).0)
-Leads-then (Err TooMuch) asks mid rest xs ys h k = λ x. h x ∙ ap (behind xs) (k x)
+pub AccountsFor-then : {R X : Type 0} (r : Result Unit ReplayFault) (asks mid rest : X → Script R) (xs ys : List R)
+    → ((x : X) → asks x ≡ behind xs (mid x)) → AccountsFor r mid rest ys → AccountsFor r asks rest (xs ++ ys)
+AccountsFor-then (Ok u) asks mid rest xs ys h k = λ x. h x ∙ ap (behind xs) (k x) ∙ behind-behind xs ys (rest x)
+AccountsFor-then (Err (Line n w)) asks mid rest xs ys h k = λ x. h x ∙ ap (behind xs) (k x)
+AccountsFor-then (Err Read) asks mid rest xs ys h k = λ x. ((k x).0, h x ∙ ap (behind xs) (k x).1 ∙ behind-behind xs ys (k x).0)
+AccountsFor-then (Err Write) asks mid rest xs ys h k = λ x. ((k x).0, h x ∙ ap (behind xs) (k x).1 ∙ behind-behind xs ys (k x).0)
+AccountsFor-then (Err TooMuch) asks mid rest xs ys h k = λ x. h x ∙ ap (behind xs) (k x)
 
-Leads-at : {R X Y : Type 0} (f : Y → X) (r : Result Unit ReplayFault) (asks rest : X → Script R) (xs : List R)
-    → Leads r asks rest xs → Leads r (λ y. asks (f y)) (λ y. rest (f y)) xs
-Leads-at f (Ok u) asks rest xs h = λ y. h (f y)
-Leads-at f (Err (Line n w)) asks rest xs h = λ y. h (f y)
-Leads-at f (Err Read) asks rest xs h = λ y. h (f y)
-Leads-at f (Err Write) asks rest xs h = λ y. h (f y)
-Leads-at f (Err TooMuch) asks rest xs h = λ y. h (f y)
+AccountsFor-at : {R X Y : Type 0} (f : Y → X) (r : Result Unit ReplayFault) (asks rest : X → Script R) (xs : List R)
+    → AccountsFor r asks rest xs → AccountsFor r (λ y. asks (f y)) (λ y. rest (f y)) xs
+AccountsFor-at f (Ok u) asks rest xs h = λ y. h (f y)
+AccountsFor-at f (Err (Line n w)) asks rest xs h = λ y. h (f y)
+AccountsFor-at f (Err Read) asks rest xs h = λ y. h (f y)
+AccountsFor-at f (Err Write) asks rest xs h = λ y. h (f y)
+AccountsFor-at f (Err TooMuch) asks rest xs h = λ y. h (f y)
 
-Leads-as : {R X : Type 0} (r : Result Unit ReplayFault) (asks asks' rest rest' : X → Script R) (xs : List R)
-    → ((x : X) → asks' x ≡ asks x) → ((x : X) → rest x ≡ rest' x) → Leads r asks rest xs → Leads r asks' rest' xs
-Leads-as (Ok u) asks asks' rest rest' xs e f h = λ x. e x ∙ h x ∙ ap (behind xs) (f x)
-Leads-as (Err (Line n w)) asks asks' rest rest' xs e f h = λ x. e x ∙ h x
-Leads-as (Err Read) asks asks' rest rest' xs e f h = λ x. ((h x).0, e x ∙ (h x).1)
-Leads-as (Err Write) asks asks' rest rest' xs e f h = λ x. ((h x).0, e x ∙ (h x).1)
-Leads-as (Err TooMuch) asks asks' rest rest' xs e f h = λ x. e x ∙ h x
+AccountsFor-as : {R X : Type 0} (r : Result Unit ReplayFault) (asks asks' rest rest' : X → Script R) (xs : List R)
+    → ((x : X) → asks' x ≡ asks x) → ((x : X) → rest x ≡ rest' x) → AccountsFor r asks rest xs → AccountsFor r asks' rest' xs
+AccountsFor-as (Ok u) asks asks' rest rest' xs e f h = λ x. e x ∙ h x ∙ ap (behind xs) (f x)
+AccountsFor-as (Err (Line n w)) asks asks' rest rest' xs e f h = λ x. e x ∙ h x
+AccountsFor-as (Err Read) asks asks' rest rest' xs e f h = λ x. ((h x).0, e x ∙ (h x).1)
+AccountsFor-as (Err Write) asks asks' rest rest' xs e f h = λ x. ((h x).0, e x ∙ (h x).1)
+AccountsFor-as (Err TooMuch) asks asks' rest rest' xs e f h = λ x. e x ∙ h x
 
-Leads-err : {R X : Type 0} (fault : ReplayFault) (asks rest rest' : X → Script R) (xs : List R) → Leads (Err fault) asks rest xs → Leads (Err fault) asks rest' xs
-Leads-err (Line n w) asks rest rest' xs h = h
-Leads-err Read asks rest rest' xs h = h
-Leads-err Write asks rest rest' xs h = h
-Leads-err TooMuch asks rest rest' xs h = h
+AccountsFor-err : {R X : Type 0} (fault : ReplayFault) (asks rest rest' : X → Script R) (xs : List R) → AccountsFor (Err fault) asks rest xs → AccountsFor (Err fault) asks rest' xs
+AccountsFor-err (Line n w) asks rest rest' xs h = h
+AccountsFor-err Read asks rest rest' xs h = h
+AccountsFor-err Write asks rest rest' xs h = h
+AccountsFor-err TooMuch asks rest rest' xs h = h
 
 -- ---- steps
 
 module _ {S R : Type 0} (serves : S → R → S → List ℕ → Type 0) where
   -- nothing was done
-  pub Does-nothing : {X : Type 0} (a : S) (u : Output) (r : Result Unit ReplayFault) (asks rest : X → Script R)
-      → Leads r asks rest [] → Does serves a a u u r asks rest
-  Does-nothing a u r asks rest h = record { requests = []; text = []; runs = (refl, refl); prints = Printed-nil r u; leads = h }
+  pub Step-nothing : {X : Type 0} (a : S) (u : Output) (r : Result Unit ReplayFault) (asks rest : X → Script R)
+      → Printed r u u [] → AccountsFor r asks rest [] → Step serves a a u u r asks rest
+  Step-nothing a u r asks rest p h = record { requests = []; text = []; runs = (refl, refl); prints = p; accounts = h }
+
+  -- no step reads
+  pub Step-unread : {X : Type 0} (a b : S) (u v : Output) (r : Result Unit ReplayFault) (asks rest : X → Script R)
+      → Step serves a b u v r asks rest → r ≡ Err Read → ⊥
+  Step-unread a b u v (Ok x) asks rest h e = cc e
+  Step-unread a b u v (Err (Line n w)) asks rest h e = cc e
+  Step-unread a b u v (Err Read) asks rest h e = h.prints
+  Step-unread a b u v (Err Write) asks rest h e = cc e
+  Step-unread a b u v (Err TooMuch) asks rest h e = cc e
 
   -- a step, and then another
-  pub Does-then : {X : Type 0} (a b c : S) (u v w : Output) (r : Result Unit ReplayFault) (asks mid rest : X → Script R)
-      → Does serves a b u v (Ok tt) asks mid → Does serves b c v w r mid rest → Does serves a c u w r asks rest
-  Does-then a b c u v w r asks mid rest h k = record {
+  pub Step-then : {X : Type 0} (a b c : S) (u v w : Output) (r : Result Unit ReplayFault) (asks mid rest : X → Script R)
+      → Step serves a b u v (Ok tt) asks mid → Step serves b c v w r mid rest → Step serves a c u w r asks rest
+  Step-then a b c u v w r asks mid rest h k = record {
     requests = h.requests ++ k.requests;
     text = h.text ++ k.text;
     runs = Runs-then serves a b c h.requests k.requests h.text k.text h.runs k.runs;
     prints = Printed-then r u v w h.text k.text h.prints k.prints;
-    leads = Leads-then r asks mid rest h.requests k.requests h.leads k.leads;
+    accounts = AccountsFor-then r asks mid rest h.requests k.requests h.accounts k.accounts;
   }
 
   -- the same, whatever else is asked
-  pub Does-at : {X Y : Type 0} (f : Y → X) (a b : S) (u v : Output) (r : Result Unit ReplayFault) (asks rest : X → Script R)
-      → Does serves a b u v r asks rest → Does serves a b u v r (λ y. asks (f y)) (λ y. rest (f y))
-  Does-at f a b u v r asks rest h = record {
+  pub Step-at : {X Y : Type 0} (f : Y → X) (a b : S) (u v : Output) (r : Result Unit ReplayFault) (asks rest : X → Script R)
+      → Step serves a b u v r asks rest → Step serves a b u v r (λ y. asks (f y)) (λ y. rest (f y))
+  Step-at f a b u v r asks rest h = record {
     requests = h.requests;
     text = h.text;
     runs = h.runs;
     prints = h.prints;
-    leads = Leads-at f r asks rest h.requests h.leads;
+    accounts = AccountsFor-at f r asks rest h.requests h.accounts;
   }
 
   -- the same, said otherwise
-  pub Does-as : {X : Type 0} (a b : S) (u v : Output) (r : Result Unit ReplayFault) (asks asks' rest rest' : X → Script R)
-      → ((x : X) → asks' x ≡ asks x) → ((x : X) → rest x ≡ rest' x) → Does serves a b u v r asks rest → Does serves a b u v r asks' rest'
-  Does-as a b u v r asks asks' rest rest' e f h = record {
+  pub Step-as : {X : Type 0} (a b : S) (u v : Output) (r : Result Unit ReplayFault) (asks asks' rest rest' : X → Script R)
+      → ((x : X) → asks' x ≡ asks x) → ((x : X) → rest x ≡ rest' x) → Step serves a b u v r asks rest → Step serves a b u v r asks' rest'
+  Step-as a b u v r asks asks' rest rest' e f h = record {
     requests = h.requests;
     text = h.text;
     runs = h.runs;
     prints = h.prints;
-    leads = Leads-as r asks asks' rest rest' h.requests e f h.leads;
+    accounts = AccountsFor-as r asks asks' rest rest' h.requests e f h.accounts;
   }
 
   -- at a fault it does not matter what would have been left
-  pub Does-err : {X : Type 0} (a b : S) (u v : Output) (r : Result Unit ReplayFault) (fault : ReplayFault) (asks rest rest' : X → Script R)
-      → r ≡ Err fault → Does serves a b u v r asks rest → Does serves a b u v r asks rest'
-  Does-err {X} a b u v r fault asks rest rest' e h = record {
+  pub Step-err : {X : Type 0} (a b : S) (u v : Output) (r : Result Unit ReplayFault) (fault : ReplayFault) (asks rest rest' : X → Script R)
+      → r ≡ Err fault → Step serves a b u v r asks rest → Step serves a b u v r asks rest'
+  Step-err {X} a b u v r fault asks rest rest' e h = record {
     requests = h.requests;
     text = h.text;
     runs = h.runs;
     prints = h.prints;
-    leads = subst (λ (q : Result Unit ReplayFault). Leads {R = R} {X = X} q asks rest' h.requests) (sym e)
-        (Leads-err fault asks rest rest' h.requests (subst (λ (q : Result Unit ReplayFault). Leads {R = R} {X = X} q asks rest h.requests) e h.leads));
+    accounts = subst (λ (q : Result Unit ReplayFault). AccountsFor {R = R} {X = X} q asks rest' h.requests) (sym e)
+        (AccountsFor-err fault asks rest rest' h.requests (subst (λ (q : Result Unit ReplayFault). AccountsFor {R = R} {X = X} q asks rest h.requests) e h.accounts));
   }
 
   -- ---- a line
 
-  served : (a b : S) (p : Option (List ℕ)) (q : List ℕ) (p' : Option (List ℕ)) (q' : List ℕ) (k : ℕ) (x : Result R LineFault) → Takes x serves a b (Ok tt) p q p' q'
-      → Does {X = Script R} serves a b (output p q) (output p' q') (Ok tt) (λ s. line_then k (parsed_by (Ok true) x) s) (λ s. s)
-  served a b p q p' q' k (Err fault) h = cc (h.0)
-  served a b p q p' q' k (Ok request) h = record {
+  served : (a b : S) (u v : Output) (k : ℕ) (x : Result R LineFault) → ServesLine x serves a b (Ok tt) u v
+      → Step {X = Script R} serves a b u v (Ok tt) (λ s. line_then k (parsed_by (Ok true) x) s) (λ s. s)
+  served a b u v k (Err fault) h = cc (h.0)
+  served a b u v k (Ok request) h = record {
     requests = request ∷ [];
     text = h.text;
     runs = Runs-one serves a b request h.text h.serves_it;
-    prints = subst (λ (l : List ℕ). Emits p p' q h.text l) h.rested h.emits;
-    leads = λ s. refl;
+    prints = h.prints;
+    accounts = λ s. refl;
   }
 
-  failed : (a b : S) (p : Option (List ℕ)) (q : List ℕ) (p' : Option (List ℕ)) (q' : List ℕ) (k : ℕ) (x : Result R LineFault) → Takes x serves a b (Err stop.Write) p q p' q'
-      → Does {X = Script R} serves a b (output p q) (output p' q') (Err Write) (λ s. line_then k (parsed_by (Ok true) x) s) (λ s. s)
-  failed a b p q p' q' k (Err fault) h = cc (h.0)
-  failed a b p q p' q' k (Ok request) h = record {
+  failed : (a b : S) (u v : Output) (k : ℕ) (x : Result R LineFault) → ServesLine x serves a b (Err stop.Write) u v
+      → Step {X = Script R} serves a b u v (Err Write) (λ s. line_then k (parsed_by (Ok true) x) s) (λ s. s)
+  failed a b u v k (Err fault) h = cc (h.0)
+  failed a b u v k (Ok request) h = record {
     requests = request ∷ [];
     text = h.text;
     runs = Runs-one serves a b request h.text h.serves_it;
-    prints = (h.rest, h.emits);
-    leads = λ s. (s, refl);
+    prints = h.prints;
+    accounts = λ s. (s, refl);
   }
 
-  refused : (a b : S) (p : Option (List ℕ)) (q : List ℕ) (p' : Option (List ℕ)) (q' : List ℕ) (k : ℕ) (x : Result R LineFault) (fault : LineFault) → Takes x serves a b (Err (stop.Line fault)) p q p' q'
-      → Does {X = Script R} serves a b (output p q) (output p' q') (Err (Line k fault)) (λ s. line_then k (parsed_by (Ok true) x) s) (λ s. s)
-  refused a b p q p' q' k (Err other) fault h =
+  refused : (a b : S) (u v : Output) (k : ℕ) (x : Result R LineFault) (fault : LineFault) → ServesLine x serves a b (Err (stop.Line fault)) u v
+      → Step {X = Script R} serves a b u v (Err (Line k fault)) (λ s. line_then k (parsed_by (Ok true) x) s) (λ s. s)
+  refused a b u v k (Err other) fault h =
       let same : other ≡ fault = cc (h.0) in
-      subst (λ (d : S). Does {X = Script R} serves a d (output p q) (output p' q') (Err (Line k fault)) (λ s. line_then k (parsed_by (Ok true) (Err other)) s) (λ s. s)) (sym h.1)
-      (subst (λ (u : Option (List ℕ)). Does {X = Script R} serves a a (output p q) (output u q') (Err (Line k fault)) (λ s. line_then k (parsed_by (Ok true) (Err other)) s) (λ s. s)) (sym h.2)
-      (subst (λ (l : List ℕ). Does {X = Script R} serves a a (output p q) (output p l) (Err (Line k fault)) (λ s. line_then k (parsed_by (Ok true) (Err other)) s) (λ s. s)) (sym h.3)
-      (Does-nothing a (output p q) (Err (Line k fault)) _ _ (λ s. ap (λ (f : LineFault). by_fault f) same))))
+      subst (λ (d : S). Step {X = Script R} serves a d u v (Err (Line k fault)) (λ s. line_then k (parsed_by (Ok true) (Err other)) s) (λ s. s)) (sym h.1)
+      (subst (λ (w : Output). Step {X = Script R} serves a a u w (Err (Line k fault)) (λ s. line_then k (parsed_by (Ok true) (Err other)) s) (λ s. s)) (sym h.2)
+      (Step-nothing a u (Err (Line k fault)) _ _ (PrintsAll-nil u) (λ s. ap (λ (f : LineFault). by_fault f) same)))
     where
       by_fault : LineFault → Script R
       by_fault f = ends_by (Err (Line k f))
-  refused a b p q p' q' k (Ok request) fault h = absurd h
+  refused a b u v k (Ok request) fault h = absurd h
 
-  -- what a language's `take_line` answered
-  pub line-served : (a b : S) (p : Option (List ℕ)) (q : List ℕ) (p' : Option (List ℕ)) (q' : List ℕ) (k : ℕ) (x : Result R LineFault) (r : Result Unit Stop) (u : Unit {0}) → r ≡ Ok u
-      → Takes x serves a b r p q p' q' → Does {X = Script R} serves a b (output p q) (output p' q') (Ok tt) (λ s. line_then k (parsed_by (Ok true) x) s) (λ s. s)
-  line-served a b p q p' q' k x r u e h = served a b p q p' q' k x (subst (λ (z : Result Unit Stop). Takes x serves a b z p q p' q') e h)
+  -- what a language's `serve_line` answered
+  pub line-served : (a b : S) (u v : Output) (k : ℕ) (x : Result R LineFault) (r : Result Unit Stop) (o : Unit {0}) → r ≡ Ok o
+      → ServesLine x serves a b r u v → Step {X = Script R} serves a b u v (Ok tt) (λ s. line_then k (parsed_by (Ok true) x) s) (λ s. s)
+  line-served a b u v k x r o e h = served a b u v k x (subst (λ (z : Result Unit Stop). ServesLine x serves a b z u v) e h)
 
-  pub line-failed : (a b : S) (p : Option (List ℕ)) (q : List ℕ) (p' : Option (List ℕ)) (q' : List ℕ) (k : ℕ) (x : Result R LineFault) (r : Result Unit Stop) → r ≡ Err stop.Write
-      → Takes x serves a b r p q p' q' → Does {X = Script R} serves a b (output p q) (output p' q') (Err Write) (λ s. line_then k (parsed_by (Ok true) x) s) (λ s. s)
-  line-failed a b p q p' q' k x r e h = failed a b p q p' q' k x (subst (λ (z : Result Unit Stop). Takes x serves a b z p q p' q') e h)
+  pub line-failed : (a b : S) (u v : Output) (k : ℕ) (x : Result R LineFault) (r : Result Unit Stop) → r ≡ Err stop.Write
+      → ServesLine x serves a b r u v → Step {X = Script R} serves a b u v (Err Write) (λ s. line_then k (parsed_by (Ok true) x) s) (λ s. s)
+  line-failed a b u v k x r e h = failed a b u v k x (subst (λ (z : Result Unit Stop). ServesLine x serves a b z u v) e h)
 
-  pub line-refused : (a b : S) (p : Option (List ℕ)) (q : List ℕ) (p' : Option (List ℕ)) (q' : List ℕ) (k : ℕ) (x : Result R LineFault) (r : Result Unit Stop) (fault : LineFault) → r ≡ Err (stop.Line fault)
-      → Takes x serves a b r p q p' q' → Does {X = Script R} serves a b (output p q) (output p' q') (Err (Line k fault)) (λ s. line_then k (parsed_by (Ok true) x) s) (λ s. s)
-  line-refused a b p q p' q' k x r fault e h = refused a b p q p' q' k x fault (subst (λ (z : Result Unit Stop). Takes x serves a b z p q p' q') e h)
+  pub line-refused : (a b : S) (u v : Output) (k : ℕ) (x : Result R LineFault) (r : Result Unit Stop) (fault : LineFault) → r ≡ Err (stop.Line fault)
+      → ServesLine x serves a b r u v → Step {X = Script R} serves a b u v (Err (Line k fault)) (λ s. line_then k (parsed_by (Ok true) x) s) (λ s. s)
+  line-refused a b u v k x r fault e h = refused a b u v k x fault (subst (λ (z : Result Unit Stop). ServesLine x serves a b z u v) e h)
 
   -- a line with that fault whatever its fields are
   pub line-bad : (a : S) (u : Output) (k : ℕ) (fault : LineFault) (p : Result Bool LineFault) (x : Result R LineFault) → p ≡ Err fault
-      → Does {X = Script R} serves a a u u (Err (Line k fault)) (λ s. line_then k (parsed_by p x) s) (λ s. s)
-  line-bad a u k fault p x e = Does-nothing a u (Err (Line k fault)) _ _ (λ s. ap (λ q. line_then k (parsed_by q x) s) e)
+      → Step {X = Script R} serves a a u u (Err (Line k fault)) (λ s. line_then k (parsed_by p x) s) (λ s. s)
+  line-bad a u k fault p x e = Step-nothing a u (Err (Line k fault)) _ _ (PrintsAll-nil u) (λ s. ap (λ q. line_then k (parsed_by q x) s) e)
 
   -- a line that is skipped
   pub line-skipped : (a : S) (u : Output) (k : ℕ) (p : Result Bool LineFault) (x : Result R LineFault) → p ≡ Ok false
-      → Does {X = Script R} serves a a u u (Ok tt) (λ s. line_then k (parsed_by p x) s) (λ s. s)
-  line-skipped a u k p x e = Does-nothing a u (Ok tt) _ _ (λ s. ap (λ q. line_then k (parsed_by q x) s) e)
+      → Step {X = Script R} serves a a u u (Ok tt) (λ s. line_then k (parsed_by p x) s) (λ s. s)
+  line-skipped a u k p x e = Step-nothing a u (Ok tt) _ _ (PrintsAll-nil u) (λ s. ap (λ q. line_then k (parsed_by q x) s) e)
 
   -- a line that asks for something
   pub line-asks : (a b : S) (u v : Output) (k : ℕ) (r : Result Unit ReplayFault) (p : Result Bool LineFault) (x : Result R LineFault) → p ≡ Ok true
-      → Does {X = Script R} serves a b u v r (λ s. line_then k (parsed_by (Ok true) x) s) (λ s. s) → Does {X = Script R} serves a b u v r (λ s. line_then k (parsed_by p x) s) (λ s. s)
-  line-asks a b u v k r p x e h = Does-as a b u v r _ _ _ _ (λ s. ap (λ q. line_then k (parsed_by q x) s) e) (λ s. refl) h
+      → Step {X = Script R} serves a b u v r (λ s. line_then k (parsed_by (Ok true) x) s) (λ s. s) → Step {X = Script R} serves a b u v r (λ s. line_then k (parsed_by p x) s) (λ s. s)
+  line-asks a b u v k r p x e h = Step-as a b u v r _ _ _ _ (λ s. ap (λ q. line_then k (parsed_by q x) s) e) (λ s. refl) h
 
   -- a line that is too long already
   pub line-too_long : (a : S) (u : Output) (k : ℕ) (line : List ℕ) (asked : List (List ℕ) → Result R LineFault) (r : Result Unit ReplayFault) → 4096 < length line
-      → r ≡ Err (Line k TooLong) → Does {X = Script R} serves a a u u r (λ s. line_then k (parsed asked line) s) (λ s. s)
+      → r ≡ Err (Line k TooLong) → Step {X = Script R} serves a a u u r (λ s. line_then k (parsed asked line) s) (λ s. s)
   line-too_long a u k line asked r long e =
-      subst (λ (q : Result Unit ReplayFault). Does {X = Script R} serves a a u u q (λ s. line_then k (parsed asked line) s) (λ s. s)) (sym e)
+      subst (λ (q : Result Unit ReplayFault). Step {X = Script R} serves a a u u q (λ s. line_then k (parsed asked line) s) (λ s. s)) (sym e)
       (line-bad a u k TooLong _ _ (asks-long line long))

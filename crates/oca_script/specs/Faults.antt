@@ -1,7 +1,9 @@
--- How the fault of a line is printed (profile).
+-- How the faults of a script are printed and numbered (profile).
 use Rattle.std.specs.Prelude.{ℕ, List, codes}
 use Rattle.oca_script.specs.declared.fault.LineFault.{LineFault}
 use Rattle.oca_script.specs.declared.fault.LineFault.TheVariants.{TooLong, Form, Moment, Number, Peer, Hex}
+use Rattle.oca_script.specs.declared.fault.ReplayFault.{ReplayFault}
+use Rattle.oca_script.specs.declared.fault.ReplayFault.TheVariants.{Line, Read, Write, TooMuch}
 
 abbrev pub fault_word : LineFault → List ℕ
 fault_word TooLong = codes "too long"
@@ -10,3 +12,9 @@ fault_word Moment = codes "moment"
 fault_word Number = codes "number"
 fault_word Peer = codes "peer"
 fault_word Hex = codes "hex"
+
+abbrev pub fault_number : ReplayFault → ℕ
+fault_number (Line number fault) = 1
+fault_number Read = 2
+fault_number Write = 3
+fault_number TooMuch = 4

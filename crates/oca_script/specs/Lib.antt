@@ -1,7 +1,8 @@
 pub mod Faults
 pub mod Fields
-pub mod Splitting
 pub mod Script
+pub mod Ends
 pub mod Printing
 pub mod Replaying
-pub mod Steps
+pub mod PrivateSplitting
+pub mod PrivateSteps

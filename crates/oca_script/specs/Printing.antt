@@ -1,27 +1,50 @@
--- What is printed through a buffer.
-use Rattle.std.specs.Prelude.{◌≡◌, ℕ, List, ◌++◌, Option, Result, Ok, Err}
+-- What is printed through a buffer (profile).
+use Rattle.std.specs.Prelude.{◌≡◌, ℕ, List, [], ◌++◌, Bool, true, Option, Result, Ok, Err}
 use Rattle.std.specs.Io.KnownBytes.{Appends}
 use Rattle.oca_script.specs.declared.fault.WriteFailed.{WriteFailed}
+use Rattle.oca_script.specs.Ends.{Output}
 
--- a writer took a front of what was held and of the text, and this rest it did not
+-- a sink took a front of what was held and of the text, and this rest it did not
 pub record Emits (was is : Option (List ℕ)) (held text rest : List ℕ) : Type 0 where
   pub sent : List ℕ
   pub appends : Appends was is sent
   pub whole : held ++ text ≡ sent ++ rest
 
--- what was held and the text went to the writer, but for what is held now; or the writer failed, and some rest is lost
-abbrev pub Prints : Result Unit WriteFailed → Option (List ℕ) → List ℕ → Option (List ℕ) → List ℕ → List ℕ → Type 0
-Prints (Ok u) was held is holds text = Emits was is held text holds
-Prints (Err e) was held is holds text = (rest : List ℕ) × Emits was is held text rest
+-- the text was printed: what the sink did not take is held
+pub record PrintsAll (old new : Output) (text : List ℕ) : Type 0 where
+  pub emits : Emits old.contents new.contents old.held text new.held
+  pub failed : new.failed ≡ old.failed
 
--- the writer grew by a front of the text
+-- a write failed: some rest of what was held and of the text is lost
+pub record PrintsPart (old new : Output) (text : List ℕ) : Type 0 where
+  pub lost : List ℕ
+  pub emits : Emits old.contents new.contents old.held text lost
+  pub failed : new.failed ≡ true
+
+-- the text was printed, or a write failed
+abbrev pub Prints : Result Unit WriteFailed → Output → Output → List ℕ → Type 0
+Prints (Ok u) old new text = PrintsAll old new text
+Prints (Err e) old new text = PrintsPart old new text
+
+-- a sink took a front of the text
 pub record AppendsFront (was is : Option (List ℕ)) (text : List ℕ) : Type 0 where
   pub front : List ℕ
   pub rest : List ℕ
   pub whole : text ≡ front ++ rest
   pub appends : Appends was is front
 
--- all of the bytes were written, or a front of them
-abbrev pub WritesAll : Result Unit WriteFailed → Option (List ℕ) → Option (List ℕ) → List ℕ → Type 0
-WritesAll (Ok u) was is bytes = Appends was is bytes
-WritesAll (Err e) was is bytes = AppendsFront was is bytes
+-- what was held and the text were written: nothing is held
+pub record WritesWhole (old new : Output) (text : List ℕ) : Type 0 where
+  pub appends : Appends old.contents new.contents (old.held ++ text)
+  pub none_held : new.held ≡ []
+  pub failed : new.failed ≡ old.failed
+
+-- a write failed: a front of what was held and of the text was written
+pub record WritesFront (old new : Output) (text : List ℕ) : Type 0 where
+  pub front : AppendsFront old.contents new.contents (old.held ++ text)
+  pub failed : new.failed ≡ true
+
+-- all of the bytes were written, or a write failed
+abbrev pub WritesBytes : Result Unit WriteFailed → Output → Output → List ℕ → Type 0
+WritesBytes (Ok u) old new bytes = Appends old.contents new.contents bytes × (new.failed ≡ old.failed)
+WritesBytes (Err e) old new bytes = AppendsFront old.contents new.contents bytes × (new.failed ≡ true)

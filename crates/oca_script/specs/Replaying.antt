@@ -1,30 +1,30 @@
 -- What a replay does (profile).
-use Rattle.std.specs.Prelude.{◌≡◌, ◌≤◌, ℕ, List, [], ◌∷◌, ◌++◌, length, Option, None, Some, Result, Ok, Err, OnOk}
-use Rattle.std.specs.Io.KnownBytes.{Appends, Consumes, IsAtEnd}
+use Rattle.std.specs.Prelude.{◌≡◌, ◌≤◌, ℕ, Bool, true, List, [], ◌∷◌, ◌++◌, length, Option, None, Some, Result, Ok, Err, OnOk}
+use Rattle.std.specs.Io.KnownBytes.{Consumes, IsAtEnd}
 use Rattle.oca_script.specs.declared.fault.LineFault.{LineFault}
 use Rattle.oca_script.specs.declared.fault.Stop.{Stop}
 use Rattle.oca_script.specs.declared.fault.Stop.TheVariants as stop
 use Rattle.oca_script.specs.declared.fault.ReplayFault.{ReplayFault}
 use Rattle.oca_script.specs.declared.fault.ReplayFault.TheVariants.{Line, Read, Write, TooMuch}
-use Rattle.oca_script.specs.Printing.{Emits, AppendsFront}
+use Rattle.oca_script.specs.declared.fault.WriteFailed.{WriteFailed}
+use Rattle.oca_script.specs.Ends.{Input, Output}
+use Rattle.oca_script.specs.Printing.{Prints, PrintsAll, PrintsPart, WritesWhole, WritesFront}
 use Rattle.oca_script.specs.Script.{Script, script, behind}
 
 -- ---- a line
 
--- a request was served from old to new, and its text was printed, as far as the writer went
-pub record Served {S R : Type 0} (serves : S → R → S → List ℕ → Type 0) (old : S) (request : R) (new : S) (was is : Option (List ℕ)) (held : List ℕ) (Rest : List ℕ → Type 0) : Type 0 where
+-- a request was served from old to new, and its text printed as far as the writes went
+pub record Served {S R : Type 0} (serves : S → R → S → List ℕ → Type 0) (old : S) (request : R) (new : S) (Printed : List ℕ → Type 0) : Type 0 where
   pub text : List ℕ
-  pub rest : List ℕ
   pub serves_it : serves old request new text
-  pub emits : Emits was is held text rest
-  pub rested : Rest rest
+  pub prints : Printed text
 
--- What taking a line did: it served the request; or the line has that fault, and nothing was done.
-abbrev pub Takes : {S R : Type 0} → Result R LineFault → (S → R → S → List ℕ → Type 0) → S → S → Result Unit Stop → Option (List ℕ) → List ℕ → Option (List ℕ) → List ℕ → Type 0
-Takes (Err fault) serves old new result was held is holds = (result ≡ Err (stop.Line fault)) × (new ≡ old) × (is ≡ was) × (holds ≡ held)
-Takes (Ok request) serves old new (Ok u) was held is holds = Served serves old request new was is held (λ rest. rest ≡ holds)
-Takes (Ok request) serves old new (Err stop.Write) was held is holds = Served serves old request new was is held (λ rest. Unit {0})
-Takes (Ok request) serves old new (Err (stop.Line fault)) was held is holds = ⊥
+-- What serving a line did: it served the request; or the line has that fault, and nothing was done.
+abbrev pub ServesLine : {S R : Type 0} → Result R LineFault → (S → R → S → List ℕ → Type 0) → S → S → Result Unit Stop → Output → Output → Type 0
+ServesLine (Err fault) serves old new result was is = (result ≡ Err (stop.Line fault)) × (new ≡ old) × (is ≡ was)
+ServesLine (Ok request) serves old new (Ok u) was is = Served serves old request new (PrintsAll was is)
+ServesLine (Ok request) serves old new (Err stop.Write) was is = Served serves old request new (PrintsPart was is)
+ServesLine (Ok request) serves old new (Err (stop.Line fault)) was is = ⊥
 
 -- ---- requests
 
@@ -36,19 +36,19 @@ Runs {S} {R} serves a (request ∷ requests) c text =
 
 -- ---- a replay
 
--- all of the text was written, or a front of it where the writer failed
-abbrev pub Writes : Result Unit ReplayFault → Option (List ℕ) → Option (List ℕ) → List ℕ → Type 0
-Writes (Ok u) was is text = Appends was is text
-Writes (Err (Line number fault)) was is text = Appends was is text
-Writes (Err Read) was is text = Appends was is text
-Writes (Err Write) was is text = AppendsFront was is text
-Writes (Err TooMuch) was is text = Appends was is text
+-- all of the text was written, or a front of it where a write failed
+abbrev pub Writes : Result Unit ReplayFault → Output → Output → List ℕ → Type 0
+Writes (Ok u) was is text = WritesWhole was is text
+Writes (Err (Line number fault)) was is text = WritesWhole was is text
+Writes (Err Read) was is text = WritesWhole was is text
+Writes (Err Write) was is text = WritesFront was is text
+Writes (Err TooMuch) was is text = WritesWhole was is text
 
 -- these requests are the first of the script's
 abbrev pub BeginsWith : {R : Type 0} → List R → Script R → Type 0
 BeginsWith {R} requests s = (more : Script R) × (s ≡ behind requests more)
 
--- how a replay of the script ends: with its last request or at its fault, or earlier where the reader or the writer failed
+-- how a replay of the script ends: with its last request or at its fault, or earlier where a read or a write failed
 abbrev pub Ends : {R : Type 0} → Result Unit ReplayFault → Script R → List R → Type 0
 Ends (Ok u) s requests = s ≡ record { requests = requests; ending = Ok tt }
 Ends (Err (Line number fault)) s requests = s ≡ record { requests = requests; ending = Err (Line number fault) }
@@ -57,7 +57,7 @@ Ends (Err Write) s requests = BeginsWith requests s
 Ends (Err TooMuch) s requests = s ≡ record { requests = requests; ending = Err TooMuch }
 
 -- From old to new the script was replayed, as far as the result says, and its text was written.
-pub record Replays {S R : Type 0} (asked : List (List ℕ) → Result R LineFault) (serves : S → R → S → List ℕ → Type 0) (old new : S) (was is : Option (List ℕ)) (result : Result Unit ReplayFault) (given : List ℕ) : Type 0 where
+pub record Replays {S R : Type 0} (asked : List (List ℕ) → Result R LineFault) (serves : S → R → S → List ℕ → Type 0) (old new : S) (was is : Output) (result : Result Unit ReplayFault) (given : List ℕ) : Type 0 where
   pub requests : List R
   pub text : List ℕ
   pub runs : Runs serves old requests new text
@@ -69,12 +69,21 @@ abbrev pub known_bytes : Option (List ℕ) → List ℕ
 known_bytes None = []
 known_bytes (Some bytes) = bytes
 
--- a reader gave `taken` of what it had; at Ok it had no more
-pub record Reads (had has : Option (List ℕ)) (result : Result Unit ReplayFault) (taken : List ℕ) : Type 0 where
-  pub consumes : Consumes had has taken
-  pub bounded : length taken ≤ 16777217
-  pub ended : OnOk result (IsAtEnd has)
+-- a read failed exactly where the result is Read
+abbrev pub ReadFails : Result Unit ReplayFault → Bool → Bool → Type 0
+ReadFails (Ok u) before after = after ≡ before
+ReadFails (Err (Line number fault)) before after = after ≡ before
+ReadFails (Err Read) before after = after ≡ true
+ReadFails (Err Write) before after = after ≡ before
+ReadFails (Err TooMuch) before after = after ≡ before
 
--- There are bytes, those that the reader gave where it tells them, and the script of these and of what it has left was replayed.
-abbrev pub Outcome : {S R : Type 0} → (List (List ℕ) → Result R LineFault) → (S → R → S → List ℕ → Type 0) → S → S → Option (List ℕ) → Option (List ℕ) → Option (List ℕ) → Option (List ℕ) → Result Unit ReplayFault → Type 0
-Outcome asked serves old new was is had has result = (taken : List ℕ) × Reads had has result taken × Replays asked serves old new was is result (taken ++ known_bytes has)
+-- a source gave `taken` of what it had; at Ok it had no more
+pub record Reads (had has : Input) (result : Result Unit ReplayFault) (taken : List ℕ) : Type 0 where
+  pub consumes : Consumes had.remaining has.remaining taken
+  pub bounded : length taken ≤ 16777217
+  pub ended : OnOk result (IsAtEnd has.remaining)
+  pub failed : ReadFails result had.failed has.failed
+
+-- There are bytes, those that the source gave where it tells them, and the script of these and of what it has left was replayed.
+abbrev pub Outcome : {S R : Type 0} → (List (List ℕ) → Result R LineFault) → (S → R → S → List ℕ → Type 0) → S → S → Output → Output → Input → Input → Result Unit ReplayFault → Type 0
+Outcome asked serves old new was is had has result = (taken : List ℕ) × Reads had has result taken × Replays asked serves old new was is result (taken ++ known_bytes has.remaining)

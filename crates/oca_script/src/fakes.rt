@@ -1,9 +1,9 @@
-//! Readers and writers over memory for tests, which cut their bytes and fail where they are told to.
-ghost use Rattle.std.specs.Prelude.{◌<◌, Some};
+//! Sources and sinks in memory for tests, which cut their bytes and fail where they are told to.
+ghost use Rattle.std.specs.Prelude.{◌<◌, Some, None, false};
 
+use super::ends::{Sink, Source};
+use super::fault::{ReadFailed, WriteFailed};
 use arrayvec::ArrayVec;
-use std::io;
-use std::io::{ErrorKind, Read, Write};
 
 /// Gives its bytes in pieces of at most `piece`, and fails once `before_fault` of them were given.
 #[derive(Drop)]
@@ -11,6 +11,7 @@ pub struct PieceReader<'a> {
     pub rest: &'a [u8],
     pub piece: usize,
     pub before_fault: usize,
+    pub failed: bool,
     ghost some: { 0 < piece },
 }
 
@@ -23,16 +24,20 @@ impl<'a> PieceReader<'a> {
             rest: bytes,
             piece,
             before_fault,
+            failed: false,
         }
     }
 }
 
-impl Read for PieceReader<'_> {
+impl Source for PieceReader<'_> {
     ghost remaining = { λ r. Some r.rest.now };
 
-    fn read(&mut self, buf: &mut [u8]) -> io::Result<usize> {
+    ghost failed = { λ r. r.failed };
+
+    fn read(&mut self, buf: &mut [u8]) -> Result<usize, ReadFailed> {
         if self.before_fault == 0 {
-            return Err(io::Error::new(ErrorKind::Other, "fault"));
+            self.failed = true;
+            return Err(ReadFailed);
         }
         let count = self
             .piece
@@ -55,8 +60,12 @@ pub struct PatternReader<'a> {
     pub left: usize,
 }
 
-impl Read for PatternReader<'_> {
-    fn read(&mut self, buf: &mut [u8]) -> io::Result<usize> {
+impl Source for PatternReader<'_> {
+    ghost remaining = { λ _. None };
+
+    ghost failed = { λ _. false };
+
+    fn read(&mut self, buf: &mut [u8]) -> Result<usize, ReadFailed> {
         if self.at >= self.pattern.len() {
             self.at = 0;
         }
@@ -69,43 +78,43 @@ impl Read for PatternReader<'_> {
     }
 }
 
-/// Takes at most `most` bytes in a call, and `room` in all. Beyond that it fails, or takes nothing.
+/// Takes at most `most` bytes in a call, and `room` in all. Beyond that it fails.
 #[derive(Drop)]
 pub struct ShortWriter {
     pub taken: ArrayVec<u8, 16384>,
     pub most: usize,
     pub room: usize,
-    pub takes_nothing: bool,
+    pub failed: bool,
 }
 
 impl ShortWriter {
-    /// A writer that has taken nothing, and fails beyond its room.
+    /// A writer that has taken nothing.
     pub fn new(most: usize, room: usize) -> ShortWriter {
         ShortWriter {
             taken: ArrayVec::new(),
             most,
             room,
-            takes_nothing: false,
+            failed: false,
         }
     }
 }
 
-impl Write for ShortWriter {
+impl Sink for ShortWriter {
     ghost contents = { λ w. Some w.taken.items };
 
-    fn write(&mut self, buf: &[u8]) -> io::Result<usize> {
-        let count = self.most.min(self.room).min(buf.len());
-        if count == 0 && !self.takes_nothing {
-            return Err(io::Error::new(ErrorKind::Other, "fault"));
+    ghost failed = { λ w. w.failed };
+
+    fn write(&mut self, bytes: &[u8]) -> Result<usize, WriteFailed> {
+        let count = self.most.min(self.room).min(bytes.len());
+        if count == 0 && !bytes.is_empty() {
+            self.failed = true;
+            return Err(WriteFailed);
         }
-        if self.taken.try_extend_from_slice(&buf[..count]).is_err() {
-            return Err(io::Error::new(ErrorKind::Other, "full"));
+        if self.taken.try_extend_from_slice(&bytes[..count]).is_err() {
+            self.failed = true;
+            return Err(WriteFailed);
         }
         self.room -= count;
         Ok(count)
-    }
-
-    fn flush(&mut self) -> io::Result<()> {
-        Ok(())
     }
 }

@@ -1,23 +1,29 @@
 //! Why a line, or a replay, is refused.
 ghost use Rattle.std.specs.Prelude.{◌≡◌};
-ghost use Rattle.oca_script.specs.Faults.{fault_word};
+ghost use Rattle.oca_script.specs.Faults.{fault_word, fault_number};
 
-use std::fmt;
+use thiserror::Error;
 
 /// What is wrong with a line. Each kind is looked for in the whole line before the next.
-#[derive(Clone, Copy, PartialEq, Eq, Debug)]
+#[derive(Clone, Copy, PartialEq, Eq, Debug, Error)]
 pub enum LineFault {
     /// More than 4,096 bytes before its line feed.
+    #[error("too long")]
     TooLong,
     /// A wrong number of fields, an unknown keyword, or a byte past ASCII.
+    #[error("form")]
     Form,
     /// A moment that is not 1 to 20 digits, or does not fit 64 bits.
+    #[error("moment")]
     Moment,
     /// Another number that is not of its form, or out of its range.
+    #[error("number")]
     Number,
     /// A peer that is not `a.b.c.d:port`.
+    #[error("peer")]
     Peer,
     /// Bytes that are not an even number, two or more, of hexadecimal digits, nor `-`.
+    #[error("hex")]
     Hex,
 }
 
@@ -37,34 +43,65 @@ impl LineFault {
     }
 }
 
-impl fmt::Display for LineFault {
-    fn fmt<W: fmt::Write>(&self, f: &mut fmt::Formatter<W>) -> fmt::Result {
-        f.write_str(self.word())
-    }
-}
-
 /// Why a replay ended before its script did.
-#[derive(Clone, Copy, PartialEq, Eq, Debug)]
+#[derive(Clone, Copy, PartialEq, Eq, Debug, Error)]
 pub enum ReplayFault {
     /// The line of this number, counted from 1 with the skipped ones, has this fault.
+    #[error("line {0}: {1}")]
     Line(u64, LineFault),
-    /// The reader failed.
+    /// A read failed.
+    #[error("read failed")]
     Read,
-    /// The writer failed, or took nothing.
+    /// A write failed, or took nothing.
+    #[error("write failed")]
     Write,
     /// The script has more than 16,777,216 bytes, and no line among those has a fault.
+    #[error("too much input")]
     TooMuch,
 }
 
+impl ReplayFault {
+    /// The number of the fault, 1 to 4.
+    pub fn number(self) -> u8
+        ensures { result ≡ fault_number self }
+    {
+        match self {
+            ReplayFault::Line(_, _) => 1,
+            ReplayFault::Read => 2,
+            ReplayFault::Write => 3,
+            ReplayFault::TooMuch => 4,
+        }
+    }
+}
+
 /// Why a line was not served.
-#[derive(Clone, Copy, PartialEq, Eq, Debug)]
+#[derive(Clone, Copy, PartialEq, Eq, Debug, Error)]
 pub enum Stop {
     /// It has this fault.
+    #[error("{0}")]
     Line(LineFault),
-    /// The writer failed, or took nothing.
+    /// A write failed, or took nothing.
+    #[error("write failed")]
     Write,
 }
 
-/// The writer failed, or took nothing.
-#[derive(Clone, Copy, PartialEq, Eq, Debug)]
+impl From<WriteFailed> for Stop {
+    ghost use Rattle.std.specs.Prelude.{◌≡◌};
+    ghost use Rattle.oca_script.specs.declared.fault.Stop.TheVariants.{Write};
+
+    ghost from_gives = { λ _ r. r ≡ Write };
+
+    fn from(_failed: WriteFailed) -> Stop {
+        Stop::Write
+    }
+}
+
+/// A read failed.
+#[derive(Clone, Copy, PartialEq, Eq, Debug, Error)]
+#[error("read failed")]
+pub struct ReadFailed;
+
+/// A write failed, or took nothing.
+#[derive(Clone, Copy, PartialEq, Eq, Debug, Error)]
+#[error("write failed")]
 pub struct WriteFailed;

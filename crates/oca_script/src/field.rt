@@ -2,7 +2,7 @@
 ghost use Rattle.std.specs.Prelude.{◌≡◌, ◌+◌, ◌*◌, ◌≤◌, ◌<◌, IfSome, ◌∷◌, length};
 ghost use Rattle.std.specs.Option.{option_copied};
 ghost use Rattle.oca_script.specs.Fields.{number_of, moment_of, split_at, peer_of, fields, fields_after, hex_of};
-ghost use Rattle.oca_script.specs.Splitting.{split_view, given_bytes};
+ghost use Rattle.oca_script.specs.PrivateSplitting.{split_view, given_bytes};
 
 use oca_types::Peer;
 
@@ -39,17 +39,14 @@ pub fn moment(text: &[u8]) -> Option<u64>
 }
 
 /// What stands before and after the first such byte.
-#[tactic(auto, using(crate::proofs::FieldLemmas::split_rules))]
 pub fn split_at_byte(text: &[u8], separator: u8) -> Option<(&[u8], &[u8])>
     ensures value { split_view result ≡ split_at separator text.now }
     ensures within { IfSome result (λ p. length p.0.now + length p.1.now + 1 ≡ length text.now) }
 {
-    for (i, byte) in text.iter().enumerate() {
-        if *byte == separator {
-            return Some((&text[..i], &text[i + 1..]));
-        }
+    match memchr::memchr(separator, text) {
+        Some(i) => Some((&text[..i], &text[i + 1..])),
+        None => None,
     }
-    None
 }
 
 /// The first field, and where a space ends it what stands after that space.

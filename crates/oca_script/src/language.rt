@@ -1,12 +1,12 @@
 //! What the lines of a script ask for.
 ghost use Rattle.std.specs.Prelude.{◌≡◌, ◌≤◌, ℕ, List, Result, length};
 ghost use Rattle.oca_script.specs.Fields.{fields};
-ghost use Rattle.oca_script.specs.Replaying.{Takes};
+ghost use Rattle.oca_script.specs.Replaying.{ServesLine};
 ghost use Rattle.oca_script.specs.declared.fault.LineFault.{LineFault};
 
+use super::ends::Sink;
 use super::fault::{LineFault, Stop};
-use super::printing::Pending;
-use std::io::Write;
+use super::printer::Printer;
 
 /// What the fields of a line ask for, and what serving that does to a state and prints.
 pub trait Language {
@@ -26,14 +26,12 @@ pub trait Language {
 
     /// Serves what the line asks for and prints its text; or answers the fault of its fields, and
     /// then does nothing. Lines that are skipped or are not ASCII are not handed on.
-    fn take_line<W: Write>(
+    fn serve_line<W: Sink>(
         state: &mut Self::State,
         room: &mut Self::Room,
         line: &[u8],
-        pending: &mut Pending,
-        writer: &mut W,
+        printer: &mut Printer<W>,
     ) -> Result<(), Stop>
         requires { length line.now ≤ 4096 }
-        ensures { Takes (asked (fields line.now)) serves state.old state.new result
-            (W.contents writer.old) pending.old.items (W.contents writer.new) pending.new.items };
+        ensures { ServesLine (asked (fields line.now)) serves state.old state.new result printer.old printer.new };
 }

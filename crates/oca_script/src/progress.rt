@@ -1,7 +1,7 @@
 //! How far a script was read.
 ghost use Rattle.std.specs.Prelude.{◌≡◌, []};
 
-use arrayvec::ArrayVec;
+use super::buffer::Buffer;
 
 /// The most bytes of a line, its line feed not counted.
 pub const LONGEST_LINE: usize = 4096;
@@ -9,18 +9,18 @@ pub const LONGEST_LINE: usize = 4096;
 /// What there is of a line whose line feed is still to come, and its number.
 #[derive(Drop)]
 pub struct Progress {
-    pub line: ArrayVec<u8, LONGEST_LINE>,
+    pub line: Buffer<LONGEST_LINE>,
     pub number: u64,
 }
 
 impl Progress {
     /// At the start of a script.
     pub fn new() -> Progress
-        ensures line { result.line.items ≡ [] }
+        ensures line { result.line ≡ [] }
         ensures number { result.number ≡ 1 }
     {
         Progress {
-            line: ArrayVec::new(),
+            line: Buffer::new(),
             number: 1,
         }
     }

@@ -1,0 +1,26 @@
+-- It tells nothing, so nothing is claimed of what it delivered and took.
+use Rattle.std.proofs.Common.{refl, sym, ap}
+use Rattle.std.proofs.lemmas.Bool.{false≢true}
+use Rattle.oca_net.specs.Sockets.{SocketState}
+use Rattle.oca_net.proofs.udp.UdpEndEnd.TheImpl.Goals as goal
+
+pub receive-tells : goal.receive-tells
+receive-tells g c = record {
+  telling = refl;
+  delivered = λ told. absurd (false≢true told);
+  taken = λ told. absurd (false≢true told);
+  packet = c.ensures.packet;
+  closed = search sym;
+  failures = ap (λ (e : SocketState). e.failures) c.ensures.end;
+  receives = ap (λ (e : SocketState). e.receives) c.ensures.end;
+}
+
+pub send-tells : goal.send-tells
+send-tells g c = record {
+  telling = refl;
+  delivered = λ told. absurd (false≢true told);
+  taken = λ told. absurd (false≢true told);
+  closed = refl;
+  failures = ap (λ (e : SocketState). e.failures) c.ensures;
+  receives = ap (λ (e : SocketState). e.receives) c.ensures;
+}

@@ -1,0 +1,172 @@
+//! Ends at UDP sockets, two in one process: what is sent lies at the socket until it is received, so no thread is needed.
+//! Each port is the system's choice. No clause says what goes through a socket, so these tests alone refuse an end that
+//! always answers Quiet or Failed, that drops datagrams, that sends nothing and answers true, whose moments stand still, or
+//! that is never bound.
+
+use super::{A, LARGEST, LOCALHOST};
+use crate::{BindFault, End, Heard, UdpEnd};
+use oca_types::{Packet, Peer};
+use std::net::{Ipv4Addr, Net, UdpSocket};
+use std::rt::Clock;
+use std::test::Fail;
+
+/// An end on this machine.
+fn end_here<R: Net + Clock + AllocGlobal>(rt: &R) -> Result<UdpEnd<'_, R>, Fail> {
+    match UdpEnd::bind(rt.alloc(), rt, LOCALHOST, 0) {
+        Ok(end) => Ok(end),
+        Err(BindFault::Io) => Err("socket failed".into()),
+        Err(BindFault::NoMemory) => Err("no memory".into()),
+    }
+}
+
+/// A plain socket on this machine.
+fn plain_socket<R: Net>(rt: &R) -> Result<UdpSocket, Fail> {
+    Ok(UdpSocket::bind(rt, (Ipv4Addr::LOCALHOST, 0u16))?)
+}
+
+/// Receives a datagram, and answers its sender and moment.
+fn datagram<E: End>(end: &mut E, packet: &mut Packet) -> Result<(Peer, u64), Fail> {
+    match end.receive(packet) {
+        Heard::Datagram { from, now } => Ok((from, now)),
+        Heard::Quiet { .. } => Err("quiet".into()),
+        Heard::Oversize { .. } => Err("oversize".into()),
+        Heard::Failed => Err("failed".into()),
+        Heard::Closed => Err("closed".into()),
+    }
+}
+
+#[test]
+fn two_ends_exchange_datagrams(rt: HostRuntime) -> Result<(), Fail> {
+    let mut a = end_here(&rt)?;
+    let mut b = end_here(&rt)?;
+    assert_eq!(rt; a.local().ip, LOCALHOST);
+    assert!(rt; a.local().port != 0 && a.local().port != b.local().port);
+    let mut packet = Packet::new();
+    assert!(rt; a.send(b.local(), &[1, 2, 3]));
+    assert!(rt; a.send(b.local(), &[4]));
+    assert_eq!(rt; datagram(&mut b, &mut packet)?.0, a.local());
+    assert_eq!(rt; packet.as_slice(), [1, 2, 3].as_slice());
+    assert!(rt; b.send(a.local(), &[5, 6]));
+    assert_eq!(rt; datagram(&mut a, &mut packet)?.0, b.local());
+    assert_eq!(rt; packet.as_slice(), [5, 6].as_slice());
+    assert_eq!(rt; datagram(&mut b, &mut packet)?.0, a.local());
+    assert_eq!(rt; packet.as_slice(), [4].as_slice());
+    Ok(())
+}
+
+#[test]
+fn hears_1472_bytes_whole_and_1473_as_oversize(rt: HostRuntime) -> Result<(), Fail> {
+    let mut end = end_here(&rt)?;
+    let plain = plain_socket(&rt)?;
+    let to = (Ipv4Addr::LOCALHOST, end.local().port);
+    let mut packet = Packet::new();
+    assert_eq!(rt; plain.send_to(&[9; LARGEST], to)?, LARGEST);
+    let _ = datagram(&mut end, &mut packet)?;
+    assert_eq!(rt; packet.as_slice(), [9; LARGEST].as_slice());
+    assert_eq!(rt; plain.send_to(&[7; LARGEST + 1], to)?, LARGEST + 1);
+    assert!(rt; matches!(end.receive(&mut packet), Heard::Oversize { .. }));
+    assert!(rt; packet.is_empty());
+    Ok(())
+}
+
+#[test]
+fn hears_empty_and_longest_datagrams(rt: HostRuntime) -> Result<(), Fail> {
+    let mut end = end_here(&rt)?;
+    let plain = plain_socket(&rt)?;
+    let to = (Ipv4Addr::LOCALHOST, end.local().port);
+    let mut packet = Packet::new();
+    packet.try_extend_from_slice(&[1]).map_err(|_| "full")?;
+    assert_eq!(rt; plain.send_to(&[], to)?, 0);
+    let _ = datagram(&mut end, &mut packet)?;
+    assert!(rt; packet.is_empty());
+    assert_eq!(rt; plain.send_to(&[0; 65507], to)?, 65507);
+    assert!(rt; matches!(end.receive(&mut packet), Heard::Oversize { .. }));
+    assert!(rt; packet.is_empty());
+    Ok(())
+}
+
+#[test]
+fn sends_1472_bytes_whole(rt: HostRuntime) -> Result<(), Fail> {
+    let mut end = end_here(&rt)?;
+    let plain = plain_socket(&rt)?;
+    let to = Peer {
+        ip: LOCALHOST,
+        port: plain.local_addr()?.port(),
+    };
+    assert!(rt; end.send(to, &[3; LARGEST]));
+    let mut bytes = [0; LARGEST + 1];
+    let (count, from) = plain.recv_from(&mut bytes)?;
+    assert_eq!(rt; (count, from.port()), (LARGEST, end.local().port));
+    assert_eq!(rt; &bytes[..LARGEST], [3; LARGEST].as_slice());
+    Ok(())
+}
+
+#[test]
+fn a_quiet_wait_takes_50_milliseconds(rt: HostRuntime) -> Result<(), Fail> {
+    let mut end = end_here(&rt)?;
+    let mut packet = Packet::new();
+    packet.try_extend_from_slice(&[1]).map_err(|_| "full")?;
+    let mut last = 0;
+    for _ in 0..3 {
+        let Heard::Quiet { now } = end.receive(&mut packet) else {
+            return Err("not quiet".into());
+        };
+        assert!(rt; packet.is_empty());
+        assert!(rt; now >= last + 49, "{last} {now}");
+        last = now;
+    }
+    let local = end.local();
+    assert!(rt; end.send(local, &[1]));
+    let (from, now) = datagram(&mut end, &mut packet)?;
+    assert_eq!(rt; from, local);
+    assert!(rt; now >= last);
+    Ok(())
+}
+
+#[test]
+fn a_port_in_use_is_refused(rt: HostRuntime) -> Result<(), Fail> {
+    let end = end_here(&rt)?;
+    let local = end.local();
+    assert!(rt;
+        matches!(
+            UdpEnd::bind(rt.alloc(), &rt, local.ip, local.port),
+            Err(BindFault::Io)
+        ),
+        "the port is in use"
+    );
+    assert!(rt;
+        matches!(
+            UdpEnd::bind(rt.alloc(), &rt, 0xc000_0201, 0),
+            Err(BindFault::Io)
+        ),
+        "the address is of no machine"
+    );
+    drop(end);
+    let again = UdpEnd::bind(rt.alloc(), &rt, local.ip, local.port).map_err(|_| "bind")?;
+    assert_eq!(rt; again.local(), local);
+    Ok(())
+}
+
+#[test]
+fn a_send_that_the_system_refuses_is_false(rt: HostRuntime) -> Result<(), Fail> {
+    let mut end = end_here(&rt)?;
+    assert!(rt; !end.send(Peer { ip: A.ip, port: 0 }, &[1]));
+    assert!(rt; end.send(end.local(), &[1]));
+    let mut packet = Packet::new();
+    let _ = datagram(&mut end, &mut packet)?;
+    assert_eq!(rt; packet.as_slice(), [1].as_slice());
+    Ok(())
+}
+
+#[test]
+fn faults_in_words(rt: HostRuntime) -> Result<(), Fail> {
+    assert_eq!(rt;
+        BindFault::Io.to_string(rt.alloc())?.as_str(),
+        "socket failed"
+    );
+    assert_eq!(rt;
+        BindFault::NoMemory.to_string(rt.alloc())?.as_str(),
+        "no memory"
+    );
+    Ok(())
+}

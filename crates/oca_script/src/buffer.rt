@@ -1,0 +1,88 @@
+//! Bytes that are put behind one another, in room of a fixed size.
+ghost use Rattle.std.specs.Prelude.{◌≡◌, ◌==◌, ◌+◌, ◌*◌, ◌++◌, ◌≤◌, [], length};
+ghost use Rattle.hex.specs.Hex.{encode_lower};
+
+use std::marker::Model;
+
+/// At most so many bytes.
+#[derive(Drop)]
+pub struct Buffer<const CAP: usize> {
+    bytes: [u8; CAP],
+    len: usize,
+}
+
+impl<const CAP: usize> Model for Buffer<CAP> {
+    ghost use Rattle.std.specs.Prelude.{ℕ, List, ◌≤◌, take};
+
+    ghost Value = { List ℕ };
+
+    ghost view = { λ b. take b.len b.bytes };
+
+    ghost invariant = { λ b. b.len ≤ CAP };
+}
+
+impl<const CAP: usize> Buffer<CAP> {
+    /// No bytes.
+    pub fn new() -> Self
+        ensures { result ≡ [] }
+    {
+        Buffer {
+            bytes: [0; CAP],
+            len: 0,
+        }
+    }
+
+    /// The number of bytes.
+    pub fn len(&self) -> usize
+        ensures len { result ≡ length self.now }
+        ensures most { result ≤ CAP }
+    {
+        self.len
+    }
+
+    /// Whether there are no bytes.
+    pub fn is_empty(&self) -> bool
+        ensures { result ≡ (length self.now == 0) }
+    {
+        self.len == 0
+    }
+
+    /// The bytes.
+    pub fn as_slice(&self) -> &[u8]
+        ensures value { result.now ≡ self.now }
+        ensures most { length self.now ≤ CAP }
+    {
+        &self.bytes[..self.len]
+    }
+
+    /// Leaves no bytes.
+    pub fn clear(&mut self)
+        ensures { self.new ≡ [] }
+    {
+        self.len = 0;
+    }
+
+    /// Appends the bytes.
+    #[inline]
+    pub fn put(&mut self, bytes: &[u8])
+        requires { length self.old + length bytes.now ≤ CAP }
+        ensures { self.new ≡ self.old ++ bytes.now }
+    {
+        let start = self.len;
+        let room = &mut self.bytes[..];
+        room[start..start + bytes.len()].copy_from_slice(bytes);
+        self.len = start + bytes.len();
+    }
+
+    /// Appends the bytes in lower case hexadecimal digits, two a byte.
+    #[inline]
+    pub fn put_digits(&mut self, bytes: &[u8])
+        requires { length self.old + 2 * length bytes.now ≤ CAP }
+        ensures { self.new ≡ self.old ++ encode_lower bytes.now }
+    {
+        let start = self.len;
+        let room = &mut self.bytes[..];
+        let _ = hex::encode_to_slice(bytes, &mut room[start..start + 2 * bytes.len()]);
+        self.len = start + 2 * bytes.len();
+    }
+}

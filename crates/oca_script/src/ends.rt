@@ -1,0 +1,135 @@
+//! Where a script comes from, and where what it prints goes.
+ghost use Rattle.std.specs.Prelude.{◌≡◌, ◌<◌, ℕ, List, Option, Bool, IfOk, false, length};
+ghost use Rattle.std.specs.Io.{ReadsAtMost, WritesAtMost};
+ghost use Rattle.std.specs.Io.KnownBytes.{ReadConsumes, WriteAppends};
+ghost use Rattle.oca_script.specs.Ends.{Remembers};
+
+use super::fault::{ReadFailed, WriteFailed};
+use std::io::{Read, Write};
+
+/// What a script is read from.
+pub trait Source {
+    // The bytes that reads will give from here on, where they are known.
+    ghost remaining: { Self → Option (List ℕ) };
+
+    // Whether a read has failed.
+    ghost failed: { Self → Bool };
+
+    /// Puts the next bytes at the front of the buffer and answers how many there are: none only at the end, or where the
+    /// buffer has no room. `ReadFailed` where nothing can be read.
+    fn read(&mut self, buf: &mut [u8]) -> Result<usize, ReadFailed>
+        ensures within { ReadsAtMost result buf.new }
+        ensures bytes { ReadConsumes (remaining self.old) (remaining self.new) result buf.new }
+        ensures failed { Remembers result (failed self.old) (failed self.new) };
+}
+
+/// What the text that a script prints goes to.
+pub trait Sink {
+    // The bytes that it has taken, where they are known.
+    ghost contents: { Self → Option (List ℕ) };
+
+    // Whether a write has failed.
+    ghost failed: { Self → Bool };
+
+    /// Takes a front of the bytes, and answers how many it took: one or more, where there are any. `WriteFailed` where it
+    /// can take none.
+    fn write(&mut self, bytes: &[u8]) -> Result<usize, WriteFailed>
+        ensures within { WritesAtMost result bytes.now }
+        ensures some { IfOk result (λ n. 0 < length bytes.now → 0 < n) }
+        ensures bytes { WriteAppends (contents self.old) (contents self.new) result bytes.now }
+        ensures failed { Remembers result (failed self.old) (failed self.new) };
+}
+
+/// Any reader, with whether a read of it has failed.
+pub struct FromReader<R> {
+    reader: R,
+    failed: bool,
+}
+
+impl<R: Read> FromReader<R> {
+    /// The reader, of which no read has failed.
+    pub fn new(reader: R) -> FromReader<R>
+        ensures reader { result.reader ≡ reader }
+        ensures unfailed { result.failed ≡ false }
+    {
+        FromReader {
+            reader,
+            failed: false,
+        }
+    }
+}
+
+impl<R: Drop> Drop for FromReader<R> {
+    fn drop(self) {
+        let FromReader {
+            reader: _,
+            failed: _,
+        } = self;
+    }
+}
+
+impl<R: Read> Source for FromReader<R> {
+    ghost remaining = { λ s. R.remaining s.reader };
+
+    ghost failed = { λ s. s.failed };
+
+    fn read(&mut self, buf: &mut [u8]) -> Result<usize, ReadFailed> {
+        match self.reader.read(buf) {
+            Ok(count) => Ok(count),
+            Err(_) => {
+                self.failed = true;
+                Err(ReadFailed)
+            }
+        }
+    }
+}
+
+/// Any writer, with whether a write to it has failed. A write that takes nothing has.
+pub struct ToWriter<W> {
+    writer: W,
+    failed: bool,
+}
+
+impl<W: Write> ToWriter<W> {
+    /// The writer, to which no write has failed.
+    pub fn new(writer: W) -> ToWriter<W>
+        ensures writer { result.writer ≡ writer }
+        ensures unfailed { result.failed ≡ false }
+    {
+        ToWriter {
+            writer,
+            failed: false,
+        }
+    }
+}
+
+impl<W: Drop> Drop for ToWriter<W> {
+    fn drop(self) {
+        let ToWriter {
+            writer: _,
+            failed: _,
+        } = self;
+    }
+}
+
+impl<W: Write> Sink for ToWriter<W> {
+    ghost contents = { λ s. W.contents s.writer };
+
+    ghost failed = { λ s. s.failed };
+
+    fn write(&mut self, bytes: &[u8]) -> Result<usize, WriteFailed> {
+        match self.writer.write(bytes) {
+            Ok(count) => {
+                if count == 0 && !bytes.is_empty() {
+                    self.failed = true;
+                    return Err(WriteFailed);
+                }
+                Ok(count)
+            }
+            Err(_) => {
+                self.failed = true;
+                Err(WriteFailed)
+            }
+        }
+    }
+}

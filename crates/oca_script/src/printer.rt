@@ -1,0 +1,187 @@
+//! What is printed is collected, and handed on in larger pieces.
+ghost use Rattle.std.specs.Prelude.{◌≡◌, ◌+◌, ◌*◌, ◌++◌, ◌≤◌, [], OnOk, decimal, length};
+ghost use Rattle.oca_script.specs.Ends.{output};
+ghost use Rattle.oca_script.specs.Fields.{hex_text};
+ghost use Rattle.oca_script.specs.Printing.{Prints, WritesBytes};
+
+use super::buffer::Buffer;
+use super::ends::Sink;
+use super::fault::WriteFailed;
+use std::marker::Model;
+
+/// The most bytes that are held.
+const CAPACITY: usize = 8192;
+
+/// A sink, and what is printed and not yet handed to it.
+pub struct Printer<W: Sink> {
+    sink: W,
+    held: Buffer<CAPACITY>,
+}
+
+impl<W: Sink> Model for Printer<W> {
+    ghost use Rattle.oca_script.specs.Ends.{Output, output};
+
+    ghost Value = { Output };
+
+    ghost view = { λ p. output (W.contents p.sink) p.held (W.failed p.sink) };
+}
+
+impl<W: Sink + Drop> Drop for Printer<W> {
+    fn drop(self) {
+        let Printer { sink: _, held: _ } = self;
+    }
+}
+
+impl<W: Sink> Printer<W> {
+    /// A printer that holds nothing.
+    pub fn new(sink: W) -> Printer<W>
+        ensures { result ≡ output (W.contents sink) [] (W.failed sink) }
+    {
+        Printer {
+            sink,
+            held: Buffer::new(),
+        }
+    }
+
+    /// The sink. What is held has not been handed to it.
+    pub fn sink(&self) -> &W
+        ensures contents { W.contents result.now ≡ self.now.contents }
+        ensures failed { W.failed result.now ≡ self.now.failed }
+    {
+        &self.sink
+    }
+
+    /// Hands what is held to the sink.
+    pub fn flush(&mut self) -> Result<(), WriteFailed>
+        ensures prints { Prints result self.old self.new [] }
+        ensures empty { OnOk result (self.new.held ≡ []) }
+    {
+        hand_on(&mut self.sink, &mut self.held)
+    }
+
+    /// Makes room for so many bytes: where fewer are free, what is held is handed to the sink.
+    pub fn make_room(&mut self, room: usize) -> Result<(), WriteFailed>
+        requires { room ≤ 8192 }
+        ensures prints { Prints result self.old self.new [] }
+        ensures room { OnOk result (length self.new.held + room ≤ 8192) }
+    {
+        free(&mut self.sink, &mut self.held, room)
+    }
+
+    /// Prints the bytes: they are held then, or handed to the sink.
+    pub fn print(&mut self, bytes: &[u8]) -> Result<(), WriteFailed>
+        ensures { Prints result self.old self.new bytes.now }
+    {
+        hold_or_write(&mut self.sink, &mut self.held, bytes)
+    }
+
+    /// Holds the bytes.
+    #[inline]
+    pub fn put(&mut self, bytes: &[u8])
+        requires { length self.old.held + length bytes.now ≤ 8192 }
+        ensures { self.new ≡ output self.old.contents (self.old.held ++ bytes.now) self.old.failed }
+    {
+        self.held.put(bytes);
+    }
+
+    /// Holds the number in decimal digits.
+    pub fn put_number(&mut self, n: u64)
+        requires { length self.old.held ≤ 8172 }
+        ensures value { self.new ≡ output self.old.contents (self.old.held ++ decimal n) self.old.failed }
+        ensures len { length self.new.held ≤ length self.old.held + 20 }
+    {
+        put_decimal(&mut self.held, n);
+    }
+
+    /// Holds the bytes in lower case hexadecimal, `-` for none.
+    pub fn put_hex(&mut self, bytes: &[u8])
+        requires { length self.old.held + 2 * length bytes.now + 1 ≤ 8192 }
+        ensures value { self.new ≡ output self.old.contents (self.old.held ++ hex_text bytes.now) self.old.failed }
+        ensures len { length self.new.held ≤ length self.old.held + 2 * length bytes.now + 1 }
+    {
+        put_digits(&mut self.held, bytes);
+    }
+}
+
+/// Writes all of the bytes, or a front of them where a write fails.
+pub fn write_bytes<W: Sink>(sink: &mut W, bytes: &[u8]) -> Result<(), WriteFailed>
+    ensures { WritesBytes result (output (W.contents sink.old) [] (W.failed sink.old)) (output (W.contents sink.new) [] (W.failed sink.new)) bytes.now }
+{
+    let mut done = 0;
+    while done < bytes.len() {
+        done += sink.write(&bytes[done..])?;
+    }
+    Ok(())
+}
+
+/// Hands what is held to the sink.
+fn hand_on<W: Sink>(sink: &mut W, held: &mut Buffer<CAPACITY>) -> Result<(), WriteFailed>
+    ensures prints { Prints result (output (W.contents sink.old) held.old (W.failed sink.old)) (output (W.contents sink.new) held.new (W.failed sink.new)) [] }
+    ensures empty { OnOk result (held.new ≡ []) }
+{
+    write_bytes(sink, held.as_slice())?;
+    held.clear();
+    Ok(())
+}
+
+/// Makes room for so many bytes.
+fn free<W: Sink>(
+    sink: &mut W,
+    held: &mut Buffer<CAPACITY>,
+    room: usize,
+) -> Result<(), WriteFailed>
+    requires { room ≤ 8192 }
+    ensures prints { Prints result (output (W.contents sink.old) held.old (W.failed sink.old)) (output (W.contents sink.new) held.new (W.failed sink.new)) [] }
+    ensures room { OnOk result (length held.new + room ≤ 8192) }
+{
+    if CAPACITY - held.len() < room {
+        return hand_on(sink, held);
+    }
+    Ok(())
+}
+
+/// Holds the bytes, or hands them to the sink where they are too many.
+#[tactic(auto, using(crate::proofs::PrintLemmas::print_rules))]
+fn hold_or_write<W: Sink>(
+    sink: &mut W,
+    held: &mut Buffer<CAPACITY>,
+    bytes: &[u8],
+) -> Result<(), WriteFailed>
+    ensures { Prints result (output (W.contents sink.old) held.old (W.failed sink.old)) (output (W.contents sink.new) held.new (W.failed sink.new)) bytes.now }
+{
+    if bytes.len() <= CAPACITY - held.len() {
+        held.put(bytes);
+        return Ok(());
+    }
+    hand_on(sink, held)?;
+    if bytes.len() <= CAPACITY {
+        held.put(bytes);
+        return Ok(());
+    }
+    write_bytes(sink, bytes)
+}
+
+/// Appends the number in decimal digits.
+#[tactic(auto, using(crate::proofs::TextLemmas::digit_rules))]
+fn put_decimal(held: &mut Buffer<CAPACITY>, n: u64)
+    requires { length held.old ≤ 8172 }
+    ensures value { held.new ≡ held.old ++ decimal n }
+    ensures len { length held.new ≤ length held.old + 20 }
+{
+    let mut digits = itoa::Buffer::new();
+    held.put(digits.format(n).as_bytes());
+}
+
+/// Appends the bytes in lower case hexadecimal, `-` for none.
+#[tactic(auto, using(crate::proofs::TextLemmas::hex_rules))]
+fn put_digits(held: &mut Buffer<CAPACITY>, bytes: &[u8])
+    requires { length held.old + 2 * length bytes.now + 1 ≤ 8192 }
+    ensures value { held.new ≡ held.old ++ hex_text bytes.now }
+    ensures len { length held.new ≤ length held.old + 2 * length bytes.now + 1 }
+{
+    if bytes.is_empty() {
+        held.put(b"-");
+        return;
+    }
+    held.put_digits(bytes);
+}

@@ -1,0 +1,10 @@
+//! The controller as a program.
+#![tactic(auto)]
+
+mod request;
+
+use std::process::ExitCode;
+
+fn main(_rt: HostRuntime) -> ExitCode {
+    ExitCode::from(0)
+}
