@@ -1,5 +1,5 @@
 -- What serving a datagram, its messages or one message makes of a device and its outbox, and how many answers there are at most.
-use Rattle.std.specs.Prelude.{◌≡◌, ℕ, ◌+◌, ◌≤◌, Bool, true, false, ⊤, List, [], ◌∷◌, length}
+use Rattle.std.specs.Prelude.{◌≡◌, ℕ, ◌+◌, ◌≤◌, Bool, true, false, ⊤, List, [], ◌∷◌, ◌++◌, length}
 use Rattle.oca_types.specs.declared.words.Peer.{Peer}
 use Rattle.oca_pdu.specs.Messages.{Msg, Command, Response, KeepAlive, Pdu, Commands, Responses, OneKeepAlive}
 use Rattle.oca_pdu.specs.Encoding.{pdu_encoding}
@@ -31,6 +31,12 @@ is_of_responses (Commands respond cs) = false
 abbrev pub Joins : Bool → Pdu → Msg → List ℕ → List ℕ → Type 0
 Joins true p m before after = (q : Pdu) × (last_with p m ≡ q ∷ []) × (after ≡ pdu_encoding q)
 Joins false p m before after = (last_with p m ≡ p ∷ pdu_of m ∷ []) × (after ≡ before)
+
+-- An answer joined the last of the packets of groups, or it begins a packet of its own and they are as before.
+abbrev pub JoinsLast : Bool → Msg → List (List ℕ) → List (List ℕ) → Type 0
+JoinsLast true m before after = (length after ≡ length before) × ((groups : List Pdu) → before ≡ encodings groups → after ≡ encodings (with_answer groups m))
+JoinsLast false m before after = (after ≡ before)
+    × ((groups : List Pdu) → before ≡ encodings groups → with_answer groups m ≡ groups ++ pdu_of m ∷ [])
 
 -- a command has at most 1,445 bytes of parameters, as each in a well-formed datagram has
 abbrev pub IsShort : Msg → Type 0

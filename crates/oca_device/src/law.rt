@@ -1,6 +1,8 @@
-//! The laws of a device, over whole histories. The functions do nothing: their contracts are the laws.
+//! The laws of a device, over whole histories. Nothing here runs: each contract is its law.
 ghost use Rattle.oca_device.specs.Groups.{AnswersHaveOneGrouping};
 ghost use Rattle.oca_device.specs.LawByEvents.{EveryDeviceStandsByEvents, SomethingHappened, OneThingHappened};
+
+use oca_pdu::{law_one_list_of_messages, law_reading};
 
 /// Over every list of datagrams and clock readings, what a device is and answers is said by these alone. A well-formed datagram
 /// is admitted where its peer is known, which was last heard at most 120,000 ms ago, or fewer than 16 peers are. The objects are
@@ -12,7 +14,10 @@ pub fn law_by_events()
     ensures law { EveryDeviceStandsByEvents }
     ensures happened { SomethingHappened }
     ensures once { OneThingHappened }
-{}
+{
+    law_reading();
+    law_one_list_of_messages();
+}
 
 /// The answers to a datagram are grouped into PDUs in one way alone.
 pub fn law_of_groups()

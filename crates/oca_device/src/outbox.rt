@@ -5,7 +5,8 @@ ghost use Rattle.oca_pdu.specs.Messages.{Msg, KeepAlive, Pdu};
 ghost use Rattle.oca_pdu.specs.Encoding.{pdu_encoding};
 ghost use Rattle.oca_device.specs.Groups.{pdu_of, with_answer, encodings};
 ghost use Rattle.oca_device.specs.Answers.{response};
-ghost use Rattle.oca_device.specs.PrivateServing.{AreGrouped, IsGrouped, Joins, is_of_responses};
+ghost use Rattle.oca_device.specs.Outboxes.{bytes_of_packets};
+ghost use Rattle.oca_device.specs.PrivateServing.{AreGrouped, IsGrouped, Joins, JoinsLast, is_of_responses};
 
 use oca_pdu::{Form, extend_response, write_keepalive, write_response};
 use oca_types::{Handle, NoMemory, Packet, Reply};
@@ -95,15 +96,12 @@ impl Outbox {
         requires groups { AreGrouped self.old }
         ensures { IsGrouped (response handle.0 reply.now) self.old self.new }
     {
-        let joined = match self.count {
-            0 => false,
-            count => join(&mut self.places[count - 1], handle, reply),
-        };
-        if !joined {
-            make_place(&mut self.places, self.count);
-            put_response(&mut self.places[self.count], handle, reply);
-            self.count += 1;
+        if join_last(&mut self.places, self.count, handle, reply) {
+            return;
         }
+        make_place(&mut self.places, self.count);
+        put_response(&mut self.places[self.count], handle, reply);
+        self.count += 1;
     }
 
     /// Adds the packet of a keep-alive.
@@ -116,6 +114,21 @@ impl Outbox {
         put_keepalive(&mut self.places[self.count], form);
         self.count += 1;
     }
+}
+
+/// Adds a response to the last of the first `count` packets where that holds responses and has room for it, and answers whether
+/// it did.
+fn join_last(places: &mut Vec<Packet>, count: usize, handle: Handle, reply: &Reply) -> bool
+    requires within { count ≤ length places.old.items }
+    requires groups { AreGrouped (bytes_of_packets (take count places.old.items)) }
+    ensures joins { JoinsLast result (response handle.0 reply.now) (bytes_of_packets (take count places.old.items)) (bytes_of_packets (take count places.new.items)) }
+    ensures length { length places.new.items ≡ length places.old.items }
+    ensures room { vec_capacity places.new ≡ vec_capacity places.old }
+{
+    if count == 0 {
+        return false;
+    }
+    join(&mut places[count - 1], handle, reply)
 }
 
 /// Adds a response to the PDU of a packet where that is of responses and has room for it, and answers whether it did.

@@ -30,20 +30,20 @@ item_encoding true o = block_member_encoding o
 item_encoding false o = identification_encoding o
 
 -- A command is understood at an object, and then only the answer can be too long, or it is refused whatever the tree.
-abbrev pub Understood : Result Request Status → Object → Peer → CommandFields → Type 0
-Understood (Ok r) o peer c =
+abbrev pub IsRequestFor : Result Request Status → Object → Peer → CommandFields → Type 0
+IsRequestFor (Ok r) o peer c =
     (request_at (Some o) (kind_at (Some o) c) c ≡ Some r)
     × (is_out_of_range o.value r ≡ false) × (is_invalid o.lockable o.lock r ≡ false)
     × ((tree : List Object) → status_of tree peer (Some o) c ≡ (if nat_lt 1452 (length (answer tree o r)) then status.BufferOverflow else status.Ok))
-Understood (Err s) o peer c =
+IsRequestFor (Err s) o peer c =
     (tree : List Object) → by_status tree peer (Some o) (request_at (Some o) (kind_at (Some o) c) c) (status_of tree peer (Some o) c) ≡ refused tree s
 
 -- An object was found, and what is asked of it can be done and has this answer; or the command is refused.
-abbrev pub Answered : Result (ℕ × Request) Status → List Object → List ℕ → Peer → CommandFields → Type 0
-Answered (Ok found) tree out peer c = (found.0 < length tree) × ((d : Object) → let o = slice_index_or tree found.0 d in
-    (execution tree peer c ≡ record { tree = slice_set tree found.0 (changed o peer found.1); status = status.Ok; count = answer_count o.value found.1; parameters = out })
+abbrev pub IsAnsweredAs : Result (ℕ × Request) Status → List Object → List ℕ → Peer → CommandFields → Type 0
+IsAnsweredAs (Ok found) tree out peer c = (found.0 < length tree) × ((d : Object) → let o = slice_index_or tree found.0 d in
+    (execution tree peer c ≡ record { tree = slice_set tree found.0 (changed o peer found.1); status = status.Ok; count = answer_count tree o found.1; parameters = out })
     × (is_out_of_range o.value found.1 ≡ false) × IsTree (slice_set tree found.0 (changed o peer found.1)))
-Answered (Err s) tree out peer c = execution tree peer c ≡ refused tree s
+IsAnsweredAs (Err s) tree out peer c = execution tree peer c ≡ refused tree s
 
 -- A command was carried out, or refused with nothing changed, as its execution says.
 abbrev pub Executes : Result ℕ Status → List Object → List Object → List ℕ → Peer → CommandFields → Type 0

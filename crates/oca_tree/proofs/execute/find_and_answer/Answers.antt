@@ -3,8 +3,8 @@ use Rattle.std.specs.Prelude.{Some}
 use Rattle.std.proofs.lemmas.Result.{err_from_is_err_and}
 use Rattle.oca_types.specs.Peers.{fields_of}
 use Rattle.oca_tree.proofs.Puts.{puts_err, puts_ok}
-use Rattle.oca_tree.proofs.Executing.{exec_none, exec_refused, exec_full, answered_lem}
-use Rattle.oca_tree.proofs.execute.answered.Goals as goal
+use Rattle.oca_tree.proofs.Executing.{exec_none, exec_refused, exec_full, answered_at}
+use Rattle.oca_tree.proofs.execute.find_and_answer.Goals as goal
 
 pub returns-in_default : goal.returns-in_default
 returns-in_default c = exec_none c.args.objects.now c.args.peer (fields_of c.args.command.now) c.in_default.ensures.absent
@@ -25,5 +25,5 @@ pub returns : goal.returns
 returns c =
     let is = puts_ok c.put_answer.result c.args.out.now.items c.put_answer.new.out.items _ (sym c.if-is_err.ensures.value) c.put_answer.ensures in
     let is' = rw c.requires.empty at is in
-    answered_lem c.args.objects.now c.args.peer (fields_of c.args.command.now) c.in-Some.at c.index-objects-at.result c.in_ok-request.request c.put_answer.new.out.items
+    answered_at c.args.objects.now c.args.peer (fields_of c.args.command.now) c.in-Some.at c.index-objects-at.result c.in_ok-request.request c.put_answer.new.out.items
     c.in-Some.ensures.place c.index-objects-at.is c.in_ok-request.ensures is' (omega arith) c.requires.tree
