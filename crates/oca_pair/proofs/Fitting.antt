@@ -13,10 +13,13 @@ use Rattle.oca_pdu.specs.Encoding.{ResponseFits}
 use Rattle.oca_tree.specs.declared.object.Object.{Object}
 use Rattle.oca_tree.specs.declared.object.Value.{Value}
 use Rattle.oca_tree.specs.declared.object.Value.TheVariants as values
+use Rattle.oca_tree.specs.declared.object.Switch.{Switch}
+use Rattle.oca_tree.specs.declared.request.SwitchRequest.{SwitchRequest}
+use Rattle.oca_tree.specs.declared.request.SwitchRequest.TheVariants as switches
 use Rattle.oca_tree.specs.declared.request.Request.{Request}
 use Rattle.oca_tree.specs.declared.request.Request.TheVariants as requests
 use Rattle.oca_tree.specs.Objects.{object_of}
-use Rattle.oca_tree.specs.Execution.{Execution, answer, answer_count, setting_count, first_that_applies, status_lines, status_of, kind_at, request_at, refused, carried_out, by_status, execution}
+use Rattle.oca_tree.specs.Execution.{Execution, parameters, answer, setting_parameters, position_parameters, switch_parameters, first_that_applies, status_lines, status_of, kind_at, request_at, refused, carried_out, by_status, execution}
 use Rattle.oca_device.specs.States.{reply_of}
 use Rattle.oca_pair.specs.Laws.{response_to}
 
@@ -26,14 +29,24 @@ IsSmall x = (x.count < 256) × (length x.parameters ≤ 1452)
 refused_small : (tree : List Object) (s : Status) → IsSmall (refused tree s)
 refused_small tree s = (lit< tt, lit≤ tt)
 
-setting_counts : (v : Value) → setting_count v < 256
+setting_counts : (v : Value) → length (setting_parameters v) < 256
 setting_counts (values.Number range) = lit< tt
+setting_counts (values.Boolean truth) = lit< tt
 setting_counts _ = lit< tt
 
-counts : (v : Value) (r : Request) → answer_count v r < 256
-unfolding answer_count
-counts v requests.GetSetting = setting_counts v
-counts v _ = lit< tt
+position_counts : (s : Switch) (q : SwitchRequest) → length (position_parameters s q) < 256
+position_counts s switches.GetPosition = lit< tt
+position_counts s _ = lit< tt
+
+switch_counts : (v : Value) (q : SwitchRequest) → length (switch_parameters v q) < 256
+switch_counts (values.Switch s) q = position_counts s q
+switch_counts _ q = lit< tt
+
+counts : (tree : List Object) (o : Object) (r : Request) → length (parameters tree o r) < 256
+unfolding parameters
+counts tree o requests.GetSetting = setting_counts o.value
+counts tree o (requests.Switch q) = switch_counts o.value q
+counts tree o _ = lit< tt
 
 passed : (b : Bool) (s more : Status) → (s ≡ status.Ok → ⊥) → cond b s more ≡ status.Ok → more ≡ status.Ok
 passed true s more wrong e = absurd (wrong e)
@@ -55,7 +68,7 @@ small tree p c = by_object (object_of tree c.target)
     by_object (Some o) = by_request (kind_at (Some o) c) (request_at (Some o) (kind_at (Some o) c) c)
       where
         by_status_of : (r : Request) (s : Status) → (s ≡ status.Ok → length (answer tree o r) ≤ 1452) → IsSmall (by_status tree p (Some o) (Some r) s)
-        by_status_of r status.Ok h = (counts o.value r, h refl)
+        by_status_of r status.Ok h = (counts tree o r, h refl)
         by_status_of r _ h = (lit< tt, lit≤ tt)
         by_request : (kind : MethodKind) (r : Option Request) → IsSmall (by_status tree p (Some o) r (first_that_applies (status_lines tree p (Some o) kind r)))
         by_request kind None = refused_small tree (first_that_applies (status_lines tree p (Some o) kind None))

@@ -12,7 +12,7 @@ use Rattle.oca_pdu.specs.Reading.{read_datagram}
 use Rattle.oca_pdu.specs.Laws.{WrittenIsReadBack}
 
 read_one : WrittenIsReadBack → (p : Pdu) → PduFits p → length (pdu_encoding p) ≤ 1472 → read_datagram (pdu_encoding p) ≡ Ok (messages_of p)
-read_one law p fits short = law [] p (pdu_encoding p) (record { some = lit< tt; each = (fits, tt); bytes_are = sym (append-nil (pdu_encoding p)); short = short })
+read_one law p fits short = law [] p (pdu_encoding p) (record { nonempty = lit< tt; well_formed = (fits, tt); bytes_are = sym (append-nil (pdu_encoding p)); within_limit = short })
 
 -- a command that fits a datagram
 pub record IsSendable (c : CommandFields) : Type 0 where
