@@ -11,3 +11,4 @@ pub mod Span
 pub mod Room
 pub mod Networks
 pub mod Lawful
+pub mod Example

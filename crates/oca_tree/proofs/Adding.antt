@@ -6,7 +6,7 @@ use Rattle.oca_tree.specs.declared.object.Object.{Object}
 use Rattle.oca_tree.specs.declared.object.Value.{Value}
 use Rattle.oca_tree.specs.declared.builder.Spec.{Spec}
 use Rattle.oca_tree.specs.Objects.{object_of}
-use Rattle.oca_tree.specs.Places.{place_of, places, is_block_at, depth}
+use Rattle.oca_tree.specs.Places.{place_of, places, is_block, depth}
 use Rattle.oca_tree.specs.Trees.{IsTree, IsSound, IsSoundValue, IsBuilt, IsFree}
 use Rattle.oca_tree.specs.Trees as trees
 use Rattle.oca_tree.specs.Building.{root, new_object, object_of_spec, value_of, has_bad_name, is_bad_value, add_fault}
@@ -20,7 +20,7 @@ none_there : (o : Option Object) → is_some o ≡ false → o ≡ None
 none_there None e = refl
 none_there (Some x) e = cc
 
-pub added_tree : (tree : List Object) (o : Object) → length tree < 128 → 4096 ≤ o.ono.0 → is_some (object_of tree o.ono.0) ≡ false → is_block_at (places tree) o.container.0 ≡ true
+pub added_tree : (tree : List Object) (o : Object) → length tree < 128 → 4096 ≤ o.ono.0 → is_some (object_of tree o.ono.0) ≡ false → is_block (places tree) o.container.0 ≡ true
     → depth (places tree) o.container.0 < 8 → IsSound o → IsTree tree → IsTree (tree ++ o ∷ [])
 added_tree tree o few number free block shallow sound h = record {
   built = rw (places_push tree o) (trees.next (places tree) (place_of o) h.built (record {
@@ -47,7 +47,7 @@ first_object container ono spec role label value a b d =
     ∙ ap (λ (x : List ℕ). record (new_object ono container spec.lockable spec.role.now value) { label = x }) b
     ∙ ap (λ (x : Value). new_object ono container spec.lockable spec.role.now x) d
 
-pub no_fault : (tree : List Object) (container ono : ℕ) (spec : Spec) → length tree < 128 → 4096 ≤ ono → is_some (object_of tree ono) ≡ false → is_block_at (places tree) container ≡ true
+pub no_fault : (tree : List Object) (container ono : ℕ) (spec : Spec) → length tree < 128 → 4096 ≤ ono → is_some (object_of tree ono) ≡ false → is_block (places tree) container ≡ true
     → depth (places tree) container < 8 → (length spec.role.now == 0) ≡ false → has_bad_name spec.kind ≡ false → length spec.role.now ≤ 64 → is_bad_value (value_of spec.kind) ≡ false
     → add_fault tree container ono spec ≡ None
 unfolding add_fault

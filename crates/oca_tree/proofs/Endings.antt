@@ -4,7 +4,7 @@ use Rattle.std.specs.Prelude.{Option, Some, None, is_some, ◌==◌, ◌||◌, �
 use Rattle.std.specs.Option.{option_map_or, option_or}
 use Rattle.std.specs.List.{list_any}
 use Rattle.std.proofs.lemmas.List.Folds.{find-append}
-use Rattle.oca_tree.specs.Places.{Place, place_at, is_block_at, chain_within, chain, reaches, ChainReaches}
+use Rattle.oca_tree.specs.Places.{Place, place_at, is_block, chain_within, chain, reaches, ChainReaches}
 use Rattle.oca_tree.specs.Places as places
 use Rattle.oca_tree.specs.Trees.{IsBuilt, IsFree}
 use Rattle.oca_tree.specs.Trees as trees
@@ -29,7 +29,7 @@ kept ps p n e = ap is_some (looked_up ps p n) ∙ by (place_at ps n) e
     by None h = cc
     by (Some q) h = refl
 
-block_there : (ps : List Place) (n : ℕ) → is_block_at ps n ≡ true → is_some (place_at ps n) ≡ true
+block_there : (ps : List Place) (n : ℕ) → is_block ps n ≡ true → is_some (place_at ps n) ≡ true
 block_there ps n e = by (place_at ps n) e
   where
     by : (o : Option Place) → option_map_or (λ p. p.block) o false ≡ true → is_some o ≡ true

@@ -8,3 +8,5 @@ pub mod Sound
 pub mod Adding
 pub mod Executing
 pub mod Endings
+pub mod Locking
+pub mod Keyed

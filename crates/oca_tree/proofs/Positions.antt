@@ -62,6 +62,10 @@ module _ {X : Type 0} (p : X → Bool) (xs : List X) where
   place_there None e = tt
   place_there (Some i) e = λ d. find_some p xs i d e
 
+  pub place_within : (r : Option ℕ) → r ≡ position p xs → IfSome r (λ i. i < length xs)
+  place_within None e = tt
+  place_within (Some i) e = (place_found p xs i e).0
+
   slice_get_is_some : (ys : List X) (i : ℕ) → i < length ys → is_some (slice_get ys i) ≡ true
   slice_get_is_some [] i h = absurd (omega arith)
   slice_get_is_some (y ∷ ys) zero h = refl

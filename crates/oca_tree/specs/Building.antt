@@ -12,7 +12,7 @@ use Rattle.oca_tree.specs.declared.builder.Spec.{Spec}
 use Rattle.oca_tree.specs.declared.builder.Kind.{Kind}
 use Rattle.oca_tree.specs.declared.builder.Kind.TheVariants as given
 use Rattle.oca_tree.specs.Objects.{object_of}
-use Rattle.oca_tree.specs.Places.{places, is_block_at, depth}
+use Rattle.oca_tree.specs.Places.{places, is_block, depth}
 
 -- ---- the object that is added
 
@@ -89,7 +89,7 @@ add_fault tree container ono spec = first_fault (
     (nat_le 128 (length tree), faults.Full)
     ∷ (nat_lt ono 4096, faults.Reserved)
     ∷ (is_some (object_of tree ono), faults.Taken)
-    ∷ (not (is_block_at (places tree) container), faults.NoSuchBlock)
+    ∷ (not (is_block (places tree) container), faults.NoSuchBlock)
     ∷ (nat_lt 8 (depth (places tree) container + 1), faults.TooDeep)
     ∷ ((length spec.role.now == 0) || is_long spec.role.now || has_bad_name spec.kind, faults.BadText)
     ∷ (is_bad_value (value_of spec.kind), faults.BadRange)

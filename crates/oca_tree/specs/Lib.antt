@@ -10,3 +10,4 @@ pub mod Building
 pub mod Bench
 pub mod Readers
 pub mod PrivateSteps
+pub mod PrivateObjects

@@ -1,5 +1,6 @@
 -- Locks and their holders (AES70-2, OcaRoot; that a holder is a peer is the profile's).
-use Rattle.std.specs.Prelude.{◌&&◌, not, Bool, true, false, if◌then◌else◌, List, map, Option, Some, None}
+use Rattle.std.specs.Prelude.{ℕ, ◌&&◌, not, Bool, true, false, if◌then◌else◌, List, map, Option, Some, None, is_some}
+use Rattle.std.specs.List.{sum_by}
 use Rattle.oca_types.specs.declared.words.Peer.{Peer}
 use Rattle.oca_types.specs.declared.class.Access.{Access}
 use Rattle.oca_types.specs.declared.class.Access.TheVariants.{Read, Write, Locking}
@@ -33,3 +34,11 @@ without_lock_of peer o = if is_held_by peer o.lock then record o { lock = None }
 -- the tree with every lock of the peer taken off
 unfoldable pub released : List Object → Peer → List Object
 released tree peer = map (without_lock_of peer) tree
+
+-- 1 for an object that is locked, else 0
+abbrev pub lock_of_one : Object → ℕ
+lock_of_one o = if is_some o.lock then 1 else 0
+
+-- how many objects are locked
+abbrev pub lock_count : List Object → ℕ
+lock_count tree = sum_by lock_of_one tree

@@ -27,8 +27,8 @@ abbrev pub place_at : List Place → ℕ → Option Place
 place_at ps number = find (λ p. p.number == number) ps
 
 -- whether this is the number of a block
-abbrev pub is_block_at : List Place → ℕ → Bool
-is_block_at ps number = option_map_or (λ p. p.block) (place_at ps number) false
+abbrev pub is_block : List Place → ℕ → Bool
+is_block ps number = option_map_or (λ p. p.block) (place_at ps number) false
 
 -- the number and those of the containers above it, as far as they are there, in at most so many steps
 unfoldable pub chain_within : ℕ → List Place → ℕ → List ℕ

@@ -1,6 +1,6 @@
 -- What a command asks: a method with its parameters (AES70-2; the numbers of methods are the profile's).
-use Rattle.std.specs.Prelude.{ℕ, zero, suc, ◌==◌, ◌&&◌, ◌||◌, not, Bool, false, if◌then◌else◌, List, [], ◌∷◌, length, nat_lt, slice_index_or, Option, Some, None, is_none, int_le}
-use Rattle.std.specs.Option.{option_map, option_and_then}
+use Rattle.std.specs.Prelude.{ℕ, ◌==◌, ◌&&◌, ◌||◌, not, Bool, false, if◌then◌else◌, List, length, nat_lt, slice_index_or, Option, Some, None, is_none, int_le}
+use Rattle.std.specs.Option.{option_map}
 use Rattle.std.specs.Int.{w8, w16}
 use Rattle.oca_types.specs.declared.class.Method.{Method}
 use Rattle.oca_types.specs.declared.class.Method.TheVariants as methods

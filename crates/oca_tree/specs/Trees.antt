@@ -1,5 +1,5 @@
 -- What holds of every tree.
-use Rattle.std.specs.Prelude.{◌≡◌, ◌≤◌, ◌<◌, true, List, [], ◌∷◌, ◌++◌, length, Option, Some, None, ◌≤ℤ◌, IsTrue, Bool}
+use Rattle.std.specs.Prelude.{ℕ, ◌↔◌, ◌≡◌, ◌≤◌, ◌<◌, true, List, [], ◌∷◌, ◌++◌, length, Option, Some, None, ◌≤ℤ◌, IsTrue, Bool}
 use Rattle.std.specs.List.{All}
 use Rattle.oca_tree.specs.declared.object.Object.{Object}
 use Rattle.oca_tree.specs.declared.object.Lock.{Lock}
@@ -8,7 +8,7 @@ use Rattle.oca_tree.specs.declared.object.Switch.{Switch}
 use Rattle.oca_tree.specs.declared.object.Value.{Value}
 use Rattle.oca_tree.specs.declared.object.Value.TheVariants.{Switch as AsSwitch, Number}
 use Rattle.oca_tree.specs.Kinds.{IsOfType}
-use Rattle.oca_tree.specs.Places.{Place, places, place_at, is_block_at, depth}
+use Rattle.oca_tree.specs.Places.{Place, places, place_at, is_block, depth, reaches, ChainReaches}
 
 -- A number's setting lies in its range, and all three are of its type.
 pub record IsSoundRange (range : Range) : Type 0 where
@@ -43,7 +43,7 @@ pub record IsSound (o : Object) : Type 0 where
 pub record IsFree (ps : List Place) (p : Place) : Type 0 where
   pub number : 4096 ≤ p.number
   pub untaken : place_at ps p.number ≡ None
-  pub container : is_block_at ps p.container ≡ true
+  pub container : is_block ps p.container ≡ true
   pub shallow : depth ps p.container < 8
 
 -- The first place is that of the root block, which has the number 100 and no container, and each other was free when it was taken.
@@ -55,3 +55,8 @@ pub record IsTree (tree : List Object) : Type 0 where
   pub built : IsBuilt (places tree)
   pub objects : All IsSound tree
   pub few : length tree ≤ 128
+
+-- The objects that are listed as descendants of a block are those whose chain of containers reaches it: the test by which they
+-- are chosen answers exactly that.
+abbrev pub DescendantsFollowChains : List Object → Type 0
+DescendantsFollowChains tree = (block container : ℕ) → IsTrue (reaches (places tree) block container) ↔ ChainReaches (places tree) block container

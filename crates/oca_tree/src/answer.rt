@@ -17,6 +17,7 @@ ghost use Rattle.oca_tree.specs.declared.request.Request.TheVariants.{Switch as 
 ghost use Rattle.oca_tree.specs.declared.request.SwitchRequest.TheVariants.{GetPosition};
 
 use crate::object::{MuteState, Object, PolarityState, Range, Switch, Value};
+use crate::objects::Objects;
 use crate::place::reaches;
 use crate::put::{put_bool, put_class, put_number, put_text, put_u8, put_u16, put_u32};
 use crate::request::{Request, SwitchRequest};
@@ -34,7 +35,8 @@ fn put_item(out: &mut Params, object: &Object, deep: bool) -> Result<(), PutFaul
     Ok(())
 }
 
-fn is_listed(objects: &[Object], object: &Object, block: Ono, deep: bool) -> bool
+/// Whether the object is one of those that are listed for the block.
+fn is_listed(objects: &Objects, object: &Object, block: Ono, deep: bool) -> bool
     ensures { result ≡ is_listed objects.now block.0 deep object.now }
 {
     if deep {
@@ -44,21 +46,24 @@ fn is_listed(objects: &[Object], object: &Object, block: Ono, deep: bool) -> boo
     }
 }
 
+/// How many objects are listed for the block.
 #[tactic(auto, using(crate::proofs::Positions::counted))]
-fn listed_count(objects: &[Object], block: Ono, deep: bool) -> usize
+fn listed_count(objects: &Objects, block: Ono, deep: bool) -> usize
     ensures few { result ≤ length objects.now }
     ensures count { result ≡ length (filter (is_listed objects.now block.0 deep) objects.now) }
 {
     objects
+        .as_slice()
         .iter()
         .filter(|object| is_listed(objects, object, block, deep))
         .count()
 }
 
-fn put_items(out: &mut Params, objects: &[Object], block: Ono, deep: bool) -> Result<(), PutFault>
+/// What is listed of each object.
+fn put_items(out: &mut Params, objects: &Objects, block: Ono, deep: bool) -> Result<(), PutFault>
     ensures { Puts result out.old.items out.new.items (flat_map (item_encoding deep) (filter (is_listed objects.now block.0 deep) objects.now)) }
 {
-    for object in objects {
+    for object in objects.as_slice() {
         if is_listed(objects, object, block, deep) {
             put_item(out, object, deep)?;
         }
@@ -67,7 +72,7 @@ fn put_items(out: &mut Params, objects: &[Object], block: Ono, deep: bool) -> Re
 }
 
 /// The members of a block, or all that lie in it however deep.
-fn put_members(out: &mut Params, objects: &[Object], block: Ono, deep: bool) -> Result<(), PutFault>
+fn put_members(out: &mut Params, objects: &Objects, block: Ono, deep: bool) -> Result<(), PutFault>
     requires { length objects.now ≤ 128 }
     ensures { Puts result out.old.items out.new.items (list_encoding (item_encoding deep) (filter (is_listed objects.now block.0 deep) objects.now)) }
 {
@@ -75,18 +80,21 @@ fn put_members(out: &mut Params, objects: &[Object], block: Ono, deep: bool) -> 
     put_items(out, objects, block, deep)
 }
 
+/// The number of a mute's state.
 pub(crate) fn mute_number(state: MuteState) -> u8
     ensures { result ≡ mute_number state }
 {
     state as u8
 }
 
+/// The number of a polarity's state.
 pub(crate) fn polarity_number(state: PolarityState) -> u8
     ensures { result ≡ polarity_number state }
 {
     state as u8
 }
 
+/// The state of a mute or a polarity.
 fn put_state(out: &mut Params, value: &Value) -> Result<(), PutFault>
     ensures { Puts result out.old.items out.new.items (state_encoding value.now) }
 {
@@ -107,6 +115,7 @@ fn put_position(out: &mut Params, switch: &Switch) -> Result<(), PutFault>
     put_u16(out, (switch.names.len() - 1) as u16)
 }
 
+/// Texts, one after another.
 fn put_texts(out: &mut Params, texts: &[Text]) -> Result<(), PutFault>
     ensures { Puts result out.old.items out.new.items (flat_map text_encoding texts.now) }
 {
@@ -116,6 +125,7 @@ fn put_texts(out: &mut Params, texts: &[Text]) -> Result<(), PutFault>
     Ok(())
 }
 
+/// Booleans, one after another.
 fn put_bools(out: &mut Params, truths: &[bool]) -> Result<(), PutFault>
     ensures { Puts result out.old.items out.new.items (flat_map bool_encoding truths.now) }
 {
@@ -125,6 +135,7 @@ fn put_bools(out: &mut Params, truths: &[bool]) -> Result<(), PutFault>
     Ok(())
 }
 
+/// An OcaList of texts.
 fn put_text_list(out: &mut Params, texts: &[Text]) -> Result<(), PutFault>
     requires { length texts.now ≤ 16 }
     ensures { Puts result out.old.items out.new.items (list_encoding text_encoding texts.now) }
@@ -133,6 +144,7 @@ fn put_text_list(out: &mut Params, texts: &[Text]) -> Result<(), PutFault>
     put_texts(out, texts)
 }
 
+/// An OcaList of Booleans.
 fn put_bool_list(out: &mut Params, truths: &[bool]) -> Result<(), PutFault>
     requires { length truths.now ≤ 16 }
     ensures { Puts result out.old.items out.new.items (list_encoding bool_encoding truths.now) }
@@ -142,7 +154,11 @@ fn put_bool_list(out: &mut Params, truths: &[bool]) -> Result<(), PutFault>
 }
 
 /// What a switch answers.
-fn put_switch_answer(out: &mut Params, switch: &Switch, request: &SwitchRequest<'_>) -> Result<(), PutFault>
+fn put_switch_answer(
+    out: &mut Params,
+    switch: &Switch,
+    request: &SwitchRequest<'_>,
+) -> Result<(), PutFault>
     requires sound { IsSoundSwitch switch.now }
     requires there { is_bad_position switch.now request.now ≡ false }
     ensures { Puts result out.old.items out.new.items (joined (position_parameters switch.now request.now)) }
@@ -163,7 +179,11 @@ fn put_switch_answer(out: &mut Params, switch: &Switch, request: &SwitchRequest<
 
 /// What a switch answers; any other value answers nothing to it.
 #[tactic(auto, unfolding(crate::specs::Requests::is_out_of_range, crate::specs::Trees::IsSoundValue))]
-fn put_position_answer(out: &mut Params, value: &Value, request: &SwitchRequest<'_>) -> Result<(), PutFault>
+fn put_position_answer(
+    out: &mut Params,
+    value: &Value,
+    request: &SwitchRequest<'_>,
+) -> Result<(), PutFault>
     requires sound { IsSoundValue value.now }
     requires there { is_out_of_range value.now (AsSwitch request.now) ≡ false }
     ensures { Puts result out.old.items out.new.items (joined (switch_parameters value.now request.now)) }
@@ -243,7 +263,7 @@ pub(crate) fn answer_count(object: &Object, request: &Request<'_>) -> u8
 #[tactic(auto, unfolding(crate::specs::Execution::parameters))]
 pub(crate) fn put_answer(
     out: &mut Params,
-    objects: &[Object],
+    objects: &Objects,
     object: &Object,
     request: &Request<'_>,
 ) -> Result<(), PutFault>

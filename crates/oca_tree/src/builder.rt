@@ -3,37 +3,48 @@ ghost use Rattle.std.specs.Prelude.{◌≡◌, ◌≤◌, ◌<◌, [], ◌∷◌
 ghost use Rattle.std.specs.List.{list_any};
 ghost use Rattle.oca_tree.specs.Kinds.{IsOfType};
 ghost use Rattle.oca_tree.specs.Building.{Adds, value_of, switch, number, has_bad_name, is_long, root};
+ghost use Rattle.oca_tree.specs.Objects.{object_of};
 ghost use Rattle.oca_tree.specs.Trees.{IsTree, IsSoundValue};
 ghost use Rattle.oca_tree.specs.PrivateSteps.{Makes, MakesValue};
 ghost use Rattle.oca_tree.specs.declared.builder.AddFault.TheVariants.{NoMemory};
 
 use crate::object::{MuteState, NumberKind, Object, PolarityState, Range, Switch, Value};
-use crate::place::{contains, depth, is_block_at};
+use crate::objects::Objects;
+use crate::place::{contains, depth, is_block};
 use crate::tree::Tree;
 use arrayvec::ArrayVec;
 use oca_types::{Ono, Text};
 use std::alloc::Global;
 use std::marker::Model;
+use thiserror::Error;
 
 /// Why an object was not added, the first in this order that applies. The numbers are promised (*profile*).
-#[derive(Clone, Copy, Debug, PartialEq, Eq)]
+#[derive(Clone, Copy, Debug, PartialEq, Eq, Error)]
 pub enum AddFault {
     /// 128 objects are there, the root counted.
+    #[error("128 objects are there")]
     Full = 1,
     /// The number is below 4096.
+    #[error("the number is below 4096")]
     Reserved = 2,
     /// The number is there.
+    #[error("the number is taken")]
     Taken = 3,
     /// The container is no block of the tree.
+    #[error("the container is no block of the tree")]
     NoSuchBlock = 4,
     /// The object would stand at depth 9; the root is at depth 1.
+    #[error("the object would stand at depth 9")]
     TooDeep = 5,
     /// The role is empty, or the role or a position name has more than 64 bytes.
+    #[error("a text is empty or has more than 64 bytes")]
     BadText = 6,
     /// The least setting is above the greatest, the setting is outside them, the number of positions is
     /// not 1 to 16, or the position is not below it.
+    #[error("the setting is outside its range")]
     BadRange = 7,
     /// Memory was refused.
+    #[error("no memory")]
     NoMemory = 8,
 }
 
@@ -56,64 +67,107 @@ const _: () = prove!(AddFault::NoMemory as u8 == 8);
 /// What an object is to be at first.
 #[derive(Clone, Copy)]
 pub struct Spec<'a> {
+    /// Its role, 1 to 64 bytes.
     pub role: &'a str,
+    /// Whether it can be locked.
     pub lockable: bool,
+    /// Its class and its settings.
     pub kind: Kind<'a>,
 }
 
 /// The class of an object with its settings at first.
 #[derive(Clone, Copy)]
 pub enum Kind<'a> {
+    /// OcaBlock.
     Block,
+    /// OcaMute.
     Mute(MuteState),
+    /// OcaPolarity.
     Polarity(PolarityState),
+    /// OcaSwitch, with all its positions enabled.
     Switch {
+        /// The names of its positions, 1 to 16, each of at most 64 bytes.
         names: &'a [&'a str],
+        /// The current position, counted from 0.
         position: u16,
     },
+    /// OcaBooleanActuator.
     Boolean(bool),
+    /// OcaInt8Actuator.
     Int8 {
+        /// The setting, from `least` to `greatest`.
         setting: i8,
+        /// The least that it can be set to.
         least: i8,
+        /// The greatest that it can be set to.
         greatest: i8,
     },
+    /// OcaInt16Actuator.
     Int16 {
+        /// The setting, from `least` to `greatest`.
         setting: i16,
+        /// The least that it can be set to.
         least: i16,
+        /// The greatest that it can be set to.
         greatest: i16,
     },
+    /// OcaInt32Actuator.
     Int32 {
+        /// The setting, from `least` to `greatest`.
         setting: i32,
+        /// The least that it can be set to.
         least: i32,
+        /// The greatest that it can be set to.
         greatest: i32,
     },
+    /// OcaInt64Actuator.
     Int64 {
+        /// The setting, from `least` to `greatest`.
         setting: i64,
+        /// The least that it can be set to.
         least: i64,
+        /// The greatest that it can be set to.
         greatest: i64,
     },
+    /// OcaUint8Actuator.
     Uint8 {
+        /// The setting, from `least` to `greatest`.
         setting: u8,
+        /// The least that it can be set to.
         least: u8,
+        /// The greatest that it can be set to.
         greatest: u8,
     },
+    /// OcaUint16Actuator.
     Uint16 {
+        /// The setting, from `least` to `greatest`.
         setting: u16,
+        /// The least that it can be set to.
         least: u16,
+        /// The greatest that it can be set to.
         greatest: u16,
     },
+    /// OcaUint32Actuator.
     Uint32 {
+        /// The setting, from `least` to `greatest`.
         setting: u32,
+        /// The least that it can be set to.
         least: u32,
+        /// The greatest that it can be set to.
         greatest: u32,
     },
+    /// OcaUint64Actuator.
     Uint64 {
+        /// The setting, from `least` to `greatest`.
         setting: u64,
+        /// The least that it can be set to.
         least: u64,
+        /// The greatest that it can be set to.
         greatest: u64,
     },
 }
 
+/// Whether a name has more than 64 bytes.
 fn has_long(names: &[&str]) -> bool
     ensures { result ≡ list_any (λ name. is_long name.now) names.now }
 {
@@ -138,8 +192,9 @@ fn texts_of(names: &[&str]) -> ArrayVec<Text, 16>
 {
     let mut texts = ArrayVec::new();
     for name in names {
-        if let Some(text) = Text::new(name) {
-            texts.push(text);
+        match Text::new(name) {
+            Some(text) => texts.push(text),
+            None => unreachable!(),
         }
     }
     texts
@@ -290,7 +345,7 @@ fn value_of(kind: &Kind<'_>) -> Option<Value>
 /// The object to be added, or the first fault that applies.
 #[tactic(auto, unfolding(crate::specs::Building::add_fault))]
 fn object_for(
-    objects: &[Object],
+    objects: &Objects,
     container: Ono,
     ono: Ono,
     spec: &Spec<'_>,
@@ -298,6 +353,7 @@ fn object_for(
     requires { IsTree objects.now }
     ensures makes { Makes result objects.now container.0 ono.0 spec.now }
     ensures room { OnOk result (length objects.now < 128) }
+    ensures free { IfOk result (λ o. object_of objects.now o.ono.0 ≡ None) }
 {
     if objects.len() >= 128 {
         return Err(AddFault::Full);
@@ -308,7 +364,7 @@ fn object_for(
     if contains(objects, ono) {
         return Err(AddFault::Taken);
     }
-    if !is_block_at(objects, container) {
+    if !is_block(objects, container) {
         return Err(AddFault::NoSuchBlock);
     }
     if depth(objects, container) >= 8 {
@@ -338,20 +394,19 @@ fn object_for(
 /// A tree to which objects are added. Contracts see the list of them in order of adding.
 #[derive(Drop)]
 pub struct TreeBuilder {
-    objects: Vec<Object>,
+    objects: Objects,
 }
 
 impl Model for TreeBuilder {
-    ghost use Rattle.std.specs.Prelude.{List, ◌≤◌};
-    ghost use Rattle.std.specs.Vec.{vec_capacity};
+    ghost use Rattle.std.specs.Prelude.{List};
     ghost use Rattle.oca_tree.specs.declared.object.Object.{Object as Item};
     ghost use Rattle.oca_tree.specs.Trees.{IsTree};
 
     ghost Value = { List Item };
 
-    ghost view = { λ t. t.objects.items };
+    ghost view = { λ t. t.objects };
 
-    ghost invariant = { λ t. IsTree t.objects.items × (128 ≤ vec_capacity t.objects) };
+    ghost invariant = { λ t. IsTree t.objects };
 }
 
 impl TreeBuilder {
@@ -361,9 +416,9 @@ impl TreeBuilder {
         ensures ok { IfOk result (λ builder. builder ≡ root ∷ []) }
         ensures err { IfErr result (λ e. e ≡ NoMemory) }
     {
-        let mut objects = Vec::with_capacity(alloc, 128).map_err(|_| AddFault::NoMemory)?;
+        let mut objects = Objects::new(alloc).map_err(|_| AddFault::NoMemory)?;
         let Some(role) = Text::new("root") else {
-            return Err(AddFault::NoMemory);
+            unreachable!()
         };
         let root = Object {
             ono: Ono(100),
@@ -375,10 +430,8 @@ impl TreeBuilder {
             value: Value::Block,
             lock: None,
         };
-        match objects.push(root) {
-            Ok(()) => Ok(TreeBuilder { objects }),
-            Err(_) => Err(AddFault::NoMemory),
-        }
+        objects.push(root);
+        Ok(TreeBuilder { objects })
     }
 
     /// Adds an object at the end: enabled, unlocked and with an empty label. It is refused by the first
@@ -388,10 +441,8 @@ impl TreeBuilder {
         ensures { Adds result self.old self.new container.0 ono.0 spec.now }
     {
         let object = object_for(&self.objects, container, ono, spec)?;
-        match self.objects.push(object) {
-            Ok(()) => Ok(()),
-            Err(_) => unreachable!(),
-        }
+        self.objects.push(object);
+        Ok(())
     }
 
     /// The tree of the objects that were added.

@@ -1,11 +1,12 @@
 //! What a request changes in its object.
-ghost use Rattle.std.specs.Prelude.{◌≡◌, ◌<◌, length, slice_set, false};
+ghost use Rattle.std.specs.Prelude.{◌≡◌, ◌≤◌, ◌+◌, false};
+ghost use Rattle.oca_tree.specs.Locks.{lock_of_one};
 ghost use Rattle.oca_tree.specs.Requests.{is_out_of_range};
 ghost use Rattle.oca_tree.specs.Execution.{changed, changed_value, changed_switch, mute_state, polarity_state};
 ghost use Rattle.oca_tree.specs.Requests.{is_bad_position};
 ghost use Rattle.oca_tree.specs.Trees.{IsSoundValue, IsSoundSwitch};
 
-use crate::object::{Lock, LockKind, MuteState, Object, PolarityState, Switch, Value};
+use crate::object::{LockKind, MuteState, Object, PolarityState, Switch, Value};
 use crate::request::{Request, SwitchRequest};
 use oca_types::Peer;
 
@@ -88,27 +89,20 @@ fn change_value(value: &mut Value, request: Request<'_>)
     }
 }
 
-/// Carries out what a request changes.
+/// Carries out what a request changes. `locks` counts the locks of the tree that are held.
 #[tactic(auto, unfolding(crate::specs::Execution::changed))]
-pub(crate) fn change(object: &mut Object, peer: Peer, request: Request<'_>)
+pub(crate) fn change(object: &mut Object, locks: &mut usize, peer: Peer, request: Request<'_>)
     requires sound { IsSoundValue object.old.value }
     requires range { is_out_of_range object.old.value request ≡ false }
-    ensures { object.new ≡ changed object.old peer request.entry }
+    requires room { locks.old ≤ 128 }
+    requires counted { lock_of_one object.old ≤ locks.old }
+    ensures object { object.new ≡ changed object.old peer request.entry }
+    ensures count { locks.new + lock_of_one object.old ≡ locks.old + lock_of_one object.new }
 {
     match request {
-        Request::LockTotal => {
-            object.lock = Some(Lock {
-                kind: LockKind::Total,
-                holder: peer,
-            });
-        }
-        Request::LockReadonly => {
-            object.lock = Some(Lock {
-                kind: LockKind::Readonly,
-                holder: peer,
-            });
-        }
-        Request::Unlock => object.lock = None,
+        Request::LockTotal => object.lock(locks, LockKind::Total, peer),
+        Request::LockReadonly => object.lock(locks, LockKind::Readonly, peer),
+        Request::Unlock => object.unlock(locks),
         Request::SetEnabled(enabled) => object.enabled = enabled,
         Request::SetLabel(label) => object.label = label.text(),
         other => change_value(&mut object.value, other),

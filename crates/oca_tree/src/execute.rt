@@ -4,13 +4,14 @@ ghost use Rattle.oca_types.specs.Peers.{fields_of};
 ghost use Rattle.oca_types.specs.Methods.{method_kind};
 ghost use Rattle.oca_types.specs.declared.class.MethodKind.TheVariants.{Known};
 ghost use Rattle.oca_tree.specs.Objects.{class_of};
+ghost use Rattle.oca_tree.specs.Locks.{lock_count};
 ghost use Rattle.oca_tree.specs.Trees.{IsTree, IsSound};
 ghost use Rattle.oca_tree.specs.PrivateSteps.{IsRequestFor, IsAnsweredAs, Executes};
 
 use crate::answer::{answer_count, put_answer};
-use crate::change::change;
 use crate::object::Object;
-use crate::place::place_of;
+use crate::objects::Objects;
+use crate::place::index_of;
 use crate::request::Request;
 use oca_types::{Access, Command, Method, MethodKind, Params, Peer, Status, method_of};
 
@@ -42,7 +43,11 @@ fn check_request<'a>(
 }
 
 /// What a command asks of an object, or why it is refused.
-fn request_for<'a>(object: &Object, peer: Peer, command: &Command<'a>) -> Result<Request<'a>, Status>
+fn request_for<'a>(
+    object: &Object,
+    peer: Peer,
+    command: &Command<'a>,
+) -> Result<Request<'a>, Status>
     requires { IsSound object.now }
     ensures { IsRequestFor result object.now peer (fields_of command.now) }
 {
@@ -55,7 +60,7 @@ fn request_for<'a>(object: &Object, peer: Peer, command: &Command<'a>) -> Result
 
 /// Finds what a command asks and answers it, or refuses it. It changes no object.
 fn find_and_answer<'a>(
-    objects: &[Object],
+    objects: &Objects,
     peer: Peer,
     command: &Command<'a>,
     out: &mut Params,
@@ -64,10 +69,10 @@ fn find_and_answer<'a>(
     requires tree { IsTree objects.now }
     ensures { IsAnsweredAs result objects.now out.new.items peer (fields_of command.now) }
 {
-    let Some(at) = place_of(objects, command.target) else {
+    let Some(at) = index_of(objects, command.target) else {
         return Err(Status::BadOno);
     };
-    let object = &objects[at];
+    let object = objects.object_at(at);
     let request = request_for(object, peer, command)?;
     if put_answer(out, objects, object, &request).is_err() {
         return Err(Status::BufferOverflow);
@@ -76,21 +81,23 @@ fn find_and_answer<'a>(
     Ok((at, request))
 }
 
-/// Carries out a command, if it is not refused, and puts the answer into empty parameters.
+/// Carries out a command, if it is not refused, and puts the answer into empty parameters. `locks` counts the locks that are held.
 pub(crate) fn carry_out(
-    objects: &mut [Object],
+    objects: &mut Objects,
+    locks: &mut usize,
     peer: Peer,
     command: &Command<'_>,
     out: &mut Params,
 ) -> Result<u8, Status>
     requires empty { out.old.items ≡ [] }
     requires tree { IsTree objects.old }
+    requires count { locks.old ≡ lock_count objects.old }
     ensures done { Executes result objects.old objects.new out.new.items peer (fields_of command.now) }
     ensures tree { IsTree objects.new }
+    ensures count { locks.new ≡ lock_count objects.new }
 {
     let (at, request) = find_and_answer(objects, peer, command, out)?;
-    let object = &mut objects[at];
-    let count = answer_count(object, &request);
-    change(object, peer, request);
+    let count = answer_count(objects.object_at(at), &request);
+    objects.change_at(at, locks, peer, request);
     Ok(count)
 }

@@ -1,7 +1,8 @@
 //! The objects of a device (AES70-2): their tree, their ranges and their locks.
 //!
 //! Begin with [`TreeBuilder`], which adds objects one by one, and [`Tree::execute`], which carries a
-//! peer's command out. Once a tree is built nothing here takes memory, and nothing reads a clock.
+//! peer's command out. Once a tree is built nothing here takes memory (this is read in the code: no clause
+//! says it), and nothing reads a clock.
 #![tactic(auto)]
 
 mod answer;
@@ -10,7 +11,9 @@ mod builder;
 mod change;
 mod execute;
 mod held;
+mod laws;
 mod object;
+mod objects;
 mod place;
 mod put;
 mod request;
@@ -19,6 +22,7 @@ mod tree;
 
 pub use bench_tree::bench;
 pub use builder::{AddFault, Kind, Spec, TreeBuilder};
+pub use laws::law_of_descendants;
 pub use object::{Lock, LockKind, MuteState, PolarityState};
 pub use tree::{Done, ObjectInfo, Setting, Tree};
 

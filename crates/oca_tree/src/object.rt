@@ -1,8 +1,8 @@
 //! An object of the tree: its place, its value and its lock.
-ghost use Rattle.std.specs.Prelude.{◌≡◌};
+ghost use Rattle.std.specs.Prelude.{◌≡◌, ◌≤◌, ◌+◌, Some, None};
 ghost use Rattle.oca_tree.specs.Kinds.{number_class};
 ghost use Rattle.oca_tree.specs.Objects.{class_of};
-ghost use Rattle.oca_tree.specs.Locks.{lock_refuses, without_lock_of};
+ghost use Rattle.oca_tree.specs.Locks.{lock_refuses, without_lock_of, lock_of_one};
 ghost use Rattle.oca_tree.specs.Places.{is_block_value};
 
 use arrayvec::ArrayVec;
@@ -11,14 +11,18 @@ use oca_types::{Access, Class, Ono, Peer, Text};
 /// The states of an OcaMute, by their numbers in AES70-2.
 #[derive(Clone, Copy, Debug, PartialEq, Eq)]
 pub enum MuteState {
+    /// Muted, 1.
     Muted = 1,
+    /// Not muted, 2.
     Unmuted = 2,
 }
 
 /// The states of an OcaPolarity, by their numbers in AES70-2.
 #[derive(Clone, Copy, Debug, PartialEq, Eq)]
 pub enum PolarityState {
+    /// Not inverted, 1.
     NonInverted = 1,
+    /// Inverted, 2.
     Inverted = 2,
 }
 
@@ -66,14 +70,18 @@ pub enum Value {
 /// What a lock keeps other peers from: all access, or all but reading (AES70-2, OcaRoot).
 #[derive(Clone, Copy, Debug, PartialEq, Eq)]
 pub enum LockKind {
+    /// From all access.
     Total,
+    /// From all but reading.
     Readonly,
 }
 
 /// A lock and the peer that holds it.
 #[derive(Clone, Copy, Debug, PartialEq, Eq)]
 pub struct Lock {
+    /// What it keeps other peers from.
     pub kind: LockKind,
+    /// The peer that locked the object.
     pub holder: Peer,
 }
 
@@ -90,6 +98,7 @@ pub struct Object {
     pub lock: Option<Lock>,
 }
 
+/// The class of actuators of an integer type.
 fn number_class(kind: NumberKind) -> Class
     ensures { result ≡ number_class kind }
 {
@@ -146,14 +155,40 @@ impl Object {
         }
     }
 
+    /// Locks the object for the peer, and counts the lock where there was none.
+    pub(crate) fn lock(&mut self, locks: &mut usize, kind: LockKind, peer: Peer)
+        requires { locks.old ≤ 128 }
+        ensures object { self.new ≡ record self.old { lock = Some (record { kind = kind; holder = peer }) } }
+        ensures count { locks.new + lock_of_one self.old ≡ locks.old + 1 }
+    {
+        if self.lock.is_none() {
+            *locks += 1;
+        }
+        self.lock = Some(Lock { kind, holder: peer });
+    }
+
+    /// Takes the lock off, and counts it no longer.
+    pub(crate) fn unlock(&mut self, locks: &mut usize)
+        requires { lock_of_one self.old ≤ locks.old }
+        ensures object { self.new ≡ record self.old { lock = None } }
+        ensures count { locks.new + lock_of_one self.old ≡ locks.old }
+    {
+        if self.lock.is_some() {
+            *locks -= 1;
+        }
+        self.lock = None;
+    }
+
     /// Takes the lock off, if the peer holds it.
-    pub(crate) fn release(&mut self, peer: Peer)
-        ensures { self.new ≡ without_lock_of peer self.old }
+    pub(crate) fn release(&mut self, locks: &mut usize, peer: Peer)
+        requires { lock_of_one self.old ≤ locks.old }
+        ensures object { self.new ≡ without_lock_of peer self.old }
+        ensures count { locks.new + lock_of_one self.old ≡ locks.old + lock_of_one self.new }
     {
         if let Some(lock) = self.lock
             && lock.holder == peer
         {
-            self.lock = None;
+            self.unlock(locks);
         }
     }
 }

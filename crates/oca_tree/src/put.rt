@@ -10,36 +10,42 @@ ghost use Rattle.oca_tree.specs.PrivateSteps.{Puts};
 use crate::object::NumberKind;
 use oca_types::{Class, Params, PutFault, Text};
 
+/// A Uint8.
 pub(crate) fn put_u8(out: &mut Params, value: u8) -> Result<(), PutFault>
     ensures { Puts result out.old.items out.new.items (unsigned_encoding w8 value) }
 {
     oca_types::put_u8(out, value)
 }
 
+/// A Uint16.
 pub(crate) fn put_u16(out: &mut Params, value: u16) -> Result<(), PutFault>
     ensures { Puts result out.old.items out.new.items (unsigned_encoding w16 value) }
 {
     oca_types::put_u16(out, value)
 }
 
+/// A Uint32.
 pub(crate) fn put_u32(out: &mut Params, value: u32) -> Result<(), PutFault>
     ensures { Puts result out.old.items out.new.items (unsigned_encoding w32 value) }
 {
     oca_types::put_u32(out, value)
 }
 
+/// An OcaBoolean.
 pub(crate) fn put_bool(out: &mut Params, value: bool) -> Result<(), PutFault>
     ensures { Puts result out.old.items out.new.items (bool_encoding value) }
 {
     oca_types::put_bool(out, value)
 }
 
+/// An OcaString.
 pub(crate) fn put_text(out: &mut Params, value: &Text) -> Result<(), PutFault>
     ensures { Puts result out.old.items out.new.items (text_encoding value.now) }
 {
     oca_types::put_text(out, value)
 }
 
+/// An OcaClassIdentification.
 pub(crate) fn put_class(out: &mut Params, class: Class) -> Result<(), PutFault>
     ensures { Puts result out.old.items out.new.items (class_identification_encoding class) }
 {

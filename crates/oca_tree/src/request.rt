@@ -176,11 +176,20 @@ impl<'a> Request<'a> {
     /// Reads what a method with these parameters asks of an object with this value; nothing where
     /// they are not the method's.
     #[tactic(auto, unfolding(crate::specs::Requests::request_of))]
-    pub(crate) fn read(value: &Value, method: Method, count: u8, params: &'a [u8]) -> Option<Request<'a>>
+    pub(crate) fn read(
+        value: &Value,
+        method: Method,
+        count: u8,
+        params: &'a [u8],
+    ) -> Option<Request<'a>>
         ensures { result ≡ request_of value.now method count params.now }
     {
         match method {
-            Method::GetClassIdentification => without_parameters(Request::GetClassIdentification, count, params),
+            Method::GetClassIdentification => without_parameters(
+                Request::GetClassIdentification,
+                count,
+                params,
+            ),
             Method::GetLockable => without_parameters(Request::GetLockable, count, params),
             Method::LockTotal => without_parameters(Request::LockTotal, count, params),
             Method::Unlock => without_parameters(Request::Unlock, count, params),
@@ -192,22 +201,42 @@ impl<'a> Request<'a> {
             Method::SetLabel => Some(Request::SetLabel(take::one_text(count, params)?)),
             Method::GetOwner => without_parameters(Request::GetOwner, count, params),
             Method::GetMembers => without_parameters(Request::GetMembers, count, params),
-            Method::GetMembersRecursive => without_parameters(Request::GetMembersRecursive, count, params),
+            Method::GetMembersRecursive => without_parameters(
+                Request::GetMembersRecursive,
+                count,
+                params,
+            ),
             Method::GetState => without_parameters(Request::GetState, count, params),
             Method::SetState => Some(Request::SetState(take::one_u8(count, params)?)),
-            Method::GetPosition => without_parameters(Request::Switch(SwitchRequest::GetPosition), count, params),
-            Method::SetPosition => Some(Request::Switch(SwitchRequest::SetPosition(take::one_u16(count, params)?))),
+            Method::GetPosition => without_parameters(
+                Request::Switch(SwitchRequest::GetPosition),
+                count,
+                params,
+            ),
+            Method::SetPosition => Some(Request::Switch(SwitchRequest::SetPosition(take::one_u16(
+                count, params,
+            )?))),
             Method::GetPositionName => {
                 Some(Request::Switch(SwitchRequest::GetPositionName(take::one_u16(count, params)?)))
             }
             Method::SetPositionName => position_name_request(count, params),
-            Method::GetPositionNames => without_parameters(Request::Switch(SwitchRequest::GetPositionNames), count, params),
+            Method::GetPositionNames => without_parameters(
+                Request::Switch(SwitchRequest::GetPositionNames),
+                count,
+                params,
+            ),
             Method::SetPositionNames => position_names_request(value, count, params),
             Method::GetPositionEnabled => {
-                Some(Request::Switch(SwitchRequest::GetPositionEnabled(take::one_u16(count, params)?)))
+                Some(Request::Switch(SwitchRequest::GetPositionEnabled(take::one_u16(
+                    count, params,
+                )?)))
             }
             Method::SetPositionEnabled => position_enabled_request(count, params),
-            Method::GetPositionEnableds => without_parameters(Request::Switch(SwitchRequest::GetPositionEnableds), count, params),
+            Method::GetPositionEnableds => without_parameters(
+                Request::Switch(SwitchRequest::GetPositionEnableds),
+                count,
+                params,
+            ),
             Method::SetPositionEnableds => position_enableds_request(value, count, params),
             Method::GetSetting => without_parameters(Request::GetSetting, count, params),
             Method::SetSetting => setting_request(value, count, params),

@@ -30,6 +30,7 @@ fn take_number(cursor: &mut Cursor<'_>, kind: NumberKind) -> Result<i128, ReadFa
     })
 }
 
+/// A Uint8.
 pub(crate) fn one_u8(count: u8, params: &[u8]) -> Option<u8>
     ensures { result ≡ with_parameters 1 (unsigned_at w8) count params.now }
 {
@@ -42,6 +43,7 @@ pub(crate) fn one_u8(count: u8, params: &[u8]) -> Option<u8>
     Some(value)
 }
 
+/// A Uint16.
 pub(crate) fn one_u16(count: u8, params: &[u8]) -> Option<u16>
     ensures { result ≡ with_parameters 1 (unsigned_at w16) count params.now }
 {
@@ -54,6 +56,7 @@ pub(crate) fn one_u16(count: u8, params: &[u8]) -> Option<u16>
     Some(value)
 }
 
+/// An OcaBoolean.
 pub(crate) fn one_bool(count: u8, params: &[u8]) -> Option<bool>
     ensures { result ≡ with_parameters 1 bool_at count params.now }
 {
@@ -66,6 +69,7 @@ pub(crate) fn one_bool(count: u8, params: &[u8]) -> Option<bool>
     Some(value)
 }
 
+/// An OcaString.
 pub(crate) fn one_text(count: u8, params: &[u8]) -> Option<HeldText<'_>>
     ensures { result ≡ with_parameters 1 text_at count params.now }
 {
@@ -76,6 +80,7 @@ pub(crate) fn one_text(count: u8, params: &[u8]) -> Option<HeldText<'_>>
     }
 }
 
+/// A number of this type.
 pub(crate) fn one_number(kind: NumberKind, count: u8, params: &[u8]) -> Option<i128>
     ensures { result ≡ with_parameters 1 (number_at kind) count params.now }
 {

@@ -1,7 +1,7 @@
 //! The tree: executing commands, taking locks off, and reading its objects.
 ghost use Rattle.std.specs.Prelude.{◌≡◌, length};
 ghost use Rattle.oca_types.specs.Peers.{fields_of};
-ghost use Rattle.oca_tree.specs.Locks.{released};
+ghost use Rattle.oca_tree.specs.Locks.{released, lock_count};
 ghost use Rattle.oca_tree.specs.Trees.{IsTree};
 ghost use Rattle.oca_tree.specs.Execution.{execution};
 ghost use Rattle.oca_tree.specs.Readers.{info_of, info_at, lock_at, value_setting, setting_at};
@@ -9,36 +9,48 @@ ghost use Rattle.oca_tree.specs.Readers.{info_of, info_at, lock_at, value_settin
 use crate::answer::{mute_number, polarity_number};
 use crate::execute::carry_out;
 use crate::object::{Lock, Object, Value};
-use crate::place::place_of;
+use crate::objects::Objects;
 use oca_types::{Class, Command, Ono, Params, Peer, Status, Text};
 use std::marker::Model;
 
 /// What executing a command gave: the status and the ParamCount of the answer.
 #[derive(Clone, Copy, Debug, PartialEq, Eq)]
 pub struct Done {
+    /// How it went.
     pub status: Status,
+    /// ParamCount: how many parameters the answer has, 0 where the status is not OK.
     pub count: u8,
 }
 
 /// What an object is.
 #[derive(Drop)]
 pub struct ObjectInfo {
+    /// Its number.
     pub ono: Ono,
+    /// Its class.
     pub class: Class,
     /// The number of the block that contains it, 0 for the root.
     pub container: Ono,
+    /// Its role, 1 to 64 bytes.
     pub role: Text,
 }
 
 /// How an object is set: by the number of a state, a position, a truth or a number with its limits.
 #[derive(Clone, Copy, Debug, PartialEq, Eq)]
 pub enum Setting {
+    /// The number of the state of a mute or a polarity.
     State(u8),
+    /// The current position of a switch, counted from 0.
     Position(u16),
+    /// The setting of a Boolean actuator.
     Truth(bool),
+    /// The setting of an integer actuator with its limits.
     Number {
+        /// The setting, from `least` to `greatest`.
         setting: i128,
+        /// The least that it can be set to.
         least: i128,
+        /// The greatest that it can be set to.
         greatest: i128,
     },
 }
@@ -46,28 +58,32 @@ pub enum Setting {
 /// The objects of a device. Contracts see the list of them in order of adding.
 #[derive(Drop)]
 pub struct Tree {
-    objects: Vec<Object>,
+    objects: Objects,
+    /// How many of the objects are locked.
+    locks: usize,
 }
 
 impl Model for Tree {
-    ghost use Rattle.std.specs.Prelude.{List};
+    ghost use Rattle.std.specs.Prelude.{List, ◌≡◌};
     ghost use Rattle.oca_tree.specs.declared.object.Object.{Object as Item};
+    ghost use Rattle.oca_tree.specs.Locks.{lock_count};
     ghost use Rattle.oca_tree.specs.Trees.{IsTree};
 
     ghost Value = { List Item };
 
-    ghost view = { λ t. t.objects.items };
+    ghost view = { λ t. t.objects };
 
-    ghost invariant = { λ t. IsTree t.objects.items };
+    ghost invariant = { λ t. IsTree t.objects × (t.locks ≡ lock_count t.objects) };
 }
 
 impl Tree {
     /// The tree of these objects.
-    pub(crate) fn of(objects: Vec<Object>) -> Tree
-        requires { IsTree objects.items }
-        ensures { result ≡ objects.items }
+    pub(crate) fn of(objects: Objects) -> Tree
+        requires { IsTree objects }
+        ensures { result ≡ objects }
     {
-        Tree { objects }
+        let locks = count_locks(objects.as_slice());
+        Tree { objects, locks }
     }
 
     /// Executes a command of the peer (AES70-2; the order of the statuses is the profile's). `out` is
@@ -80,7 +96,7 @@ impl Tree {
         ensures parameters { out.new.items ≡ (execution self.old peer (fields_of command.now)).parameters }
     {
         out.clear();
-        match carry_out(&mut self.objects, peer, command, out) {
+        match carry_out(&mut self.objects, &mut self.locks, peer, command, out) {
             Ok(count) => Done {
                 status: Status::Ok,
                 count,
@@ -92,11 +108,13 @@ impl Tree {
         }
     }
 
-    /// Takes every lock of the peer off.
+    /// Takes every lock of the peer off. Where no lock is held it looks at no object.
     pub fn release(&mut self, peer: Peer)
         ensures { self.new ≡ released self.old peer }
     {
-        release_all(&mut self.objects, peer);
+        if self.locks > 0 {
+            self.objects.release(&mut self.locks, peer);
+        }
     }
 
     /// How many objects there are, the root counted: 1 to 128. With it comes what holds of every tree: distinct numbers, blocks
@@ -108,11 +126,11 @@ impl Tree {
         self.objects.len()
     }
 
-    /// The object at this place, counted from 0 at the root in order of adding.
-    pub fn object_at(&self, place: usize) -> Option<ObjectInfo>
-        ensures { result ≡ info_at self.now place }
+    /// The object at this index, counted from 0 at the root in order of adding; nothing behind the last.
+    pub fn object_at(&self, index: usize) -> Option<ObjectInfo>
+        ensures { result ≡ info_at self.now index }
     {
-        match self.objects.get(place) {
+        match self.objects.as_slice().get(index) {
             Some(object) => Some(info_of(object)),
             None => None,
         }
@@ -133,6 +151,7 @@ impl Tree {
     }
 }
 
+/// What the object is.
 fn info_of(object: &Object) -> ObjectInfo
     ensures { result ≡ info_of object.now }
 {
@@ -144,15 +163,17 @@ fn info_of(object: &Object) -> ObjectInfo
     }
 }
 
-fn lock_in(objects: &[Object], ono: Ono) -> Option<Lock>
+/// The lock of the object with this number.
+fn lock_in(objects: &Objects, ono: Ono) -> Option<Lock>
     ensures { result ≡ lock_at objects.now ono.0 }
 {
-    match place_of(objects, ono) {
-        Some(at) => objects[at].lock,
+    match objects.find(ono) {
+        Some(object) => object.lock,
         None => None,
     }
 }
 
+/// How a value is set.
 #[tactic(auto, unfolding(crate::specs::Readers::value_setting))]
 fn value_setting(value: &Value) -> Option<Setting>
     ensures { result ≡ value_setting value.now }
@@ -171,21 +192,23 @@ fn value_setting(value: &Value) -> Option<Setting>
     }
 }
 
-fn setting_in(objects: &[Object], ono: Ono) -> Option<Setting>
+/// How the object with this number is set.
+fn setting_in(objects: &Objects, ono: Ono) -> Option<Setting>
     ensures { result ≡ setting_at objects.now ono.0 }
 {
-    match place_of(objects, ono) {
-        Some(at) => value_setting(&objects[at].value),
+    match objects.find(ono) {
+        Some(object) => value_setting(&object.value),
         None => None,
     }
 }
 
-fn release_all(objects: &mut [Object], peer: Peer)
-    requires { IsTree objects.old }
-    ensures tree { IsTree objects.new }
-    ensures objects { objects.new ≡ released objects.old peer }
+/// How many of the objects are locked.
+#[tactic(auto, using(crate::proofs::Positions::counted))]
+fn count_locks(objects: &[Object]) -> usize
+    ensures { result ≡ lock_count objects.now }
 {
-    for object in objects.iter_mut() {
-        object.release(peer);
-    }
+    objects
+        .iter()
+        .filter(|object| object.lock.is_some())
+        .count()
 }

@@ -7,4 +7,4 @@ use Rattle.oca_tree.proofs.answer.put_items.Goals as goal
 pub returns-in_err-put_item : goal.returns-in_err-put_item
 returns-in_err-put_item c =
     let p = err_from_is_err_and c.from_residual.result c.from_residual.ensures.1 in
-    rw p.1 (put_full_kept (item_encoding c.args.deep) c.args.objects.now c.loop-object.object-index c.object-item.result c.loop-object-test.true c.object-item.is (is_listed c.args.objects.now c.args.block.0 c.args.deep) _ _ _ (sym c.if-is_listed.ensures) c.loop-object.invariant c.in_err-put_item.ensures)
+    rw p.1 (put_full_kept (item_encoding c.args.deep) c.args.objects.now c.loop-object.object-index c.object-item.result (rw c.as_slice-object-items.ensures at c.loop-object-test.true) (rw c.as_slice-object-items.ensures at c.object-item.is) (is_listed c.args.objects.now c.args.block.0 c.args.deep) _ _ _ (sym c.if-is_listed.ensures) c.loop-object.invariant c.in_err-put_item.ensures)

@@ -2,7 +2,7 @@ use Rattle.std.proofs.Common.{◌≡◌, ◌≤◌, ◌<◌, refl, sym, length, 
 use Rattle.std.specs.Prelude.{◌==◌, None}
 use Rattle.oca_tree.specs.declared.object.Object.{Object}
 use Rattle.oca_tree.specs.Building.{is_bad_value, value_of, has_bad_name}
-use Rattle.oca_tree.specs.Places.{places, is_block_at, depth}
+use Rattle.oca_tree.specs.Places.{places, is_block, depth}
 use Rattle.oca_tree.specs.Trees.{IsSound}
 use Rattle.oca_tree.proofs.Adding.{no_fault, first_object, added_tree}
 use Rattle.oca_tree.proofs.builder.object_for.Goals as goal
@@ -12,7 +12,7 @@ returns-clause-makes c =
     let few : length c.args.objects.now < 128 = omega arith in
     let number : 4096 ≤ c.args.ono.0 = omega arith in
     let free = sym c.if-contains.ensures in
-    let block : is_block_at (places c.args.objects.now) c.args.container.0 ≡ true = grind arith in
+    let block : is_block (places c.args.objects.now) c.args.container.0 ≡ true = grind arith in
     let shallow : depth (places c.args.objects.now) c.args.container.0 < 8 = omega arith in
     let full : (length c.args.spec.now.role.now == 0) ≡ false = grind arith in
     let names : has_bad_name c.args.spec.now.kind ≡ false = sym c.if-has_bad_name.ensures in

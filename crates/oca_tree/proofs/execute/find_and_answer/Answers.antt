@@ -12,18 +12,18 @@ returns-in_default c = exec_none c.args.objects.now c.args.peer (fields_of c.arg
 pub returns-in_err-request : goal.returns-in_err-request
 returns-in_err-request c =
     let p = err_from_is_err_and c.from_residual.result c.from_residual.ensures.1 in
-    let found = c.in-Some.ensures.found c.index-objects-at.result ∙ ap Some (sym c.index-objects-at.is) in
-    rw (p.1, p.2) (exec_refused c.args.objects.now c.args.peer (fields_of c.args.command.now) c.index-objects-at.result found _ c.in_err-request.ensures)
+    let found = c.in-Some.ensures.found c.object_at-object.result.now ∙ ap Some (sym c.object_at-object.ensures) in
+    rw (p.1, p.2) (exec_refused c.args.objects.now c.args.peer (fields_of c.args.command.now) c.object_at-object.result.now found _ c.in_err-request.ensures)
 
 pub returns-then-is_err : goal.returns-then-is_err
 returns-then-is_err c =
-    let found = c.in-Some.ensures.found c.index-objects-at.result ∙ ap Some (sym c.index-objects-at.is) in
+    let found = c.in-Some.ensures.found c.object_at-object.result.now ∙ ap Some (sym c.object_at-object.ensures) in
     let long = puts_err c.put_answer.result c.args.out.now.items c.put_answer.new.out.items _ (sym c.if-is_err.ensures.value) c.put_answer.ensures in
-    exec_full c.args.objects.now c.args.peer (fields_of c.args.command.now) c.index-objects-at.result found c.in_ok-request.request c.in_ok-request.ensures (omega (arith, long, ap length c.requires.empty))
+    exec_full c.args.objects.now c.args.peer (fields_of c.args.command.now) c.object_at-object.result.now found c.in_ok-request.request c.in_ok-request.ensures (omega (arith, long, ap length c.requires.empty))
 
 pub returns : goal.returns
 returns c =
     let is = puts_ok c.put_answer.result c.args.out.now.items c.put_answer.new.out.items _ (sym c.if-is_err.ensures.value) c.put_answer.ensures in
     let is' = rw c.requires.empty at is in
-    answered_at c.args.objects.now c.args.peer (fields_of c.args.command.now) c.in-Some.at c.index-objects-at.result c.in_ok-request.request c.put_answer.new.out.items
-    c.in-Some.ensures.place c.index-objects-at.is c.in_ok-request.ensures is' (omega arith) c.requires.tree
+    answered_at c.args.objects.now c.args.peer (fields_of c.args.command.now) c.in-Some.at c.object_at-object.result.now c.in_ok-request.request c.put_answer.new.out.items
+    c.in-Some.ensures.index c.object_at-object.ensures c.in_ok-request.ensures is' (omega arith) c.requires.tree

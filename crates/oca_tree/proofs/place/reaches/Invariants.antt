@@ -2,7 +2,7 @@ use Rattle.std.proofs.Common.{◌≡◌, ◌-◌, length}
 use Rattle.std.specs.Prelude.{◌==◌}
 use Rattle.std.specs.List.{list_any}
 use Rattle.oca_tree.specs.Places.{places, chain_within, reaches}
-use Rattle.oca_tree.proofs.place.walk_reaches.Given as goal
+use Rattle.oca_tree.proofs.place.reaches.Given as goal
 
 -- the answer is that of the chain from here on
 abbrev pub invariant-loop : goal.invariant-loop

@@ -1,0 +1,34 @@
+use Rattle.std.proofs.Common.{sym, ap, ◌∙◌, arith}
+use Rattle.indexmap.specs.IndexMap.{values}
+use Rattle.oca_tree.specs.declared.object.Object.{Object}
+use Rattle.oca_tree.specs.Locks.{lock_count}
+use Rattle.oca_tree.proofs.Keyed.{keyed-set_value_at, length-set_value, change_there, same_ono}
+use Rattle.oca_tree.proofs.Locking.{locks_few, lock_counted_get, lock_written_get}
+use Rattle.oca_tree.specs.Execution.{changed}
+use Rattle.oca_tree.proofs.Sound.{changed_ono}
+use Rattle.oca_tree.proofs.objects.Objects.change_at.Goals as goal
+
+pub change-requires-clause-room : goal.change-requires-clause-room
+change-requires-clause-room c = let few = locks_few c.args.self.now 128 c.requires.tree.few in omega (arith, few, c.requires.count)
+
+pub change-requires-clause-counted : goal.change-requires-clause-counted
+change-requires-clause-counted c =
+    let one = lock_counted_get (values c.self.inside.map) c.args.at c.index_mut.result.now c.index_mut.ensures.value in
+    let same = ap lock_count c.self.view_is in
+    omega (arith, one, same, c.requires.count)
+
+pub invariant_of-self : goal.invariant_of-self
+invariant_of-self c = record {
+  keyed = keyed-set_value_at c.self.inside.map.entries c.args.at c.change.new.object c.index_mut.result.now c.index_mut.ensures.value
+      (ap (λ (o : Object). o.ono) c.change.ensures.object ∙ same_ono (changed c.index_mut.result.now c.args.peer c.args.request) c.index_mut.result.now (changed_ono c.index_mut.result.now c.args.peer c.args.request)) c.self.invariant.keyed;
+  room = rw (length-set_value c.self.inside.map.entries c.args.at c.change.new.object) c.self.invariant.room;
+}
+
+pub returns-clause-objects : goal.returns-clause-objects
+returns-clause-objects c = λ d. rw (← c.self.view_is)
+    (change_there c.self.inside.map.entries c.args.at c.index_mut.result.now c.change.new.object c.args.peer c.args.request d c.index_mut.ensures.value c.change.ensures.object)
+
+pub returns-clause-count : goal.returns-clause-count
+returns-clause-count c =
+    lock_written_get c.self.inside.map.entries c.args.at c.index_mut.result.now c.index_mut.ensures.value c.change.new.object c.args.locks.now c.change.new.locks
+    (c.requires.count ∙ ap lock_count (sym c.self.view_is)) c.change.ensures.count

@@ -1,0 +1,14 @@
+use Rattle.std.proofs.Common.{◌≡◌, ◌++◌, drop, take, map, length}
+use Rattle.indexmap.specs.IndexMap.{values}
+use Rattle.oca_tree.specs.Locks.{without_lock_of, lock_count}
+use Rattle.oca_tree.specs.PrivateObjects.{IsMap}
+use Rattle.oca_tree.proofs.objects.release_all.Given as goal
+
+-- those so far have no lock of the peer, and the rest are as they were
+abbrev pub invariant-loop-at : goal.invariant-loop-at
+invariant-loop-at l = record {
+  valid : IsMap l.map;
+  long : length l.map.entries ≡ l.at-end;
+  released : values l.map ≡ map (without_lock_of l.peer) (take l.at (values l.fn.map)) ++ drop l.at (values l.fn.map);
+  count : l.locks ≡ lock_count (values l.map);
+}

@@ -1,0 +1,163 @@
+//! Members and descendants, and what is read of each object.
+use super::*;
+
+#[test]
+fn members_and_descendants(rt: HostRuntime) -> Result<(), Fail> {
+    let mut builder = TreeBuilder::new(rt.alloc())?;
+    let block = Spec {
+        role: "block",
+        lockable: true,
+        kind: Kind::Block,
+    };
+    let mute = Spec {
+        role: "mute",
+        lockable: true,
+        kind: Kind::Mute(MuteState::Muted),
+    };
+    builder.add(Ono(100), Ono(4096), &block)?;
+    builder.add(Ono(100), Ono(4097), &mute)?;
+    builder.add(Ono(4096), Ono(4098), &mute)?;
+    let mut tree = builder.finish();
+    let members = [
+        0, 2, 0, 0, 0x10, 0, 0, 3, 0, 1, 0, 1, 0, 3, 0, 2, 0, 0, 0x10, 1, 0, 4, 0, 1, 0, 1, 0, 1,
+        0, 2, 0, 2,
+    ];
+    answers(&rt, &mut tree, 100, GET_MEMBERS, 1, &members);
+    let all = [
+        0, 3, 0, 0, 0x10, 0, 0, 3, 0, 1, 0, 1, 0, 3, 0, 2, 0, 0, 0, 100, 0, 0, 0x10, 1, 0, 4, 0, 1,
+        0, 1, 0, 1, 0, 2, 0, 2, 0, 0, 0, 100, 0, 0, 0x10, 2, 0, 4, 0, 1, 0, 1, 0, 1, 0, 2, 0, 2, 0,
+        0, 0x10, 0,
+    ];
+    answers(&rt, &mut tree, 100, GET_MEMBERS_RECURSIVE, 1, &all);
+    let inner = [
+        0, 1, 0, 0, 0x10, 2, 0, 4, 0, 1, 0, 1, 0, 1, 0, 2, 0, 2, 0, 0, 0x10, 0,
+    ];
+    answers(&rt, &mut tree, 4096, GET_MEMBERS_RECURSIVE, 1, &inner);
+    Ok(())
+}
+
+/// The status of GetMembersRecursive of the root with so many Int16 actuators in it, and the answer's size.
+fn answer_of_many(alloc: Global, many: u32) -> Result<(Status, u8, usize), AddFault> {
+    let mut builder = TreeBuilder::new(alloc)?;
+    let trim = Spec {
+        role: "trim",
+        lockable: true,
+        kind: Kind::Int16 {
+            setting: 0,
+            least: 0,
+            greatest: 0,
+        },
+    };
+    for ono in 0..many {
+        builder.add(Ono(100), Ono(4096 + ono % 128), &trim)?;
+    }
+    let mut tree = builder.finish();
+    let command = Command {
+        handle: Handle(1),
+        target: Ono(100),
+        method: MethodId { level: 3, index: 6 },
+        count: 0,
+        params: &[],
+    };
+    let mut out = Params::new();
+    let done = tree.execute(A, &command, &mut out);
+    Ok((done.status, done.count, out.len()))
+}
+
+#[test]
+fn an_answer_has_its_limit(rt: HostRuntime) -> Result<(), Fail> {
+    assert_eq!(rt; answer_of_many(rt.alloc(), 65)?, (Status::Ok, 1, 1432));
+    assert_eq!(rt;
+        answer_of_many(rt.alloc(), 66)?,
+        (Status::BufferOverflow, 0, 0)
+    );
+    Ok(())
+}
+
+/// Compares what is read of the object at a place.
+fn shows(
+    rt: &impl Abort,
+    tree: &Tree,
+    place: usize,
+    ono: u32,
+    class: (Class, &[u16]),
+    container: u32,
+    role: &str,
+) {
+    match tree.object_at(place) {
+        Some(info) => {
+            assert_eq!(rt; info.ono, Ono(ono));
+            assert_eq!(rt; info.class, class.0);
+            assert_eq!(rt; class_fields(info.class).as_slice(), class.1);
+            assert_eq!(rt; info.container, Ono(container));
+            assert_eq!(rt; info.role.as_str(), role);
+        }
+        None => assert!(rt; false, "no object at {place}"),
+    }
+}
+
+#[test]
+fn the_objects_of_the_bench_device(rt: HostRuntime) -> Result<(), Fail> {
+    let tree = bench(rt.alloc())?;
+    assert_eq!(rt; tree.len(), 8);
+    shows(&rt, &tree, 0, 100, (Class::Block, &[1, 1, 3]), 0, "root");
+    shows(&rt, &tree, 1, 4096, (Class::Block, &[1, 1, 3]), 100, "desk");
+    shows(
+        &rt,
+        &tree,
+        2,
+        4097,
+        (Class::Mute, &[1, 1, 1, 2]),
+        4096,
+        "mute",
+    );
+    shows(
+        &rt,
+        &tree,
+        3,
+        4098,
+        (Class::Polarity, &[1, 1, 1, 3]),
+        4096,
+        "polarity",
+    );
+    shows(
+        &rt,
+        &tree,
+        4,
+        4099,
+        (Class::Switch, &[1, 1, 1, 4]),
+        4096,
+        "input",
+    );
+    shows(
+        &rt,
+        &tree,
+        5,
+        4100,
+        (Class::Int16, &[1, 1, 1, 1, 3]),
+        4096,
+        "trim",
+    );
+    shows(
+        &rt,
+        &tree,
+        6,
+        4101,
+        (Class::Boolean, &[1, 1, 1, 1, 1]),
+        4096,
+        "lamp",
+    );
+    shows(
+        &rt,
+        &tree,
+        7,
+        4102,
+        (Class::Uint8, &[1, 1, 1, 1, 6]),
+        4096,
+        "dim",
+    );
+    assert!(rt; tree.object_at(8).is_none());
+    assert_eq!(rt; tree.setting_of(Ono(100)), None);
+    assert_eq!(rt; tree.setting_of(Ono(4095)), None);
+    Ok(())
+}
