@@ -86,7 +86,7 @@ grows_messages : (w : ℕ) (q : Peer) (t : ℕ) (ms : List Msg) (s : State) → 
 grows_messages w q t [] s e = grows_not q t s.notes
 grows_messages w q t (m ∷ ms) s e =
     grows_on q t s.notes (after_message w q m s).notes (after_messages w q ms (after_message w q m s)).notes
-      (grows_message w q t m s e) (grows_messages w q t ms (after_message w q m s) (moment_message w q m s ∙ e))
+    (grows_message w q t m s e) (grows_messages w q t ms (after_message w q m s) (moment_message w q m s ∙ e))
 
 pub grows_reading : (w : ℕ) (q : Peer) (r : Result (List Msg) PduFault) (s : State) → Grows q s.moment s.notes (after_reading w q r s).notes
 grows_reading w q (Err fault) s = grows_not q s.moment s.notes

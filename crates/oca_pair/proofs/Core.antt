@@ -48,9 +48,11 @@ crowd k lo xs d b =
       where
         apart : (lo x y : ℕ) → lo ≤ x → lo ≤ y → eqb x y ≡ false → eqb (x - lo) (y - lo) ≡ false
         apart lo x y p q e = grind (arith, nat_tests)
+
     differ : (lo : ℕ) (xs : List ℕ) → AllByRecursion (λ z. (lo ≤ z) × (z < lo + k)) xs → IsDistinct eqb xs → IsDistinct eqb (map (λ z. z - lo) xs)
     differ lo [] b d = tt
     differ lo (x ∷ xs) b d = (other lo x b.0.0 xs b.1 d.0, differ lo xs b.1 d.1)
+
     below : (lo : ℕ) (xs : List ℕ) → AllByRecursion (λ z. (lo ≤ z) × (z < lo + k)) xs → (q : ℕ) → list_any (eqb q) (map (λ z. z - lo) xs) ≡ true → q < k
     below lo [] b q t = cc
     below lo (x ∷ xs) b q t = by_test (below lo xs b.1 q) (eqb q (x - lo)) refl t
@@ -95,9 +97,10 @@ each_handle P (e ∷ es) p = (p.0, each_handle P es p.1)
 pub distinct : (f s : ℕ) (before es : List Entry) → Ordered f s before es → IsDistinct eqb (handles_of es)
 unfolding IsDistinct
 distinct f s before [] o = tt
-distinct f s before (e ∷ es) o =
-    (each_handle (λ y. eqb e.command.handle y ≡ false) es (each_map (λ z q. (one_more z.command.handle before e q).1) es (later_new f s (before ++ e ∷ []) es o.2)),
-     distinct f s (before ++ e ∷ []) es o.2)
+distinct f s before (e ∷ es) o = (
+  each_handle (λ y. eqb e.command.handle y ≡ false) es (each_map (λ z q. (one_more z.command.handle before e q).1) es (later_new f s (before ++ e ∷ []) es o.2)),
+  distinct f s (before ++ e ∷ []) es o.2,
+)
 
 pub lt_or_le : (a b : ℕ) → (a < b) ⊎ (b ≤ a)
 lt_or_le a b = grind arith
@@ -107,23 +110,26 @@ few_after : (f s w n h : ℕ) → 2 * s ≤ w + 1 → h < n → n ≤ h + s → 
     AllByRecursion (λ e. (f ≤ e.command.handle) × (e.command.handle < n)) (e ∷ es) → Ordered f s before (e ∷ es) → h ≤ e.command.handle → length es < w
 few_after f s w n h wide small near before e es own o above =
     let near_all : AllByRecursion (λ z. ((suc h - s) ≤ z) × (z < (suc h - s) + (2 * s - 1))) (handles_of (e ∷ es)) =
-        each_handle (λ z. ((suc h - s) ≤ z) × (z < (suc h - s) + (2 * s - 1))) (e ∷ es)
-          (at e.command.handle above own.0.1,
-           each_both (λ z q r. at_later z.command.handle q.0 q.1 r) es own.1 (later_new_now es (later_new f s (before ++ e ∷ []) es o.2))) in
+    each_handle (λ z. ((suc h - s) ≤ z) × (z < (suc h - s) + (2 * s - 1))) (e ∷ es) (
+      at e.command.handle above own.0.1,
+      each_both (λ z q r. at_later z.command.handle q.0 q.1 r) es own.1 (later_new_now es (later_new f s (before ++ e ∷ []) es o.2)),
+    ) in
     let few : length (handles_of (e ∷ es)) ≤ 2 * s - 1 = crowd (2 * s - 1) (suc h - s) (handles_of (e ∷ es)) (distinct f s before (e ∷ es) o) near_all in
     let few' : length (e ∷ es) ≤ 2 * s - 1 = rw length-map at few in
     omega arith
   where
     at : (z : ℕ) → h ≤ z → z < n → ((suc h - s) ≤ z) × (z < (suc h - s) + (2 * s - 1))
     at z p q = (omega arith, omega arith)
+
     at_later : (z : ℕ) → f ≤ z → z < n → has z before ≡ false → ((suc h - s) ≤ z) × (z < (suc h - s) + (2 * s - 1))
     at_later z p q r = elim (lt_or_le e.command.handle (z + s)) [
-        inl later ↦ (omega arith, omega arith)
+      | inl later ↦ (omega arith, omega arith)
       | inr earlier ↦ let wrong : has z before ≡ true = o.1 z p earlier in let no : true ≡ false = sym wrong ∙ r in absurd (differs no)
-      ]
+    ]
       where
         differs : true ≡ false → ⊥
         differs x = cc
+
     later_new_now : (es : List Entry) → AllByRecursion (λ z. has z.command.handle (before ++ e ∷ []) ≡ false) es → AllByRecursion (λ z. has z.command.handle before ≡ false) es
     later_new_now es p = each_map (λ z q. (one_more z.command.handle before e q).0) es p
 
@@ -137,23 +143,25 @@ below_all f s w n h wide small near before [] own o = none (0 - w)
     none zero = refl
     none (suc k) = refl
 below_all f s w n h wide small near before (e ∷ es) own o = elim (lt_or_le (length es) w) [
-    inl short ↦ let all : length (e ∷ es) - w ≡ 0 = omega arith in ap (λ k. list_all (λ (e : Entry). nat_lt e.command.handle h) (take k (e ∷ es))) all
+  | inl short ↦ let all : length (e ∷ es) - w ≡ 0 = omega arith in ap (λ k. list_all (λ (e : Entry). nat_lt e.command.handle h) (take k (e ∷ es))) all
   | inr long ↦
       let one : length (e ∷ es) - w ≡ suc (length es - w) = omega arith in
       ap (λ k. list_all (λ (e : Entry). nat_lt e.command.handle h) (take k (e ∷ es))) one
       ∙ both (nat_lt e.command.handle h) _ (head long) (below_all f s w n h wide small near (before ++ e ∷ []) es own.1 o.2)
-  ]
+]
   where
     both : (a b : Bool) → a ≡ true → b ≡ true → (a && b) ≡ true
     both a b p q = cc
+
     head : w ≤ length es → nat_lt e.command.handle h ≡ true
     head long = elim (lt_or_le e.command.handle h) [
-        inl low ↦ lower e.command.handle h low
+      | inl low ↦ lower e.command.handle h low
       | inr high ↦ absurd (contra (few_after f s w n h wide small near before e es own o high) long)
-      ]
+    ]
       where
         lower : (a b : ℕ) → a < b → nat_lt a b ≡ true
         lower a b p = grind (arith, nat_tests)
+
         contra : {a b : ℕ} → a < b → b ≤ a → ⊥
         contra p q = omega arith
 
@@ -179,8 +187,10 @@ none_has (e ∷ es) h p =
     both : (a b : Bool) → (a && b) ≡ true → (a ≡ true) × (b ≡ true)
     both true b q = (refl, q)
     both false b q = cc
+
     neither : (a b : Bool) → a ≡ false → b ≡ false → (a || b) ≡ false
     neither a b q r = cc
+
     other : (n k : ℕ) → nat_lt n k ≡ true → nat_eq n k ≡ false
     other n k q = grind (arith, nat_tests)
 
@@ -207,14 +217,18 @@ never_old w c A low same = by_has (has c.handle A) refl
   where
     whole : has c.handle A ≡ (has c.handle (outside w A) || has c.handle (window w A))
     whole = sym (ap (has c.handle) (take-append-drop (length A - w) A)) ∙ list_any-append (has_handle c.handle) (outside w A) (window w A)
+
     in_window : has c.handle A ≡ true → has c.handle (window w A) ≡ true
     in_window p = sym (sym p ∙ whole ∙ ap (λ b. b || has c.handle (window w A)) (none_has (outside w A) c.handle low))
+
     judged : (b d : Bool) → has c.handle A ≡ b → list_all (λ (e : Entry). nat_lt e.command.handle c.handle) (outside w A) ≡ d →
         judgement w A c ≡ cond (not b && d) Fresh (judge_unaccepted (entry_under c.handle (window w A)) c)
     judged b d p q = ap (λ x. cond (not x && list_all (λ (e : Entry). nat_lt e.command.handle c.handle) (outside w A)) Fresh (judge_unaccepted (entry_under c.handle (window w A)) c)) p
         ∙ ap (λ x. cond (not b && x) Fresh (judge_unaccepted (entry_under c.handle (window w A)) c)) q
+
     moved : {j k : Judgement} → j ≡ k → IsServed k → IsServed j
     moved {j} {k} e p = rw e p
+
     by_has : (b : Bool) → has c.handle A ≡ b → IsServed (judgement w A c)
     by_has true p =
         let r = found c.handle (window w A) (in_window p) in

@@ -50,6 +50,7 @@ executed_now p at objects c r ns = by_same (same_peer p p) (same_self p)
   where
     x : Execution
     x = record { objects = objects; command = c; reply = r }
+
     by_same : (b : Bool) → b ≡ true → IsIn x (cond b (x ∷ []) [] ++ executed_for p ns)
     by_same true q = inl refl
     by_same false q = cc
@@ -69,11 +70,12 @@ settled : (p : Peer) (next : Option ℕ) (us : List Untaken) (g : Past) (out bac
     Fair p next us (and_then (Datagram p bytes now) g) out (back ++ sendings p (packets g.window g.tree g.events (Datagram p bytes now))) handed
 settled p next us g out back handed bytes now s answers state_is answers_are own new f =
     fair_then p next us g out back handed (Datagram p bytes now) (sendings p (packets g.window g.tree g.events (Datagram p bytes now)))
-      (owned ((state_of (and_then (Datagram p bytes now) g)).notes) (ap (λ (x : State). x.notes) state_is) own)
-      (sent (packets g.window g.tree g.events (Datagram p bytes now)) (ap packets_of answers_are) new) f
+    (owned ((state_of (and_then (Datagram p bytes now) g)).notes) (ap (λ (x : State). x.notes) state_is) own)
+    (sent (packets g.window g.tree g.events (Datagram p bytes now)) (ap packets_of answers_are) new) f
   where
     owned : (ns : List Note) → ns ≡ s.notes → AreOwn p (and_then (Datagram p bytes now) g) s.notes → AreOwn p (and_then (Datagram p bytes now) g) ns
     owned ns e a = rw e a
+
     sent : (ps : List (List ℕ)) → ps ≡ packets_of answers →
         AllByRecursion (λ (d : SentDatagram). d.peer ≡ p → IsBack p (and_then (Datagram p bytes now) g) d.bytes) (sendings p (packets_of answers)) →
         AllByRecursion (λ (d : SentDatagram). d.peer ≡ p → IsBack p (and_then (Datagram p bytes now) g) d.bytes) (sendings p ps)
@@ -100,59 +102,79 @@ fair_command law p next us g out back handed c now sendable sub f = by_room (adm
   where
     bytes : List ℕ
     bytes = pdu_encoding (Commands true (c ∷ []))
+
     m : Msg
     m = Command true c
+
     e : Event
     e = Datagram p bytes now
+
     g' : Past
     g' = and_then e g
+
     s2 : State
     s2 = let_in p m now g
+
     read : read_datagram bytes ≡ Ok (m ∷ [])
     read = read_command law c sendable
+
     own2 : AreOwn p g' s2.notes
     own2 = ((λ same. tt), owns_then p g e (state_of g).notes f.own)
+
     -- executed now
     x : Execution
     x = record { objects = s2.tree; command = c; reply = reply_of s2.tree p c }
+
     honest : IsHonest p x g'
     honest = record { came = record { later = []; before = g.events; now = now; events = refl; objects = refl }; submitted = sub; reply = refl }
+
     by_judgement : (j : Judgement) → judged_in g.window s2 p c ≡ j → admits (looked_at now g) p ≡ true →
         Fair p next us g' out (back ++ sendings p (packets g.window g.tree g.events e)) handed
     by_judgement Fresh q room =
         let state_is : state_of g' ≡ after_command Fresh p c s2 = after_read g.window p m bytes now g true read room ∙ ap (λ j. after_command j p c s2) q in
         let answers_are : answers_to_reading g.window p (read_datagram bytes) (looked_at now g) ≡ response c.handle x.reply ∷ [] =
-          answers_read g.window p m bytes now g true read room ∙ ap (λ j. answer_to_command j p c s2 ++ []) q in
+        answers_read g.window p m bytes now g true read room ∙ ap (λ j. answer_to_command j p c s2 ++ []) q in
         let small = reply_fits s2.tree p c c.handle sendable.fits.handle in
         let t : IsTrueAnswer p c.handle (answer_of x.reply) g' = record {
-          execution = x; executed = rw state_is (executed_now p s2.moment s2.tree c x.reply s2.notes); honest = honest; handle = refl; answer_is = refl } in
+          execution = x;
+          executed = rw state_is (executed_now p s2.moment s2.tree c x.reply s2.notes);
+          honest = honest;
+          handle = refl;
+          answer_is = refl;
+        } in
         settled p next us g out back handed bytes now (after_command Fresh p c s2) (response c.handle x.reply ∷ []) state_is answers_are
-          ((λ same. honest), own2)
-          (back_of law p g' (response_to c.handle x.reply) small.0 small.1 t) f
+        ((λ same. honest), own2)
+        (back_of law p g' (response_to c.handle x.reply) small.0 small.1 t) f
     by_judgement (Duplicate r) q room =
         let state_is : state_of g' ≡ s2 = after_read g.window p m bytes now g true read room ∙ ap (λ j. after_command j p c s2) q in
         let answers_are : answers_to_reading g.window p (read_datagram bytes) (looked_at now g) ≡ response c.handle r ∷ [] =
-          answers_read g.window p m bytes now g true read room ∙ ap (λ j. answer_to_command j p c s2 ++ []) q in
+        answers_read g.window p m bytes now g true read room ∙ ap (λ j. answer_to_command j p c s2 ++ []) q in
         let d = judged_duplicate g.window (accepted (run p s2.notes)) c r q in
         let k = window_executed g.window p g' c.handle d.0 s2.notes own2 d.1 in
         let y : Execution = record { objects = k.0.objects; command = d.0.command; reply = d.0.reply } in
         let gave : r ≡ reply_of k.0.objects p d.0.command = sym d.2 ∙ k.0.honest.reply in
         let small = reply_fits k.0.objects p d.0.command c.handle sendable.fits.handle in
         let t : IsTrueAnswer p c.handle (answer_of r) g' = record {
-          execution = y; executed = rw state_is k.0.executed; honest = k.0.honest; handle = equal_is d.0.command.handle c.handle k.1; answer_is = ap answer_of (sym d.2) } in
+          execution = y;
+          executed = rw state_is k.0.executed;
+          honest = k.0.honest;
+          handle = equal_is d.0.command.handle c.handle k.1;
+          answer_is = ap answer_of (sym d.2);
+        } in
         settled p next us g out back handed bytes now s2 (response c.handle r ∷ []) state_is answers_are own2
-          (back_of law p g' (response_to c.handle r) (rw gave small.0) (rw gave small.1) t) f
+        (back_of law p g' (response_to c.handle r) (rw gave small.0) (rw gave small.1) t) f
     by_judgement Reused q room =
         settled p next us g out back handed bytes now s2 [] (after_read g.window p m bytes now g true read room ∙ ap (λ j. after_command j p c s2) q)
-          (answers_read g.window p m bytes now g true read room ∙ ap (λ j. answer_to_command j p c s2 ++ []) q) own2 tt f
+        (answers_read g.window p m bytes now g true read room ∙ ap (λ j. answer_to_command j p c s2 ++ []) q) own2 tt f
     by_judgement Old q room =
         settled p next us g out back handed bytes now s2 [] (after_read g.window p m bytes now g true read room ∙ ap (λ j. after_command j p c s2) q)
-          (answers_read g.window p m bytes now g true read room ∙ ap (λ j. answer_to_command j p c s2 ++ []) q) own2 tt f
+        (answers_read g.window p m bytes now g true read room ∙ ap (λ j. answer_to_command j p c s2 ++ []) q) own2 tt f
+
     by_room : (b : Bool) → admits (looked_at now g) p ≡ b → Fair p next us g' out (back ++ sendings p (packets g.window g.tree g.events e)) handed
     by_room true room = by_judgement (judged_in g.window s2 p c) refl room
     by_room false room =
         settled p next us g out back handed bytes now (looked_at now g) [] (after_read g.window p m bytes now g false read room)
-          (answers_read g.window p m bytes now g false read room) (owns_then p g e (state_of g).notes f.own) tt f
+        (answers_read g.window p m bytes now g false read room) (owns_then p g e (state_of g).notes f.own) tt f
 
 pub fair_keep_alive : (law : WrittenIsReadBack) (p : Peer) (next : Option ℕ) (us : List Untaken) (g : Past) (out back : List SentDatagram) (handed : List TakenAnswer) (now : ℕ) →
     Fair p next us g out back handed →
@@ -162,19 +184,23 @@ fair_keep_alive law p next us g out back handed now f = by_room (admits (looked_
   where
     bytes : List ℕ
     bytes = pdu_encoding (OneKeepAlive (Seconds 5))
+
     m : Msg
     m = KeepAlive (Seconds 5)
+
     e : Event
     e = Datagram p bytes now
+
     read : read_datagram bytes ≡ Ok (m ∷ [])
     read = read_keep_alive law
+
     by_room : (b : Bool) → admits (looked_at now g) p ≡ b → Fair p next us (and_then e g) out (back ++ sendings p (packets g.window g.tree g.events e)) handed
     by_room true room =
         settled p next us g out back handed bytes now (noted p (Heartbeat (time_of (Seconds 5))) (let_in p m now g)) (m ∷ []) (after_read g.window p m bytes now g true read room)
-          (answers_read g.window p m bytes now g true read room) ((λ same. tt), ((λ same. tt), owns_then p g e (state_of g).notes f.own)) ((λ same. inr read), tt) f
+        (answers_read g.window p m bytes now g true read room) ((λ same. tt), ((λ same. tt), owns_then p g e (state_of g).notes f.own)) ((λ same. inr read), tt) f
     by_room false room =
         settled p next us g out back handed bytes now (looked_at now g) [] (after_read g.window p m bytes now g false read room)
-          (answers_read g.window p m bytes now g false read room) (owns_then p g e (state_of g).notes f.own) tt f
+        (answers_read g.window p m bytes now g false read room) (owns_then p g e (state_of g).notes f.own) tt f
 
 -- ---- the link's own steps
 
@@ -183,19 +209,24 @@ granted r l h e = by_lost l.lost e
   where
     within : (n : ℕ) → nat_lt 1445 n ≡ false → n ≤ 1445
     within n q = grind (arith, nat_tests)
+
     got : (n : ℕ) → let a : Result Handle ControlFault = Ok (record { 0 = n }) in a ≡ Ok h → n ≡ h.0
     got n q = let same : (let a : Handle = record { 0 = n } in a ≡ h) = cc in ap (λ (a : Handle). a.0) same
+
     by_long : (n : ℕ) (b : Bool) → nat_lt 1445 (length r.params) ≡ b → cond b (Err faults.TooLong) (Ok (record { 0 = n })) ≡ Ok h → (n ≡ h.0) × (length r.params ≤ 1445)
     by_long n true k q = cc
     by_long n false k q = (got n q, within (length r.params) k)
+
     by_room : (n : ℕ) (b : Bool) → has_room l.span n l.untaken ≡ b →
         cond b (cond (nat_lt 1445 (length r.params)) (Err faults.TooLong) (Ok (record { 0 = n }))) (Err faults.SpanFull) ≡ Ok h →
         (n ≡ h.0) × (has_room l.span h.0 l.untaken ≡ true) × (length r.params ≤ 1445)
     by_room n true k q = let a = by_long n (nat_lt 1445 (length r.params)) refl q in (a.0, sym (ap (λ i. has_room l.span i l.untaken) a.0) ∙ k, a.1)
     by_room n false k q = cc
+
     by_next : (o : Option ℕ) → submission_under r o l ≡ Ok h → (o ≡ Some h.0) × (has_room l.span h.0 l.untaken ≡ true) × (length r.params ≤ 1445)
     by_next None q = cc
     by_next (Some n) q = let a = by_room n (has_room l.span n l.untaken) refl q in (ap Some a.0, a.1, a.2)
+
     by_lost : (b : Bool) → cond b (Err faults.Lost) (submission_under r l.next l) ≡ Ok h → (l.next ≡ Some h.0) × (has_room l.span h.0 l.untaken ≡ true) × (length r.params ≤ 1445)
     by_lost true q = cc
     by_lost false q = by_next l.next q
@@ -212,6 +243,7 @@ next_fits h low = by_test (nat_eq h 4294967295) refl
   where
     higher : nat_eq h 4294967295 ≡ false → h + 1 < 2 ^ 32
     higher q = grind (arith, nat_tests)
+
     by_test : (b : Bool) → nat_eq h 4294967295 ≡ b → NextFits (cond b None (Some (h + 1)))
     by_test true q = tt
     by_test false q = higher q
@@ -234,56 +266,69 @@ fair_submit p r now l g out back handed fits f = by_answer (submission r l) refl
         let c : CommandFields = command_under h.0 r in
         let new : SubmittedCommand = record { peer = p; command = c } in
         fair_more p l.next (handle_after h.0) l.untaken (l.untaken ++ new_untaken c ∷ []) g out back handed (new ∷ []) (next_fits h.0 low)
-          (each_append _ g.submitted (new ∷ [])
-            (each_map (λ x a same. ((a same).0, higher x.command.handle (end_of l.next) (end_of (handle_after h.0)) h.0 was is (a same).1)) g.submitted f.sendable)
-            ((λ same. (record { fits = record { handle = low; target = fits.target; level = fits.level; index = fits.index; count = fits.count; size = room (length r.params) t.2 }; short = t.2 },
-                last h.0 (end_of (handle_after h.0)) is)), tt))
-          (unique new h.0 was refl)
-          (λ a. each_append _ l.untaken (new_untaken c ∷ []) a ((in_last new g.submitted, tt), tt)) f
+        (each_append _ g.submitted (new ∷ [])
+        (each_map (λ x a same. ((a same).0, higher x.command.handle (end_of l.next) (end_of (handle_after h.0)) h.0 was is (a same).1)) g.submitted f.sendable) (
+          (λ same. (
+            record { fits = record { handle = low; target = fits.target; level = fits.level; index = fits.index; count = fits.count; size = room (length r.params) t.2 }; short = t.2 },
+            last h.0 (end_of (handle_after h.0)) is,
+          )),
+          tt,
+        ))
+        (unique new h.0 was refl)
+        (λ a. each_append _ l.untaken (new_untaken c ∷ []) a ((in_last new g.submitted, tt), tt)) f
       where
         higher : (x a b h : ℕ) → a ≡ h → b ≡ h + 1 → x < a → x < b
         higher x a b h e q k = omega arith
+
         last : (h b : ℕ) → b ≡ h + 1 → h < b
         last h b q = omega arith
+
         room : (n : ℕ) → n ≤ 1445 → 17 + n < 2 ^ 32
         room n k = omega arith
+
         below : (c : CommandFields) → WasSubmitted p c g.submitted → c.handle < end_of l.next
         below c i = (each_in (λ (x : SubmittedCommand). x.peer ≡ p → IsSendable x.command × (x.command.handle < end_of l.next)) _ g.submitted f.sendable i refl).1
+
         never : {X : Type 0} (a b n : ℕ) → a < n → n ≡ b → a ≡ b → X
         never a b n q r s = absurd (omega arith)
+
         command_is : (new : SubmittedCommand) (c : CommandFields) → (let it : SubmittedCommand = record { peer = p; command = c } in new ≡ it) → new.command ≡ c
         command_is new c e = ap (λ (x : SubmittedCommand). x.command) e
+
         handle_is : (c d : CommandFields) → c ≡ d → c.handle ≡ d.handle
         handle_is c d e = ap (λ (x : CommandFields). x.handle) e
+
         unique : (new : SubmittedCommand) (h : ℕ) → end_of l.next ≡ h → new.command.handle ≡ h → AreUnique p (g.submitted ++ new ∷ [])
         unique new h was own c d i j e = elim (in_parts _ g.submitted (new ∷ []) i) [
-            inl a ↦ elim (in_parts _ g.submitted (new ∷ []) j) [
-                inl b ↦ f.unique c d a b e
-              | inr b ↦ elim b [ inl q ↦ never c.handle h (end_of l.next) (below c a) was (e ∙ sym (handle_is new.command d (command_is new d q)) ∙ own) | inr n ↦ absurd n ]
-              ]
-          | inr a ↦ elim a [
-                inl q ↦ elim (in_parts _ g.submitted (new ∷ []) j) [
-                    inl b ↦ never d.handle h (end_of l.next) (below d b) was (sym e ∙ sym (handle_is new.command c (command_is new c q)) ∙ own)
-                  | inr b ↦ elim b [ inl t ↦ sym (command_is new c q) ∙ command_is new d t | inr n ↦ absurd n ]
-                  ]
-              | inr n ↦ absurd n
-              ]
+          | inl a ↦ elim (in_parts _ g.submitted (new ∷ []) j) [
+            | inl b ↦ f.unique c d a b e
+            | inr b ↦ elim b [ inl q ↦ never c.handle h (end_of l.next) (below c a) was (e ∙ sym (handle_is new.command d (command_is new d q)) ∙ own) | inr n ↦ absurd n ]
           ]
+          | inr a ↦ elim a [
+            | inl q ↦ elim (in_parts _ g.submitted (new ∷ []) j) [
+              | inl b ↦ never d.handle h (end_of l.next) (below d b) was (sym e ∙ sym (handle_is new.command c (command_is new c q)) ∙ own)
+              | inr b ↦ elim b [ inl t ↦ sym (command_is new c q) ∙ command_is new d t | inr n ↦ absurd n ]
+            ]
+            | inr n ↦ absurd n
+          ]
+        ]
 
 -- the link of another peer submits
 pub fair_submitted_by : (p q : Peer) (r : Request) (a : Result Handle ControlFault) (next : Option ℕ) (us : List Untaken) (g : Past) (out back : List SentDatagram) (handed : List TakenAnswer) →
     (q ≡ p → ⊥) → Fair p next us g out back handed → Fair p next us (and_submitted (submitted_by q r a) g) out back handed
 fair_submitted_by p q r a next us g out back handed other f =
     fair_more p next next us us g out back handed (submitted_by q r a) f.fits
-      (each_append _ g.submitted (submitted_by q r a) f.sendable (none a))
-      (λ c d i j e. f.unique c d (old c a i) (old d a j) e) (λ x. x) f
+    (each_append _ g.submitted (submitted_by q r a) f.sendable (none a))
+    (λ c d i j e. f.unique c d (old c a i) (old d a j) e) (λ x. x) f
   where
     none : (a : Result Handle ControlFault) → AreSendable p next (submitted_by q r a)
     none (Ok h) = ((λ same. absurd (other same)), tt)
     none (Err fault) = tt
+
     not_his : (c : CommandFields) (a : Result Handle ControlFault) → WasSubmitted p c (submitted_by q r a) → ⊥
     not_his c (Ok h) i = elim i [ inl e ↦ other (ap (λ (x : SubmittedCommand). x.peer) e) | inr n ↦ n ]
     not_his c (Err fault) i = i
+
     old : (c : CommandFields) (a : Result Handle ControlFault) → WasSubmitted p c (g.submitted ++ submitted_by q r a) → WasSubmitted p c g.submitted
     old c a i = elim (in_parts _ g.submitted (submitted_by q r a) i) [ inl b ↦ b | inr n ↦ absurd (not_his c a n) ]
 
@@ -309,12 +354,15 @@ given_out_is p now l g a = by_lost l.lost
     by_many : (u : Untaken) → WasSubmitted p u.command g.submitted → (b : Bool) → Outs p g (cond b (GivesCommand u.command) IsLost)
     by_many u q true = ((λ same. inl (u.command, q, refl)), tt)
     by_many u q false = tt
+
     by_quiet : (b : Bool) → Outs p g (cond b GivesKeepAlive GivesNothing)
     by_quiet true = ((λ same. inr refl), tt)
     by_quiet false = tt
+
     by_first : (o : Option Untaken) → first_due (present now l) l.untaken ≡ o → Outs p g (decision_among (present now l) l.sent o)
     by_first None e = by_quiet (nat_le 2500 (present now l - l.sent))
     by_first (Some u) e = by_many u (submitted_due p g (present now l) l.untaken a u e) (nat_lt u.times 20)
+
     by_lost : (b : Bool) → Outs p g (cond b IsLost (decision_among (present now l) l.sent (first_due (present now l) l.untaken)))
     by_lost true = tt
     by_lost false = by_first (first_due (present now l) l.untaken) refl
@@ -326,6 +374,7 @@ fair_gone_on p now l g out back handed f = by_decision (decision now l) (given_o
     with_untaken : (us : List Untaken) (more : List SentDatagram) → AllByRecursion (IsFair p g) us → AllByRecursion (λ (d : SentDatagram). d.peer ≡ p → IsOut p g.submitted d.bytes) more →
         Fair p l.next us g (out ++ more) back handed
     with_untaken us more a new = record { fits = f.fits; own = f.own; outgoing = each_append _ out more f.outgoing new; incoming = f.incoming; untaken = a; handed_on = f.handed_on; sendable = f.sendable; unique = f.unique }
+
     by_decision : (d : Decision) → AllByRecursion (λ (x : SentDatagram). x.peer ≡ p → IsOut p g.submitted x.bytes) (sendings p (given_by d)) →
         Fair p (after_due d (present now l) l).next (after_due d (present now l) l).untaken g (out ++ sendings p (given_by d)) back handed
     by_decision (GivesCommand c) new = with_untaken (map (given_out (present now l) c.handle) l.untaken) (sendings p (given_by (GivesCommand c))) (fair_given_out p g (present now l) c.handle l.untaken f.untaken) new
@@ -337,8 +386,14 @@ fair_gone_on p now l g out back handed f = by_decision (decision now l) (given_o
 pub fair_sent : (p q : Peer) (next : Option ℕ) (us : List Untaken) (g : Past) (out back : List SentDatagram) (handed : List TakenAnswer) (packets : List (List ℕ)) →
     (q ≡ p → ⊥) → Fair p next us g out back handed → Fair p next us g (out ++ sendings q packets) back handed
 fair_sent p q next us g out back handed packets other f = record {
-  fits = f.fits; own = f.own; outgoing = each_append _ out (sendings q packets) f.outgoing (none packets);
-  incoming = f.incoming; untaken = f.untaken; handed_on = f.handed_on; sendable = f.sendable; unique = f.unique;
+  fits = f.fits;
+  own = f.own;
+  outgoing = each_append _ out (sendings q packets) f.outgoing (none packets);
+  incoming = f.incoming;
+  untaken = f.untaken;
+  handed_on = f.handed_on;
+  sendable = f.sendable;
+  unique = f.unique;
 }
   where
     none : (packets : List (List ℕ)) → AllByRecursion (λ (d : SentDatagram). d.peer ≡ p → IsOut p g.submitted d.bytes) (sendings q packets)
@@ -364,8 +419,14 @@ pub fair_untaken : (p : Peer) (next : Option ℕ) (us vs : List Untaken) (g : Pa
     AllByRecursion (IsFair p g) vs → AllByRecursion (λ (t : TakenAnswer). t.peer ≡ p → IsTrueAnswer p t.handle t.answer g) more →
     Fair p next us g out back handed → Fair p next vs g out back (handed ++ more)
 fair_untaken p next us vs g out back handed more a new f = record {
-  fits = f.fits; own = f.own; outgoing = f.outgoing; incoming = f.incoming; untaken = a;
-  handed_on = each_append _ handed more f.handed_on new; sendable = f.sendable; unique = f.unique;
+  fits = f.fits;
+  own = f.own;
+  outgoing = f.outgoing;
+  incoming = f.incoming;
+  untaken = a;
+  handed_on = each_append _ handed more f.handed_on new;
+  sendable = f.sendable;
+  unique = f.unique;
 }
 
 pub fair_received : (p : Peer) (bytes : List ℕ) (now : ℕ) (l : LinkState) (g : Past) (out back : List SentDatagram) (handed : List TakenAnswer) → IsBack p g bytes →
@@ -375,6 +436,7 @@ fair_received p bytes now l g out back handed b f = by_from (same_peer device_ad
   where
     with_us : (us : List Untaken) → AllByRecursion (IsFair p g) us → Fair p l.next us g out back handed
     with_us us a = record { fits = f.fits; own = f.own; outgoing = f.outgoing; incoming = f.incoming; untaken = a; handed_on = f.handed_on; sendable = f.sendable; unique = f.unique }
+
     by_from : (b : Bool) → Fair p l.next (cond b (hears_content (content_of bytes) l.untaken) l.untaken) g out back handed
     by_from true = with_us (hears_content (content_of bytes) l.untaken) (fair_hears p bytes g l.untaken b f.untaken)
     by_from false = f

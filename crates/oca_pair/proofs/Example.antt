@@ -64,4 +64,4 @@ is_copy = record { peer = refl; untaken = held 3; held = inr (inr (inl refl)); c
 pub repeated_is_answered : WrittenIsReadBack → (tree : List Object) → IsAnswered 2 400 (the_network tree) sent_third third
 repeated_is_answered law tree =
     never_old_law law 5 3 tree the_starts the_steps (lit< tt) (lit≤ tt) refl meets 2 400 0 sent_third the_link third (controller ∷ [])
-      refl refl is_copy refl (lit≤ tt) (refl, (refl, (refl, (refl, tt))))
+    refl refl is_copy refl (lit≤ tt) (refl, (refl, (refl, (refl, tt))))

@@ -156,8 +156,8 @@ fair_other p q next us g out back handed bytes now packets other f =
     let s1 : State = moved_to (max (state_of g).moment now) (state_of g) in
     let grows : Grows q s1.moment s1.notes (after_reading g.window q (read_datagram bytes) s1).notes = grows_reading g.window q (read_datagram bytes) s1 in
     fair_then p next us g out back handed e (sendings q packets)
-      (grown grows.more (after_reading g.window q (read_datagram bytes) s1).notes grows.is grows.own)
-      (none_for (IsBack p (and_then e g)) p q other packets) f
+    (grown grows.more (after_reading g.window q (read_datagram bytes) s1).notes grows.is grows.own)
+    (none_for (IsBack p (and_then e g)) p q other packets) f
   where
     grown : (more ns : List Note) → ns ≡ more ++ (state_of g).notes → AllByRecursion (λ n. (n.peer ≡ q) × (n.at ≡ max (state_of g).moment now)) more → AreOwn p (and_then (Datagram q bytes now) g) ns
     grown more ns is own = rw is (each_append _ more (state_of g).notes (each_map (λ n h same. absurd (other (sym h.0 ∙ same))) more own) (owns_then p g (Datagram q bytes now) (state_of g).notes f.own))
@@ -184,9 +184,11 @@ judged_fresh w A c e = by_found (entry_under c.handle (window w A)) (accepts w A
     first : (a b : Bool) → (not a && b) ≡ true → a ≡ false
     first true b q = cc
     first false b q = refl
+
     not_fresh : (b : Bool) (r : Reply) → cond b (Duplicate r) Reused ≡ Fresh → ⊥
     not_fresh true r q = cc
     not_fresh false r q = cc
+
     by_found : (o : Option Entry) (b : Bool) → accepts w A c.handle ≡ b → cond b Fresh (judge_unaccepted o c) ≡ Fresh → has c.handle A ≡ false
     by_found o true q k = first (has c.handle A) (list_all (is_below c.handle) (outside w A)) q
     by_found (Some x) false q k = absurd (not_fresh (asks_the_same x.command c) x.reply k)
@@ -198,6 +200,7 @@ judged_duplicate w A c r e = by_found (entry_under c.handle (window w A)) refl (
     by_same : (x : Entry) (b : Bool) → cond b (Duplicate x.reply) Reused ≡ Duplicate r → x.reply ≡ r
     by_same x true q = cc
     by_same x false q = cc
+
     by_found : (o : Option Entry) → entry_under c.handle (window w A) ≡ o → (b : Bool) → cond b Fresh (judge_unaccepted o c) ≡ Duplicate r → (x : Entry) × (entry_under c.handle (window w A) ≡ Some x) × (x.reply ≡ r)
     by_found o q true k = cc
     by_found (Some x) q false k = (x, q, by_same x (asks_the_same x.command c) k)

@@ -70,12 +70,13 @@ small tree p c = by_object (object_of tree c.target)
         by_status_of : (r : Request) (s : Status) → (s ≡ status.Ok → length (answer tree o r) ≤ 1452) → IsSmall (by_status tree p (Some o) (Some r) s)
         by_status_of r status.Ok h = (counts tree o r, h refl)
         by_status_of r _ h = (lit< tt, lit≤ tt)
+
         by_request : (kind : MethodKind) (r : Option Request) → IsSmall (by_status tree p (Some o) r (first_that_applies (status_lines tree p (Some o) kind r)))
         by_request kind None = refused_small tree (first_that_applies (status_lines tree p (Some o) kind None))
         by_request kind (Some r) = by_status_of r (first_that_applies (status_lines tree p (Some o) kind (Some r)))
             (λ e. within (length (answer tree o r))
-              (not_over _ (passed _ status.InvalidRequest _ (λ x. cc) (passed _ status.ParameterOutOfRange _ (λ x. cc) (passed _ status.Locked _ (λ x. cc)
-                (passed _ status.NotImplemented _ (λ x. cc) (passed _ status.BadMethod _ (λ x. cc) e)))))))
+            (not_over _ (passed _ status.InvalidRequest _ (λ x. cc) (passed _ status.ParameterOutOfRange _ (λ x. cc) (passed _ status.Locked _ (λ x. cc)
+            (passed _ status.NotImplemented _ (λ x. cc) (passed _ status.BadMethod _ (λ x. cc) e)))))))
 
 status_fits : (s : Status) → status_number s < 256
 status_fits status.Ok = lit< tt

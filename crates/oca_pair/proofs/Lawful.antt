@@ -90,14 +90,14 @@ answers_law law w s tree starts es apart fit =
     let sound : Sound s n = sound_after law w s tree starts es apart fit in
     record {
       held = λ i l h a own held.
-        let of : LinkSound s n l = each_at (LinkSound s n) n.links i l sound.each own in
-        true_answer l.peer h a n of.kept (rw held at (held_answer l.peer (past n) h l.link.untaken of.fair.untaken));
+          let of : LinkSound s n l = each_at (LinkSound s n) n.links i l sound.each own in
+          true_answer l.peer h a n of.kept (rw held at (held_answer l.peer (past n) h l.link.untaken of.fair.untaken));
       handed_on = λ i l h a own was.
-        let of : LinkSound s n l = each_at (LinkSound s n) n.links i l sound.each own in
-        true_answer l.peer h a n of.kept (each_in (λ (t : TakenAnswer). t.peer ≡ l.peer → IsTrueAnswer l.peer t.handle t.answer (past n)) _ n.taken of.fair.handed_on was refl);
+          let of : LinkSound s n l = each_at (LinkSound s n) n.links i l sound.each own in
+          true_answer l.peer h a n of.kept (each_in (λ (t : TakenAnswer). t.peer ≡ l.peer → IsTrueAnswer l.peer t.handle t.answer (past n)) _ n.taken of.fair.handed_on was refl);
       handles = λ i l c d own a b e.
-        let of : LinkSound s n l = each_at (LinkSound s n) n.links i l sound.each own in
-        of.fair.unique c d a b e;
+          let of : LinkSound s n l = each_at (LinkSound s n) n.links i l sound.each own in
+          of.fair.unique c d a b e;
     }
 
 -- ---- each command is executed once
@@ -122,37 +122,51 @@ answered_now law w s f n k now d next us u c peers wide there fair kept good hel
   where
     p : Peer
     p = d.peer
+
     g : Past
     g = past n
+
     e : Event
     e = Datagram d.peer d.bytes now
+
     m : Msg
     m = Command true c
+
     s2 : State
     s2 = let_in p m now g
+
     its : IsFair p g u
     its = each_in (IsFair p g) u us fair.untaken held
+
     sub : WasSubmitted p c g.submitted
     sub = rw command at (each_in (IsFair p g) u us fair.untaken held).0
+
     sendable : IsSendable c
     sendable = (each_in (λ (x : SubmittedCommand). x.peer ≡ p → IsSendable x.command × (x.command.handle < end_of next)) _ g.submitted fair.sendable sub refl).0
+
     read : read_datagram d.bytes ≡ Ok (m ∷ [])
     read = ap read_datagram bytes ∙ read_command law c sendable
+
     room : admits (looked_at now g) p ≡ true
     room = room_for peers (looked_at now g) p small (noted_among peers n.window n.tree n.events come.1) come.0
+
     own2 : AreOwn p (and_then e g) s2.notes
     own2 = ((λ same. tt), owns_then p g e (state_of g).notes fair.own)
+
     is_accepted : accepted (run p s2.notes) ≡ accepted_by p g
     is_accepted = accepted_let_in p m d.bytes now g keeps kept
+
     -- what the window has under the handle is the command
     same_command : (A : List Entry) → accepted (run p s2.notes) ≡ A → (x : Entry) → entry_under c.handle (window n.window A) ≡ Some x → x.command ≡ c
     same_command A is x q =
         let a = window_executed n.window p (and_then e g) c.handle x s2.notes own2 (rw is q) in
         fair.unique x.command c a.0.honest.submitted sub (equal_is x.command.handle c.handle a.1)
+
     served_by : IsServed (judgement n.window (accepted_by p g) c)
     served_by =
         rw command at (untaken_served n.window s f p next us n.submitted (accepted_by p g) u wide
-          (λ x q. same_command (accepted_by p g) is_accepted x (rw command at q) ∙ sym command) good held)
+        (λ x q. same_command (accepted_by p g) is_accepted x (rw command at q) ∙ sym command) good held)
+
     -- from the state and the answers
     made : (s' : State) (reply : Reply) (x : Execution) (v : Verdict) → state_of (and_then e g) ≡ s' →
         answers_to_reading g.window p (read_datagram d.bytes) (looked_at now g) ≡ response c.handle reply ∷ [] →
@@ -161,36 +175,38 @@ answered_now law w s f n k now d next us u c peers wide there fair kept good hel
         IsIn x (executed_for p s'.notes) → x.command ≡ c → reply ≡ x.reply → IsAnswered k now n d c
     made s' reply x v state_is answers_are verdict_is kind i command reply_is = record {
       served = rw there (elim kind [
-          inl q ↦ inl (ap (λ y. outcomes.Device y ∷ []) (verdict_is ∙ q))
+        | inl q ↦ inl (ap (λ y. outcomes.Device y ∷ []) (verdict_is ∙ q))
         | inr q ↦ inr (ap (λ y. outcomes.Device y ∷ []) (verdict_is ∙ q))
-        ]);
+      ]);
       execution = x;
       executed = rw (there, state_is) i;
       command = command;
       sent = rw there (ap (λ ps. n.to_links ++ sendings p ps) (ap packets_of answers_are ∙ ap (λ r. packets_of (response c.handle r ∷ [])) reply_is));
     }
+
     verdict_read : verdict n.window n.tree n.events d.peer d.bytes now ≡ served (plus (count_of_command (judged_in n.window s2 p c)) (counts 0 0 0 0))
     verdict_read =
         ap (λ r. verdict_of_reading n.window p r (looked_at now g)) read
         ∙ ap (λ b. cond b (served (plus (count_of_command (judged_in n.window s2 p c)) (counts 0 0 0 0))) verdicts.NoRoom) room
+
     by_judgement : (j : Judgement) → judged_in n.window s2 p c ≡ j → IsServed j → IsAnswered k now n d c
     by_judgement Fresh q t =
         let x : Execution = record { objects = s2.tree; command = c; reply = reply_of s2.tree p c } in
         made (after_command Fresh p c s2) x.reply x (verdicts.Served 1 0 0 0)
-          (after_read n.window p m d.bytes now g true read room ∙ ap (λ j. after_command j p c s2) q)
-          (answers_read n.window p m d.bytes now g true read room ∙ ap (λ j. answer_to_command j p c s2 ++ []) q)
-          (verdict_read ∙ ap (λ j. served (plus (count_of_command j) (counts 0 0 0 0))) q)
-          (inl refl) (executed_now p s2.moment s2.tree c x.reply s2.notes) refl refl
+        (after_read n.window p m d.bytes now g true read room ∙ ap (λ j. after_command j p c s2) q)
+        (answers_read n.window p m d.bytes now g true read room ∙ ap (λ j. answer_to_command j p c s2 ++ []) q)
+        (verdict_read ∙ ap (λ j. served (plus (count_of_command j) (counts 0 0 0 0))) q)
+        (inl refl) (executed_now p s2.moment s2.tree c x.reply s2.notes) refl refl
     by_judgement (Duplicate r) q t =
         let f = judged_duplicate n.window (accepted (run p s2.notes)) c r q in
         let a = window_executed n.window p (and_then e g) c.handle f.0 s2.notes own2 f.1 in
         let x : Execution = record { objects = a.0.objects; command = f.0.command; reply = f.0.reply } in
         made s2 r x (verdicts.Served 0 1 0 0)
-          (after_read n.window p m d.bytes now g true read room ∙ ap (λ j. after_command j p c s2) q)
-          (answers_read n.window p m d.bytes now g true read room ∙ ap (λ j. answer_to_command j p c s2 ++ []) q)
-          (verdict_read ∙ ap (λ j. served (plus (count_of_command j) (counts 0 0 0 0))) q)
-          (inr refl) a.0.executed
-          (fair.unique f.0.command c a.0.honest.submitted sub (equal_is f.0.command.handle c.handle a.1)) (sym f.2)
+        (after_read n.window p m d.bytes now g true read room ∙ ap (λ j. after_command j p c s2) q)
+        (answers_read n.window p m d.bytes now g true read room ∙ ap (λ j. answer_to_command j p c s2 ++ []) q)
+        (verdict_read ∙ ap (λ j. served (plus (count_of_command j) (counts 0 0 0 0))) q)
+        (inr refl) a.0.executed
+        (fair.unique f.0.command c a.0.honest.submitted sub (equal_is f.0.command.handle c.handle a.1)) (sym f.2)
     by_judgement Reused q t = absurd t
     by_judgement Old q t = absurd t
 
@@ -205,7 +221,7 @@ delivered law w s n k now d l c peers some wide there of copy keeps small come =
     let good = of.good some before in
     let GoodAs : Peer → Type 0 = λ x. Good s good.0 x l.link.next l.link.untaken n.submitted (accepted_by x (past n)) in
     answered_now law w s good.0 n k now d l.link.next l.link.untaken copy.untaken c peers wide there
-      (subst FairAs copy.peer of.fair) (subst KeptAs copy.peer (of.kept before)) (subst GoodAs copy.peer good.1) copy.held copy.command copy.bytes keeps small come
+    (subst FairAs copy.peer of.fair) (subst KeptAs copy.peer (of.kept before)) (subst GoodAs copy.peer good.1) copy.held copy.command copy.bytes keeps small come
 
 window_kept : (es : List Step) (n : Network) → (after_steps es n).window ≡ n.window
 window_kept [] n = refl
@@ -214,21 +230,27 @@ window_kept (step ∷ es) n = window_kept es (after_step step n) ∙ one step
     by_submit : (i : ℕ) (r : Request) (now : ℕ) (o : Option PeerLink) → (after_submit i r now o n).window ≡ n.window
     by_submit i r now None = refl
     by_submit i r now (Some l) = refl
+
     by_due : (i now : ℕ) (o : Option PeerLink) → (after_due_step i now o n).window ≡ n.window
     by_due i now None = refl
     by_due i now (Some l) = refl
+
     by_delivery : (now : ℕ) (o : Option SentDatagram) → (after_delivery now o n).window ≡ n.window
     by_delivery now None = refl
     by_delivery now (Some d) = refl
+
     by_reception : (now : ℕ) (o : Option SentDatagram) → (after_reception now o n).window ≡ n.window
     by_reception now None = refl
     by_reception now (Some d) = refl
+
     by_other : (from : Peer) (bytes : List ℕ) (now : ℕ) (b : Bool) → (let m : Network = cond b n (record n { events = Datagram from bytes now ∷ n.events }) in m).window ≡ n.window
     by_other from bytes now true = refl
     by_other from bytes now false = refl
+
     by_take : (i h : ℕ) (o : Option PeerLink) → (after_take i h o n).window ≡ n.window
     by_take i h None = refl
     by_take i h (Some l) = refl
+
     one : (step : Step) → (after_step step n).window ≡ n.window
     one (Submit i r now) = by_submit i r now (slice_get n.links i)
     one (Due i now) = by_due i now (slice_get n.links i)

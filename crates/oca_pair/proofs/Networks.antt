@@ -97,37 +97,46 @@ held_has p g h a t = executed_has h p (state_of g).notes t.execution t.executed 
 sound_submit : (s i : ℕ) (r : Request) (now : ℕ) (n : Network) → RequestFits r → Sound s n → (o : Option PeerLink) → slice_get n.links i ≡ o → Sound s (after_submit i r now o n)
 sound_submit s i r now n fits g None e = g
 sound_submit s i r now n fits g (Some l) e = record {
-    apart = apart_put n.links i l y e refl g.apart;
-    each = each_put (LinkSound s n) (LinkSound s n') n.links i l y e g.apart others mine g.each;
-  }
+  apart = apart_put n.links i l y e refl g.apart;
+  each = each_put (LinkSound s n) (LinkSound s n') n.links i l y e g.apart others mine g.each;
+}
   where
     y : PeerLink
     y = record { peer = l.peer; link = after_submission (submission r l.link) r now l.link }
+
     n' : Network
     n' = after_submit i r now (Some l) n
+
     was : LinkSound s n l
     was = each_at (LinkSound s n) n.links i l g.each e
+
     not_his : (p : Peer) (a : Result Handle ControlFault) → (l.peer ≡ p → ⊥) → AllByRecursion (λ (x : SubmittedCommand). x.peer ≡ p → ⊥) (submitted_by l.peer r a)
     not_his p (Ok h) other = (other, tt)
     not_his p (Err fault) other = tt
+
     others : (z : PeerLink) → z.peer ≢ l.peer → LinkSound s n z → LinkSound s n' z
     others z other w = record {
       span = w.span;
       fair = fair_submitted_by z.peer l.peer r (submission r l.link) z.link.next z.link.untaken (past n) n.to_device n.to_links n.taken (λ same. other (sym same)) w.fair;
       kept = w.kept;
-      good = λ some keeps. let q = w.good some keeps in
-        (q.0, good_submitted s q.0 z.peer z.link.next z.link.untaken n.submitted (submitted_by l.peer r (submission r l.link)) (accepted_by z.peer (past n))
-          (not_his z.peer (submission r l.link) (λ same. other (sym same))) q.1);
+      good = λ some keeps. let q = w.good some keeps in (
+        q.0,
+        good_submitted s q.0 z.peer z.link.next z.link.untaken n.submitted (submitted_by l.peer r (submission r l.link)) (accepted_by z.peer (past n))
+            (not_his z.peer (submission r l.link) (λ same. other (sym same))) q.1,
+      );
     }
+
     span_kept : (a : Result Handle ControlFault) → (after_submission a r now l.link).span ≡ l.link.span
     span_kept (Ok h) = refl
     span_kept (Err fault) = refl
+
     good_kept : (f : ℕ) (a : Result Handle ControlFault) → submission r l.link ≡ a → 0 < s → Good s f l.peer l.link.next l.link.untaken n.submitted (accepted_by l.peer (past n)) →
         Good s f l.peer (after_submission a r now l.link).next (after_submission a r now l.link).untaken (n.submitted ++ submitted_by l.peer r a) (accepted_by l.peer (past n))
     good_kept f (Err fault) q some w = good_submitted s f l.peer l.link.next l.link.untaken n.submitted [] (accepted_by l.peer (past n)) tt w
     good_kept f (Ok h) q some w =
         let t = granted r l.link h q in
         good_submit s f l.peer l.link.next l.link.untaken n.submitted (accepted_by l.peer (past n)) h.0 r some t.0 (rw was.span at t.1) w
+
     mine : LinkSound s n' y
     mine = record {
       span = span_kept (submission r l.link) ∙ was.span;
@@ -141,33 +150,40 @@ sound_submit s i r now n fits g (Some l) e = record {
 sound_due : (s i now : ℕ) (n : Network) → Sound s n → (o : Option PeerLink) → slice_get n.links i ≡ o → Sound s (after_due_step i now o n)
 sound_due s i now n g None e = g
 sound_due s i now n g (Some l) e = record {
-    apart = apart_put n.links i l y e refl g.apart;
-    each = each_put (LinkSound s n) (LinkSound s n') n.links i l y e g.apart others mine g.each;
-  }
+  apart = apart_put n.links i l y e refl g.apart;
+  each = each_put (LinkSound s n) (LinkSound s n') n.links i l y e g.apart others mine g.each;
+}
   where
     y : PeerLink
     y = record { peer = l.peer; link = gone_on now l.link }
+
     n' : Network
     n' = after_due_step i now (Some l) n
+
     was : LinkSound s n l
     was = each_at (LinkSound s n) n.links i l g.each e
+
     others : (z : PeerLink) → z.peer ≢ l.peer → LinkSound s n z → LinkSound s n' z
     others z other w = record {
       span = w.span;
       fair = fair_sent z.peer l.peer z.link.next z.link.untaken (past n) n.to_device n.to_links n.taken (given_by (decision now l.link)) (λ same. other (sym same)) w.fair;
-      kept = w.kept; good = w.good;
+      kept = w.kept;
+      good = w.good;
     }
+
     span_kept : (d : Decision) → (after_due d (present now l.link) l.link).span ≡ l.link.span
     span_kept (GivesCommand c) = refl
     span_kept GivesKeepAlive = refl
     span_kept GivesNothing = refl
     span_kept IsLost = refl
+
     good_kept : (f : ℕ) (d : Decision) → Good s f l.peer l.link.next l.link.untaken n.submitted (accepted_by l.peer (past n)) →
         Good s f l.peer (after_due d (present now l.link) l.link).next (after_due d (present now l.link) l.link).untaken n.submitted (accepted_by l.peer (past n))
     good_kept f (GivesCommand c) w = good_given_out s f l.peer l.link.next l.link.untaken n.submitted (accepted_by l.peer (past n)) (present now l.link) c.handle w
     good_kept f GivesKeepAlive w = w
     good_kept f GivesNothing w = w
     good_kept f IsLost w = w
+
     mine : LinkSound s n' y
     mine = record {
       span = span_kept (decision now l.link) ∙ was.span;
@@ -181,33 +197,39 @@ sound_due s i now n g (Some l) e = record {
 sound_take : (s i h : ℕ) (n : Network) → Sound s n → (o : Option PeerLink) → slice_get n.links i ≡ o → Sound s (after_take i h o n)
 sound_take s i h n g None e = g
 sound_take s i h n g (Some l) e = record {
-    apart = apart_put n.links i l y e refl g.apart;
-    each = each_put (LinkSound s n) (LinkSound s n') n.links i l y e g.apart others mine g.each;
-  }
+  apart = apart_put n.links i l y e refl g.apart;
+  each = each_put (LinkSound s n) (LinkSound s n') n.links i l y e g.apart others mine g.each;
+}
   where
     y : PeerLink
     y = record { peer = l.peer; link = taken h l.link }
+
     n' : Network
     n' = after_take i h (Some l) n
+
     was : LinkSound s n l
     was = each_at (LinkSound s n) n.links i l g.each e
+
     others : (z : PeerLink) → z.peer ≢ l.peer → LinkSound s n z → LinkSound s n' z
     others z other w = record {
       span = w.span;
       fair = fair_taken_by z.peer l.peer h (answer_under h l.link.untaken) z.link.next z.link.untaken (past n) n.to_device n.to_links n.taken (λ same. other (sym same)) w.fair;
-      kept = w.kept; good = w.good;
+      kept = w.kept;
+      good = w.good;
     }
+
     good_kept : (f : ℕ) (o : Option AnswerFields) → IsHeld l.peer (past n) h o → Good s f l.peer l.link.next l.link.untaken n.submitted (accepted_by l.peer (past n)) →
         Good s f l.peer l.link.next (cond (is_some o) (without_handle h l.link.untaken) l.link.untaken) n.submitted (accepted_by l.peer (past n))
     good_kept f None held w = w
     good_kept f (Some a) held w = good_without s f l.peer l.link.next l.link.untaken n.submitted (accepted_by l.peer (past n)) h (held_has l.peer (past n) h a held) w
+
     mine : LinkSound s n' y
     mine = record {
       span = was.span;
       fair = fair_taken l.peer h l.link (past n) n.to_device n.to_links n.taken was.fair;
       kept = was.kept;
       good = λ some keeps. let q = was.good some keeps in
-        (q.0, good_kept q.0 (answer_under h l.link.untaken) (held_answer l.peer (past n) h l.link.untaken was.fair.untaken) q.1);
+          (q.0, good_kept q.0 (answer_under h l.link.untaken) (held_answer l.peer (past n) h l.link.untaken was.fair.untaken) q.1);
     }
 
 -- ---- a datagram comes to a link
@@ -217,19 +239,23 @@ sound_reception s now n g d k e = record { apart = apart_hears d now n.links g.a
   where
     n' : Network
     n' = after_reception now (Some d) n
+
     one : (z : PeerLink) → LinkSound s n z → LinkSound s n' (hears_datagram d now z)
     one z w = by_test (same_peer z.peer d.peer) refl
       where
         y : PeerLink
         y = record { peer = z.peer; link = received device_address (content_of d.bytes) now z.link }
+
         good_heard : (f : ℕ) → IsBack z.peer (past n) d.bytes → Good s f z.peer z.link.next z.link.untaken n.submitted (accepted_by z.peer (past n)) →
             Good s f z.peer z.link.next (hears_content (content_of d.bytes) z.link.untaken) n.submitted (accepted_by z.peer (past n))
         good_heard f (inl (r, t, read)) q = rw read (good_answered s f z.peer z.link.next z.link.untaken n.submitted (accepted_by z.peer (past n)) r.handle (answer_in r) q)
         good_heard f (inr read) q = rw read q
+
         good_received : (f : ℕ) (b : Bool) → IsBack z.peer (past n) d.bytes → Good s f z.peer z.link.next z.link.untaken n.submitted (accepted_by z.peer (past n)) →
             Good s f z.peer z.link.next (cond b (hears_content (content_of d.bytes) z.link.untaken) z.link.untaken) n.submitted (accepted_by z.peer (past n))
         good_received f true back q = good_heard f back q
         good_received f false back q = q
+
         heard : IsBack z.peer (past n) d.bytes → LinkSound s n' y
         heard back = record {
           span = w.span;
@@ -237,11 +263,14 @@ sound_reception s now n g d k e = record { apart = apart_hears d now n.links g.a
           kept = w.kept;
           good = λ some keeps. let q = w.good some keeps in (q.0, good_received q.0 (same_peer device_address z.link.device) back q.1);
         }
+
         unheard : LinkSound s n' z
         unheard = record { span = w.span; fair = w.fair; kept = w.kept; good = w.good }
+
         by_test : (b : Bool) → same_peer z.peer d.peer ≡ b → LinkSound s n' (cond b y z)
         by_test true q = heard (each_at (λ (x : SentDatagram). x.peer ≡ z.peer → IsBack z.peer (past n) x.bytes) n.to_links k d w.fair.incoming e (sym (same_is z.peer d.peer q)))
         by_test false q = unheard
+
     each : (zs : List PeerLink) → AllByRecursion (LinkSound s n) zs → AllByRecursion (LinkSound s n') (map (hears_datagram d now) zs)
     each [] a = tt
     each (z ∷ zs) a = (one z a.0, each zs a.1)
@@ -253,12 +282,13 @@ sound_elsewhere : (s : ℕ) (n : Network) (q : Peer) (bytes : List ℕ) (now : �
     Fair z.peer z.link.next z.link.untaken (and_then (Datagram q bytes now) (past n)) n.to_device (n.to_links ++ sendings q packets) n.taken
     × (KeepsItsSession z.peer (Datagram q bytes now ∷ n.events) → Kept z.peer (and_then (Datagram q bytes now) (past n)))
     × (0 < s → KeepsItsSession z.peer (Datagram q bytes now ∷ n.events) →
-        (f : ℕ) × Good s f z.peer z.link.next z.link.untaken n.submitted (accepted_by z.peer (and_then (Datagram q bytes now) (past n))))
-sound_elsewhere s n q bytes now packets z other w =
-    (fair_other z.peer q z.link.next z.link.untaken (past n) n.to_device n.to_links n.taken bytes now packets (other_of q z.peer other) w.fair,
-     (λ keeps. kept_other z.peer q bytes now (past n) other (w.kept (keeps_before z.peer (Datagram q bytes now) n.events keeps))),
-     (λ some keeps. let good = w.good some (keeps_before z.peer (Datagram q bytes now) n.events keeps) in
-       (good.0, moved good.0 (accepted_by z.peer (and_then (Datagram q bytes now) (past n))) (accepted_other z.peer q bytes now (past n) other) good.1)))
+    (f : ℕ) × Good s f z.peer z.link.next z.link.untaken n.submitted (accepted_by z.peer (and_then (Datagram q bytes now) (past n))))
+sound_elsewhere s n q bytes now packets z other w = (
+  fair_other z.peer q z.link.next z.link.untaken (past n) n.to_device n.to_links n.taken bytes now packets (other_of q z.peer other) w.fair,
+  (λ keeps. kept_other z.peer q bytes now (past n) other (w.kept (keeps_before z.peer (Datagram q bytes now) n.events keeps))),
+  (λ some keeps. let good = w.good some (keeps_before z.peer (Datagram q bytes now) n.events keeps) in
+      (good.0, moved good.0 (accepted_by z.peer (and_then (Datagram q bytes now) (past n))) (accepted_other z.peer q bytes now (past n) other) good.1)),
+)
   where
     moved : (f : ℕ) (B : List Entry) → B ≡ accepted_by z.peer (past n) → Good s f z.peer z.link.next z.link.untaken n.submitted (accepted_by z.peer (past n)) →
         Good s f z.peer z.link.next z.link.untaken n.submitted B
@@ -286,6 +316,7 @@ own_kept law s f p next us g out back handed bytes now (inl (c, sub, is)) fair k
   where
     command_is : (x y : CommandFields) → Command true x ≡ Command true y → x ≡ y
     command_is x y q = cc
+
     grown : (B : List Entry) → IsGrown (Command true c) (accepted_by p g) B → Good s f p next us g.submitted (accepted_by p g) → c.handle < end_of next → Good s f p next us g.submitted B
     grown B (inl same) good below = rw same good
     grown B (inr (x, r, m_is, new, grows)) good below =
@@ -304,12 +335,13 @@ sound_own : (law : WrittenIsReadBack) (s : ℕ) (n : Network) (bytes : List ℕ)
     Fair z.peer z.link.next z.link.untaken (and_then (Datagram z.peer bytes now) (past n)) n.to_device (n.to_links ++ sendings z.peer (packets n.window n.tree n.events (Datagram z.peer bytes now))) n.taken
     × (KeepsItsSession z.peer (Datagram z.peer bytes now ∷ n.events) → Kept z.peer (and_then (Datagram z.peer bytes now) (past n)))
     × (0 < s → KeepsItsSession z.peer (Datagram z.peer bytes now ∷ n.events) →
-        (f : ℕ) × Good s f z.peer z.link.next z.link.untaken n.submitted (accepted_by z.peer (and_then (Datagram z.peer bytes now) (past n))))
-sound_own law s n bytes now z out w =
-    (own_fair law z.peer z.link.next z.link.untaken (past n) n.to_device n.to_links n.taken bytes now out w.fair,
-     (λ keeps. (own_kept law s 0 z.peer z.link.next z.link.untaken (past n) n.to_device n.to_links n.taken bytes now out w.fair keeps (w.kept (before keeps))).0),
-     (λ some keeps. let good = w.good some (before keeps) in
-       (good.0, (own_kept law s good.0 z.peer z.link.next z.link.untaken (past n) n.to_device n.to_links n.taken bytes now out w.fair keeps (w.kept (before keeps))).1 good.1)))
+    (f : ℕ) × Good s f z.peer z.link.next z.link.untaken n.submitted (accepted_by z.peer (and_then (Datagram z.peer bytes now) (past n))))
+sound_own law s n bytes now z out w = (
+  own_fair law z.peer z.link.next z.link.untaken (past n) n.to_device n.to_links n.taken bytes now out w.fair,
+  (λ keeps. (own_kept law s 0 z.peer z.link.next z.link.untaken (past n) n.to_device n.to_links n.taken bytes now out w.fair keeps (w.kept (before keeps))).0),
+  (λ some keeps. let good = w.good some (before keeps) in
+      (good.0, (own_kept law s good.0 z.peer z.link.next z.link.untaken (past n) n.to_device n.to_links n.taken bytes now out w.fair keeps (w.kept (before keeps))).1 good.1)),
+)
   where
     before : KeepsItsSession z.peer (Datagram z.peer bytes now ∷ n.events) → KeepsItsSession z.peer n.events
     before keeps = keeps_before z.peer (Datagram z.peer bytes now) n.events keeps
@@ -320,21 +352,24 @@ AfterDatagram s n z q bytes now =
     Fair z.peer z.link.next z.link.untaken (and_then (Datagram q bytes now) (past n)) n.to_device (n.to_links ++ sendings q (packets n.window n.tree n.events (Datagram q bytes now))) n.taken
     × (KeepsItsSession z.peer (Datagram q bytes now ∷ n.events) → Kept z.peer (and_then (Datagram q bytes now) (past n)))
     × (0 < s → KeepsItsSession z.peer (Datagram q bytes now ∷ n.events) →
-        (f : ℕ) × Good s f z.peer z.link.next z.link.untaken n.submitted (accepted_by z.peer (and_then (Datagram q bytes now) (past n))))
+    (f : ℕ) × Good s f z.peer z.link.next z.link.untaken n.submitted (accepted_by z.peer (and_then (Datagram q bytes now) (past n))))
 
 sound_delivery : (law : WrittenIsReadBack) (s now : ℕ) (n : Network) → Sound s n → (d : SentDatagram) (k : ℕ) → slice_get n.to_device k ≡ Some d → Sound s (after_delivery now (Some d) n)
 sound_delivery law s now n g d k e = record { apart = g.apart; each = each_map one n.links g.each }
   where
     n' : Network
     n' = after_delivery now (Some d) n
+
     as_own : (z : PeerLink) (q : Peer) → q ≡ z.peer → AfterDatagram s n z z.peer d.bytes now → AfterDatagram s n z q d.bytes now
     as_own z q same a = let P : Peer → Type 0 = λ x. AfterDatagram s n z x d.bytes now in subst P (sym same) a
+
     by_test : (z : PeerLink) (b : Bool) → same_peer d.peer z.peer ≡ b → LinkSound s n z → AfterDatagram s n z d.peer d.bytes now
     by_test z true q w =
         let same : d.peer ≡ z.peer = same_is d.peer z.peer q in
         as_own z d.peer same (sound_own law s n d.bytes now z
-          (each_at (λ (x : SentDatagram). x.peer ≡ z.peer → IsOut z.peer n.submitted x.bytes) n.to_device k d w.fair.outgoing e same) w)
+        (each_at (λ (x : SentDatagram). x.peer ≡ z.peer → IsOut z.peer n.submitted x.bytes) n.to_device k d w.fair.outgoing e same) w)
     by_test z false q w = sound_elsewhere s n d.peer d.bytes now (packets n.window n.tree n.events (Datagram d.peer d.bytes now)) z q w
+
     one : (z : PeerLink) → LinkSound s n z → LinkSound s n' z
     one z w = let a = by_test z (same_peer d.peer z.peer) refl w in record { span = w.span; fair = a.0; kept = a.1; good = a.2 }
 
@@ -344,17 +379,21 @@ sound_other s from bytes now n g = by_test (has_link from n.links) refl
   where
     n' : Network
     n' = record n { events = Datagram from bytes now ∷ n.events }
+
     quiet : (z : PeerLink) (back : List SentDatagram) → back ≡ n.to_links →
         Fair z.peer z.link.next z.link.untaken (and_then (Datagram from bytes now) (past n)) n.to_device back n.taken →
         Fair z.peer z.link.next z.link.untaken (and_then (Datagram from bytes now) (past n)) n.to_device n.to_links n.taken
     quiet z back same f = rw same at f
+
     one : (z : PeerLink) → same_peer z.peer from ≡ false → LinkSound s n z → LinkSound s n' z
     one z other w =
         let a = sound_elsewhere s n from bytes now [] z (same_turned from z.peer ∙ other) w in
         record { span = w.span; fair = quiet z (n.to_links ++ []) (append-nil n.to_links) a.0; kept = a.1; good = a.2 }
+
     each : (zs : List PeerLink) → AllByRecursion (λ (l : PeerLink). same_peer l.peer from ≡ false) zs → AllByRecursion (LinkSound s n) zs → AllByRecursion (LinkSound s n') zs
     each [] a p = tt
     each (z ∷ zs) a p = (one z a.0 p.0, each zs a.1 p.1)
+
     by_test : (b : Bool) → has_link from n.links ≡ b → Sound s (cond b n n')
     by_test true q = g
     by_test false q = record { apart = g.apart; each = each n.links (none_passes (λ (l : PeerLink). same_peer l.peer from) n.links q) g.each }
@@ -363,7 +402,11 @@ sound_tick : (s now : ℕ) (n : Network) → Sound s n → Sound s (after_step (
 sound_tick s now n g = record {
   apart = g.apart;
   each = each_map (λ z w. record {
-    span = w.span; fair = fair_tick z.peer z.link.next z.link.untaken (past n) n.to_device n.to_links n.taken now w.fair; kept = w.kept; good = w.good }) n.links g.each;
+    span = w.span;
+    fair = fair_tick z.peer z.link.next z.link.untaken (past n) n.to_device n.to_links n.taken now w.fair;
+    kept = w.kept;
+    good = w.good;
+  }) n.links g.each;
 }
 
 -- ---- a step, a schedule, and the network at first
@@ -395,25 +438,32 @@ sound_opening w s tree starts a fits = record { apart = apart starts a; each = e
   where
     other : (p : Peer) (x : Start) → is_of_another_peer p x ≡ true → x.peer ≢ p
     other p x e = other_of x.peer p (not_true (same_peer x.peer p) e)
+
     heads : (p : Peer) (xs : List Start) → list_all (is_of_another_peer p) xs ≡ true → AllByRecursion (λ (y : PeerLink). y.peer ≢ p) (map (started s) xs)
     heads p [] q = tt
     heads p (x ∷ xs) q = let t = both_true (is_of_another_peer p x) (list_all (is_of_another_peer p) xs) q in (other p x t.0, heads p xs t.1)
+
     apart : (xs : List Start) → are_apart xs ≡ true → Apart (map (started s) xs)
     apart [] q = tt
     apart (x ∷ xs) q =
         let t = both_true (is_of_another_peer device_address x && list_all (is_of_another_peer x.peer) xs) (are_apart xs) q in
         let u = both_true (is_of_another_peer device_address x) (list_all (is_of_another_peer x.peer) xs) t.0 in
         (heads x.peer xs u.1, apart xs t.1)
+
     nothing : (f x : ℕ) → f ≤ x → x < f → false ≡ true
     nothing f x p q = absurd (omega arith)
+
     each : (xs : List Start) → AllByRecursion StartFits xs → AllByRecursion (LinkSound s (opening w s tree starts)) (map (started s) xs)
     each [] f = tt
-    each (x ∷ xs) f = (record {
+    each (x ∷ xs) f = (
+      record {
         span = refl;
         fair = record { fits = f.0; own = tt; outgoing = tt; incoming = tt; untaken = tt; handed_on = tt; sendable = tt; unique = λ c d i j e. absurd i };
         kept = λ keeps. record { latest = tt; whole = refl; once = tt };
         good = λ some keeps. (x.first_handle.0, record { start = omega arith; untaken = tt; taken = λ y p q free. nothing x.first_handle.0 y p q; own = tt; order = tt; from = tt });
-      }, each xs f.1)
+      },
+      each xs f.1,
+    )
 
 -- THE NETWORK AFTER ANY SCHEDULE.
 pub sound_after : (law : WrittenIsReadBack) (w s : ℕ) (tree : List Object) (starts : List Start) (es : List Step) → are_apart starts ≡ true → Fit starts es →

@@ -58,8 +58,8 @@ opened_differ (n ∷ ns) = by_known (is_known n.at ns n.peer) (opened_differ ns)
     by_known : (b : Bool) → Differ (opened ns) → Differ (cond b (opened ns) (peers_except n.peer (opened ns) ++ n.peer ∷ []))
     by_known true d = d
     by_known false d = differ_last n.peer (peers_except n.peer (opened ns))
-      (each_map (λ q e. not_true (same_peer q n.peer) e) (peers_except n.peer (opened ns)) (passes (λ q. not (same_peer q n.peer)) (opened ns)))
-      (differ_filter (λ q. not (same_peer q n.peer)) (opened ns) d)
+        (each_map (λ q e. not_true (same_peer q n.peer) e) (peers_except n.peer (opened ns)) (passes (λ q. not (same_peer q n.peer)) (opened ns)))
+        (differ_filter (λ q. not (same_peer q n.peer)) (opened ns) d)
 
 opened_among : (P : Peer → Type 0) (ns : List Note) → AllByRecursion (λ n. P n.peer) ns → AllByRecursion P (opened ns)
 opened_among P [] a = tt
@@ -95,6 +95,7 @@ few (y ∷ ys) xs d a =
   where
     later_than : (q : Peer) → same_peer q y ≡ false → (same_peer y q || is_among ys q) ≡ true → is_among ys q ≡ true
     later_than q e t = sym (ap (λ b. b || is_among ys q) (turned q y e)) ∙ t
+
     others : (xs : List Peer) → AllByRecursion (λ x. is_among (y ∷ ys) x ≡ true) xs → AllByRecursion (λ x. is_among ys x ≡ true) (peers_except y xs)
     others [] a = tt
     others (x ∷ xs) a = by_test (same_peer x y) refl (others xs a.1)
@@ -120,22 +121,27 @@ room_for peers s p small noted among = by_known (is_known t ns p) refl
   where
     t : ℕ
     t = s.moment
+
     ns : List Note
     ns = s.notes
+
     other_than : (q : Peer) → is_known t ns p ≡ false → is_known t ns q ≡ true → same_peer q p ≡ false
     other_than q unknown sure = by_same (same_peer q p) refl
       where
         by_same : (b : Bool) → same_peer q p ≡ b → b ≡ false
         by_same true e = let same : q ≡ p = same_is q p e in differs (sym (ap (is_known t ns) (sym same) ∙ sure) ∙ unknown)
         by_same false e = refl
+
     lower : (a b : ℕ) → a < b → nat_lt a b ≡ true
     lower a b h = grind (arith, nat_tests)
+
     less : is_known t ns p ≡ false → length (known t ns) < 16
     less unknown =
         let size : length (p ∷ known t ns) ≤ length peers = few peers (p ∷ known t ns)
-              (each_map (λ q e. other_than q unknown e) (known t ns) (passes (is_known t ns) (opened ns)), differ_filter (is_known t ns) (opened ns) (opened_differ ns))
-              (among, each_filter (λ q. is_among peers q ≡ true) (is_known t ns) (opened ns) (opened_among (λ q. is_among peers q ≡ true) ns noted)) in
+        (each_map (λ q e. other_than q unknown e) (known t ns) (passes (is_known t ns) (opened ns)), differ_filter (is_known t ns) (opened ns) (opened_differ ns))
+        (among, each_filter (λ q. is_among peers q ≡ true) (is_known t ns) (opened ns) (opened_among (λ q. is_among peers q ≡ true) ns noted)) in
         omega arith
+
     by_known : (b : Bool) → is_known t ns p ≡ b → (b || nat_lt (length (known t ns)) 16) ≡ true
     by_known true e = refl
     by_known false e = lower (length (known t ns)) 16 (less e)

@@ -42,6 +42,7 @@ room_each s h (u ∷ us) e = let p = parts (nat_lt h (u.command.handle + s)) (ha
     parts : (a b : Bool) → (a && b) ≡ true → (a ≡ true) × (b ≡ true)
     parts true b q = (refl, q)
     parts false b q = cc
+
     lower : (a b : ℕ) → nat_lt a b ≡ true → a < b
     lower a b p = grind (arith, nat_tests)
 
@@ -59,14 +60,14 @@ good_submit s f p next us submitted A h r some next_is room g =
     record {
       start = omega arith;
       untaken = each_append _ us (u' ∷ [])
-        (each_both (λ u a (b : h < u.command.handle + s). let a1 = a.from in let a2 = a.below in record { from = a1; below = below_more u.command.handle a2 more; near = nearer u.command.handle is b })
+          (each_both (λ u a (b : h < u.command.handle + s). let a1 = a.from in let a2 = a.below in record { from = a1; below = below_more u.command.handle a2 more; near = nearer u.command.handle is b })
           us g.untaken (room_each s h us room))
-        (record { from = omega arith; below = omega arith; near = omega arith }, tt);
+          (record { from = omega arith; below = omega arith; near = omega arith }, tt);
       taken = λ x from below free.
-        let free' : (holds x us ≡ false) × (holds x (u' ∷ []) ≡ false) =
+          let free' : (holds x us ≡ false) × (holds x (u' ∷ []) ≡ false) =
           either_false (holds x us) (holds x (u' ∷ [])) (sym (list_any-append (λ (u : Untaken). eqb u.command.handle x) us (u' ∷ [])) ∙ free) in
-        let other : h ≢ x = unequal h x (either_false (eqb h x) false free'.1).0 in
-        g.taken x from (omega arith) free'.0;
+          let other : h ≢ x = unequal h x (either_false (eqb h x) false free'.1).0 in
+          g.taken x from (omega arith) free'.0;
       own = each_map (λ e q. (q.0, below_more e.command.handle q.1 more)) A g.own;
       order = g.order;
       from = each_append _ submitted (new ∷ []) g.from ((λ same. starts f h (end_of next) start was), tt);
@@ -74,10 +75,13 @@ good_submit s f p next us submitted A h r some next_is room g =
   where
     below_more : (x : ℕ) {n m : ℕ} → x < n → n ≤ m → x < m
     below_more x p q = omega arith
+
     nearer : (x : ℕ) → end_of (handle_after h) ≡ h + 1 → h < x + s → end_of (handle_after h) ≤ x + s
     nearer x p q = omega arith
+
     starts : (f h n : ℕ) → f ≤ n → n ≡ h → f ≤ h
     starts f h n p q = omega arith
+
     unequal : (a b : ℕ) → eqb a b ≡ false → a ≢ b
     unequal a b p = grind (arith, nat_tests)
 
@@ -85,7 +89,11 @@ good_submit s f p next us submitted A h r some next_is room g =
 pub good_submitted : (s f : ℕ) (p : Peer) (next : Option ℕ) (us : List Untaken) (submitted more : List SubmittedCommand) (A : List Entry) →
     AllByRecursion (λ (x : SubmittedCommand). x.peer ≡ p → ⊥) more → Good s f p next us submitted A → Good s f p next us (submitted ++ more) A
 good_submitted s f p next us submitted more A none g = record {
-  start = g.start; untaken = g.untaken; taken = g.taken; own = g.own; order = g.order;
+  start = g.start;
+  untaken = g.untaken;
+  taken = g.taken;
+  own = g.own;
+  order = g.order;
   from = each_append _ submitted more g.from (each_map (λ x n same. absurd (n same)) more none);
 }
 
@@ -95,7 +103,12 @@ good_submitted s f p next us submitted more A none g = record {
 pub good_same : (s f : ℕ) (p : Peer) (next : Option ℕ) (us vs : List Untaken) (submitted : List SubmittedCommand) (A : List Entry) →
     AllByRecursion (Near s f (end_of next)) vs → ((x : ℕ) → holds x vs ≡ holds x us) → Good s f p next us submitted A → Good s f p next vs submitted A
 good_same s f p next us vs submitted A near same g = record {
-  start = g.start; untaken = near; taken = λ x a b free. g.taken x a b (sym (same x) ∙ free); own = g.own; order = g.order; from = g.from;
+  start = g.start;
+  untaken = near;
+  taken = λ x a b free. g.taken x a b (sym (same x) ∙ free);
+  own = g.own;
+  order = g.order;
+  from = g.from;
 }
 
 holds_given_out : (t h x : ℕ) (us : List Untaken) → holds x (map (given_out t h) us) ≡ holds x us
@@ -139,12 +152,13 @@ holds_without h x (u ∷ us) e = by_test (eqb u.command.handle h) refl e (holds_
   where
     same_then : (a b c : ℕ) → eqb a b ≡ true → (b ≡ c) ⊎ (eqb a c ≡ false)
     same_then a b c q = grind (arith, nat_tests)
+
     by_test : (b : Bool) → eqb u.command.handle h ≡ b → holds x (cond (not b) (u ∷ without_handle h us) (without_handle h us)) ≡ false →
         (holds x (without_handle h us) ≡ false → (h ≡ x) ⊎ (holds x us ≡ false)) → (h ≡ x) ⊎ ((eqb u.command.handle x || holds x us) ≡ false)
     by_test true q free rest = elim (same_then u.command.handle h x q) [
-        inl same ↦ inl same
+      | inl same ↦ inl same
       | inr other ↦ elim (rest free) [ inl same ↦ inl same | inr none ↦ inr (neither (eqb u.command.handle x) (holds x us) other none) ]
-      ]
+    ]
     by_test false q free rest =
         let p = either_false (eqb u.command.handle x) (holds x (without_handle h us)) free in
         elim (rest p.1) [ inl same ↦ inl same | inr none ↦ inr (neither (eqb u.command.handle x) (holds x us) p.0 none) ]
@@ -155,7 +169,9 @@ good_without s f p next us submitted A h there g = record {
   start = g.start;
   untaken = near_without s f (end_of next) h us g.untaken;
   taken = λ x from below free. elim (holds_without h x us free) [ inl same ↦ rw same at there | inr none ↦ g.taken x from below none ];
-  own = g.own; order = g.order; from = g.from;
+  own = g.own;
+  order = g.order;
+  from = g.from;
 }
 
 -- ---- a command is accepted
@@ -175,16 +191,17 @@ order_more f s before (y ∷ ys) e o new all =
 pub good_grown : (s f : ℕ) (p : Peer) (next : Option ℕ) (us : List Untaken) (submitted : List SubmittedCommand) (A : List Entry) (e : Entry) →
     f ≤ e.command.handle → e.command.handle < end_of next → has e.command.handle A ≡ false → Good s f p next us submitted A → Good s f p next us submitted (A ++ e ∷ [])
 good_grown s f p next us submitted A e from below new g = record {
-    start = g.start;
-    untaken = g.untaken;
-    taken = λ x a b free. has_more x A e (g.taken x a b free);
-    own = each_append _ A (e ∷ []) g.own ((from, below), tt);
-    order = order_more f s [] A e g.order new (λ x a b. g.taken x a (omega arith) (far x us g.untaken b));
-    from = g.from;
-  }
+  start = g.start;
+  untaken = g.untaken;
+  taken = λ x a b free. has_more x A e (g.taken x a b free);
+  own = each_append _ A (e ∷ []) g.own ((from, below), tt);
+  order = order_more f s [] A e g.order new (λ x a b. g.taken x a (omega arith) (far x us g.untaken b));
+  from = g.from;
+}
   where
     apart : (x h : ℕ) → x + s ≤ e.command.handle → end_of next ≤ h + s → eqb h x ≡ false
     apart x h a b = grind (arith, nat_tests)
+
     far : (x : ℕ) (us : List Untaken) → AllByRecursion (Near s f (end_of next)) us → x + s ≤ e.command.handle → holds x us ≡ false
     far x [] q b = refl
     far x (u ∷ us) q b = neither (eqb u.command.handle x) (holds x us) (apart x u.command.handle b q.0.near) (far x us q.1 b)
@@ -203,7 +220,7 @@ all_same (x ∷ xs) = ap (λ b. b && pointwise nat_eq xs xs) (equal_self x) ∙ 
 asks_itself : (c : CommandFields) → asks_the_same c c ≡ true
 asks_itself c =
     five (nat_eq c.target c.target) (nat_eq c.level c.level) (nat_eq c.index c.index) (nat_eq c.count c.count) (pointwise nat_eq c.params c.params)
-      (equal_self c.target) (equal_self c.level) (equal_self c.index) (equal_self c.count) (all_same c.params)
+    (equal_self c.target) (equal_self c.level) (equal_self c.index) (equal_self c.count) (all_same c.params)
   where
     five : (a b c d e : Bool) → a ≡ true → b ≡ true → c ≡ true → d ≡ true → e ≡ true → ((((a && b) && c) && d) && e) ≡ true
     five a b c d e p q r s t = cc
@@ -214,4 +231,4 @@ pub untaken_served : (w s f : ℕ) (p : Peer) (next : Option ℕ) (us : List Unt
 untaken_served w s f p next us submitted A u wide same g i =
     let n = near_of s f (end_of next) u us g.untaken i in
     never_old w u.command A (below_all f s w (end_of next) u.command.handle wide n.0 n.1 [] A g.own g.order)
-      (λ e q. rw (same e q) (asks_itself u.command))
+    (λ e q. rw (same e q) (asks_itself u.command))

@@ -65,13 +65,15 @@ pub record IsTrueAnswer (p : Peer) (h : ℕ) (answer : AnswerFields) (g : Past) 
 pub honest_then : (p : Peer) (x : Execution) (g : Past) (e : Event) → IsHonest p x g → IsHonest p x (and_then e g)
 honest_then p x g e h = record {
   came = record { later = e ∷ h.came.later; before = h.came.before; now = h.came.now; events = ap (λ es. e ∷ es) h.came.events; objects = h.came.objects };
-  submitted = h.submitted; reply = h.reply;
+  submitted = h.submitted;
+  reply = h.reply;
 }
 
 pub honest_submitted : (p : Peer) (x : Execution) (g : Past) (more : List SubmittedCommand) → IsHonest p x g → IsHonest p x (and_submitted more g)
 honest_submitted p x g more h = record {
   came = record { later = h.came.later; before = h.came.before; now = h.came.now; events = h.came.events; objects = h.came.objects };
-  submitted = in_more _ g.submitted more h.submitted; reply = h.reply;
+  submitted = in_more _ g.submitted more h.submitted;
+  reply = h.reply;
 }
 
 executed_more : (p : Peer) (x : Execution) (more ns : List Note) → IsIn x (executed_for p ns) → IsIn x (executed_for p (more ++ ns))
@@ -94,13 +96,20 @@ executed_then p x g (Datagram from bytes now) i =
 
 pub true_then : (p : Peer) (h : ℕ) (a : AnswerFields) (g : Past) (e : Event) → IsTrueAnswer p h a g → IsTrueAnswer p h a (and_then e g)
 true_then p h a g e t = record {
-  execution = t.execution; executed = executed_then p t.execution g e t.executed; honest = honest_then p t.execution g e t.honest;
-  handle = t.handle; answer_is = t.answer_is;
+  execution = t.execution;
+  executed = executed_then p t.execution g e t.executed;
+  honest = honest_then p t.execution g e t.honest;
+  handle = t.handle;
+  answer_is = t.answer_is;
 }
 
 pub true_submitted : (p : Peer) (h : ℕ) (a : AnswerFields) (g : Past) (more : List SubmittedCommand) → IsTrueAnswer p h a g → IsTrueAnswer p h a (and_submitted more g)
 true_submitted p h a g more t = record {
-  execution = t.execution; executed = t.executed; honest = honest_submitted p t.execution g more t.honest; handle = t.handle; answer_is = t.answer_is;
+  execution = t.execution;
+  executed = t.executed;
+  honest = honest_submitted p t.execution g more t.honest;
+  handle = t.handle;
+  answer_is = t.answer_is;
 }
 
 -- ---- what is retained was executed
@@ -121,8 +130,8 @@ accepted_noted e (n ∷ ns) i = by_what n.what refl i (accepted_noted e ns)
     by_what (Executed objects c r) q i rest =
         let d : Entry = record { command = c; reply = r } in
         elim (in_parts e (accepted ns) (d ∷ []) i) [
-          inl a ↦ inr (rest a)
-        | inr b ↦ elim b [ inl same ↦ inl (objects, q ∙ ap (λ (z : Entry). Executed objects z.command z.reply) same) | inr none ↦ absurd none ]
+          | inl a ↦ inr (rest a)
+          | inr b ↦ elim b [ inl same ↦ inl (objects, q ∙ ap (λ (z : Entry). Executed objects z.command z.reply) same) | inr none ↦ absurd none ]
         ]
 
 noted_unbroken : (e : Entry) (ns : List Note) → HasNote e (unbroken ns) → HasNote e ns
@@ -152,8 +161,10 @@ from_note p g e (n ∷ ns) own i = by_test (same_peer n.peer p) refl i (from_not
   where
     further : IsExecuted p e ns g → IsExecuted p e (n ∷ ns) g
     further t = record { objects = t.objects; executed = in_behind _ (cond (same_peer n.peer p) (executed_in n.what) []) (executed_for p ns) t.executed; honest = t.honest }
+
     here : (x : Execution) (b : Bool) (what : Noted) → b ≡ true → what ≡ Executed x.objects x.command x.reply → IsIn x (cond b (executed_in what) [] ++ executed_for p ns)
     here x b what q r = rw (q, r) (inl refl)
+
     by_test : (b : Bool) → same_peer n.peer p ≡ b → HasNote e (cond b (n ∷ notes_of p ns) (notes_of p ns)) → (HasNote e (notes_of p ns) → IsExecuted p e ns g) → IsExecuted p e (n ∷ ns) g
     by_test true q (inl a) rest =
         let x : Execution = record { objects = a.0; command = e.command; reply = e.reply } in
