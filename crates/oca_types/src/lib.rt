@@ -27,6 +27,6 @@ pub use sizes::{Span, Window};
 pub use status::Status;
 pub use text::Text;
 pub use words::{
-    Command, Handle, MOST_BYTES, MOST_PARAMETER_BYTES, MethodId, NoMemory, Ono, Packet, Params, Peer,
-    Reply,
+    Command, Handle, MOST_BYTES, MOST_PARAMETER_BYTES, MethodId, NoMemory, Ono, Packet, Params,
+    Peer, Reply,
 };

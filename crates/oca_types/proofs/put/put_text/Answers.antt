@@ -25,9 +25,9 @@ returns-clause-puts c =
     let bytes = c.as_bytes.ensures.value ∙ c.as_str-text.ensures.value in
     let mid = ap length c.in_ok-put_u16.ensures.puts in
     puts_more c.put_bytes.result c.args.params.now.items c.put_u16.new.params.items c.put_bytes.new.params.items c.as_bytes.result.now (text_encoding c.args.value.now)
-        (joined (length (chars c.args.value.now)) c.scalar_count.result c.args.params.now.items c.put_u16.new.params.items c.put_bytes.new.params.items c.args.value.now c.as_bytes.result.now count c.in_ok-put_u16.ensures.puts bytes)
-        (omega (arith, mid, ap length bytes, length-append c.args.params.now.items (to_be_bytes w16 c.scalar_count.result)))
-        c.put_bytes.ensures.puts
+    (joined (length (chars c.args.value.now)) c.scalar_count.result c.args.params.now.items c.put_u16.new.params.items c.put_bytes.new.params.items c.args.value.now c.as_bytes.result.now count c.in_ok-put_u16.ensures.puts bytes)
+    (omega (arith, mid, ap length bytes, length-append c.args.params.now.items (to_be_bytes w16 c.scalar_count.result)))
+    c.put_bytes.ensures.puts
 
 pub returns-clause-err : goal.returns-clause-err
 returns-clause-err c = never (c.put_bytes.new.params ≡ c.args.params.now) c.put_bytes.result (λ is_err.

@@ -1,0 +1,236 @@
+-- Accepted commands whose handles come in nearly rising order: what is still in the reply window of them.
+use Rattle.std.proofs.Common.{◌≡◌, ℕ, ◌+◌, ◌-◌, ◌*◌, ◌<◌, ◌≤◌, ◌≢◌, Bool, true, false, cond, List, [], ◌∷◌, ◌++◌, length, take, drop, Option, Some, None, refl, sym, ap, ◌∙◌, arith, append_assoc, length-append, zero, suc, ◌⊎◌, inl, inr}
+use Rattle.std.specs.Prelude.{nat_eq, nat_lt, not, ◌&&◌, ◌||◌, map}
+use Rattle.std.specs.List.{list_any, list_all, AllByRecursion, IsDistinct}
+use Rattle.std.proofs.Math.Dec.{eqb}
+use Rattle.std.proofs.lemmas.List.{take-append-drop, length-map}
+use Rattle.std.proofs.lemmas.List.Folds.{list_any-append}
+use Rattle.std.proofs.lemmas.Bool.{eqb-true, eq-eqb}
+use Rattle.std.proofs.lemmas.Bool.Decides.{nat_tests}
+use Rattle.std.proofs.lemmas.Map.Steps.{length-le_from_distinct_below}
+use Rattle.oca_session.specs.Accepted.{Entry, window, outside, has_handle, is_below, accepts, entry_under, Judgement, Fresh, Duplicate, Reused, Old, asks_the_same, duplicate_or_reused, judge_unaccepted, judgement}
+use Rattle.oca_types.specs.declared.words.Reply.{Reply}
+use Rattle.oca_types.specs.Peers.{CommandFields}
+
+pub each_map : {X : Type 0} {P Q : X → Type 0} → ((x : X) → P x → Q x) → (xs : List X) → AllByRecursion P xs → AllByRecursion Q xs
+each_map f [] e = tt
+each_map f (x ∷ xs) e = (f x e.0, each_map f xs e.1)
+
+pub each_both : {X : Type 0} {P Q R : X → Type 0} → ((x : X) → P x → Q x → R x) → (xs : List X) → AllByRecursion P xs → AllByRecursion Q xs → AllByRecursion R xs
+each_both f [] p q = tt
+each_both f (x ∷ xs) p q = (f x p.0 q.0, each_both f xs p.1 q.1)
+
+pub each_append : {X : Type 0} (P : X → Type 0) (xs ys : List X) → AllByRecursion P xs → AllByRecursion P ys → AllByRecursion P (xs ++ ys)
+each_append P [] ys p q = q
+each_append P (x ∷ xs) ys p q = (p.0, each_append P xs ys p.1 q)
+
+-- a test that none of the list passes
+pub none_passes : {X : Type 0} (test : X → Bool) (xs : List X) → list_any test xs ≡ false → AllByRecursion (λ x. test x ≡ false) xs
+none_passes test [] e = tt
+none_passes test (x ∷ xs) e = let p = parts (test x) (list_any test xs) e in (p.0, none_passes test xs p.1)
+  where
+    parts : (a b : Bool) → (a || b) ≡ false → (a ≡ false) × (b ≡ false)
+    parts true b q = (q, cc)
+    parts false b q = (refl, q)
+
+-- numbers that differ, in an interval of k numbers, are at most k
+pub crowd : (k lo : ℕ) (xs : List ℕ) → IsDistinct eqb xs → AllByRecursion (λ z. (lo ≤ z) × (z < lo + k)) xs → length xs ≤ k
+unfolding IsDistinct
+crowd k lo xs d b =
+    let lowered = map (λ z. z - lo) xs in
+    let h : length lowered ≤ k = length-le_from_distinct_below lowered k (differ lo xs b d) (λ q t. below lo xs b q t) in
+    rw length-map at h
+  where
+    other : (lo x : ℕ) → lo ≤ x → (ys : List ℕ) → AllByRecursion (λ z. (lo ≤ z) × (z < lo + k)) ys → AllByRecursion (λ y. eqb x y ≡ false) ys →
+        AllByRecursion (λ y. eqb (x - lo) y ≡ false) (map (λ z. z - lo) ys)
+    other lo x l [] b d = tt
+    other lo x l (y ∷ ys) b d = (apart lo x y l b.0.0 d.0, other lo x l ys b.1 d.1)
+      where
+        apart : (lo x y : ℕ) → lo ≤ x → lo ≤ y → eqb x y ≡ false → eqb (x - lo) (y - lo) ≡ false
+        apart lo x y p q e = grind (arith, nat_tests)
+
+    differ : (lo : ℕ) (xs : List ℕ) → AllByRecursion (λ z. (lo ≤ z) × (z < lo + k)) xs → IsDistinct eqb xs → IsDistinct eqb (map (λ z. z - lo) xs)
+    differ lo [] b d = tt
+    differ lo (x ∷ xs) b d = (other lo x b.0.0 xs b.1 d.0, differ lo xs b.1 d.1)
+
+    below : (lo : ℕ) (xs : List ℕ) → AllByRecursion (λ z. (lo ≤ z) × (z < lo + k)) xs → (q : ℕ) → list_any (eqb q) (map (λ z. z - lo) xs) ≡ true → q < k
+    below lo [] b q t = cc
+    below lo (x ∷ xs) b q t = by_test (below lo xs b.1 q) (eqb q (x - lo)) refl t
+      where
+        by_test : (list_any (eqb q) (map (λ z. z - lo) xs) ≡ true → q < k) → (c : Bool) → eqb q (x - lo) ≡ c → (c || list_any (eqb q) (map (λ z. z - lo) xs)) ≡ true → q < k
+        by_test rest true e u = let same : q ≡ x - lo = eqb-true q (x - lo) e in let l = b.0 in omega arith
+        by_test rest false e u = rest u
+
+-- a command of this handle is among them
+abbrev pub has : ℕ → List Entry → Bool
+has h A = list_any (has_handle h) A
+
+-- Each handle, after those before, is new, and all from f on that lie s or more below it stand before it.
+abbrev pub Ordered : ℕ → ℕ → List Entry → List Entry → Type 0
+Ordered f s before [] = Unit {0}
+Ordered f s before (e ∷ es) =
+    (has e.command.handle before ≡ false) × ((x : ℕ) → f ≤ x → x + s ≤ e.command.handle → has x before ≡ true) × Ordered f s (before ++ e ∷ []) es
+
+pub either_false : (a b : Bool) → (a || b) ≡ false → (a ≡ false) × (b ≡ false)
+either_false true b q = (q, cc)
+either_false false b q = (refl, q)
+
+one_more : (h : ℕ) (before : List Entry) (e : Entry) → has h (before ++ e ∷ []) ≡ false → (has h before ≡ false) × (eqb e.command.handle h ≡ false)
+one_more h before e q =
+    let p = either_false (has h before) (has h (e ∷ [])) (sym (list_any-append (has_handle h) before (e ∷ [])) ∙ q) in
+    (p.0, (either_false (eqb e.command.handle h) false p.1).0)
+
+-- what comes later is not before
+pub later_new : (f s : ℕ) (before es : List Entry) → Ordered f s before es → AllByRecursion (λ e. has e.command.handle before ≡ false) es
+later_new f s before [] o = tt
+later_new f s before (e ∷ es) o =
+    (o.0, each_map (λ z q. (one_more z.command.handle before e q).0) es (later_new f s (before ++ e ∷ []) es o.2))
+
+-- the handles
+abbrev pub handles_of : List Entry → List ℕ
+handles_of es = map (λ e. e.command.handle) es
+
+each_handle : (P : ℕ → Type 0) (es : List Entry) → AllByRecursion (λ e. P e.command.handle) es → AllByRecursion P (handles_of es)
+each_handle P [] p = tt
+each_handle P (e ∷ es) p = (p.0, each_handle P es p.1)
+
+pub distinct : (f s : ℕ) (before es : List Entry) → Ordered f s before es → IsDistinct eqb (handles_of es)
+unfolding IsDistinct
+distinct f s before [] o = tt
+distinct f s before (e ∷ es) o = (
+  each_handle (λ y. eqb e.command.handle y ≡ false) es (each_map (λ z q. (one_more z.command.handle before e q).1) es (later_new f s (before ++ e ∷ []) es o.2)),
+  distinct f s (before ++ e ∷ []) es o.2,
+)
+
+pub lt_or_le : (a b : ℕ) → (a < b) ⊎ (b ≤ a)
+lt_or_le a b = grind arith
+
+-- A handle at or above h has few after it.
+few_after : (f s w n h : ℕ) → 2 * s ≤ w + 1 → h < n → n ≤ h + s → (before : List Entry) (e : Entry) (es : List Entry) →
+    AllByRecursion (λ e. (f ≤ e.command.handle) × (e.command.handle < n)) (e ∷ es) → Ordered f s before (e ∷ es) → h ≤ e.command.handle → length es < w
+few_after f s w n h wide small near before e es own o above =
+    let near_all : AllByRecursion (λ z. ((suc h - s) ≤ z) × (z < (suc h - s) + (2 * s - 1))) (handles_of (e ∷ es)) =
+    each_handle (λ z. ((suc h - s) ≤ z) × (z < (suc h - s) + (2 * s - 1))) (e ∷ es) (
+      at e.command.handle above own.0.1,
+      each_both (λ z q r. at_later z.command.handle q.0 q.1 r) es own.1 (later_new_now es (later_new f s (before ++ e ∷ []) es o.2)),
+    ) in
+    let few : length (handles_of (e ∷ es)) ≤ 2 * s - 1 = crowd (2 * s - 1) (suc h - s) (handles_of (e ∷ es)) (distinct f s before (e ∷ es) o) near_all in
+    let few' : length (e ∷ es) ≤ 2 * s - 1 = rw length-map at few in
+    omega arith
+  where
+    at : (z : ℕ) → h ≤ z → z < n → ((suc h - s) ≤ z) × (z < (suc h - s) + (2 * s - 1))
+    at z p q = (omega arith, omega arith)
+
+    at_later : (z : ℕ) → f ≤ z → z < n → has z before ≡ false → ((suc h - s) ≤ z) × (z < (suc h - s) + (2 * s - 1))
+    at_later z p q r = elim (lt_or_le e.command.handle (z + s)) [
+      | inl later ↦ (omega arith, omega arith)
+      | inr earlier ↦ let wrong : has z before ≡ true = o.1 z p earlier in let no : true ≡ false = sym wrong ∙ r in absurd (differs no)
+    ]
+      where
+        differs : true ≡ false → ⊥
+        differs x = cc
+
+    later_new_now : (es : List Entry) → AllByRecursion (λ z. has z.command.handle (before ++ e ∷ []) ≡ false) es → AllByRecursion (λ z. has z.command.handle before ≡ false) es
+    later_new_now es p = each_map (λ z q. (one_more z.command.handle before e q).0) es p
+
+-- Where h lies less than s below the next handle n, whatever is at or above h is among the last w.
+pub below_all : (f s w n h : ℕ) → 2 * s ≤ w + 1 → h < n → n ≤ h + s → (before es : List Entry) →
+    AllByRecursion (λ e. (f ≤ e.command.handle) × (e.command.handle < n)) es → Ordered f s before es →
+    list_all (λ (e : Entry). nat_lt e.command.handle h) (take (length es - w) es) ≡ true
+below_all f s w n h wide small near before [] own o = none (0 - w)
+  where
+    none : (k : ℕ) → list_all (λ (e : Entry). nat_lt e.command.handle h) (take k []) ≡ true
+    none zero = refl
+    none (suc k) = refl
+below_all f s w n h wide small near before (e ∷ es) own o = elim (lt_or_le (length es) w) [
+  | inl short ↦ let all : length (e ∷ es) - w ≡ 0 = omega arith in ap (λ k. list_all (λ (e : Entry). nat_lt e.command.handle h) (take k (e ∷ es))) all
+  | inr long ↦
+      let one : length (e ∷ es) - w ≡ suc (length es - w) = omega arith in
+      ap (λ k. list_all (λ (e : Entry). nat_lt e.command.handle h) (take k (e ∷ es))) one
+      ∙ both (nat_lt e.command.handle h) _ (head long) (below_all f s w n h wide small near (before ++ e ∷ []) es own.1 o.2)
+]
+  where
+    both : (a b : Bool) → a ≡ true → b ≡ true → (a && b) ≡ true
+    both a b p q = cc
+
+    head : w ≤ length es → nat_lt e.command.handle h ≡ true
+    head long = elim (lt_or_le e.command.handle h) [
+      | inl low ↦ lower e.command.handle h low
+      | inr high ↦ absurd (contra (few_after f s w n h wide small near before e es own o high) long)
+    ]
+      where
+        lower : (a b : ℕ) → a < b → nat_lt a b ≡ true
+        lower a b p = grind (arith, nat_tests)
+
+        contra : {a b : ℕ} → a < b → b ≤ a → ⊥
+        contra p q = omega arith
+
+-- what is under a handle that an entry has
+pub found : (h : ℕ) (es : List Entry) → has h es ≡ true → (e : Entry) × (entry_under h es ≡ Some e)
+found h [] e = absurd (wrong e)
+  where
+    wrong : false ≡ true → ⊥
+    wrong x = cc
+found h (e ∷ es) q = by_test (found h es) (has_handle h e) q
+  where
+    by_test : (has h es ≡ true → (x : Entry) × (entry_under h es ≡ Some x)) → (b : Bool) → (b || has h es) ≡ true → (x : Entry) × (cond b (Some e) (entry_under h es) ≡ Some x)
+    by_test rest true p = (e, refl)
+    by_test rest false p = rest p
+
+-- none of what lies below h has the handle h
+pub none_has : (es : List Entry) (h : ℕ) → list_all (λ (e : Entry). nat_lt e.command.handle h) es ≡ true → has h es ≡ false
+none_has [] h p = refl
+none_has (e ∷ es) h p =
+    let parts = both (nat_lt e.command.handle h) (list_all (λ (x : Entry). nat_lt x.command.handle h) es) p in
+    neither (has_handle h e) (has h es) (other e.command.handle h parts.0) (none_has es h parts.1)
+  where
+    both : (a b : Bool) → (a && b) ≡ true → (a ≡ true) × (b ≡ true)
+    both true b q = (refl, q)
+    both false b q = cc
+
+    neither : (a b : Bool) → a ≡ false → b ≡ false → (a || b) ≡ false
+    neither a b q r = cc
+
+    other : (n k : ℕ) → nat_lt n k ≡ true → nat_eq n k ≡ false
+    other n k q = grind (arith, nat_tests)
+
+-- A judgement by which a command is answered.
+abbrev pub IsServed : Judgement → Type 0
+IsServed Fresh = Unit {0}
+IsServed (Duplicate reply) = Unit {0}
+IsServed Reused = ⊥
+IsServed Old = ⊥
+
+-- what an accepted command under the same handle makes of a command that asks the same
+same_served : (e : Entry) (c : CommandFields) → asks_the_same e.command c ≡ true → IsServed (duplicate_or_reused e c)
+same_served e c same = by_test (asks_the_same e.command c) same
+  where
+    by_test : (b : Bool) → b ≡ true → IsServed (cond b (Duplicate e.reply) Reused)
+    by_test true q = tt
+    by_test false q = cc
+
+-- With nothing at or above its handle outside the window, a command is fresh, or a duplicate where what the window has under
+-- the handle asks the same.
+pub never_old : (w : ℕ) (c : CommandFields) (A : List Entry) → list_all (λ (e : Entry). nat_lt e.command.handle c.handle) (outside w A) ≡ true →
+    ((e : Entry) → entry_under c.handle (window w A) ≡ Some e → asks_the_same e.command c ≡ true) → IsServed (judgement w A c)
+never_old w c A low same = by_has (has c.handle A) refl
+  where
+    whole : has c.handle A ≡ (has c.handle (outside w A) || has c.handle (window w A))
+    whole = sym (ap (has c.handle) (take-append-drop (length A - w) A)) ∙ list_any-append (has_handle c.handle) (outside w A) (window w A)
+
+    in_window : has c.handle A ≡ true → has c.handle (window w A) ≡ true
+    in_window p = sym (sym p ∙ whole ∙ ap (λ b. b || has c.handle (window w A)) (none_has (outside w A) c.handle low))
+
+    judged : (b d : Bool) → has c.handle A ≡ b → list_all (λ (e : Entry). nat_lt e.command.handle c.handle) (outside w A) ≡ d →
+        judgement w A c ≡ cond (not b && d) Fresh (judge_unaccepted (entry_under c.handle (window w A)) c)
+    judged b d p q = ap (λ x. cond (not x && list_all (λ (e : Entry). nat_lt e.command.handle c.handle) (outside w A)) Fresh (judge_unaccepted (entry_under c.handle (window w A)) c)) p
+        ∙ ap (λ x. cond (not b && x) Fresh (judge_unaccepted (entry_under c.handle (window w A)) c)) q
+
+    moved : {j k : Judgement} → j ≡ k → IsServed k → IsServed j
+    moved {j} {k} e p = rw e p
+
+    by_has : (b : Bool) → has c.handle A ≡ b → IsServed (judgement w A c)
+    by_has true p =
+        let r = found c.handle (window w A) (in_window p) in
+        moved (judged true true p low ∙ ap (λ o. judge_unaccepted o c) r.1) (same_served r.0 c (same r.0 r.1))
+    by_has false p = moved (judged false true p low) tt

@@ -1,0 +1,478 @@
+-- What holds of one link, when its own datagram comes to the device, and when the link does something.
+use Rattle.std.proofs.Common.{append-nil, ◌≡◌, ℕ, ◌+◌, ◌-◌, ◌^◌, ◌<◌, ◌≤◌, ◌≢◌, Bool, true, false, cond, List, [], ◌∷◌, ◌++◌, length, Option, Some, None, refl, sym, ap, ◌∙◌, arith, zero, suc, ◌⊎◌, inl, inr}
+use Rattle.std.specs.Prelude.{nat_eq, nat_lt, nat_le, max, not, ◌&&◌, ◌||◌, map, filter, is_some, is_none, Result, Ok, Err}
+use Rattle.std.specs.List.{list_any, list_all, AllByRecursion}
+use Rattle.std.proofs.lemmas.Bool.Decides.{nat_tests}
+use Rattle.oca_types.specs.declared.words.Peer.{Peer}
+use Rattle.oca_types.specs.declared.words.Handle.{Handle}
+use Rattle.oca_types.specs.declared.words.Reply.{Reply}
+use Rattle.oca_types.specs.Peers.{same_peer, CommandFields}
+use Rattle.oca_pdu.specs.declared.message.Form.TheVariants.{Seconds, Millis}
+use Rattle.oca_pdu.specs.Messages.{ResponseFields, Msg, Command, Response, KeepAlive, Commands, Responses, OneKeepAlive}
+use Rattle.oca_pdu.specs.Encoding.{pdu_encoding, ResponseFits, CommandFits}
+use Rattle.oca_pdu.specs.Reading.{read_datagram}
+use Rattle.oca_pdu.specs.Laws.{WrittenIsReadBack}
+use Rattle.oca_tree.specs.declared.object.Object.{Object}
+use Rattle.oca_session.specs.Accepted.{Entry, window, entry_under, Judgement, Fresh, Duplicate, Reused, Old, judgement}
+use Rattle.oca_device.specs.Events.{Event, Datagram, Tick}
+use Rattle.oca_device.specs.Notes.{Noted, Admitted, Heartbeat, Executed, Note, notes_of, run, accepted}
+use Rattle.oca_device.specs.States.{State, noted, moved_to, admits, judged_in, reply_of, after_command, after_message, after_messages, after_reading, time_of}
+use Rattle.oca_device.specs.Answers.{response, answer_to_command, answers_to_messages, answers_to_reading, packets_of, packets}
+use Rattle.oca_control.specs.Answers.{AnswerFields, answer_in}
+use Rattle.oca_control.specs.Untaken.{Untaken, new_untaken, has_room, is_due, first_due, given_out, waits, answered, hears, answer_under, without_handle}
+use Rattle.oca_control.specs.declared.fault.ControlFault.{ControlFault}
+use Rattle.oca_control.specs.declared.fault.ControlFault.TheVariants as faults
+use Rattle.oca_control.specs.Links.{LinkState, Request, command_under, submission_under, submission, handle_after, after_submission, submitted, Decision, GivesCommand, GivesKeepAlive, GivesNothing, IsLost, decision_among, decision, due_bytes, after_due, gone_on, hears_content, received, taken, present}
+use Rattle.oca_pair.specs.Networks.{SentDatagram, SubmittedCommand, TakenAnswer, device_address}
+use Rattle.oca_pair.specs.Steps.{sendings, submitted_by, given_by, messages_read, content_of, taken_by}
+use Rattle.oca_pair.specs.Premises.{RequestFits}
+use Rattle.oca_pair.specs.Laws.{IsIn, Execution, executed_in, executed_for, answer_of, response_to, WasSubmitted}
+use Rattle.oca_pair.proofs.Core.{each_map, each_append, has}
+use Rattle.oca_pair.proofs.Lists.{in_more, in_behind, in_parts, in_last, each_in, same_self, same_is, same_of, equal_is, both_true}
+use Rattle.oca_pair.proofs.Wire.{IsSendable, read_command, read_keep_alive, read_response}
+use Rattle.oca_pair.proofs.Fitting.{reply_fits}
+use Rattle.oca_pair.proofs.Truths.{Past, and_then, and_submitted, state_of, IsHonest, IsTrueAnswer, honest_then, true_then, IsOwn, IsExecuted, window_executed}
+use Rattle.oca_pair.proofs.Fair.{end_of, NextFits, IsOut, IsBack, IsHeld, IsFair, AreSendable, AreUnique, AreOwn, Fair, fair_more, fair_then, owns_then, judged_fresh, judged_duplicate}
+
+-- ---- a datagram of the link itself
+
+-- the state when the datagram is looked at, and when it is admitted
+abbrev pub looked_at : ℕ → Past → State
+looked_at now g = moved_to (max (state_of g).moment now) (state_of g)
+
+abbrev pub let_in : Peer → Msg → ℕ → Past → State
+let_in p m now g = noted p (Admitted (m ∷ [])) (looked_at now g)
+
+pub executed_now : (p : Peer) (at : ℕ) (objects : List Object) (c : CommandFields) (r : Reply) (ns : List Note) →
+    let x : Execution = record { objects = objects; command = c; reply = r } in
+    let n : Note = record { peer = p; at = at; what = Executed objects c r } in IsIn x (executed_for p (n ∷ ns))
+executed_now p at objects c r ns = by_same (same_peer p p) (same_self p)
+  where
+    x : Execution
+    x = record { objects = objects; command = c; reply = r }
+
+    by_same : (b : Bool) → b ≡ true → IsIn x (cond b (x ∷ []) [] ++ executed_for p ns)
+    by_same true q = inl refl
+    by_same false q = cc
+
+-- what is sent back for these answers
+back_of : (law : WrittenIsReadBack) (p : Peer) (g : Past) (r : ResponseFields) → ResponseFits r → length r.params ≤ 1452 → IsTrueAnswer p r.handle (answer_in r) g →
+    AllByRecursion (λ (d : SentDatagram). d.peer ≡ p → IsBack p g d.bytes) (sendings p (packets_of (Response r ∷ [])))
+back_of law p g r fits short t = ((λ same. inl (r, t, read_response law r fits short)), tt)
+
+-- what the state and the answers are, and what follows from that
+settled : (p : Peer) (next : Option ℕ) (us : List Untaken) (g : Past) (out back : List SentDatagram) (handed : List TakenAnswer) (bytes : List ℕ) (now : ℕ)
+    (s : State) (answers : List Msg) → state_of (and_then (Datagram p bytes now) g) ≡ s →
+    answers_to_reading g.window p (read_datagram bytes) (looked_at now g) ≡ answers →
+    AreOwn p (and_then (Datagram p bytes now) g) s.notes →
+    AllByRecursion (λ (d : SentDatagram). d.peer ≡ p → IsBack p (and_then (Datagram p bytes now) g) d.bytes) (sendings p (packets_of answers)) →
+    Fair p next us g out back handed →
+    Fair p next us (and_then (Datagram p bytes now) g) out (back ++ sendings p (packets g.window g.tree g.events (Datagram p bytes now))) handed
+settled p next us g out back handed bytes now s answers state_is answers_are own new f =
+    fair_then p next us g out back handed (Datagram p bytes now) (sendings p (packets g.window g.tree g.events (Datagram p bytes now)))
+    (owned ((state_of (and_then (Datagram p bytes now) g)).notes) (ap (λ (x : State). x.notes) state_is) own)
+    (sent (packets g.window g.tree g.events (Datagram p bytes now)) (ap packets_of answers_are) new) f
+  where
+    owned : (ns : List Note) → ns ≡ s.notes → AreOwn p (and_then (Datagram p bytes now) g) s.notes → AreOwn p (and_then (Datagram p bytes now) g) ns
+    owned ns e a = rw e a
+
+    sent : (ps : List (List ℕ)) → ps ≡ packets_of answers →
+        AllByRecursion (λ (d : SentDatagram). d.peer ≡ p → IsBack p (and_then (Datagram p bytes now) g) d.bytes) (sendings p (packets_of answers)) →
+        AllByRecursion (λ (d : SentDatagram). d.peer ≡ p → IsBack p (and_then (Datagram p bytes now) g) d.bytes) (sendings p ps)
+    sent ps e a = rw e a
+
+-- the state after a message that was read, and the answers to it
+pub after_read : (w : ℕ) (p : Peer) (m : Msg) (bytes : List ℕ) (now : ℕ) (g : Past) (room : Bool) → read_datagram bytes ≡ Ok (m ∷ []) → admits (looked_at now g) p ≡ room →
+    after_reading w p (read_datagram bytes) (looked_at now g) ≡ cond room (after_message w p m (let_in p m now g)) (looked_at now g)
+after_read w p m bytes now g room read admitted =
+    ap (λ r. after_reading w p r (looked_at now g)) read
+    ∙ ap (λ b. cond b (after_message w p m (let_in p m now g)) (looked_at now g)) admitted
+
+pub answers_read : (w : ℕ) (p : Peer) (m : Msg) (bytes : List ℕ) (now : ℕ) (g : Past) (room : Bool) → read_datagram bytes ≡ Ok (m ∷ []) → admits (looked_at now g) p ≡ room →
+    answers_to_reading w p (read_datagram bytes) (looked_at now g) ≡ cond room (answers_to_messages w p (m ∷ []) (let_in p m now g)) []
+answers_read w p m bytes now g room read admitted =
+    ap (λ r. answers_to_reading w p r (looked_at now g)) read
+    ∙ ap (λ b. cond b (answers_to_messages w p (m ∷ []) (let_in p m now g)) []) admitted
+
+pub fair_command : (law : WrittenIsReadBack) (p : Peer) (next : Option ℕ) (us : List Untaken) (g : Past) (out back : List SentDatagram) (handed : List TakenAnswer) (c : CommandFields) (now : ℕ) →
+    IsSendable c → WasSubmitted p c g.submitted → Fair p next us g out back handed →
+    let e : Event = Datagram p (pdu_encoding (Commands true (c ∷ []))) now in
+    Fair p next us (and_then e g) out (back ++ sendings p (packets g.window g.tree g.events e)) handed
+fair_command law p next us g out back handed c now sendable sub f = by_room (admits (looked_at now g) p) refl
+  where
+    bytes : List ℕ
+    bytes = pdu_encoding (Commands true (c ∷ []))
+
+    m : Msg
+    m = Command true c
+
+    e : Event
+    e = Datagram p bytes now
+
+    g' : Past
+    g' = and_then e g
+
+    s2 : State
+    s2 = let_in p m now g
+
+    read : read_datagram bytes ≡ Ok (m ∷ [])
+    read = read_command law c sendable
+
+    own2 : AreOwn p g' s2.notes
+    own2 = ((λ same. tt), owns_then p g e (state_of g).notes f.own)
+
+    -- executed now
+    x : Execution
+    x = record { objects = s2.tree; command = c; reply = reply_of s2.tree p c }
+
+    honest : IsHonest p x g'
+    honest = record { came = record { later = []; before = g.events; now = now; events = refl; objects = refl }; submitted = sub; reply = refl }
+
+    by_judgement : (j : Judgement) → judged_in g.window s2 p c ≡ j → admits (looked_at now g) p ≡ true →
+        Fair p next us g' out (back ++ sendings p (packets g.window g.tree g.events e)) handed
+    by_judgement Fresh q room =
+        let state_is : state_of g' ≡ after_command Fresh p c s2 = after_read g.window p m bytes now g true read room ∙ ap (λ j. after_command j p c s2) q in
+        let answers_are : answers_to_reading g.window p (read_datagram bytes) (looked_at now g) ≡ response c.handle x.reply ∷ [] =
+        answers_read g.window p m bytes now g true read room ∙ ap (λ j. answer_to_command j p c s2 ++ []) q in
+        let small = reply_fits s2.tree p c c.handle sendable.fits.handle in
+        let t : IsTrueAnswer p c.handle (answer_of x.reply) g' = record {
+          execution = x;
+          executed = rw state_is (executed_now p s2.moment s2.tree c x.reply s2.notes);
+          honest = honest;
+          handle = refl;
+          answer_is = refl;
+        } in
+        settled p next us g out back handed bytes now (after_command Fresh p c s2) (response c.handle x.reply ∷ []) state_is answers_are
+        ((λ same. honest), own2)
+        (back_of law p g' (response_to c.handle x.reply) small.0 small.1 t) f
+    by_judgement (Duplicate r) q room =
+        let state_is : state_of g' ≡ s2 = after_read g.window p m bytes now g true read room ∙ ap (λ j. after_command j p c s2) q in
+        let answers_are : answers_to_reading g.window p (read_datagram bytes) (looked_at now g) ≡ response c.handle r ∷ [] =
+        answers_read g.window p m bytes now g true read room ∙ ap (λ j. answer_to_command j p c s2 ++ []) q in
+        let d = judged_duplicate g.window (accepted (run p s2.notes)) c r q in
+        let k = window_executed g.window p g' c.handle d.0 s2.notes own2 d.1 in
+        let y : Execution = record { objects = k.0.objects; command = d.0.command; reply = d.0.reply } in
+        let gave : r ≡ reply_of k.0.objects p d.0.command = sym d.2 ∙ k.0.honest.reply in
+        let small = reply_fits k.0.objects p d.0.command c.handle sendable.fits.handle in
+        let t : IsTrueAnswer p c.handle (answer_of r) g' = record {
+          execution = y;
+          executed = rw state_is k.0.executed;
+          honest = k.0.honest;
+          handle = equal_is d.0.command.handle c.handle k.1;
+          answer_is = ap answer_of (sym d.2);
+        } in
+        settled p next us g out back handed bytes now s2 (response c.handle r ∷ []) state_is answers_are own2
+        (back_of law p g' (response_to c.handle r) (rw gave small.0) (rw gave small.1) t) f
+    by_judgement Reused q room =
+        settled p next us g out back handed bytes now s2 [] (after_read g.window p m bytes now g true read room ∙ ap (λ j. after_command j p c s2) q)
+        (answers_read g.window p m bytes now g true read room ∙ ap (λ j. answer_to_command j p c s2 ++ []) q) own2 tt f
+    by_judgement Old q room =
+        settled p next us g out back handed bytes now s2 [] (after_read g.window p m bytes now g true read room ∙ ap (λ j. after_command j p c s2) q)
+        (answers_read g.window p m bytes now g true read room ∙ ap (λ j. answer_to_command j p c s2 ++ []) q) own2 tt f
+
+    by_room : (b : Bool) → admits (looked_at now g) p ≡ b → Fair p next us g' out (back ++ sendings p (packets g.window g.tree g.events e)) handed
+    by_room true room = by_judgement (judged_in g.window s2 p c) refl room
+    by_room false room =
+        settled p next us g out back handed bytes now (looked_at now g) [] (after_read g.window p m bytes now g false read room)
+        (answers_read g.window p m bytes now g false read room) (owns_then p g e (state_of g).notes f.own) tt f
+
+pub fair_keep_alive : (law : WrittenIsReadBack) (p : Peer) (next : Option ℕ) (us : List Untaken) (g : Past) (out back : List SentDatagram) (handed : List TakenAnswer) (now : ℕ) →
+    Fair p next us g out back handed →
+    let e : Event = Datagram p (pdu_encoding (OneKeepAlive (Seconds 5))) now in
+    Fair p next us (and_then e g) out (back ++ sendings p (packets g.window g.tree g.events e)) handed
+fair_keep_alive law p next us g out back handed now f = by_room (admits (looked_at now g) p) refl
+  where
+    bytes : List ℕ
+    bytes = pdu_encoding (OneKeepAlive (Seconds 5))
+
+    m : Msg
+    m = KeepAlive (Seconds 5)
+
+    e : Event
+    e = Datagram p bytes now
+
+    read : read_datagram bytes ≡ Ok (m ∷ [])
+    read = read_keep_alive law
+
+    by_room : (b : Bool) → admits (looked_at now g) p ≡ b → Fair p next us (and_then e g) out (back ++ sendings p (packets g.window g.tree g.events e)) handed
+    by_room true room =
+        settled p next us g out back handed bytes now (noted p (Heartbeat (time_of (Seconds 5))) (let_in p m now g)) (m ∷ []) (after_read g.window p m bytes now g true read room)
+        (answers_read g.window p m bytes now g true read room) ((λ same. tt), ((λ same. tt), owns_then p g e (state_of g).notes f.own)) ((λ same. inr read), tt) f
+    by_room false room =
+        settled p next us g out back handed bytes now (looked_at now g) [] (after_read g.window p m bytes now g false read room)
+        (answers_read g.window p m bytes now g false read room) (owns_then p g e (state_of g).notes f.own) tt f
+
+-- ---- the link's own steps
+
+pub granted : (r : Request) (l : LinkState) (h : Handle) → submission r l ≡ Ok h → (l.next ≡ Some h.0) × (has_room l.span h.0 l.untaken ≡ true) × (length r.params ≤ 1445)
+granted r l h e = by_lost l.lost e
+  where
+    within : (n : ℕ) → nat_lt 1445 n ≡ false → n ≤ 1445
+    within n q = grind (arith, nat_tests)
+
+    got : (n : ℕ) → let a : Result Handle ControlFault = Ok (record { 0 = n }) in a ≡ Ok h → n ≡ h.0
+    got n q = let same : (let a : Handle = record { 0 = n } in a ≡ h) = cc in ap (λ (a : Handle). a.0) same
+
+    by_long : (n : ℕ) (b : Bool) → nat_lt 1445 (length r.params) ≡ b → cond b (Err faults.TooLong) (Ok (record { 0 = n })) ≡ Ok h → (n ≡ h.0) × (length r.params ≤ 1445)
+    by_long n true k q = cc
+    by_long n false k q = (got n q, within (length r.params) k)
+
+    by_room : (n : ℕ) (b : Bool) → has_room l.span n l.untaken ≡ b →
+        cond b (cond (nat_lt 1445 (length r.params)) (Err faults.TooLong) (Ok (record { 0 = n }))) (Err faults.SpanFull) ≡ Ok h →
+        (n ≡ h.0) × (has_room l.span h.0 l.untaken ≡ true) × (length r.params ≤ 1445)
+    by_room n true k q = let a = by_long n (nat_lt 1445 (length r.params)) refl q in (a.0, sym (ap (λ i. has_room l.span i l.untaken) a.0) ∙ k, a.1)
+    by_room n false k q = cc
+
+    by_next : (o : Option ℕ) → submission_under r o l ≡ Ok h → (o ≡ Some h.0) × (has_room l.span h.0 l.untaken ≡ true) × (length r.params ≤ 1445)
+    by_next None q = cc
+    by_next (Some n) q = let a = by_room n (has_room l.span n l.untaken) refl q in (ap Some a.0, a.1, a.2)
+
+    by_lost : (b : Bool) → cond b (Err faults.Lost) (submission_under r l.next l) ≡ Ok h → (l.next ≡ Some h.0) × (has_room l.span h.0 l.untaken ≡ true) × (length r.params ≤ 1445)
+    by_lost true q = cc
+    by_lost false q = by_next l.next q
+
+pub end_after : (h : ℕ) → end_of (handle_after h) ≡ h + 1
+end_after h = by_test (nat_eq h 4294967295) refl
+  where
+    by_test : (b : Bool) → nat_eq h 4294967295 ≡ b → end_of (cond b None (Some (h + 1))) ≡ h + 1
+    by_test true q = let e : h ≡ 4294967295 = equal_is h 4294967295 q in omega arith
+    by_test false q = refl
+
+next_fits : (h : ℕ) → h < 2 ^ 32 → NextFits (handle_after h)
+next_fits h low = by_test (nat_eq h 4294967295) refl
+  where
+    higher : nat_eq h 4294967295 ≡ false → h + 1 < 2 ^ 32
+    higher q = grind (arith, nat_tests)
+
+    by_test : (b : Bool) → nat_eq h 4294967295 ≡ b → NextFits (cond b None (Some (h + 1)))
+    by_test true q = tt
+    by_test false q = higher q
+
+-- the link of the peer submits
+pub fair_submit : (p : Peer) (r : Request) (now : ℕ) (l : LinkState) (g : Past) (out back : List SentDatagram) (handed : List TakenAnswer) → RequestFits r →
+    Fair p l.next l.untaken g out back handed →
+    Fair p (submitted r now l).next (submitted r now l).untaken (and_submitted (submitted_by p r (submission r l)) g) out back handed
+fair_submit p r now l g out back handed fits f = by_answer (submission r l) refl
+  where
+    by_answer : (a : Result Handle ControlFault) → submission r l ≡ a →
+        Fair p (after_submission a r now l).next (after_submission a r now l).untaken (and_submitted (submitted_by p r a) g) out back handed
+    by_answer (Err fault) e =
+        fair_more p l.next l.next l.untaken l.untaken g out back handed [] f.fits (rw append-nil f.sendable) (rw append-nil f.unique) (λ a. a) f
+    by_answer (Ok h) e =
+        let t = granted r l h e in
+        let was : end_of l.next ≡ h.0 = ap end_of t.0 in
+        let is : end_of (handle_after h.0) ≡ h.0 + 1 = end_after h.0 in
+        let low : h.0 < 2 ^ 32 = rw t.0 at f.fits in
+        let c : CommandFields = command_under h.0 r in
+        let new : SubmittedCommand = record { peer = p; command = c } in
+        fair_more p l.next (handle_after h.0) l.untaken (l.untaken ++ new_untaken c ∷ []) g out back handed (new ∷ []) (next_fits h.0 low)
+        (each_append _ g.submitted (new ∷ [])
+        (each_map (λ x a same. ((a same).0, higher x.command.handle (end_of l.next) (end_of (handle_after h.0)) h.0 was is (a same).1)) g.submitted f.sendable) (
+          (λ same. (
+            record { fits = record { handle = low; target = fits.target; level = fits.level; index = fits.index; count = fits.count; size = room (length r.params) t.2 }; short = t.2 },
+            last h.0 (end_of (handle_after h.0)) is,
+          )),
+          tt,
+        ))
+        (unique new h.0 was refl)
+        (λ a. each_append _ l.untaken (new_untaken c ∷ []) a ((in_last new g.submitted, tt), tt)) f
+      where
+        higher : (x a b h : ℕ) → a ≡ h → b ≡ h + 1 → x < a → x < b
+        higher x a b h e q k = omega arith
+
+        last : (h b : ℕ) → b ≡ h + 1 → h < b
+        last h b q = omega arith
+
+        room : (n : ℕ) → n ≤ 1445 → 17 + n < 2 ^ 32
+        room n k = omega arith
+
+        below : (c : CommandFields) → WasSubmitted p c g.submitted → c.handle < end_of l.next
+        below c i = (each_in (λ (x : SubmittedCommand). x.peer ≡ p → IsSendable x.command × (x.command.handle < end_of l.next)) _ g.submitted f.sendable i refl).1
+
+        never : {X : Type 0} (a b n : ℕ) → a < n → n ≡ b → a ≡ b → X
+        never a b n q r s = absurd (omega arith)
+
+        command_is : (new : SubmittedCommand) (c : CommandFields) → (let it : SubmittedCommand = record { peer = p; command = c } in new ≡ it) → new.command ≡ c
+        command_is new c e = ap (λ (x : SubmittedCommand). x.command) e
+
+        handle_is : (c d : CommandFields) → c ≡ d → c.handle ≡ d.handle
+        handle_is c d e = ap (λ (x : CommandFields). x.handle) e
+
+        unique : (new : SubmittedCommand) (h : ℕ) → end_of l.next ≡ h → new.command.handle ≡ h → AreUnique p (g.submitted ++ new ∷ [])
+        unique new h was own c d i j e = elim (in_parts _ g.submitted (new ∷ []) i) [
+          | inl a ↦ elim (in_parts _ g.submitted (new ∷ []) j) [
+            | inl b ↦ f.unique c d a b e
+            | inr b ↦ elim b [ inl q ↦ never c.handle h (end_of l.next) (below c a) was (e ∙ sym (handle_is new.command d (command_is new d q)) ∙ own) | inr n ↦ absurd n ]
+          ]
+          | inr a ↦ elim a [
+            | inl q ↦ elim (in_parts _ g.submitted (new ∷ []) j) [
+              | inl b ↦ never d.handle h (end_of l.next) (below d b) was (sym e ∙ sym (handle_is new.command c (command_is new c q)) ∙ own)
+              | inr b ↦ elim b [ inl t ↦ sym (command_is new c q) ∙ command_is new d t | inr n ↦ absurd n ]
+            ]
+            | inr n ↦ absurd n
+          ]
+        ]
+
+-- the link of another peer submits
+pub fair_submitted_by : (p q : Peer) (r : Request) (a : Result Handle ControlFault) (next : Option ℕ) (us : List Untaken) (g : Past) (out back : List SentDatagram) (handed : List TakenAnswer) →
+    (q ≡ p → ⊥) → Fair p next us g out back handed → Fair p next us (and_submitted (submitted_by q r a) g) out back handed
+fair_submitted_by p q r a next us g out back handed other f =
+    fair_more p next next us us g out back handed (submitted_by q r a) f.fits
+    (each_append _ g.submitted (submitted_by q r a) f.sendable (none a))
+    (λ c d i j e. f.unique c d (old c a i) (old d a j) e) (λ x. x) f
+  where
+    none : (a : Result Handle ControlFault) → AreSendable p next (submitted_by q r a)
+    none (Ok h) = ((λ same. absurd (other same)), tt)
+    none (Err fault) = tt
+
+    not_his : (c : CommandFields) (a : Result Handle ControlFault) → WasSubmitted p c (submitted_by q r a) → ⊥
+    not_his c (Ok h) i = elim i [ inl e ↦ other (ap (λ (x : SubmittedCommand). x.peer) e) | inr n ↦ n ]
+    not_his c (Err fault) i = i
+
+    old : (c : CommandFields) (a : Result Handle ControlFault) → WasSubmitted p c (g.submitted ++ submitted_by q r a) → WasSubmitted p c g.submitted
+    old c a i = elim (in_parts _ g.submitted (submitted_by q r a) i) [ inl b ↦ b | inr n ↦ absurd (not_his c a n) ]
+
+fair_given_out : (p : Peer) (g : Past) (t h : ℕ) (us : List Untaken) → AllByRecursion (IsFair p g) us → AllByRecursion (IsFair p g) (map (given_out t h) us)
+fair_given_out p g t h [] a = tt
+fair_given_out p g t h (u ∷ us) a = ((a.0.0, a.0.1), fair_given_out p g t h us a.1)
+
+submitted_due : (p : Peer) (g : Past) (t : ℕ) (us : List Untaken) → AllByRecursion (IsFair p g) us → (u : Untaken) → first_due t us ≡ Some u → WasSubmitted p u.command g.submitted
+submitted_due p g t [] a u e = cc
+submitted_due p g t (x ∷ xs) a u e = by_test (submitted_due p g t xs a.1 u) (is_due t x) e
+  where
+    by_test : (first_due t xs ≡ Some u → WasSubmitted p u.command g.submitted) → (b : Bool) → cond b (Some x) (first_due t xs) ≡ Some u → WasSubmitted p u.command g.submitted
+    by_test rest true q = let same : x ≡ u = cc in rw same at a.0.0
+    by_test rest false q = rest q
+
+abbrev Outs : Peer → Past → Decision → Type 0
+Outs p g d = AllByRecursion (λ (x : SentDatagram). x.peer ≡ p → IsOut p g.submitted x.bytes) (sendings p (given_by d))
+
+given_out_is : (p : Peer) (now : ℕ) (l : LinkState) (g : Past) → AllByRecursion (IsFair p g) l.untaken →
+    AllByRecursion (λ (d : SentDatagram). d.peer ≡ p → IsOut p g.submitted d.bytes) (sendings p (given_by (decision now l)))
+given_out_is p now l g a = by_lost l.lost
+  where
+    by_many : (u : Untaken) → WasSubmitted p u.command g.submitted → (b : Bool) → Outs p g (cond b (GivesCommand u.command) IsLost)
+    by_many u q true = ((λ same. inl (u.command, q, refl)), tt)
+    by_many u q false = tt
+
+    by_quiet : (b : Bool) → Outs p g (cond b GivesKeepAlive GivesNothing)
+    by_quiet true = ((λ same. inr refl), tt)
+    by_quiet false = tt
+
+    by_first : (o : Option Untaken) → first_due (present now l) l.untaken ≡ o → Outs p g (decision_among (present now l) l.sent o)
+    by_first None e = by_quiet (nat_le 2500 (present now l - l.sent))
+    by_first (Some u) e = by_many u (submitted_due p g (present now l) l.untaken a u e) (nat_lt u.times 20)
+
+    by_lost : (b : Bool) → Outs p g (cond b IsLost (decision_among (present now l) l.sent (first_due (present now l) l.untaken)))
+    by_lost true = tt
+    by_lost false = by_first (first_due (present now l) l.untaken) refl
+
+pub fair_gone_on : (p : Peer) (now : ℕ) (l : LinkState) (g : Past) (out back : List SentDatagram) (handed : List TakenAnswer) → Fair p l.next l.untaken g out back handed →
+    Fair p (gone_on now l).next (gone_on now l).untaken g (out ++ sendings p (given_by (decision now l))) back handed
+fair_gone_on p now l g out back handed f = by_decision (decision now l) (given_out_is p now l g f.untaken)
+  where
+    with_untaken : (us : List Untaken) (more : List SentDatagram) → AllByRecursion (IsFair p g) us → AllByRecursion (λ (d : SentDatagram). d.peer ≡ p → IsOut p g.submitted d.bytes) more →
+        Fair p l.next us g (out ++ more) back handed
+    with_untaken us more a new = record { fits = f.fits; own = f.own; outgoing = each_append _ out more f.outgoing new; incoming = f.incoming; untaken = a; handed_on = f.handed_on; sendable = f.sendable; unique = f.unique }
+
+    by_decision : (d : Decision) → AllByRecursion (λ (x : SentDatagram). x.peer ≡ p → IsOut p g.submitted x.bytes) (sendings p (given_by d)) →
+        Fair p (after_due d (present now l) l).next (after_due d (present now l) l).untaken g (out ++ sendings p (given_by d)) back handed
+    by_decision (GivesCommand c) new = with_untaken (map (given_out (present now l) c.handle) l.untaken) (sendings p (given_by (GivesCommand c))) (fair_given_out p g (present now l) c.handle l.untaken f.untaken) new
+    by_decision GivesKeepAlive new = with_untaken l.untaken (sendings p (given_by GivesKeepAlive)) f.untaken new
+    by_decision GivesNothing new = with_untaken l.untaken [] f.untaken new
+    by_decision IsLost new = with_untaken l.untaken [] f.untaken new
+
+-- another sends to the device
+pub fair_sent : (p q : Peer) (next : Option ℕ) (us : List Untaken) (g : Past) (out back : List SentDatagram) (handed : List TakenAnswer) (packets : List (List ℕ)) →
+    (q ≡ p → ⊥) → Fair p next us g out back handed → Fair p next us g (out ++ sendings q packets) back handed
+fair_sent p q next us g out back handed packets other f = record {
+  fits = f.fits;
+  own = f.own;
+  outgoing = each_append _ out (sendings q packets) f.outgoing (none packets);
+  incoming = f.incoming;
+  untaken = f.untaken;
+  handed_on = f.handed_on;
+  sendable = f.sendable;
+  unique = f.unique;
+}
+  where
+    none : (packets : List (List ℕ)) → AllByRecursion (λ (d : SentDatagram). d.peer ≡ p → IsOut p g.submitted d.bytes) (sendings q packets)
+    none [] = tt
+    none (b ∷ bs) = ((λ same. absurd (other same)), none bs)
+
+-- ---- a datagram comes to the link
+
+fair_answered : (p : Peer) (g : Past) (h : ℕ) (a : AnswerFields) → IsTrueAnswer p h a g → (us : List Untaken) → AllByRecursion (IsFair p g) us → AllByRecursion (IsFair p g) (map (answered h a) us)
+fair_answered p g h a t [] f = tt
+fair_answered p g h a t (u ∷ us) f = ((f.0.0, by_test (nat_eq u.command.handle h) (is_none u.answer) refl), fair_answered p g h a t us f.1)
+  where
+    by_test : (b c : Bool) → nat_eq u.command.handle h ≡ b → IsHeld p g u.command.handle (cond (b && c) (Some a) u.answer)
+    by_test true true q = let same : u.command.handle ≡ h = equal_is u.command.handle h q in rw same t
+    by_test true false q = f.0.1
+    by_test false c q = f.0.1
+
+pub fair_hears : (p : Peer) (bytes : List ℕ) (g : Past) (us : List Untaken) → IsBack p g bytes → AllByRecursion (IsFair p g) us → AllByRecursion (IsFair p g) (hears_content (content_of bytes) us)
+fair_hears p bytes g us (inl (r, t, read)) f = rw read (fair_answered p g r.handle (answer_in r) t us f)
+fair_hears p bytes g us (inr read) f = rw read f
+
+pub fair_untaken : (p : Peer) (next : Option ℕ) (us vs : List Untaken) (g : Past) (out back : List SentDatagram) (handed more : List TakenAnswer) →
+    AllByRecursion (IsFair p g) vs → AllByRecursion (λ (t : TakenAnswer). t.peer ≡ p → IsTrueAnswer p t.handle t.answer g) more →
+    Fair p next us g out back handed → Fair p next vs g out back (handed ++ more)
+fair_untaken p next us vs g out back handed more a new f = record {
+  fits = f.fits;
+  own = f.own;
+  outgoing = f.outgoing;
+  incoming = f.incoming;
+  untaken = a;
+  handed_on = each_append _ handed more f.handed_on new;
+  sendable = f.sendable;
+  unique = f.unique;
+}
+
+pub fair_received : (p : Peer) (bytes : List ℕ) (now : ℕ) (l : LinkState) (g : Past) (out back : List SentDatagram) (handed : List TakenAnswer) → IsBack p g bytes →
+    Fair p l.next l.untaken g out back handed →
+    Fair p l.next (received device_address (content_of bytes) now l).untaken g out back handed
+fair_received p bytes now l g out back handed b f = by_from (same_peer device_address l.device)
+  where
+    with_us : (us : List Untaken) → AllByRecursion (IsFair p g) us → Fair p l.next us g out back handed
+    with_us us a = record { fits = f.fits; own = f.own; outgoing = f.outgoing; incoming = f.incoming; untaken = a; handed_on = f.handed_on; sendable = f.sendable; unique = f.unique }
+
+    by_from : (b : Bool) → Fair p l.next (cond b (hears_content (content_of bytes) l.untaken) l.untaken) g out back handed
+    by_from true = with_us (hears_content (content_of bytes) l.untaken) (fair_hears p bytes g l.untaken b f.untaken)
+    by_from false = f
+
+-- ---- an answer is taken
+
+fair_without : (p : Peer) (g : Past) (h : ℕ) (us : List Untaken) → AllByRecursion (IsFair p g) us → AllByRecursion (IsFair p g) (without_handle h us)
+fair_without p g h [] a = tt
+fair_without p g h (u ∷ us) a = by_test (nat_eq u.command.handle h) (fair_without p g h us a.1)
+  where
+    by_test : (b : Bool) → AllByRecursion (IsFair p g) (without_handle h us) → AllByRecursion (IsFair p g) (cond (not b) (u ∷ without_handle h us) (without_handle h us))
+    by_test true rest = rest
+    by_test false rest = (a.0, rest)
+
+pub held_answer : (p : Peer) (g : Past) (h : ℕ) (us : List Untaken) → AllByRecursion (IsFair p g) us → IsHeld p g h (answer_under h us)
+held_answer p g h [] a = tt
+held_answer p g h (u ∷ us) a = by_test (nat_eq u.command.handle h) refl (held_answer p g h us a.1)
+  where
+    by_test : (b : Bool) → nat_eq u.command.handle h ≡ b → IsHeld p g h (answer_under h us) → IsHeld p g h (cond b u.answer (answer_under h us))
+    by_test true q rest = let same : u.command.handle ≡ h = equal_is u.command.handle h q in rw same at a.0.1
+    by_test false q rest = rest
+
+pub fair_taken : (p : Peer) (h : ℕ) (l : LinkState) (g : Past) (out back : List SentDatagram) (handed : List TakenAnswer) → Fair p l.next l.untaken g out back handed →
+    Fair p l.next (taken h l).untaken g out back (handed ++ taken_by p h (answer_under h l.untaken))
+fair_taken p h l g out back handed f = by_answer (answer_under h l.untaken) (held_answer p g h l.untaken f.untaken)
+  where
+    by_answer : (o : Option AnswerFields) → IsHeld p g h o →
+        Fair p l.next (cond (is_some o) (without_handle h l.untaken) l.untaken) g out back (handed ++ taken_by p h o)
+    by_answer None a = fair_untaken p l.next l.untaken l.untaken g out back handed [] f.untaken tt f
+    by_answer (Some x) a = fair_untaken p l.next l.untaken (without_handle h l.untaken) g out back handed (taken_by p h (Some x)) (fair_without p g h l.untaken f.untaken) ((λ same. a), tt) f
+
+-- another's answer is taken
+pub fair_taken_by : (p q : Peer) (h : ℕ) (o : Option AnswerFields) (next : Option ℕ) (us : List Untaken) (g : Past) (out back : List SentDatagram) (handed : List TakenAnswer) →
+    (q ≡ p → ⊥) → Fair p next us g out back handed → Fair p next us g out back (handed ++ taken_by q h o)
+fair_taken_by p q h o next us g out back handed other f = fair_untaken p next us us g out back handed (taken_by q h o) f.untaken (none o) f
+  where
+    none : (o : Option AnswerFields) → AllByRecursion (λ (t : TakenAnswer). t.peer ≡ p → IsTrueAnswer p t.handle t.answer g) (taken_by q h o)
+    none None = tt
+    none (Some a) = ((λ same. absurd (other same)), tt)

@@ -1,0 +1,67 @@
+-- A schedule with loss, repeats and overtaking, of which the laws speak: it meets all that they ask.
+use Rattle.std.proofs.Common.{◌≡◌, ℕ, ◌*◌, ◌+◌, ◌<◌, ◌≤◌, Bool, true, false, List, [], ◌∷◌, ◌++◌, length, Option, Some, None, refl, lit<, lit≤, inl, inr}
+use Rattle.std.specs.List.{slice_get}
+use Rattle.oca_types.specs.declared.words.Peer.{Peer}
+use Rattle.oca_types.specs.Peers.{CommandFields}
+use Rattle.oca_pdu.specs.Messages.{Commands}
+use Rattle.oca_pdu.specs.Encoding.{pdu_encoding}
+use Rattle.oca_pdu.specs.Laws.{WrittenIsReadBack}
+use Rattle.oca_tree.specs.declared.object.Object.{Object}
+use Rattle.oca_control.specs.Untaken.{Untaken}
+use Rattle.oca_control.specs.Links.{LinkState, Request, command_under}
+use Rattle.oca_pair.specs.declared.start.Start.{Start}
+use Rattle.oca_pair.specs.Networks.{Network, PeerLink, SentDatagram, device_address, opening}
+use Rattle.oca_pair.specs.Steps.{Step, Submit, Due, ToDevice, after_step, after_steps}
+use Rattle.oca_pair.specs.Premises.{are_apart, RequestFits, Fit, KeepsItsSession, ComeFrom}
+use Rattle.oca_pair.specs.Laws.{IsCopyOfUntaken, IsAnswered}
+use Rattle.oca_pair.proofs.Lawful.{never_old_law}
+
+abbrev controller : Peer
+controller = record { ip = 0x7F000001; port = 9001 }
+
+abbrev the_starts : List Start
+the_starts = (record { peer = controller; first_handle = record { 0 = 1 } }) ∷ []
+
+-- GetState of object 4097
+abbrev get_state : Request
+get_state = record { target = 4097; level = 4; index = 1; count = 0; params = [] }
+
+-- Three commands are given out. The third comes first and then again, the first comes later, and the second is lost.
+abbrev the_steps : List Step
+the_steps =
+    Submit 0 get_state 0 ∷ Submit 0 get_state 0 ∷ Submit 0 get_state 0 ∷ Due 0 0 ∷ Due 0 0 ∷ Due 0 0
+    ∷ ToDevice 2 100 ∷ ToDevice 2 200 ∷ ToDevice 0 300 ∷ []
+
+abbrev the_network : List Object → Network
+the_network tree = after_steps the_steps (opening 5 3 tree the_starts)
+
+abbrev third : CommandFields
+third = command_under 3 get_state
+
+abbrev sent_third : SentDatagram
+sent_third = record { peer = controller; bytes = pdu_encoding (Commands true (third ∷ [])) }
+
+abbrev held : ℕ → Untaken
+held h = record { command = command_under h get_state; times = 1; last = 0; answer = None }
+
+abbrev the_link : PeerLink
+the_link =
+    record {
+      peer = controller;
+      link = record { device = device_address; moment = 0; next = Some 4; sent = 0; lost = false; span = 3; untaken = held 1 ∷ held 2 ∷ held 3 ∷ [] };
+    }
+
+fits : RequestFits get_state
+fits = record { target = lit< tt; level = lit< tt; index = lit< tt; count = lit< tt }
+
+meets : Fit the_starts the_steps
+meets = ((lit< tt, tt), (fits, (fits, (fits, (tt, (tt, (tt, (tt, (tt, (tt, tt))))))))))
+
+is_copy : IsCopyOfUntaken sent_third the_link third
+is_copy = record { peer = refl; untaken = held 3; held = inr (inr (inl refl)); command = refl; bytes = refl }
+
+-- so the third command, delivered once more, is answered
+pub repeated_is_answered : WrittenIsReadBack → (tree : List Object) → IsAnswered 2 400 (the_network tree) sent_third third
+repeated_is_answered law tree =
+    never_old_law law 5 3 tree the_starts the_steps (lit< tt) (lit≤ tt) refl meets 2 400 0 sent_third the_link third (controller ∷ [])
+    refl refl is_copy refl (lit≤ tt) (refl, (refl, (refl, (refl, tt))))

@@ -1,0 +1,258 @@
+-- What holds of a peer whose session is never forgotten: its accepted commands are all that were ever executed for it, each once.
+use Rattle.std.proofs.Common.{append-nil, ◌≡◌, ℕ, ◌+◌, ◌-◌, ◌<◌, ◌≤◌, ◌≢◌, Bool, true, false, cond, List, [], ◌∷◌, ◌++◌, length, Option, Some, None, refl, sym, ap, ◌∙◌, arith, zero, suc, ◌⊎◌, inl, inr}
+use Rattle.std.specs.Prelude.{nat_eq, nat_lt, nat_le, max, not, ◌&&◌, ◌||◌, map, filter, Result, Ok, Err}
+use Rattle.std.specs.List.{list_any, list_all, AllByRecursion, IsDistinct}
+use Rattle.std.proofs.Math.Dec.{eqb}
+use Rattle.std.proofs.lemmas.List.Folds.{list_any-append}
+use Rattle.std.proofs.lemmas.Bool.Decides.{nat_tests}
+use Rattle.oca_types.specs.declared.words.Peer.{Peer}
+use Rattle.oca_types.specs.declared.words.Reply.{Reply}
+use Rattle.oca_types.specs.Peers.{same_peer, CommandFields}
+use Rattle.oca_pdu.specs.declared.message.Form.{Form}
+use Rattle.oca_pdu.specs.Messages.{Msg, Command, Response, KeepAlive}
+use Rattle.oca_pdu.specs.Reading.{read_datagram}
+use Rattle.oca_tree.specs.declared.object.Object.{Object}
+use Rattle.oca_session.specs.Accepted.{Entry, has_handle, Judgement, Fresh, Duplicate, Reused, Old, judgement}
+use Rattle.oca_device.specs.Events.{Event, Datagram, Tick, clock_after}
+use Rattle.oca_device.specs.Notes.{Noted, Admitted, Heartbeat, Executed, Note, notes_of, is_within, unbroken, run, is_known, known, accepted, accepted_after}
+use Rattle.oca_device.specs.States.{State, noted, moved_to, admits, judged_in, reply_of, after_command, after_message, after_reading, state_after, time_of}
+use Rattle.oca_pair.specs.Premises.{moments_of, is_soon_after, KeepsItsSession}
+use Rattle.oca_pair.specs.Laws.{Execution, executed_in, executed_for, IsIn}
+use Rattle.oca_pair.proofs.Core.{each_map, has, none_passes}
+use Rattle.oca_pair.proofs.Lists.{same_self, other_of, equal_self, differs}
+use Rattle.oca_pair.proofs.Clocks.{clock_is, Grows, grows_reading, notes_of_grown, IsLatest, moments_other, moments_own, soon_now}
+use Rattle.oca_pair.proofs.Truths.{Past, and_then, state_of}
+use Rattle.oca_pair.proofs.Fair.{judged_fresh}
+use Rattle.oca_pair.proofs.Delivering.{looked_at, let_in, after_read}
+
+-- the handles of the commands that were executed for the peer
+abbrev pub handles_for : Peer → List Note → List ℕ
+handles_for p ns = map (λ x. x.command.handle) (executed_for p ns)
+
+-- the commands that were accepted of the peer, where its session was never forgotten
+abbrev pub accepted_by : Peer → Past → List Entry
+accepted_by p g = accepted (notes_of p (state_of g).notes)
+
+pub record KeptState (p : Peer) (times : List ℕ) (ns : List Note) : Type 0 where
+  pub latest : IsLatest (notes_of p ns) times
+  pub whole : run p ns ≡ notes_of p ns
+  pub once : IsDistinct eqb (handles_for p ns)
+
+abbrev pub Kept : Peer → Past → Type 0
+Kept p g = KeptState p (moments_of p g.events) (state_of g).notes
+
+-- ---- what was executed is what was accepted
+
+pub has_executed : (h : ℕ) (p : Peer) (ns : List Note) → has h (accepted (notes_of p ns)) ≡ list_any (λ y. eqb y h) (handles_for p ns)
+has_executed h p [] = refl
+has_executed h p (n ∷ ns) = by_test (same_peer n.peer p) n.what (has_executed h p ns)
+  where
+    turn : (a b : Bool) → (a || (b || false)) ≡ (b || a)
+    turn true true = refl
+    turn true false = refl
+    turn false true = refl
+    turn false false = refl
+
+    by_what : (x : Noted) → has h (accepted (notes_of p ns)) ≡ list_any (λ y. eqb y h) (handles_for p ns) →
+        has h (accepted_after x (accepted (notes_of p ns))) ≡ list_any (λ y. eqb y h) (map (λ x. x.command.handle) (executed_in x ++ executed_for p ns))
+    by_what (Admitted ms) e = e
+    by_what (Heartbeat ms) e = e
+    by_what (Executed objects c r) e =
+        let d : Entry = record { command = c; reply = r } in
+        list_any-append (has_handle h) (accepted (notes_of p ns)) (d ∷ [])
+        ∙ turn (has h (accepted (notes_of p ns))) (eqb c.handle h) ∙ ap (λ b. eqb c.handle h || b) e
+
+    by_test : (b : Bool) (x : Noted) → has h (accepted (notes_of p ns)) ≡ list_any (λ y. eqb y h) (handles_for p ns) →
+        has h (accepted (cond b ((let m : Note = record { peer = n.peer; at = n.at; what = x } in m) ∷ notes_of p ns) (notes_of p ns)))
+        ≡ list_any (λ y. eqb y h) (map (λ x. x.command.handle) (cond b (executed_in x) [] ++ executed_for p ns))
+    by_test true x e = by_what x e
+    by_test false x e = e
+
+-- what was executed is accepted
+pub executed_has : (h : ℕ) (p : Peer) (ns : List Note) (x : Execution) → IsIn x (executed_for p ns) → x.command.handle ≡ h → has h (accepted (notes_of p ns)) ≡ true
+executed_has h p ns x i e = has_executed h p ns ∙ any (executed_for p ns) i
+  where
+    passes : (a b : ℕ) → a ≡ b → eqb a b ≡ true
+    passes a b q = grind (arith, nat_tests)
+
+    handle_is : (y : Execution) → y ≡ x → y.command.handle ≡ h
+    handle_is y q = ap (λ (z : Execution). z.command.handle) q ∙ e
+
+    first : (a b : Bool) → a ≡ true → (a || b) ≡ true
+    first a b q = cc
+
+    second : (a b : Bool) → b ≡ true → (a || b) ≡ true
+    second true b q = refl
+    second false b q = q
+
+    any : (xs : List Execution) → IsIn x xs → list_any (λ y. eqb y h) (map (λ (y : Execution). y.command.handle) xs) ≡ true
+    any [] i = absurd i
+    any (y ∷ ys) (inl q) = first (eqb y.command.handle h) (list_any (λ z. eqb z h) (map (λ (z : Execution). z.command.handle) ys)) (passes y.command.handle h (handle_is y q))
+    any (y ∷ ys) (inr i) = second (eqb y.command.handle h) (list_any (λ z. eqb z h) (map (λ (z : Execution). z.command.handle) ys)) (any ys i)
+
+-- ---- one more note of the peer
+
+-- with no note, or where the peer is known at the moment
+abbrev pub IsKnownThen : ℕ → List Note → Type 0
+IsKnownThen t [] = Unit {0}
+IsKnownThen t (n ∷ ns) = is_within t (n ∷ ns) ≡ true
+
+known_then : (t : ℕ) (ns : List Note) (times : List ℕ) → IsLatest ns times → is_soon_after t times ≡ true → IsKnownThen t ns
+known_then t [] times l soon = tt
+known_then t (n ∷ ns) times l soon = sym (ap (is_soon_after t) l.1) ∙ soon
+
+now_within : (t : ℕ) → nat_le (t - t) 120000 ≡ true
+now_within t = grind (arith, nat_tests)
+
+pub notes_noted : (p : Peer) (x : Noted) (s : State) → let n : Note = record { peer = p; at = s.moment; what = x } in notes_of p (noted p x s).notes ≡ n ∷ notes_of p s.notes
+notes_noted p x s =
+    let n : Note = record { peer = p; at = s.moment; what = x } in
+    ap (λ b. cond b (n ∷ notes_of p s.notes) (notes_of p s.notes)) (same_self p)
+
+executed_noted : (p : Peer) (x : Noted) (s : State) → executed_for p (noted p x s).notes ≡ executed_in x ++ executed_for p s.notes
+executed_noted p x s = ap (λ b. cond b (executed_in x) [] ++ executed_for p s.notes) (same_self p)
+
+kept_noted : (p : Peer) (x : Noted) (s : State) (times : List ℕ) → run p s.notes ≡ notes_of p s.notes → IsKnownThen s.moment (notes_of p s.notes) →
+    IsDistinct eqb (map (λ (y : Execution). y.command.handle) (executed_in x ++ executed_for p s.notes)) → KeptState p (s.moment ∷ times) (noted p x s).notes
+kept_noted p x s times whole known once = record {
+  latest = rw (notes_noted p x s) (times, refl);
+  whole = ap unbroken (notes_noted p x s) ∙ by_notes (notes_of p s.notes) whole known ∙ sym (notes_noted p x s);
+  once = rw (executed_noted p x s) once;
+}
+  where
+    n : Note
+    n = record { peer = p; at = s.moment; what = x }
+
+    by_notes : (ns : List Note) → unbroken ns ≡ ns → IsKnownThen s.moment ns → unbroken (n ∷ ns) ≡ n ∷ ns
+    by_notes [] w k = refl
+    by_notes (m ∷ ms) w k = ap (λ b. n ∷ cond b (unbroken (m ∷ ms)) []) k ∙ ap (λ ys. n ∷ ys) w
+
+known_noted : (p : Peer) (x : Noted) (s : State) → IsKnownThen s.moment (notes_of p (noted p x s).notes)
+known_noted p x s = rw (notes_noted p x s) (now_within s.moment)
+
+-- ---- what a datagram of the peer makes of it
+
+-- the accepted commands are as before, or the one that was sent is now the last of them, and was not among them
+abbrev pub IsGrown : Msg → List Entry → List Entry → Type 0
+IsGrown m A B = (B ≡ A) ⊎ ((c : CommandFields) × (r : Reply) × (m ≡ Command true c) × (has c.handle A ≡ false) × (let e : Entry = record { command = c; reply = r } in B ≡ A ++ e ∷ []))
+
+pub record Delivers (p : Peer) (m : Msg) (g g' : Past) : Type 0 where
+  pub kept : Kept p g'
+  pub grown : IsGrown m (accepted_by p g) (accepted_by p g')
+
+pub delivers : (p : Peer) (m : Msg) (bytes : List ℕ) (now : ℕ) (g : Past) → read_datagram bytes ≡ Ok (m ∷ []) →
+    ((c : CommandFields) × (m ≡ Command true c)) ⊎ ((form : Form) × (m ≡ KeepAlive form)) →
+    KeepsItsSession p (Datagram p bytes now ∷ g.events) → Kept p g → Delivers p m g (and_then (Datagram p bytes now) g)
+unfolding IsDistinct
+delivers p m bytes now g read kind keeps k = by_room (admits s1 p) refl
+  where
+    g' : Past
+    g' = and_then (Datagram p bytes now) g
+
+    s1 : State
+    s1 = looked_at now g
+
+    s2 : State
+    s2 = let_in p m now g
+
+    clock : s1.moment ≡ max (clock_after g.events) now
+    clock = ap (λ t. max t now) (clock_is g.window g.tree g.events)
+
+    times : moments_of p (Datagram p bytes now ∷ g.events) ≡ s1.moment ∷ moments_of p g.events
+    times = moments_own p bytes now g.events ∙ ap (λ t. t ∷ moments_of p g.events) (sym clock)
+
+    known1 : IsKnownThen s1.moment (notes_of p s1.notes)
+    known1 = known_then s1.moment (notes_of p s1.notes) (moments_of p g.events) k.latest (ap (λ t. is_soon_after t (moments_of p g.events)) clock ∙ soon_now p bytes now g.events keeps)
+
+    kept2 : KeptState p (s1.moment ∷ moments_of p g.events) s2.notes
+    kept2 = kept_noted p (Admitted (m ∷ [])) s1 (moments_of p g.events) k.whole known1 k.once
+
+    known2 : IsKnownThen s2.moment (notes_of p s2.notes)
+    known2 = known_noted p (Admitted (m ∷ [])) s1
+
+    accepted2 : accepted (notes_of p s2.notes) ≡ accepted_by p g
+    accepted2 = ap accepted (notes_noted p (Admitted (m ∷ [])) s1)
+
+    -- what follows from the state
+    made : (s : State) → state_of g' ≡ s → KeptState p (s1.moment ∷ moments_of p g.events) s.notes → IsGrown m (accepted_by p g) (accepted (notes_of p s.notes)) → Delivers p m g g'
+    made s is kept grown = record { kept = rw (times, is) kept; grown = rw is grown }
+
+    -- not admitted: then the peer was never noted
+    unknown : (ns : List Note) → IsKnownThen s1.moment ns → (is_within s1.moment ns || nat_lt (length (known s1.moment s1.notes)) 16) ≡ false → ns ≡ []
+    unknown [] q e = refl
+    unknown (n ∷ ns) q e = differs (sym (ap (λ b. b || nat_lt (length (known s1.moment s1.notes)) 16) q) ∙ e)
+
+    by_judgement : (c : CommandFields) → m ≡ Command true c → (j : Judgement) → judged_in g.window s2 p c ≡ j → state_of g' ≡ after_command j p c s2 → Delivers p m g g'
+    by_judgement c is Fresh q state_is =
+        let r : Reply = reply_of s2.tree p c in
+        let new : has c.handle (accepted_by p g) ≡ false =
+        sym (ap (has c.handle) (ap accepted kept2.whole ∙ accepted2)) ∙ judged_fresh g.window (accepted (run p s2.notes)) c q in
+        let new2 : has c.handle (accepted (notes_of p s2.notes)) ≡ false = ap (has c.handle) accepted2 ∙ new in
+        made (after_command Fresh p c s2) state_is
+        (kept_noted p (Executed s2.tree c r) s2' (moments_of p g.events) kept2.whole known2 (fresh c.handle s2.notes new2, kept2.once))
+        (inr (c, r, is, new, ap accepted (notes_noted p (Executed s2.tree c r) s2') ∙ ap (λ A. A ++ (let e : Entry = record { command = c; reply = r } in e) ∷ []) accepted2))
+      where
+        s2' : State
+        s2' = record { tree = s2.tree; moment = s2.moment; notes = s2.notes }
+
+        flipped : (a b : ℕ) → eqb a b ≡ false → eqb b a ≡ false
+        flipped a b e = grind (arith, nat_tests)
+
+        fresh : (h : ℕ) (ns : List Note) → has h (accepted (notes_of p ns)) ≡ false → AllByRecursion (λ y. eqb h y ≡ false) (handles_for p ns)
+        fresh h ns e = each_map (λ y t. flipped y h t) (handles_for p ns) (none_passes (λ y. eqb y h) (handles_for p ns) (sym (has_executed h p ns) ∙ e))
+    by_judgement c is (Duplicate r) q state_is = made s2 state_is kept2 (inl accepted2)
+    by_judgement c is Reused q state_is = made s2 state_is kept2 (inl accepted2)
+    by_judgement c is Old q state_is = made s2 state_is kept2 (inl accepted2)
+
+    by_room : (b : Bool) → admits s1 p ≡ b → Delivers p m g g'
+    by_room true room = elim kind [
+      | inl (c, is) ↦ by_judgement c is (judged_in g.window s2 p c) refl (after_read g.window p m bytes now g true read room ∙ ap (λ x. after_message g.window p x s2) is)
+      | inr (form, is) ↦ made (noted p (Heartbeat (time_of form)) s2) (after_read g.window p m bytes now g true read room ∙ ap (λ x. after_message g.window p x s2) is)
+          (kept_noted p (Heartbeat (time_of form)) s2 (moments_of p g.events) kept2.whole known2 kept2.once)
+          (inl (ap accepted (notes_noted p (Heartbeat (time_of form)) s2) ∙ accepted2))
+    ]
+    by_room false room =
+        let none : notes_of p s1.notes ≡ [] = unknown (notes_of p s1.notes) known1 room in
+        made s1 (after_read g.window p m bytes now g false read room)
+        (record { latest = rw none tt; whole = k.whole; once = k.once }) (inl refl)
+
+-- when a datagram of the peer is admitted, the accepted commands are as before
+pub accepted_let_in : (p : Peer) (m : Msg) (bytes : List ℕ) (now : ℕ) (g : Past) → KeepsItsSession p (Datagram p bytes now ∷ g.events) → Kept p g →
+    accepted (run p (let_in p m now g).notes) ≡ accepted_by p g
+accepted_let_in p m bytes now g keeps k =
+    let s1 : State = looked_at now g in
+    let clock : s1.moment ≡ max (clock_after g.events) now = ap (λ t. max t now) (clock_is g.window g.tree g.events) in
+    let known1 : IsKnownThen s1.moment (notes_of p s1.notes) =
+    known_then s1.moment (notes_of p s1.notes) (moments_of p g.events) k.latest (ap (λ t. is_soon_after t (moments_of p g.events)) clock ∙ soon_now p bytes now g.events keeps) in
+    let kept2 : KeptState p (s1.moment ∷ moments_of p g.events) (let_in p m now g).notes = kept_noted p (Admitted (m ∷ [])) s1 (moments_of p g.events) k.whole known1 k.once in
+    ap accepted kept2.whole ∙ ap accepted (notes_noted p (Admitted (m ∷ [])) s1)
+
+-- ---- what else happens
+
+pub kept_other : (p q : Peer) (bytes : List ℕ) (now : ℕ) (g : Past) → same_peer q p ≡ false → Kept p g → Kept p (and_then (Datagram q bytes now) g)
+kept_other p q bytes now g other k =
+    let s1 : State = looked_at now g in
+    let grows : Grows q s1.moment s1.notes (after_reading g.window q (read_datagram bytes) s1).notes = grows_reading g.window q (read_datagram bytes) s1 in
+    let same : notes_of p (after_reading g.window q (read_datagram bytes) s1).notes ≡ notes_of p s1.notes = notes_of_grown p q s1.moment s1.notes _ other grows in
+    record {
+      latest = rw (moments_other p q bytes now g.events other, same) k.latest;
+      whole = ap unbroken same ∙ k.whole ∙ sym same;
+      once = rw (executed_other grows.more grows.is grows.own) k.once;
+    }
+  where
+    after : List Note
+    after = (after_reading g.window q (read_datagram bytes) (looked_at now g)).notes
+
+    skipped : (more : List Note) → AllByRecursion (λ n. (n.peer ≡ q) × (n.at ≡ (looked_at now g).moment)) more → executed_for p (more ++ (state_of g).notes) ≡ executed_for p (state_of g).notes
+    skipped [] own = refl
+    skipped (n ∷ more) own =
+        ap (λ b. cond b (executed_in n.what) [] ++ executed_for p (more ++ (state_of g).notes)) (ap (λ x. same_peer x p) own.0.0 ∙ other) ∙ skipped more own.1
+
+    executed_other : (more : List Note) → after ≡ more ++ (state_of g).notes → AllByRecursion (λ n. (n.peer ≡ q) × (n.at ≡ (looked_at now g).moment)) more →
+        executed_for p after ≡ executed_for p (state_of g).notes
+    executed_other more is own = ap (executed_for p) is ∙ skipped more own
+
+pub accepted_other : (p q : Peer) (bytes : List ℕ) (now : ℕ) (g : Past) → same_peer q p ≡ false → accepted_by p (and_then (Datagram q bytes now) g) ≡ accepted_by p g
+accepted_other p q bytes now g other =
+    let s1 : State = looked_at now g in
+    ap accepted (notes_of_grown p q s1.moment s1.notes _ other (grows_reading g.window q (read_datagram bytes) s1))

@@ -1,0 +1,270 @@
+-- The laws of networks.
+use Rattle.std.proofs.Common.{append-nil, ◌≡◌, ℕ, ◌+◌, ◌-◌, ◌*◌, ◌^◌, ◌<◌, ◌≤◌, ◌≢◌, Bool, true, false, cond, List, [], ◌∷◌, ◌++◌, length, Option, Some, None, refl, sym, ap, ◌∙◌, subst, arith, zero, suc, ◌⊎◌, inl, inr}
+use Rattle.std.specs.Prelude.{nat_eq, nat_lt, nat_le, max, not, ◌&&◌, ◌||◌, map, filter, is_some, Result, Ok, Err}
+use Rattle.std.specs.List.{list_any, list_all, AllByRecursion, slice_get, IsDistinct}
+use Rattle.std.proofs.Math.Dec.{eqb}
+use Rattle.std.proofs.lemmas.Bool.Decides.{nat_tests}
+use Rattle.oca_types.specs.declared.words.Peer.{Peer}
+use Rattle.oca_types.specs.declared.words.Reply.{Reply}
+use Rattle.oca_types.specs.Peers.{same_peer, CommandFields}
+use Rattle.oca_pdu.specs.Messages.{Msg, Command, Response, KeepAlive, Commands, Responses}
+use Rattle.oca_pdu.specs.Encoding.{pdu_encoding}
+use Rattle.oca_pdu.specs.Reading.{read_datagram}
+use Rattle.oca_pdu.specs.Laws.{WrittenIsReadBack}
+use Rattle.oca_tree.specs.declared.object.Object.{Object}
+use Rattle.oca_session.specs.Accepted.{Entry, window, entry_under, Judgement, Fresh, Duplicate, Reused, Old, judgement}
+use Rattle.oca_device.specs.declared.verdict.Verdict.{Verdict}
+use Rattle.oca_device.specs.declared.verdict.Verdict.TheVariants as verdicts
+use Rattle.oca_device.specs.Events.{Event, Datagram, Tick}
+use Rattle.oca_device.specs.Notes.{Noted, Admitted, Executed, Note, notes_of, run, accepted}
+use Rattle.oca_device.specs.States.{State, noted, admits, judged_in, reply_of, after_command, state_after}
+use Rattle.oca_device.specs.Answers.{response, answer_to_command, answers_to_reading, packets_of, packets, count_of_command, counts, plus, served, verdict_of_reading, verdict}
+use Rattle.oca_control.specs.Answers.{AnswerFields}
+use Rattle.oca_control.specs.Untaken.{Untaken, answer_under}
+use Rattle.oca_pair.specs.declared.outcome.Outcome.{Outcome}
+use Rattle.oca_pair.specs.declared.outcome.Outcome.TheVariants as outcomes
+use Rattle.oca_pair.specs.declared.start.Start.{Start}
+use Rattle.oca_pair.specs.Networks.{Network, PeerLink, SentDatagram, SubmittedCommand, TakenAnswer, opening}
+use Rattle.oca_pair.specs.Steps as steps
+use Rattle.oca_control.specs.Links.{Request}
+use Rattle.oca_pair.specs.Steps.{Step, Submit, Due, ToDevice, ToLink, Other, Take, has_link, sendings, after_submit, after_due_step, after_delivery, after_reception, after_take, after_step, after_steps, delivery_outcome, outcome_of}
+use Rattle.oca_pair.specs.Premises.{are_apart, Fit, KeepsItsSession, is_among, IsFrom, ComeFrom}
+use Rattle.oca_pair.specs.Laws.{IsIn, Execution, executed_for, executions_for, executions_under, answer_of, response_to, WasSubmitted, CameWithADatagram, IsAnswerOfItsCommand, WasHandedOn, AnswersItsCommands, IsCopyOfUntaken, IsAnswered, AnswersUntaken, ExecutesOnce}
+use Rattle.oca_pair.proofs.Core.{IsServed}
+use Rattle.oca_pair.proofs.Lists.{each_at, each_in, equal_is, equal_self, in_more}
+use Rattle.oca_pair.proofs.Clocks.{keeps_before}
+use Rattle.oca_pair.proofs.Wire.{IsSendable, read_command}
+use Rattle.oca_pair.proofs.Truths.{Past, past, and_then, state_of, IsTrueAnswer, IsOwn, IsExecuted, window_executed}
+use Rattle.oca_pair.proofs.Fair.{end_of, IsHeld, IsFair, AreOwn, Fair, owns_then, judged_fresh, judged_duplicate}
+use Rattle.oca_pair.proofs.Delivering.{looked_at, let_in, executed_now, after_read, answers_read, held_answer}
+use Rattle.oca_pair.proofs.Keeping.{handles_for, accepted_by, Kept, KeptState, accepted_let_in}
+use Rattle.oca_pair.proofs.Span.{Good, untaken_served}
+use Rattle.oca_pair.proofs.Room.{noted_among, room_for}
+use Rattle.oca_pair.proofs.Networks.{LinkSound, Sound, sound_after}
+
+-- ---- the law of answers
+
+-- where no two have one handle, an execution is the only one under its handle
+none_under : (h : ℕ) (xs : List Execution) → AllByRecursion (λ y. eqb h y ≡ false) (map (λ (x : Execution). x.command.handle) xs) → executions_under h xs ≡ []
+none_under h [] a = refl
+none_under h (x ∷ xs) a = ap (λ b. cond b (x ∷ executions_under h xs) (executions_under h xs)) (flipped h x.command.handle a.0) ∙ none_under h xs a.1
+  where
+    flipped : (a b : ℕ) → eqb a b ≡ false → eqb b a ≡ false
+    flipped a b e = grind (arith, nat_tests)
+
+only_one : (h : ℕ) (x : Execution) (xs : List Execution) → IsDistinct eqb (map (λ (y : Execution). y.command.handle) xs) → IsIn x xs → x.command.handle ≡ h → executions_under h xs ≡ x ∷ []
+unfolding IsDistinct
+only_one h x [] d i e = absurd i
+only_one h x (y ∷ ys) d (inl q) e =
+    let his : y.command.handle ≡ h = ap (λ (z : Execution). z.command.handle) q ∙ e in
+    ap (λ b. cond b (y ∷ executions_under h ys) (executions_under h ys)) (passes y.command.handle h his)
+    ∙ ap (λ zs. y ∷ zs) (none_under h ys (rw his at d.0)) ∙ ap (λ z. z ∷ []) q
+  where
+    passes : (a b : ℕ) → a ≡ b → eqb a b ≡ true
+    passes a b q = grind (arith, nat_tests)
+only_one h x (y ∷ ys) d (inr i) e =
+    let other : eqb y.command.handle h ≡ false = rw e at (member (λ z. eqb y.command.handle z ≡ false) ys d.0 i) in
+    ap (λ b. cond b (y ∷ executions_under h ys) (executions_under h ys)) other ∙ only_one h x ys d.1 i e
+  where
+    member : (P : ℕ → Type 0) (zs : List Execution) → AllByRecursion P (map (λ (z : Execution). z.command.handle) zs) → IsIn x zs → P x.command.handle
+    member P [] a i = absurd i
+    member P (z ∷ zs) a (inl q) = let his : z.command.handle ≡ x.command.handle = ap (λ (w : Execution). w.command.handle) q in rw his at a.0
+    member P (z ∷ zs) a (inr i) = member P zs a.1 i
+
+true_answer : (p : Peer) (h : ℕ) (a : AnswerFields) (n : Network) → (KeepsItsSession p n.events → Kept p (past n)) → IsTrueAnswer p h a (past n) → IsAnswerOfItsCommand p h a n
+true_answer p h a n kept t = record {
+  execution = t.execution;
+  executed = t.executed;
+  came = record { later = t.honest.came.later; before = t.honest.came.before; now = t.honest.came.now; events = t.honest.came.events; objects = t.honest.came.objects };
+  submitted = t.honest.submitted;
+  handle = t.handle;
+  reply = t.honest.reply;
+  answer_is = t.answer_is;
+  only = λ keeps. only_one h t.execution (executions_for p n) (kept keeps).once t.executed t.handle;
+}
+
+pub answers_law : WrittenIsReadBack → (w s : ℕ) (tree : List Object) (starts : List Start) (es : List Step) → are_apart starts ≡ true → Fit starts es →
+    AnswersItsCommands (after_steps es (opening w s tree starts))
+answers_law law w s tree starts es apart fit =
+    let n : Network = after_steps es (opening w s tree starts) in
+    let sound : Sound s n = sound_after law w s tree starts es apart fit in
+    record {
+      held = λ i l h a own held.
+          let of : LinkSound s n l = each_at (LinkSound s n) n.links i l sound.each own in
+          true_answer l.peer h a n of.kept (rw held at (held_answer l.peer (past n) h l.link.untaken of.fair.untaken));
+      handed_on = λ i l h a own was.
+          let of : LinkSound s n l = each_at (LinkSound s n) n.links i l sound.each own in
+          true_answer l.peer h a n of.kept (each_in (λ (t : TakenAnswer). t.peer ≡ l.peer → IsTrueAnswer l.peer t.handle t.answer (past n)) _ n.taken of.fair.handed_on was refl);
+      handles = λ i l c d own a b e.
+          let of : LinkSound s n l = each_at (LinkSound s n) n.links i l sound.each own in
+          of.fair.unique c d a b e;
+    }
+
+-- ---- each command is executed once
+
+pub once_law : WrittenIsReadBack → (w s : ℕ) (tree : List Object) (starts : List Start) (es : List Step) → are_apart starts ≡ true → Fit starts es →
+    ExecutesOnce (after_steps es (opening w s tree starts))
+once_law law w s tree starts es apart fit i l own keeps =
+    let n : Network = after_steps es (opening w s tree starts) in
+    let sound : Sound s n = sound_after law w s tree starts es apart fit in
+    let of : LinkSound s n l = each_at (LinkSound s n) n.links i l sound.each own in
+    (of.kept keeps).once
+
+-- ---- the law of commands in hand
+
+-- a delivery at the moment is answered
+answered_now : WrittenIsReadBack → (w s f : ℕ) (n : Network) (k now : ℕ) (d : SentDatagram) (next : Option ℕ) (us : List Untaken) (u : Untaken) (c : CommandFields) (peers : List Peer) →
+    2 * s ≤ n.window + 1 → slice_get n.to_device k ≡ Some d → (fair : Fair d.peer next us (past n) n.to_device n.to_links n.taken) (kept : Kept d.peer (past n)) →
+    Good s f d.peer next us n.submitted (accepted_by d.peer (past n)) → IsIn u us → u.command ≡ c → d.bytes ≡ pdu_encoding (Commands true (c ∷ [])) →
+    KeepsItsSession d.peer (Datagram d.peer d.bytes now ∷ n.events) → length peers ≤ 16 → ComeFrom peers (Datagram d.peer d.bytes now ∷ n.events) → IsAnswered k now n d c
+answered_now law w s f n k now d next us u c peers wide there fair kept good held command bytes keeps small come =
+    by_judgement (judged_in n.window s2 p c) refl (rw is_accepted served_by)
+  where
+    p : Peer
+    p = d.peer
+
+    g : Past
+    g = past n
+
+    e : Event
+    e = Datagram d.peer d.bytes now
+
+    m : Msg
+    m = Command true c
+
+    s2 : State
+    s2 = let_in p m now g
+
+    its : IsFair p g u
+    its = each_in (IsFair p g) u us fair.untaken held
+
+    sub : WasSubmitted p c g.submitted
+    sub = rw command at (each_in (IsFair p g) u us fair.untaken held).0
+
+    sendable : IsSendable c
+    sendable = (each_in (λ (x : SubmittedCommand). x.peer ≡ p → IsSendable x.command × (x.command.handle < end_of next)) _ g.submitted fair.sendable sub refl).0
+
+    read : read_datagram d.bytes ≡ Ok (m ∷ [])
+    read = ap read_datagram bytes ∙ read_command law c sendable
+
+    room : admits (looked_at now g) p ≡ true
+    room = room_for peers (looked_at now g) p small (noted_among peers n.window n.tree n.events come.1) come.0
+
+    own2 : AreOwn p (and_then e g) s2.notes
+    own2 = ((λ same. tt), owns_then p g e (state_of g).notes fair.own)
+
+    is_accepted : accepted (run p s2.notes) ≡ accepted_by p g
+    is_accepted = accepted_let_in p m d.bytes now g keeps kept
+
+    -- what the window has under the handle is the command
+    same_command : (A : List Entry) → accepted (run p s2.notes) ≡ A → (x : Entry) → entry_under c.handle (window n.window A) ≡ Some x → x.command ≡ c
+    same_command A is x q =
+        let a = window_executed n.window p (and_then e g) c.handle x s2.notes own2 (rw is q) in
+        fair.unique x.command c a.0.honest.submitted sub (equal_is x.command.handle c.handle a.1)
+
+    served_by : IsServed (judgement n.window (accepted_by p g) c)
+    served_by =
+        rw command at (untaken_served n.window s f p next us n.submitted (accepted_by p g) u wide
+        (λ x q. same_command (accepted_by p g) is_accepted x (rw command at q) ∙ sym command) good held)
+
+    -- from the state and the answers
+    made : (s' : State) (reply : Reply) (x : Execution) (v : Verdict) → state_of (and_then e g) ≡ s' →
+        answers_to_reading g.window p (read_datagram d.bytes) (looked_at now g) ≡ response c.handle reply ∷ [] →
+        verdict n.window n.tree n.events d.peer d.bytes now ≡ v →
+        (v ≡ verdicts.Served 1 0 0 0) ⊎ (v ≡ verdicts.Served 0 1 0 0) →
+        IsIn x (executed_for p s'.notes) → x.command ≡ c → reply ≡ x.reply → IsAnswered k now n d c
+    made s' reply x v state_is answers_are verdict_is kind i command reply_is = record {
+      served = rw there (elim kind [
+        | inl q ↦ inl (ap (λ y. outcomes.Device y ∷ []) (verdict_is ∙ q))
+        | inr q ↦ inr (ap (λ y. outcomes.Device y ∷ []) (verdict_is ∙ q))
+      ]);
+      execution = x;
+      executed = rw (there, state_is) i;
+      command = command;
+      sent = rw there (ap (λ ps. n.to_links ++ sendings p ps) (ap packets_of answers_are ∙ ap (λ r. packets_of (response c.handle r ∷ [])) reply_is));
+    }
+
+    verdict_read : verdict n.window n.tree n.events d.peer d.bytes now ≡ served (plus (count_of_command (judged_in n.window s2 p c)) (counts 0 0 0 0))
+    verdict_read =
+        ap (λ r. verdict_of_reading n.window p r (looked_at now g)) read
+        ∙ ap (λ b. cond b (served (plus (count_of_command (judged_in n.window s2 p c)) (counts 0 0 0 0))) verdicts.NoRoom) room
+
+    by_judgement : (j : Judgement) → judged_in n.window s2 p c ≡ j → IsServed j → IsAnswered k now n d c
+    by_judgement Fresh q t =
+        let x : Execution = record { objects = s2.tree; command = c; reply = reply_of s2.tree p c } in
+        made (after_command Fresh p c s2) x.reply x (verdicts.Served 1 0 0 0)
+        (after_read n.window p m d.bytes now g true read room ∙ ap (λ j. after_command j p c s2) q)
+        (answers_read n.window p m d.bytes now g true read room ∙ ap (λ j. answer_to_command j p c s2 ++ []) q)
+        (verdict_read ∙ ap (λ j. served (plus (count_of_command j) (counts 0 0 0 0))) q)
+        (inl refl) (executed_now p s2.moment s2.tree c x.reply s2.notes) refl refl
+    by_judgement (Duplicate r) q t =
+        let f = judged_duplicate n.window (accepted (run p s2.notes)) c r q in
+        let a = window_executed n.window p (and_then e g) c.handle f.0 s2.notes own2 f.1 in
+        let x : Execution = record { objects = a.0.objects; command = f.0.command; reply = f.0.reply } in
+        made s2 r x (verdicts.Served 0 1 0 0)
+        (after_read n.window p m d.bytes now g true read room ∙ ap (λ j. after_command j p c s2) q)
+        (answers_read n.window p m d.bytes now g true read room ∙ ap (λ j. answer_to_command j p c s2 ++ []) q)
+        (verdict_read ∙ ap (λ j. served (plus (count_of_command j) (counts 0 0 0 0))) q)
+        (inr refl) a.0.executed
+        (fair.unique f.0.command c a.0.honest.submitted sub (equal_is f.0.command.handle c.handle a.1)) (sym f.2)
+    by_judgement Reused q t = absurd t
+    by_judgement Old q t = absurd t
+
+delivered : WrittenIsReadBack → (w s : ℕ) (n : Network) (k now : ℕ) (d : SentDatagram) (l : PeerLink) (c : CommandFields) (peers : List Peer) → 0 < s → 2 * s ≤ n.window + 1 →
+    slice_get n.to_device k ≡ Some d → LinkSound s n l → IsCopyOfUntaken d l c →
+    KeepsItsSession d.peer (Datagram d.peer d.bytes now ∷ n.events) → length peers ≤ 16 → ComeFrom peers (Datagram d.peer d.bytes now ∷ n.events) → IsAnswered k now n d c
+delivered law w s n k now d l c peers some wide there of copy keeps small come =
+    let As : Peer → Type 0 = λ x. KeepsItsSession x n.events in
+    let before : KeepsItsSession l.peer n.events = subst As (sym copy.peer) (keeps_before d.peer (Datagram d.peer d.bytes now) n.events keeps) in
+    let FairAs : Peer → Type 0 = λ x. Fair x l.link.next l.link.untaken (past n) n.to_device n.to_links n.taken in
+    let KeptAs : Peer → Type 0 = λ x. Kept x (past n) in
+    let good = of.good some before in
+    let GoodAs : Peer → Type 0 = λ x. Good s good.0 x l.link.next l.link.untaken n.submitted (accepted_by x (past n)) in
+    answered_now law w s good.0 n k now d l.link.next l.link.untaken copy.untaken c peers wide there
+    (subst FairAs copy.peer of.fair) (subst KeptAs copy.peer (of.kept before)) (subst GoodAs copy.peer good.1) copy.held copy.command copy.bytes keeps small come
+
+window_kept : (es : List Step) (n : Network) → (after_steps es n).window ≡ n.window
+window_kept [] n = refl
+window_kept (step ∷ es) n = window_kept es (after_step step n) ∙ one step
+  where
+    by_submit : (i : ℕ) (r : Request) (now : ℕ) (o : Option PeerLink) → (after_submit i r now o n).window ≡ n.window
+    by_submit i r now None = refl
+    by_submit i r now (Some l) = refl
+
+    by_due : (i now : ℕ) (o : Option PeerLink) → (after_due_step i now o n).window ≡ n.window
+    by_due i now None = refl
+    by_due i now (Some l) = refl
+
+    by_delivery : (now : ℕ) (o : Option SentDatagram) → (after_delivery now o n).window ≡ n.window
+    by_delivery now None = refl
+    by_delivery now (Some d) = refl
+
+    by_reception : (now : ℕ) (o : Option SentDatagram) → (after_reception now o n).window ≡ n.window
+    by_reception now None = refl
+    by_reception now (Some d) = refl
+
+    by_other : (from : Peer) (bytes : List ℕ) (now : ℕ) (b : Bool) → (let m : Network = cond b n (record n { events = Datagram from bytes now ∷ n.events }) in m).window ≡ n.window
+    by_other from bytes now true = refl
+    by_other from bytes now false = refl
+
+    by_take : (i h : ℕ) (o : Option PeerLink) → (after_take i h o n).window ≡ n.window
+    by_take i h None = refl
+    by_take i h (Some l) = refl
+
+    one : (step : Step) → (after_step step n).window ≡ n.window
+    one (Submit i r now) = by_submit i r now (slice_get n.links i)
+    one (Due i now) = by_due i now (slice_get n.links i)
+    one (ToDevice k now) = by_delivery now (slice_get n.to_device k)
+    one (ToLink k now) = by_reception now (slice_get n.to_links k)
+    one (Other from bytes now) = by_other from bytes now (has_link from n.links)
+    one (steps.Tick now) = refl
+    one (Take i h) = by_take i h (slice_get n.links i)
+
+pub never_old_law : WrittenIsReadBack → (w s : ℕ) (tree : List Object) (starts : List Start) (es : List Step) → 0 < s → 2 * s ≤ w + 1 → are_apart starts ≡ true → Fit starts es →
+    AnswersUntaken (after_steps es (opening w s tree starts))
+never_old_law law w s tree starts es some wide apart fit k now i d l c peers there own copy keeps small come =
+    let n : Network = after_steps es (opening w s tree starts) in
+    let sound : Sound s n = sound_after law w s tree starts es apart fit in
+    let of : LinkSound s n l = each_at (LinkSound s n) n.links i l sound.each own in
+    let sizes : n.window ≡ w = window_kept es (opening w s tree starts) in
+    delivered law w s n k now d l c peers some (rw sizes wide) there of copy (rw there at keeps) small (rw there at come)

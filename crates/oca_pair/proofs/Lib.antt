@@ -1,0 +1,14 @@
+pub mod Core
+pub mod Lists
+pub mod Wire
+pub mod Fitting
+pub mod Clocks
+pub mod Truths
+pub mod Fair
+pub mod Delivering
+pub mod Keeping
+pub mod Span
+pub mod Room
+pub mod Networks
+pub mod Lawful
+pub mod Example

@@ -1,0 +1,471 @@
+-- What holds of each link of a network is kept by each step; and the laws.
+use Rattle.std.proofs.Common.{append-nil, ◌≡◌, ℕ, ◌+◌, ◌-◌, ◌*◌, ◌<◌, ◌≤◌, ◌≢◌, Bool, true, false, cond, List, [], ◌∷◌, ◌++◌, length, Option, Some, None, refl, sym, ap, ◌∙◌, subst, arith, zero, suc, ◌⊎◌, inl, inr}
+use Rattle.std.specs.Prelude.{nat_eq, nat_lt, nat_le, max, not, ◌&&◌, ◌||◌, map, filter, is_some, Result, Ok, Err}
+use Rattle.std.specs.List.{list_any, list_all, AllByRecursion, slice_get, slice_set, IsDistinct}
+use Rattle.std.proofs.Math.Dec.{eqb}
+use Rattle.oca_types.specs.declared.words.Peer.{Peer}
+use Rattle.oca_types.specs.declared.words.Handle.{Handle}
+use Rattle.oca_types.specs.Peers.{same_peer, CommandFields}
+use Rattle.oca_pdu.specs.declared.message.Form.TheVariants.{Seconds, Millis}
+use Rattle.oca_pdu.specs.Messages.{ResponseFields, Msg, Command, Response, KeepAlive, Commands, Responses, OneKeepAlive}
+use Rattle.oca_pdu.specs.Encoding.{pdu_encoding}
+use Rattle.oca_pdu.specs.Reading.{read_datagram}
+use Rattle.oca_pdu.specs.Laws.{WrittenIsReadBack}
+use Rattle.oca_tree.specs.declared.object.Object.{Object}
+use Rattle.oca_session.specs.Accepted.{Entry}
+use Rattle.oca_device.specs.Events.{Event, Datagram, Tick}
+use Rattle.oca_device.specs.Events as event
+use Rattle.oca_device.specs.Notes.{Note}
+use Rattle.oca_device.specs.Answers.{packets}
+use Rattle.oca_control.specs.declared.fault.ControlFault.{ControlFault}
+use Rattle.oca_control.specs.Answers.{AnswerFields, answer_in}
+use Rattle.oca_control.specs.Untaken.{Untaken, answer_under, without_handle}
+use Rattle.oca_control.specs.Links.{LinkState, Request, new_link, command_under, submission, after_submission, submitted, Decision, GivesCommand, GivesKeepAlive, GivesNothing, IsLost, decision, after_due, gone_on, hears_content, received, taken, present}
+use Rattle.oca_pair.specs.declared.start.Start.{Start}
+use Rattle.oca_pair.specs.Networks.{Network, PeerLink, SentDatagram, SubmittedCommand, TakenAnswer, device_address, started, opening}
+use Rattle.oca_pair.specs.Steps.{Step, Submit, Due, ToDevice, ToLink, Other, Take, has_link, sendings, with_link, submitted_by, after_submit, given_by, after_due_step, after_delivery, content_of, hears_datagram, after_reception, taken_by, after_take, after_step, after_steps}
+use Rattle.oca_pair.specs.Steps as steps
+use Rattle.oca_pair.specs.Premises.{is_of_another_peer, are_apart, RequestFits, StepFits, StartFits, Fit, KeepsItsSession}
+use Rattle.oca_pair.specs.Laws.{IsIn, WasSubmitted}
+use Rattle.oca_pair.proofs.Core.{each_map, each_append, none_passes, has}
+use Rattle.oca_pair.proofs.Lists.{both_true, not_true, same_is, same_of, same_turned, other_of, other_is, each_at, each_in, each_set}
+use Rattle.oca_pair.proofs.Clocks.{keeps_before}
+use Rattle.oca_pair.proofs.Wire.{IsSendable, read_command, read_keep_alive}
+use Rattle.oca_pair.proofs.Truths.{Past, past, and_then, and_submitted, state_of, IsTrueAnswer}
+use Rattle.oca_pair.proofs.Fair.{end_of, NextFits, IsOut, IsBack, IsHeld, Fair, fair_other, fair_tick}
+use Rattle.oca_pair.proofs.Delivering.{granted, fair_command, fair_keep_alive, fair_submit, fair_submitted_by, fair_gone_on, fair_sent, fair_received, fair_taken, fair_taken_by, held_answer}
+use Rattle.oca_pair.proofs.Keeping.{Kept, KeptState, accepted_by, IsGrown, Delivers, delivers, kept_other, accepted_other, executed_has}
+use Rattle.oca_pair.proofs.Span.{Good, good_submit, good_submitted, good_same, good_given_out, good_answered, good_without, good_grown}
+
+-- No two links have one peer.
+abbrev pub Apart : List PeerLink → Type 0
+Apart [] = Unit {0}
+Apart (x ∷ xs) = AllByRecursion (λ y. y.peer ≢ x.peer) xs × Apart xs
+
+-- the link at k changes, and what holds of the others has to hold for other peers only
+each_put : (P Q : PeerLink → Type 0) (xs : List PeerLink) (k : ℕ) (l y : PeerLink) → slice_get xs k ≡ Some l → Apart xs →
+    ((z : PeerLink) → z.peer ≢ l.peer → P z → Q z) → Q y → AllByRecursion P xs → AllByRecursion Q (slice_set xs k y)
+each_put P Q [] k l y e a f q p = tt
+each_put P Q (x ∷ xs) zero l y e a f q p = let same : x ≡ l = cc in (q, others xs (rw same at a.0) p.1)
+  where
+    others : (zs : List PeerLink) → AllByRecursion (λ z. z.peer ≢ l.peer) zs → AllByRecursion P zs → AllByRecursion Q zs
+    others [] a p = tt
+    others (z ∷ zs) a p = (f z a.0 p.0, others zs a.1 p.1)
+each_put P Q (x ∷ xs) (suc k) l y e a f q p =
+    let other : l.peer ≢ x.peer = each_at (λ z. z.peer ≢ x.peer) xs k l a.0 e in
+    (f x (λ h. other (sym h)) p.0, each_put P Q xs k l y e a.1 f q p.1)
+
+apart_put : (xs : List PeerLink) (k : ℕ) (l y : PeerLink) → slice_get xs k ≡ Some l → y.peer ≡ l.peer → Apart xs → Apart (slice_set xs k y)
+apart_put [] k l y e s a = tt
+apart_put (x ∷ xs) zero l y e s a = let q : x ≡ l = cc in let same : x.peer ≡ y.peer = ap (λ (z : PeerLink). z.peer) q ∙ sym s in (rw same at a.0, a.1)
+apart_put (x ∷ xs) (suc k) l y e s a =
+    let other : l.peer ≢ x.peer = each_at (λ z. z.peer ≢ x.peer) xs k l a.0 e in
+    (each_set (λ z. z.peer ≢ x.peer) xs k y (λ h. other (sym s ∙ h)) a.0, apart_put xs k l y e s a.1)
+
+hears_peer : (d : SentDatagram) (now : ℕ) (z : PeerLink) → (hears_datagram d now z).peer ≡ z.peer
+hears_peer d now z = by_test (same_peer z.peer d.peer)
+  where
+    by_test : (b : Bool) → (let y : PeerLink = cond b (record { peer = z.peer; link = received device_address (content_of d.bytes) now z.link }) z in y).peer ≡ z.peer
+    by_test true = refl
+    by_test false = refl
+
+apart_hears : (d : SentDatagram) (now : ℕ) (xs : List PeerLink) → Apart xs → Apart (map (hears_datagram d now) xs)
+apart_hears d now [] a = tt
+apart_hears d now (x ∷ xs) a = (heads xs a.0, apart_hears d now xs a.1)
+  where
+    heads : (ys : List PeerLink) → AllByRecursion (λ y. y.peer ≢ x.peer) ys → AllByRecursion (λ y. y.peer ≢ (hears_datagram d now x).peer) (map (hears_datagram d now) ys)
+    heads [] q = tt
+    heads (y ∷ ys) q = ((λ h. q.0 (sym (hears_peer d now y) ∙ h ∙ hears_peer d now x)), heads ys q.1)
+
+-- What holds of a link of a network.
+pub record LinkSound (s : ℕ) (n : Network) (l : PeerLink) : Type 0 where
+  pub span : l.link.span ≡ s
+  pub fair : Fair l.peer l.link.next l.link.untaken (past n) n.to_device n.to_links n.taken
+  pub kept : KeepsItsSession l.peer n.events → Kept l.peer (past n)
+  pub good : 0 < s → KeepsItsSession l.peer n.events → (f : ℕ) × Good s f l.peer l.link.next l.link.untaken n.submitted (accepted_by l.peer (past n))
+
+pub record Sound (s : ℕ) (n : Network) : Type 0 where
+  pub apart : Apart n.links
+  pub each : AllByRecursion (LinkSound s n) n.links
+
+-- an answered command was accepted
+held_has : (p : Peer) (g : Past) (h : ℕ) (a : AnswerFields) → IsTrueAnswer p h a g → has h (accepted_by p g) ≡ true
+held_has p g h a t = executed_has h p (state_of g).notes t.execution t.executed t.handle
+
+-- ---- submit
+
+sound_submit : (s i : ℕ) (r : Request) (now : ℕ) (n : Network) → RequestFits r → Sound s n → (o : Option PeerLink) → slice_get n.links i ≡ o → Sound s (after_submit i r now o n)
+sound_submit s i r now n fits g None e = g
+sound_submit s i r now n fits g (Some l) e = record {
+  apart = apart_put n.links i l y e refl g.apart;
+  each = each_put (LinkSound s n) (LinkSound s n') n.links i l y e g.apart others mine g.each;
+}
+  where
+    y : PeerLink
+    y = record { peer = l.peer; link = after_submission (submission r l.link) r now l.link }
+
+    n' : Network
+    n' = after_submit i r now (Some l) n
+
+    was : LinkSound s n l
+    was = each_at (LinkSound s n) n.links i l g.each e
+
+    not_his : (p : Peer) (a : Result Handle ControlFault) → (l.peer ≡ p → ⊥) → AllByRecursion (λ (x : SubmittedCommand). x.peer ≡ p → ⊥) (submitted_by l.peer r a)
+    not_his p (Ok h) other = (other, tt)
+    not_his p (Err fault) other = tt
+
+    others : (z : PeerLink) → z.peer ≢ l.peer → LinkSound s n z → LinkSound s n' z
+    others z other w = record {
+      span = w.span;
+      fair = fair_submitted_by z.peer l.peer r (submission r l.link) z.link.next z.link.untaken (past n) n.to_device n.to_links n.taken (λ same. other (sym same)) w.fair;
+      kept = w.kept;
+      good = λ some keeps. let q = w.good some keeps in (
+        q.0,
+        good_submitted s q.0 z.peer z.link.next z.link.untaken n.submitted (submitted_by l.peer r (submission r l.link)) (accepted_by z.peer (past n))
+            (not_his z.peer (submission r l.link) (λ same. other (sym same))) q.1,
+      );
+    }
+
+    span_kept : (a : Result Handle ControlFault) → (after_submission a r now l.link).span ≡ l.link.span
+    span_kept (Ok h) = refl
+    span_kept (Err fault) = refl
+
+    good_kept : (f : ℕ) (a : Result Handle ControlFault) → submission r l.link ≡ a → 0 < s → Good s f l.peer l.link.next l.link.untaken n.submitted (accepted_by l.peer (past n)) →
+        Good s f l.peer (after_submission a r now l.link).next (after_submission a r now l.link).untaken (n.submitted ++ submitted_by l.peer r a) (accepted_by l.peer (past n))
+    good_kept f (Err fault) q some w = good_submitted s f l.peer l.link.next l.link.untaken n.submitted [] (accepted_by l.peer (past n)) tt w
+    good_kept f (Ok h) q some w =
+        let t = granted r l.link h q in
+        good_submit s f l.peer l.link.next l.link.untaken n.submitted (accepted_by l.peer (past n)) h.0 r some t.0 (rw was.span at t.1) w
+
+    mine : LinkSound s n' y
+    mine = record {
+      span = span_kept (submission r l.link) ∙ was.span;
+      fair = fair_submit l.peer r now l.link (past n) n.to_device n.to_links n.taken fits was.fair;
+      kept = was.kept;
+      good = λ some keeps. let q = was.good some keeps in (q.0, good_kept q.0 (submission r l.link) refl some q.1);
+    }
+
+-- ---- due
+
+sound_due : (s i now : ℕ) (n : Network) → Sound s n → (o : Option PeerLink) → slice_get n.links i ≡ o → Sound s (after_due_step i now o n)
+sound_due s i now n g None e = g
+sound_due s i now n g (Some l) e = record {
+  apart = apart_put n.links i l y e refl g.apart;
+  each = each_put (LinkSound s n) (LinkSound s n') n.links i l y e g.apart others mine g.each;
+}
+  where
+    y : PeerLink
+    y = record { peer = l.peer; link = gone_on now l.link }
+
+    n' : Network
+    n' = after_due_step i now (Some l) n
+
+    was : LinkSound s n l
+    was = each_at (LinkSound s n) n.links i l g.each e
+
+    others : (z : PeerLink) → z.peer ≢ l.peer → LinkSound s n z → LinkSound s n' z
+    others z other w = record {
+      span = w.span;
+      fair = fair_sent z.peer l.peer z.link.next z.link.untaken (past n) n.to_device n.to_links n.taken (given_by (decision now l.link)) (λ same. other (sym same)) w.fair;
+      kept = w.kept;
+      good = w.good;
+    }
+
+    span_kept : (d : Decision) → (after_due d (present now l.link) l.link).span ≡ l.link.span
+    span_kept (GivesCommand c) = refl
+    span_kept GivesKeepAlive = refl
+    span_kept GivesNothing = refl
+    span_kept IsLost = refl
+
+    good_kept : (f : ℕ) (d : Decision) → Good s f l.peer l.link.next l.link.untaken n.submitted (accepted_by l.peer (past n)) →
+        Good s f l.peer (after_due d (present now l.link) l.link).next (after_due d (present now l.link) l.link).untaken n.submitted (accepted_by l.peer (past n))
+    good_kept f (GivesCommand c) w = good_given_out s f l.peer l.link.next l.link.untaken n.submitted (accepted_by l.peer (past n)) (present now l.link) c.handle w
+    good_kept f GivesKeepAlive w = w
+    good_kept f GivesNothing w = w
+    good_kept f IsLost w = w
+
+    mine : LinkSound s n' y
+    mine = record {
+      span = span_kept (decision now l.link) ∙ was.span;
+      fair = fair_gone_on l.peer now l.link (past n) n.to_device n.to_links n.taken was.fair;
+      kept = was.kept;
+      good = λ some keeps. let q = was.good some keeps in (q.0, good_kept q.0 (decision now l.link) q.1);
+    }
+
+-- ---- take
+
+sound_take : (s i h : ℕ) (n : Network) → Sound s n → (o : Option PeerLink) → slice_get n.links i ≡ o → Sound s (after_take i h o n)
+sound_take s i h n g None e = g
+sound_take s i h n g (Some l) e = record {
+  apart = apart_put n.links i l y e refl g.apart;
+  each = each_put (LinkSound s n) (LinkSound s n') n.links i l y e g.apart others mine g.each;
+}
+  where
+    y : PeerLink
+    y = record { peer = l.peer; link = taken h l.link }
+
+    n' : Network
+    n' = after_take i h (Some l) n
+
+    was : LinkSound s n l
+    was = each_at (LinkSound s n) n.links i l g.each e
+
+    others : (z : PeerLink) → z.peer ≢ l.peer → LinkSound s n z → LinkSound s n' z
+    others z other w = record {
+      span = w.span;
+      fair = fair_taken_by z.peer l.peer h (answer_under h l.link.untaken) z.link.next z.link.untaken (past n) n.to_device n.to_links n.taken (λ same. other (sym same)) w.fair;
+      kept = w.kept;
+      good = w.good;
+    }
+
+    good_kept : (f : ℕ) (o : Option AnswerFields) → IsHeld l.peer (past n) h o → Good s f l.peer l.link.next l.link.untaken n.submitted (accepted_by l.peer (past n)) →
+        Good s f l.peer l.link.next (cond (is_some o) (without_handle h l.link.untaken) l.link.untaken) n.submitted (accepted_by l.peer (past n))
+    good_kept f None held w = w
+    good_kept f (Some a) held w = good_without s f l.peer l.link.next l.link.untaken n.submitted (accepted_by l.peer (past n)) h (held_has l.peer (past n) h a held) w
+
+    mine : LinkSound s n' y
+    mine = record {
+      span = was.span;
+      fair = fair_taken l.peer h l.link (past n) n.to_device n.to_links n.taken was.fair;
+      kept = was.kept;
+      good = λ some keeps. let q = was.good some keeps in
+          (q.0, good_kept q.0 (answer_under h l.link.untaken) (held_answer l.peer (past n) h l.link.untaken was.fair.untaken) q.1);
+    }
+
+-- ---- a datagram comes to a link
+
+sound_reception : (s now : ℕ) (n : Network) → Sound s n → (d : SentDatagram) (k : ℕ) → slice_get n.to_links k ≡ Some d → Sound s (after_reception now (Some d) n)
+sound_reception s now n g d k e = record { apart = apart_hears d now n.links g.apart; each = each n.links g.each }
+  where
+    n' : Network
+    n' = after_reception now (Some d) n
+
+    one : (z : PeerLink) → LinkSound s n z → LinkSound s n' (hears_datagram d now z)
+    one z w = by_test (same_peer z.peer d.peer) refl
+      where
+        y : PeerLink
+        y = record { peer = z.peer; link = received device_address (content_of d.bytes) now z.link }
+
+        good_heard : (f : ℕ) → IsBack z.peer (past n) d.bytes → Good s f z.peer z.link.next z.link.untaken n.submitted (accepted_by z.peer (past n)) →
+            Good s f z.peer z.link.next (hears_content (content_of d.bytes) z.link.untaken) n.submitted (accepted_by z.peer (past n))
+        good_heard f (inl (r, t, read)) q = rw read (good_answered s f z.peer z.link.next z.link.untaken n.submitted (accepted_by z.peer (past n)) r.handle (answer_in r) q)
+        good_heard f (inr read) q = rw read q
+
+        good_received : (f : ℕ) (b : Bool) → IsBack z.peer (past n) d.bytes → Good s f z.peer z.link.next z.link.untaken n.submitted (accepted_by z.peer (past n)) →
+            Good s f z.peer z.link.next (cond b (hears_content (content_of d.bytes) z.link.untaken) z.link.untaken) n.submitted (accepted_by z.peer (past n))
+        good_received f true back q = good_heard f back q
+        good_received f false back q = q
+
+        heard : IsBack z.peer (past n) d.bytes → LinkSound s n' y
+        heard back = record {
+          span = w.span;
+          fair = fair_received z.peer d.bytes now z.link (past n) n.to_device n.to_links n.taken back w.fair;
+          kept = w.kept;
+          good = λ some keeps. let q = w.good some keeps in (q.0, good_received q.0 (same_peer device_address z.link.device) back q.1);
+        }
+
+        unheard : LinkSound s n' z
+        unheard = record { span = w.span; fair = w.fair; kept = w.kept; good = w.good }
+
+        by_test : (b : Bool) → same_peer z.peer d.peer ≡ b → LinkSound s n' (cond b y z)
+        by_test true q = heard (each_at (λ (x : SentDatagram). x.peer ≡ z.peer → IsBack z.peer (past n) x.bytes) n.to_links k d w.fair.incoming e (sym (same_is z.peer d.peer q)))
+        by_test false q = unheard
+
+    each : (zs : List PeerLink) → AllByRecursion (LinkSound s n) zs → AllByRecursion (LinkSound s n') (map (hears_datagram d now) zs)
+    each [] a = tt
+    each (z ∷ zs) a = (one z a.0, each zs a.1)
+
+-- ---- a datagram comes to the device
+
+-- of another peer
+sound_elsewhere : (s : ℕ) (n : Network) (q : Peer) (bytes : List ℕ) (now : ℕ) (packets : List (List ℕ)) (z : PeerLink) → same_peer q z.peer ≡ false → LinkSound s n z →
+    Fair z.peer z.link.next z.link.untaken (and_then (Datagram q bytes now) (past n)) n.to_device (n.to_links ++ sendings q packets) n.taken
+    × (KeepsItsSession z.peer (Datagram q bytes now ∷ n.events) → Kept z.peer (and_then (Datagram q bytes now) (past n)))
+    × (0 < s → KeepsItsSession z.peer (Datagram q bytes now ∷ n.events) →
+    (f : ℕ) × Good s f z.peer z.link.next z.link.untaken n.submitted (accepted_by z.peer (and_then (Datagram q bytes now) (past n))))
+sound_elsewhere s n q bytes now packets z other w = (
+  fair_other z.peer q z.link.next z.link.untaken (past n) n.to_device n.to_links n.taken bytes now packets (other_of q z.peer other) w.fair,
+  (λ keeps. kept_other z.peer q bytes now (past n) other (w.kept (keeps_before z.peer (Datagram q bytes now) n.events keeps))),
+  (λ some keeps. let good = w.good some (keeps_before z.peer (Datagram q bytes now) n.events keeps) in
+      (good.0, moved good.0 (accepted_by z.peer (and_then (Datagram q bytes now) (past n))) (accepted_other z.peer q bytes now (past n) other) good.1)),
+)
+  where
+    moved : (f : ℕ) (B : List Entry) → B ≡ accepted_by z.peer (past n) → Good s f z.peer z.link.next z.link.untaken n.submitted (accepted_by z.peer (past n)) →
+        Good s f z.peer z.link.next z.link.untaken n.submitted B
+    moved f B e g = rw e g
+
+-- of the link itself
+own_fair : (law : WrittenIsReadBack) (p : Peer) (next : Option ℕ) (us : List Untaken) (g : Past) (out back : List SentDatagram) (handed : List TakenAnswer) (bytes : List ℕ) (now : ℕ) →
+    IsOut p g.submitted bytes → Fair p next us g out back handed →
+    Fair p next us (and_then (Datagram p bytes now) g) out (back ++ sendings p (packets g.window g.tree g.events (Datagram p bytes now))) handed
+own_fair law p next us g out back handed bytes now (inl (c, sub, is)) f =
+    rw is (fair_command law p next us g out back handed c now (sendable_of c sub) sub f)
+  where
+    sendable_of : (c : CommandFields) → WasSubmitted p c g.submitted → IsSendable c
+    sendable_of c sub = (each_in (λ (x : SubmittedCommand). x.peer ≡ p → IsSendable x.command × (x.command.handle < end_of next)) _ g.submitted f.sendable sub refl).0
+own_fair law p next us g out back handed bytes now (inr is) f = rw is (fair_keep_alive law p next us g out back handed now f)
+
+own_kept : (law : WrittenIsReadBack) (s f : ℕ) (p : Peer) (next : Option ℕ) (us : List Untaken) (g : Past) (out back : List SentDatagram) (handed : List TakenAnswer) (bytes : List ℕ) (now : ℕ) →
+    IsOut p g.submitted bytes → Fair p next us g out back handed → KeepsItsSession p (Datagram p bytes now ∷ g.events) → Kept p g →
+    Kept p (and_then (Datagram p bytes now) g)
+    × (Good s f p next us g.submitted (accepted_by p g) → Good s f p next us g.submitted (accepted_by p (and_then (Datagram p bytes now) g)))
+own_kept law s f p next us g out back handed bytes now (inl (c, sub, is)) fair keeps k =
+    let its = each_in (λ (x : SubmittedCommand). x.peer ≡ p → IsSendable x.command × (x.command.handle < end_of next)) _ g.submitted fair.sendable sub refl in
+    let d = delivers p (Command true c) bytes now g (ap read_datagram is ∙ read_command law c its.0) (inl (c, refl)) keeps k in
+    (d.kept, λ good. grown (accepted_by p (and_then (Datagram p bytes now) g)) d.grown good its.1)
+  where
+    command_is : (x y : CommandFields) → Command true x ≡ Command true y → x ≡ y
+    command_is x y q = cc
+
+    grown : (B : List Entry) → IsGrown (Command true c) (accepted_by p g) B → Good s f p next us g.submitted (accepted_by p g) → c.handle < end_of next → Good s f p next us g.submitted B
+    grown B (inl same) good below = rw same good
+    grown B (inr (x, r, m_is, new, grows)) good below =
+        let same : c ≡ x = command_is c x m_is in
+        let from : f ≤ c.handle = each_in (λ (y : SubmittedCommand). y.peer ≡ p → f ≤ y.command.handle) _ g.submitted good.from sub refl in
+        rw grows (good_grown s f p next us g.submitted (accepted_by p g) (record { command = x; reply = r }) (rw same at from) (rw same at below) new good)
+own_kept law s f p next us g out back handed bytes now (inr is) fair keeps k =
+    let d = delivers p (KeepAlive (Seconds 5)) bytes now g (ap read_datagram is ∙ read_keep_alive law) (inr (Seconds 5, refl)) keeps k in
+    (d.kept, λ good. grown (accepted_by p (and_then (Datagram p bytes now) g)) d.grown good)
+  where
+    grown : (B : List Entry) → IsGrown (KeepAlive (Seconds 5)) (accepted_by p g) B → Good s f p next us g.submitted (accepted_by p g) → Good s f p next us g.submitted B
+    grown B (inl same) good = rw same good
+    grown B (inr (x, r, m_is, new, grows)) good = cc
+
+sound_own : (law : WrittenIsReadBack) (s : ℕ) (n : Network) (bytes : List ℕ) (now : ℕ) (z : PeerLink) → IsOut z.peer n.submitted bytes → LinkSound s n z →
+    Fair z.peer z.link.next z.link.untaken (and_then (Datagram z.peer bytes now) (past n)) n.to_device (n.to_links ++ sendings z.peer (packets n.window n.tree n.events (Datagram z.peer bytes now))) n.taken
+    × (KeepsItsSession z.peer (Datagram z.peer bytes now ∷ n.events) → Kept z.peer (and_then (Datagram z.peer bytes now) (past n)))
+    × (0 < s → KeepsItsSession z.peer (Datagram z.peer bytes now ∷ n.events) →
+    (f : ℕ) × Good s f z.peer z.link.next z.link.untaken n.submitted (accepted_by z.peer (and_then (Datagram z.peer bytes now) (past n))))
+sound_own law s n bytes now z out w = (
+  own_fair law z.peer z.link.next z.link.untaken (past n) n.to_device n.to_links n.taken bytes now out w.fair,
+  (λ keeps. (own_kept law s 0 z.peer z.link.next z.link.untaken (past n) n.to_device n.to_links n.taken bytes now out w.fair keeps (w.kept (before keeps))).0),
+  (λ some keeps. let good = w.good some (before keeps) in
+      (good.0, (own_kept law s good.0 z.peer z.link.next z.link.untaken (past n) n.to_device n.to_links n.taken bytes now out w.fair keeps (w.kept (before keeps))).1 good.1)),
+)
+  where
+    before : KeepsItsSession z.peer (Datagram z.peer bytes now ∷ n.events) → KeepsItsSession z.peer n.events
+    before keeps = keeps_before z.peer (Datagram z.peer bytes now) n.events keeps
+
+-- what is known of a link after a datagram of the peer q with these bytes came, and these packets were sent back
+abbrev AfterDatagram : ℕ → Network → PeerLink → Peer → List ℕ → ℕ → Type 0
+AfterDatagram s n z q bytes now =
+    Fair z.peer z.link.next z.link.untaken (and_then (Datagram q bytes now) (past n)) n.to_device (n.to_links ++ sendings q (packets n.window n.tree n.events (Datagram q bytes now))) n.taken
+    × (KeepsItsSession z.peer (Datagram q bytes now ∷ n.events) → Kept z.peer (and_then (Datagram q bytes now) (past n)))
+    × (0 < s → KeepsItsSession z.peer (Datagram q bytes now ∷ n.events) →
+    (f : ℕ) × Good s f z.peer z.link.next z.link.untaken n.submitted (accepted_by z.peer (and_then (Datagram q bytes now) (past n))))
+
+sound_delivery : (law : WrittenIsReadBack) (s now : ℕ) (n : Network) → Sound s n → (d : SentDatagram) (k : ℕ) → slice_get n.to_device k ≡ Some d → Sound s (after_delivery now (Some d) n)
+sound_delivery law s now n g d k e = record { apart = g.apart; each = each_map one n.links g.each }
+  where
+    n' : Network
+    n' = after_delivery now (Some d) n
+
+    as_own : (z : PeerLink) (q : Peer) → q ≡ z.peer → AfterDatagram s n z z.peer d.bytes now → AfterDatagram s n z q d.bytes now
+    as_own z q same a = let P : Peer → Type 0 = λ x. AfterDatagram s n z x d.bytes now in subst P (sym same) a
+
+    by_test : (z : PeerLink) (b : Bool) → same_peer d.peer z.peer ≡ b → LinkSound s n z → AfterDatagram s n z d.peer d.bytes now
+    by_test z true q w =
+        let same : d.peer ≡ z.peer = same_is d.peer z.peer q in
+        as_own z d.peer same (sound_own law s n d.bytes now z
+        (each_at (λ (x : SentDatagram). x.peer ≡ z.peer → IsOut z.peer n.submitted x.bytes) n.to_device k d w.fair.outgoing e same) w)
+    by_test z false q w = sound_elsewhere s n d.peer d.bytes now (packets n.window n.tree n.events (Datagram d.peer d.bytes now)) z q w
+
+    one : (z : PeerLink) → LinkSound s n z → LinkSound s n' z
+    one z w = let a = by_test z (same_peer d.peer z.peer) refl w in record { span = w.span; fair = a.0; kept = a.1; good = a.2 }
+
+-- other bytes come to the device
+sound_other : (s : ℕ) (from : Peer) (bytes : List ℕ) (now : ℕ) (n : Network) → Sound s n → Sound s (after_step (Other from bytes now) n)
+sound_other s from bytes now n g = by_test (has_link from n.links) refl
+  where
+    n' : Network
+    n' = record n { events = Datagram from bytes now ∷ n.events }
+
+    quiet : (z : PeerLink) (back : List SentDatagram) → back ≡ n.to_links →
+        Fair z.peer z.link.next z.link.untaken (and_then (Datagram from bytes now) (past n)) n.to_device back n.taken →
+        Fair z.peer z.link.next z.link.untaken (and_then (Datagram from bytes now) (past n)) n.to_device n.to_links n.taken
+    quiet z back same f = rw same at f
+
+    one : (z : PeerLink) → same_peer z.peer from ≡ false → LinkSound s n z → LinkSound s n' z
+    one z other w =
+        let a = sound_elsewhere s n from bytes now [] z (same_turned from z.peer ∙ other) w in
+        record { span = w.span; fair = quiet z (n.to_links ++ []) (append-nil n.to_links) a.0; kept = a.1; good = a.2 }
+
+    each : (zs : List PeerLink) → AllByRecursion (λ (l : PeerLink). same_peer l.peer from ≡ false) zs → AllByRecursion (LinkSound s n) zs → AllByRecursion (LinkSound s n') zs
+    each [] a p = tt
+    each (z ∷ zs) a p = (one z a.0 p.0, each zs a.1 p.1)
+
+    by_test : (b : Bool) → has_link from n.links ≡ b → Sound s (cond b n n')
+    by_test true q = g
+    by_test false q = record { apart = g.apart; each = each n.links (none_passes (λ (l : PeerLink). same_peer l.peer from) n.links q) g.each }
+
+sound_tick : (s now : ℕ) (n : Network) → Sound s n → Sound s (after_step (steps.Tick now) n)
+sound_tick s now n g = record {
+  apart = g.apart;
+  each = each_map (λ z w. record {
+    span = w.span;
+    fair = fair_tick z.peer z.link.next z.link.untaken (past n) n.to_device n.to_links n.taken now w.fair;
+    kept = w.kept;
+    good = w.good;
+  }) n.links g.each;
+}
+
+-- ---- a step, a schedule, and the network at first
+
+sound_step : (law : WrittenIsReadBack) (s : ℕ) (step : Step) (n : Network) → StepFits step → Sound s n → Sound s (after_step step n)
+sound_step law s (Submit i r now) n fits g = sound_submit s i r now n fits g (slice_get n.links i) refl
+sound_step law s (Due i now) n fits g = sound_due s i now n g (slice_get n.links i) refl
+sound_step law s (ToDevice k now) n fits g = by_sent (slice_get n.to_device k) refl
+  where
+    by_sent : (o : Option SentDatagram) → slice_get n.to_device k ≡ o → Sound s (after_delivery now o n)
+    by_sent None e = g
+    by_sent (Some d) e = sound_delivery law s now n g d k e
+sound_step law s (ToLink k now) n fits g = by_sent (slice_get n.to_links k) refl
+  where
+    by_sent : (o : Option SentDatagram) → slice_get n.to_links k ≡ o → Sound s (after_reception now o n)
+    by_sent None e = g
+    by_sent (Some d) e = sound_reception s now n g d k e
+sound_step law s (Other from bytes now) n fits g = sound_other s from bytes now n g
+sound_step law s (steps.Tick now) n fits g = sound_tick s now n g
+sound_step law s (Take i h) n fits g = sound_take s i h n g (slice_get n.links i) refl
+
+sound_steps : (law : WrittenIsReadBack) (s : ℕ) (es : List Step) (n : Network) → AllByRecursion StepFits es → Sound s n → Sound s (after_steps es n)
+sound_steps law s [] n fits g = g
+sound_steps law s (e ∷ es) n fits g = sound_steps law s es (after_step e n) fits.1 (sound_step law s e n fits.0 g)
+
+sound_opening : (w s : ℕ) (tree : List Object) (starts : List Start) → are_apart starts ≡ true → AllByRecursion StartFits starts → Sound s (opening w s tree starts)
+unfolding IsDistinct
+sound_opening w s tree starts a fits = record { apart = apart starts a; each = each starts fits }
+  where
+    other : (p : Peer) (x : Start) → is_of_another_peer p x ≡ true → x.peer ≢ p
+    other p x e = other_of x.peer p (not_true (same_peer x.peer p) e)
+
+    heads : (p : Peer) (xs : List Start) → list_all (is_of_another_peer p) xs ≡ true → AllByRecursion (λ (y : PeerLink). y.peer ≢ p) (map (started s) xs)
+    heads p [] q = tt
+    heads p (x ∷ xs) q = let t = both_true (is_of_another_peer p x) (list_all (is_of_another_peer p) xs) q in (other p x t.0, heads p xs t.1)
+
+    apart : (xs : List Start) → are_apart xs ≡ true → Apart (map (started s) xs)
+    apart [] q = tt
+    apart (x ∷ xs) q =
+        let t = both_true (is_of_another_peer device_address x && list_all (is_of_another_peer x.peer) xs) (are_apart xs) q in
+        let u = both_true (is_of_another_peer device_address x) (list_all (is_of_another_peer x.peer) xs) t.0 in
+        (heads x.peer xs u.1, apart xs t.1)
+
+    nothing : (f x : ℕ) → f ≤ x → x < f → false ≡ true
+    nothing f x p q = absurd (omega arith)
+
+    each : (xs : List Start) → AllByRecursion StartFits xs → AllByRecursion (LinkSound s (opening w s tree starts)) (map (started s) xs)
+    each [] f = tt
+    each (x ∷ xs) f = (
+      record {
+        span = refl;
+        fair = record { fits = f.0; own = tt; outgoing = tt; incoming = tt; untaken = tt; handed_on = tt; sendable = tt; unique = λ c d i j e. absurd i };
+        kept = λ keeps. record { latest = tt; whole = refl; once = tt };
+        good = λ some keeps. (x.first_handle.0, record { start = omega arith; untaken = tt; taken = λ y p q free. nothing x.first_handle.0 y p q; own = tt; order = tt; from = tt });
+      },
+      each xs f.1,
+    )
+
+-- THE NETWORK AFTER ANY SCHEDULE.
+pub sound_after : (law : WrittenIsReadBack) (w s : ℕ) (tree : List Object) (starts : List Start) (es : List Step) → are_apart starts ≡ true → Fit starts es →
+    Sound s (after_steps es (opening w s tree starts))
+sound_after law w s tree starts es a fit = sound_steps law s es (opening w s tree starts) fit.1 (sound_opening w s tree starts a fit.0)

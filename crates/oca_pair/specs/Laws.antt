@@ -1,0 +1,151 @@
+-- THE LAWS OF A NETWORK (profile), over every schedule.
+use Rattle.std.specs.Prelude.{◌≡◌, ◌==◌, ◌⊎◌, ℕ, ◌+◌, ◌*◌, ◌<◌, ◌≤◌, Bool, true, ◌&&◌, if◌then◌else◌, List, [], ◌∷◌, ◌++◌, map, filter, length, Some}
+use Rattle.std.specs.List.{slice_get, IsDistinct}
+use Rattle.oca_types.specs.declared.words.Peer.{Peer}
+use Rattle.oca_types.specs.declared.words.Reply.{Reply}
+use Rattle.oca_types.specs.Peers.{CommandFields, same_peer}
+use Rattle.oca_types.specs.Status.{status_number}
+use Rattle.oca_pdu.specs.Messages.{ResponseFields, Commands, Responses}
+use Rattle.oca_pdu.specs.Encoding.{pdu_encoding}
+use Rattle.oca_tree.specs.declared.object.Object.{Object}
+use Rattle.oca_device.specs.declared.verdict.Verdict.TheVariants as verdicts
+use Rattle.oca_device.specs.Events.{Event, Datagram, Tick}
+use Rattle.oca_device.specs.Notes.{Noted, Admitted, Heartbeat, Executed, Note}
+use Rattle.oca_device.specs.States.{state_after, reply_of}
+use Rattle.oca_control.specs.Answers.{AnswerFields}
+use Rattle.oca_control.specs.Untaken.{Untaken, answer_under}
+use Rattle.oca_pair.specs.declared.outcome.Outcome.TheVariants as outcomes
+use Rattle.oca_pair.specs.declared.start.Start.{Start}
+use Rattle.oca_pair.specs.Networks.{Network, PeerLink, SentDatagram, SubmittedCommand, TakenAnswer, opening}
+use Rattle.oca_pair.specs.Steps.{Step, ToDevice, after_step, after_steps, outcome_of}
+use Rattle.oca_pair.specs.Premises.{are_apart, Fit, KeepsItsSession, ComeFrom}
+
+-- x is a member of the list
+abbrev pub IsIn : {X : Type 0} → X → List X → Type 0
+IsIn x [] = ⊥
+IsIn x (y ∷ ys) = (y ≡ x) ⊎ IsIn x ys
+
+-- ---- what the device executed
+
+-- An execution: the objects that it found, the command, and the reply that it gave.
+pub record Execution : Type 0 where
+  pub objects : List Object
+  pub command : CommandFields
+  pub reply : Reply
+
+abbrev pub executed_in : Noted → List Execution
+executed_in (Admitted messages) = []
+executed_in (Heartbeat ms) = []
+executed_in (Executed objects command reply) = (record { objects = objects; command = command; reply = reply }) ∷ []
+
+abbrev pub executed_for : Peer → List Note → List Execution
+executed_for p [] = []
+executed_for p (n ∷ notes) = (if same_peer n.peer p then executed_in n.what else []) ++ executed_for p notes
+
+-- THE EXECUTIONS for a peer, the latest first.
+abbrev pub executions_for : Peer → Network → List Execution
+executions_for p n = executed_for p (state_after n.window n.tree n.events).notes
+
+-- those of the commands under a handle
+abbrev pub executions_under : ℕ → List Execution → List Execution
+executions_under h xs = filter (λ x. x.command.handle == h) xs
+
+-- the answer that carries a reply
+abbrev pub answer_of : Reply → AnswerFields
+answer_of reply = record { status = status_number reply.status; count = reply.count; params = reply.params.items }
+
+-- ---- THE LAW OF ANSWERS
+
+-- the link of this peer submitted the command
+abbrev pub WasSubmitted : Peer → CommandFields → List SubmittedCommand → Type 0
+WasSubmitted p c submitted = let it : SubmittedCommand = record { peer = p; command = c } in IsIn it submitted
+
+-- the link of this peer handed this answer on, under the handle
+abbrev pub WasHandedOn : Peer → ℕ → AnswerFields → List TakenAnswer → Type 0
+WasHandedOn p h answer taken = let it : TakenAnswer = record { peer = p; handle = h; answer = answer } in IsIn it taken
+
+-- The execution was of a datagram of the peer that held its command alone, on the objects as the clock left them when it came.
+pub record CameWithADatagram (p : Peer) (x : Execution) (n : Network) : Type 0 where
+  pub later : List Event
+  pub before : List Event
+  pub now : ℕ
+  pub events : n.events ≡ later ++ Datagram p (pdu_encoding (Commands true (x.command ∷ []))) now ∷ before
+  pub objects : x.objects ≡ (state_after n.window n.tree (Tick now ∷ before)).tree
+
+-- The answer is what an execution gave, of the very command that the peer's link submitted under the handle, for that peer.
+-- Where the peer's session was never forgotten, it is the only execution for the peer under that handle.
+pub record IsAnswerOfItsCommand (p : Peer) (h : ℕ) (answer : AnswerFields) (n : Network) : Type 0 where
+  pub execution : Execution
+  pub executed : IsIn execution (executions_for p n)
+  pub came : CameWithADatagram p execution n
+  pub submitted : WasSubmitted p execution.command n.submitted
+  pub handle : execution.command.handle ≡ h
+  pub reply : execution.reply ≡ reply_of execution.objects p execution.command
+  pub answer_is : answer ≡ answer_of execution.reply
+  pub only : KeepsItsSession p n.events → executions_under h (executions_for p n) ≡ execution ∷ []
+
+-- Of each answer that a link holds, and of each that it handed on; and no two commands that it submitted have one handle.
+pub record AnswersItsCommands (n : Network) : Type 0 where
+  pub held : (i : ℕ) (l : PeerLink) (h : ℕ) (answer : AnswerFields) → slice_get n.links i ≡ Some l → answer_under h l.link.untaken ≡ Some answer →
+      IsAnswerOfItsCommand l.peer h answer n
+  pub handed_on : (i : ℕ) (l : PeerLink) (h : ℕ) (answer : AnswerFields) → slice_get n.links i ≡ Some l → WasHandedOn l.peer h answer n.taken →
+      IsAnswerOfItsCommand l.peer h answer n
+  pub handles : (i : ℕ) (l : PeerLink) (c d : CommandFields) → slice_get n.links i ≡ Some l → WasSubmitted l.peer c n.submitted →
+      WasSubmitted l.peer d n.submitted → c.handle ≡ d.handle → c ≡ d
+
+-- Over every schedule, for all sizes:
+abbrev pub EveryScheduleAnswersItsCommands : Type 0
+EveryScheduleAnswersItsCommands =
+    (w s : ℕ) (tree : List Object) (starts : List Start) (steps : List Step) → are_apart starts ≡ true → Fit starts steps →
+    AnswersItsCommands (after_steps steps (opening w s tree starts))
+
+-- ---- THE LAW OF COMMANDS IN HAND
+
+-- A datagram of the link of this peer is a copy of a command that the link holds untaken: its bytes are those that the link gives
+-- out for it.
+pub record IsCopyOfUntaken (d : SentDatagram) (l : PeerLink) (c : CommandFields) : Type 0 where
+  pub peer : l.peer ≡ d.peer
+  pub untaken : Untaken
+  pub held : IsIn untaken l.link.untaken
+  pub command : untaken.command ≡ c
+  pub bytes : d.bytes ≡ pdu_encoding (Commands true (c ∷ []))
+
+-- the response with a reply, under a handle
+abbrev pub response_to : ℕ → Reply → ResponseFields
+response_to h reply = record { handle = h; status = status_number reply.status; count = reply.count; params = reply.params.items }
+
+-- The delivery is answered: the device executes the command now, or finds it in its window; and it sends the link one datagram, the
+-- response with the reply of an execution of that command for that peer.
+pub record IsAnswered (k now : ℕ) (n : Network) (d : SentDatagram) (c : CommandFields) : Type 0 where
+  pub served : (outcome_of (ToDevice k now) n ≡ outcomes.Device (verdicts.Served 1 0 0 0) ∷ [])
+      ⊎ (outcome_of (ToDevice k now) n ≡ outcomes.Device (verdicts.Served 0 1 0 0) ∷ [])
+  pub execution : Execution
+  pub executed : IsIn execution (executions_for d.peer (after_step (ToDevice k now) n))
+  pub command : execution.command ≡ c
+  pub sent : (after_step (ToDevice k now) n).to_links
+      ≡ n.to_links ++ (record { peer = d.peer; bytes = pdu_encoding (Responses (response_to c.handle execution.reply ∷ [])) }) ∷ []
+
+-- A delivery of a copy of an untaken command is answered, where with it no session of the link's peer was forgotten, and the
+-- datagrams that came to the device came from at most 16 peers.
+abbrev pub AnswersUntaken : Network → Type 0
+AnswersUntaken n = (k now i : ℕ) (d : SentDatagram) (l : PeerLink) (c : CommandFields) (peers : List Peer) →
+    slice_get n.to_device k ≡ Some d → slice_get n.links i ≡ Some l → IsCopyOfUntaken d l c →
+    KeepsItsSession d.peer (after_step (ToDevice k now) n).events → length peers ≤ 16 → ComeFrom peers (after_step (ToDevice k now) n).events →
+    IsAnswered k now n d c
+
+-- Over every schedule, for all sizes where the window is at least twice the span less one:
+abbrev pub NoUntakenCommandIsTooOld : Type 0
+NoUntakenCommandIsTooOld =
+    (w s : ℕ) (tree : List Object) (starts : List Start) (steps : List Step) → 0 < s → 2 * s ≤ w + 1 → are_apart starts ≡ true → Fit starts steps →
+    AnswersUntaken (after_steps steps (opening w s tree starts))
+
+-- No command of a link is executed twice, where no session of its peer was forgotten.
+abbrev pub ExecutesOnce : Network → Type 0
+ExecutesOnce n = (i : ℕ) (l : PeerLink) → slice_get n.links i ≡ Some l → KeepsItsSession l.peer n.events →
+    IsDistinct (λ (x y : ℕ). x == y) (map (λ x. x.command.handle) (executions_for l.peer n))
+
+-- Over every schedule, for all sizes:
+abbrev pub EveryCommandIsExecutedOnce : Type 0
+EveryCommandIsExecutedOnce =
+    (w s : ℕ) (tree : List Object) (starts : List Start) (steps : List Step) → are_apart starts ≡ true → Fit starts steps →
+    ExecutesOnce (after_steps steps (opening w s tree starts))

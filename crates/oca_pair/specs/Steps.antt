@@ -1,0 +1,193 @@
+-- THE STEPS OF A NETWORK (profile). A schedule is any list of steps, of which the first comes first.
+use Rattle.std.specs.Prelude.{ℕ, ◌+◌, Bool, true, not, if◌then◌else◌, List, [], ◌∷◌, ◌++◌, map, length, Option, Some, None, is_some, Result, Ok, Err}
+use Rattle.std.specs.List.{list_any, slice_get, slice_set}
+use Rattle.oca_types.specs.declared.words.Peer.{Peer}
+use Rattle.oca_types.specs.declared.words.Handle.{Handle}
+use Rattle.oca_types.specs.Peers.{CommandFields, same_peer}
+use Rattle.oca_pdu.specs.declared.fault.PduFault.{PduFault}
+use Rattle.oca_pdu.specs.Messages.{Msg}
+use Rattle.oca_pdu.specs.Reading.{read_datagram}
+use Rattle.oca_device.specs.Events.{Event, Datagram}
+use Rattle.oca_device.specs.Events as event
+use Rattle.oca_device.specs.Answers.{packets, verdict}
+use Rattle.oca_control.specs.declared.answer.Answer.{Answer}
+use Rattle.oca_control.specs.declared.fault.ControlFault.{ControlFault}
+use Rattle.oca_control.specs.Answers.{AnswerFields}
+use Rattle.oca_control.specs.Untaken.{answer_under}
+use Rattle.oca_control.specs.Links.{LinkState, Request, command_under, submission, after_submission, Decision, GivesCommand, GivesKeepAlive, GivesNothing, IsLost, decision, due_bytes, gone_on, reception, received, taken}
+use Rattle.oca_pair.specs.declared.outcome.Outcome.{Outcome}
+use Rattle.oca_pair.specs.declared.outcome.Outcome.TheVariants as outcomes
+use Rattle.oca_pair.specs.Networks.{Network, PeerLink, SentDatagram, SubmittedCommand, TakenAnswer, device_address}
+
+-- Links and datagrams are named by their number in their list, from 0. Moments are in milliseconds.
+pub data Step : Type 0 where
+  -- a command is submitted to a link
+  Submit : (link : ℕ) (request : Request) (now : ℕ) → Step
+  -- a link is asked what is due
+  Due : (link : ℕ) (now : ℕ) → Step
+  -- a datagram that was sent to the device is delivered to it
+  ToDevice : (k : ℕ) (now : ℕ) → Step
+  -- a datagram that was sent to a link is delivered to it
+  ToLink : (k : ℕ) (now : ℕ) → Step
+  -- any bytes from a peer that is no link's come to the device
+  Other : (from : Peer) (bytes : List ℕ) (now : ℕ) → Step
+  -- the device reads its clock
+  Tick : (now : ℕ) → Step
+  -- the answer to a command is asked of a link
+  Take : (link : ℕ) (handle : ℕ) → Step
+
+-- the peer is that of a link
+abbrev pub has_link : Peer → List PeerLink → Bool
+has_link p links = list_any (λ l. same_peer l.peer p) links
+
+-- What the step names is there: the link or the datagram; and a step Other is of no link's peer.
+abbrev pub is_there : Step → Network → Bool
+is_there (Submit link request now) n = is_some (slice_get n.links link)
+is_there (Due link now) n = is_some (slice_get n.links link)
+is_there (ToDevice k now) n = is_some (slice_get n.to_device k)
+is_there (ToLink k now) n = is_some (slice_get n.to_links k)
+is_there (Other from bytes now) n = not (has_link from n.links)
+is_there (Tick now) n = true
+is_there (Take link handle) n = is_some (slice_get n.links link)
+
+-- the datagrams of a peer with these bytes
+abbrev pub sendings : Peer → List (List ℕ) → List SentDatagram
+sendings p packets = map (λ bytes. record { peer = p; bytes = bytes }) packets
+
+-- the links where the one of this number is in this state
+abbrev pub with_link : ℕ → PeerLink → LinkState → List PeerLink → List PeerLink
+with_link i l state links = slice_set links i (record { peer = l.peer; link = state })
+
+-- ---- SUBMIT: an accepted command joins the submitted ones
+abbrev pub submitted_by : Peer → Request → Result Handle ControlFault → List SubmittedCommand
+submitted_by p r (Ok h) = (record { peer = p; command = command_under h.0 r }) ∷ []
+submitted_by p r (Err fault) = []
+
+abbrev pub after_submit : ℕ → Request → ℕ → Option PeerLink → Network → Network
+after_submit i r now None n = n
+after_submit i r now (Some l) n = record n {
+  links = with_link i l (after_submission (submission r l.link) r now l.link) n.links;
+  submitted = n.submitted ++ submitted_by l.peer r (submission r l.link);
+}
+
+abbrev pub submit_outcome : Result Handle ControlFault → Outcome
+submit_outcome (Ok h) = outcomes.Submitted h
+submit_outcome (Err fault) = outcomes.Refused fault
+
+-- ---- DUE: what the link gives out is sent to the device
+abbrev pub given_by : Decision → List (List ℕ)
+given_by (GivesCommand c) = due_bytes (GivesCommand c) ∷ []
+given_by GivesKeepAlive = due_bytes GivesKeepAlive ∷ []
+given_by GivesNothing = []
+given_by IsLost = []
+
+abbrev pub after_due_step : ℕ → ℕ → Option PeerLink → Network → Network
+after_due_step i now None n = n
+after_due_step i now (Some l) n = record n {
+  links = with_link i l (gone_on now l.link) n.links;
+  to_device = n.to_device ++ sendings l.peer (given_by (decision now l.link));
+}
+
+abbrev pub due_outcome : ℕ → Decision → Outcome
+due_outcome number (GivesCommand c) = outcomes.Sent number
+due_outcome number GivesKeepAlive = outcomes.Sent number
+due_outcome number GivesNothing = outcomes.Nothing
+due_outcome number IsLost = outcomes.Lost
+
+-- ---- TO DEVICE: the datagram comes to the device from the link's peer, and the device's packets are sent to that link
+abbrev pub after_delivery : ℕ → Option SentDatagram → Network → Network
+after_delivery now None n = n
+after_delivery now (Some d) n = record n {
+  events = Datagram d.peer d.bytes now ∷ n.events;
+  to_links = n.to_links ++ sendings d.peer (packets n.window n.tree n.events (Datagram d.peer d.bytes now));
+}
+
+-- ---- TO LINK: the datagram comes to the link that its peer names, from the device's address
+-- the messages of the bytes, where they are a datagram
+abbrev pub messages_read : Result (List Msg) PduFault → Option (List Msg)
+messages_read (Ok messages) = Some messages
+messages_read (Err fault) = None
+
+abbrev pub content_of : List ℕ → Option (List Msg)
+content_of bytes = messages_read (read_datagram bytes)
+
+abbrev pub hears_datagram : SentDatagram → ℕ → PeerLink → PeerLink
+hears_datagram d now l =
+    if same_peer l.peer d.peer then record { peer = l.peer; link = received device_address (content_of d.bytes) now l.link } else l
+
+abbrev pub after_reception : ℕ → Option SentDatagram → Network → Network
+after_reception now None n = n
+after_reception now (Some d) n = record n { links = map (hears_datagram d now) n.links }
+
+abbrev pub reception_outcomes : SentDatagram → List PeerLink → List Outcome
+reception_outcomes d [] = []
+reception_outcomes d (l ∷ links) =
+    if same_peer l.peer d.peer then outcomes.Link (reception device_address (content_of d.bytes) l.link) ∷ [] else reception_outcomes d links
+
+-- ---- TAKE: the link hands its answer on, where it has one
+abbrev pub taken_by : Peer → ℕ → Option AnswerFields → List TakenAnswer
+taken_by p h (Some answer) = (record { peer = p; handle = h; answer = answer }) ∷ []
+taken_by p h None = []
+
+abbrev pub after_take : ℕ → ℕ → Option PeerLink → Network → Network
+after_take i h None n = n
+after_take i h (Some l) n = record n {
+  links = with_link i l (taken h l.link) n.links;
+  taken = n.taken ++ taken_by l.peer h (answer_under h l.link.untaken);
+}
+
+abbrev pub take_outcome : Option AnswerFields → Outcome
+take_outcome (Some answer) = outcomes.Answer (record { status = answer.status; count = answer.count; params = record { items = answer.params } })
+take_outcome None = outcomes.NoAnswer
+
+-- ---- THE NETWORK AFTER A STEP. A step that names what is not there does nothing.
+abbrev pub after_step : Step → Network → Network
+after_step (Submit link request now) n = after_submit link request now (slice_get n.links link) n
+after_step (Due link now) n = after_due_step link now (slice_get n.links link) n
+after_step (ToDevice k now) n = after_delivery now (slice_get n.to_device k) n
+after_step (ToLink k now) n = after_reception now (slice_get n.to_links k) n
+after_step (Other from bytes now) n = if has_link from n.links then n else record n { events = Datagram from bytes now ∷ n.events }
+after_step (Tick now) n = record n { events = event.Tick now ∷ n.events }
+after_step (Take link handle) n = after_take link handle (slice_get n.links link) n
+
+-- THE NETWORK AFTER A SCHEDULE.
+abbrev pub after_steps : List Step → Network → Network
+after_steps [] n = n
+after_steps (step ∷ steps) n = after_steps steps (after_step step n)
+
+-- ---- THE OUTCOME OF A STEP: one where what it names is there, and else none
+abbrev pub on_link : (PeerLink → Outcome) → Option PeerLink → List Outcome
+on_link outcome (Some l) = outcome l ∷ []
+on_link outcome None = []
+
+abbrev pub delivery_outcome : ℕ → Option SentDatagram → Network → List Outcome
+delivery_outcome now (Some d) n = outcomes.Device (verdict n.window n.tree n.events d.peer d.bytes now) ∷ []
+delivery_outcome now None n = []
+
+abbrev pub reception_outcome : Option SentDatagram → Network → List Outcome
+reception_outcome (Some d) n = reception_outcomes d n.links
+reception_outcome None n = []
+
+abbrev pub outcome_of : Step → Network → List Outcome
+outcome_of (Submit link request now) n = on_link (λ l. submit_outcome (submission request l.link)) (slice_get n.links link)
+outcome_of (Due link now) n = on_link (λ l. due_outcome (length n.to_device) (decision now l.link)) (slice_get n.links link)
+outcome_of (ToDevice k now) n = delivery_outcome now (slice_get n.to_device k) n
+outcome_of (ToLink k now) n = reception_outcome (slice_get n.to_links k) n
+outcome_of (Other from bytes now) n =
+    if has_link from n.links then [] else outcomes.Device (verdict n.window n.tree n.events from bytes now) ∷ []
+outcome_of (Tick now) n = outcomes.Ticked ∷ []
+outcome_of (Take link handle) n = on_link (λ l. take_outcome (answer_under handle l.link.untaken)) (slice_get n.links link)
+
+-- THE OUTCOMES OF A SCHEDULE, in order.
+abbrev pub outcomes_of : List Step → Network → List Outcome
+outcomes_of [] n = []
+outcomes_of (step ∷ steps) n = outcome_of step n ++ outcomes_of steps (after_step step n)
+
+-- THE FIRST STEP THAT NAMES WHAT IS NOT THERE, by its number, from 0.
+abbrev pub one_later : Option ℕ → Option ℕ
+one_later (Some k) = Some (k + 1)
+one_later None = None
+
+abbrev pub first_missing : List Step → Network → Option ℕ
+first_missing [] n = None
+first_missing (step ∷ steps) n = if is_there step n then one_later (first_missing steps (after_step step n)) else Some 0

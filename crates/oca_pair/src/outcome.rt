@@ -1,0 +1,29 @@
+//! What a step of a network led to.
+use oca_control::{Answer, ControlFault, Reception};
+use oca_device::Verdict;
+use oca_types::Handle;
+
+/// What a step of a network led to.
+#[derive(Drop)]
+pub enum Outcome {
+    /// The link took the command, under this handle.
+    Submitted(Handle),
+    /// The link refused the command.
+    Refused(ControlFault),
+    /// The link gave out a command or a keep-alive: the datagram of this number, from 0, was sent to the device.
+    Sent(usize),
+    /// The link gave nothing out.
+    Nothing,
+    /// The link is lost.
+    Lost,
+    /// What the device made of a datagram.
+    Device(Verdict),
+    /// What the link made of a datagram.
+    Link(Reception),
+    /// The device's clock was read.
+    Ticked,
+    /// The link handed this answer on.
+    Answer(Answer),
+    /// The link has no answer under the handle.
+    NoAnswer,
+}
