@@ -1,0 +1,236 @@
+#!/usr/bin/env python3
+"""Compares `ocadev replay` and `ocactl replay` with the second implementation of the profile (oca_profile.py) on random scripts.
+
+Usage: fuzz.py BIN SECONDS [SEED]     BIN is the folder with the two programs
+
+Scripts have well-formed and damaged datagrams, duplicates, overtaking, differing commands under a handle, many peers,
+moments that jump and run backwards, every window and span, and bad lines. At the first difference the script is made as
+small as it can be, printed, and the exit status is 1."""
+import random
+import subprocess
+import sys
+import time
+
+import oca_profile as oca
+
+ONOS = [100, 4096, 4097, 4098, 4099, 4100, 4101, 4102, 4103, 1, 0]
+METHODS = [(1, i) for i in range(0, 8)] + [(2, i) for i in range(1, 14)] + [(3, 4), (3, 5), (3, 6), (3, 20), (3, 21)] \
+    + [(4, i) for i in range(1, 11)] + [(5, 1), (5, 2), (5, 3), (0, 1), (6, 1)]
+# (target, method, ParamCount, a maker of parameters): what a panel would send
+USUAL = [
+    (4097, (4, 1), 0, lambda r: b""), (4097, (4, 2), 1, lambda r: bytes([r.choice([1, 2, 2, 1, 3])])),
+    (4098, (4, 1), 0, lambda r: b""), (4098, (4, 2), 1, lambda r: bytes([r.choice([1, 2])])),
+    (4100, (5, 2), 1, lambda r: r.choice([0, 600, -600, 601, -601, 5]).to_bytes(2, "big", signed=True)),
+    (4100, (5, 1), 0, lambda r: b""), (4102, (5, 2), 1, lambda r: bytes([r.choice([0, 100, 101, 7])])),
+    (4102, (5, 1), 0, lambda r: b""), (4101, (5, 2), 1, lambda r: bytes([r.choice([0, 1, 2, 255])])),
+    (4101, (5, 1), 0, lambda r: b""), (4099, (4, 1), 0, lambda r: b""),
+    (4099, (4, 2), 1, lambda r: oca.u16(r.randrange(4))), (4099, (4, 3), 1, lambda r: oca.u16(r.randrange(4))),
+    (4099, (4, 4), 2, lambda r: oca.u16(r.randrange(4)) + text(r)), (4099, (4, 5), 0, lambda r: b""),
+    (4099, (4, 6), 1, lambda r: oca.u16(3) + text(r) + text(r) + text(r)), (4099, (4, 7), 1, lambda r: oca.u16(r.randrange(3))),
+    (4099, (4, 8), 2, lambda r: oca.u16(r.randrange(3)) + bytes([r.randrange(3)])), (4099, (4, 9), 0, lambda r: b""),
+    (4099, (4, 10), 1, lambda r: oca.u16(3) + bytes(r.randrange(2) for _ in range(3))),
+    (4097, (1, 3), 0, lambda r: b""), (4097, (1, 4), 0, lambda r: b""), (4097, (1, 6), 0, lambda r: b""),
+    (4102, (1, 3), 0, lambda r: b""), (4097, (1, 5), 0, lambda r: b""), (4097, (2, 9), 1, lambda r: text(r)),
+    (4097, (2, 8), 0, lambda r: b""), (4096, (2, 10), 0, lambda r: b""), (100, (3, 5), 0, lambda r: b""),
+    (100, (3, 6), 0, lambda r: b""), (4096, (3, 6), 0, lambda r: b""), (100, (1, 1), 0, lambda r: b""),
+]
+
+
+def text(r):
+    """An OcaString, mostly right: of other scripts, of 64 and 65 bytes, cut short, or no UTF-8."""
+    s = r.choice(["", "a", "Bühne", "mute", "𝄞x", "日本", "a" * 64, "a" * 65, "ü" * 32, "ü" * 33, "\0"])
+    whole = oca.text_bytes(s)
+    kind = r.randrange(12)
+    if kind == 0:
+        return oca.u16(len(s) + 1) + s.encode()
+    if kind == 1:
+        return oca.u16(1) + r.choice([b"\xff", b"\xc3", b"\xed\xa0\x80", b"\xc0\x80", b"\xf4\x90\x80\x80"])
+    if kind == 2:
+        return whole[:-1]
+    return whole
+
+
+class Panel:
+    """What one peer sends: commands whose handles rise, with copies, gaps, overtaking and reuse."""
+
+    def __init__(self, r):
+        self.r, self.next, self.sent = r, r.choice([1, 1, 5, 1000, oca.U32 - 40]), []
+
+    def command(self):
+        r = self.r
+        kind = r.randrange(10)
+        if self.sent and kind < 3:  # a copy, of late or of long ago
+            old = r.choice(self.sent[-40:] if kind else self.sent)
+            if r.randrange(4) == 0:  # another command under that handle
+                return self.new(old.handle)
+            return old
+        step = r.choice([1, 1, 1, 1, 2, 3, 40, -1, -2, -5, 0])
+        self.next = max(0, min(oca.U32, self.next + step))
+        c = self.new(self.next)
+        self.sent.append(c)
+        return c
+
+    def new(self, handle):
+        r = self.r
+        if r.randrange(5):
+            target, (level, index), count, make = r.choice(USUAL)
+            return oca.Command(handle, target, level, index, count, make(r))
+        level, index = r.choice(METHODS)
+        params = bytes(r.randrange(256) for _ in range(r.choice([0, 0, 1, 2, 3, 9])))
+        return oca.Command(handle, r.choice(ONOS), level, index, r.randrange(3), params)
+
+
+def datagram(r, panel):
+    parts = []
+    for _ in range(r.choice([1, 1, 1, 2, 3])):
+        kind = r.randrange(12)
+        if kind == 0:
+            parts.append(oca.pdu(4, [oca.u16(r.choice([0, 1, 2, 10, 31, 65535]))]))
+        elif kind == 1:
+            parts.append(oca.pdu(4, [r.choice([0, 100, 250, 251, 1500, 30000, 30001, 2**32 - 1]).to_bytes(4, "big")]))
+        elif kind == 2:
+            parts.append(oca.pdu(3, [oca.response_body(r.randrange(9), 0, 0, b"") for _ in range(r.choice([1, 2, 7]))]))
+        else:
+            n = r.choice([1, 1, 1, 2, 3, 10, 60])
+            parts.append(oca.pdu(0 if kind == 3 else 1, [panel.command().body() for _ in range(n)]))
+    data = b"".join(parts)
+    return damaged(r, data) if r.randrange(8) == 0 else data
+
+
+def damaged(r, data):
+    kind = r.randrange(5)
+    at = r.randrange(len(data)) if data else 0
+    if kind == 0:
+        return data[:at]
+    if kind == 1:
+        return data + bytes([r.choice([0, 0x3B, 0xFF])])
+    if kind == 2:
+        return data + bytes(r.choice([1472, 1473, 1474, 1500]) - len(data)) if len(data) < 1472 else data
+    return data[:at] + bytes([r.choice([0, 1, 2, 3, 4, 0x3B, 0xFF, r.randrange(256)])]) + data[at + 1:]
+
+
+def moment(r, now):
+    step = r.choice([0, 0, 1, 5, 100, 251, 750, 2500, 3001, 7500, 15001, 90001, 120000, 120001, -50, -5000])
+    return max(0, now + (step if r.randrange(3) == 0 or step < 3000 else 1))
+
+
+BAD = ["", "#", "# a comment", "0", "0 quiet ", " 0 quiet", "0  quiet", "x quiet", "18446744073709551616 quiet", "0 127.0.0.1:9001",
+       "0 127.0.0.1:9001 3b0", "0 127.0.0.1:9001 zz", "0 127.0.0.256:1 -", "0 1.2.3.4:70000 -", "0 1.2.3:1 -", "+1 quiet",
+       "00000000000000000000 quiet", "000000000000000000000 quiet", "take", "take 1 ", "take due", "0 take 1", "0 due x",
+       "0 submit 1 2 3 4", "0 submit 4294967296 4 1 0 -", "0 submit 1 65536 1 0 -", "0 submit 1 1 1 256 -", "0 submit 1 1 1 1 a",
+       "0 from 1.2.3.4:5 -", "0 from 1.2.3.4 -", "0 from 1.2.3.4:5 0", "take 4294967296", "é quiet", "#é", "a" * 4097, "#" * 4097, "#" * 4096]
+
+
+def hexed(r, data):
+    """as a script writes bytes: of either case"""
+    return oca.hex_text(data).upper() if r.randrange(4) == 0 else oca.hex_text(data)
+
+
+def finish(r, lines):
+    if r.randrange(4) == 0:
+        lines.insert(r.randrange(len(lines) + 1), r.choice(BAD))
+    end = "" if r.randrange(3) == 0 else "\n"
+    return ("\n".join(lines) + end).encode()
+
+
+def device_script(r):
+    window = r.choice([1, 2, 3, 8, 31, 32, 32, 32, 63, 64])
+    peers = [f"127.0.0.{1 + k % 3}:{9000 + k}" for k in range(r.choice([1, 2, 3, 18]))]
+    panels = {p: Panel(r) for p in peers}
+    now, lines = 0, []
+    for _ in range(r.choice([3, 10, 40, 120])):
+        now = moment(r, now)
+        if r.randrange(10) == 0:
+            lines.append(f"{now} quiet")
+        else:
+            p = r.choice(peers)
+            lines.append(f"{now} {p} {hexed(r, datagram(r, panels[p]))}")
+    return ["replay", "--window", str(window)], finish(r, lines), lambda s: oca.device_replay(s, window)
+
+
+def link_script(r):
+    span = r.choice([1, 2, 8, 16, 16, 31, 32])
+    first = r.choice([0, 1, 1, oca.U32 - 3, oca.U32])
+    device, here = (127, 0, 0, 1, 65000), (127, 0, 0, 1, 9001)
+    model, link, panel = oca.Device(), oca.Link(device, first, span), Panel(r)
+    now, lines, wire = 0, [], []
+    for _ in range(r.choice([5, 20, 80, 200])):
+        now = moment(r, now)
+        kind = r.randrange(6)
+        if kind == 0:
+            c = panel.new(0)
+            params = c.params if r.randrange(12) else bytes(r.choice([1444, 1445, 1446, 2000]))
+            lines.append(f"{now} submit {c.target} {c.level} {c.index} {c.count} {hexed(r, params)}")
+            link.submit(c.target, c.level, c.index, c.count, params, now)
+        elif kind in (1, 2):
+            lines.append(f"{now} due")
+            _, data = link.due(now)
+            if data and r.randrange(4):  # it comes to a device, perhaps twice
+                for _ in range(r.choice([1, 1, 2])):
+                    wire += model.datagram(here, data, now)[1]
+        elif kind == 3:
+            data = r.choice(wire) if wire and r.randrange(5) else datagram(r, panel)
+            if len(wire) > 1 and r.randrange(4) == 0:
+                data = data + r.choice(wire)
+            sender = device if r.randrange(6) else r.choice([here, (127, 0, 0, 2, 65000), (127, 0, 0, 1, 65001)])
+            lines.append("{} from {}.{}.{}.{}:{} {}".format(now, *sender, hexed(r, data)))
+            link.datagram(sender, data, now)
+        else:
+            handle = r.choice([u[0].handle for u in link.untaken]) if link.untaken and r.randrange(4) else r.randrange(40)
+            lines.append(f"take {handle}")
+            link.take(handle)
+    words = ["replay", "--device", "127.0.0.1:65000", "--first-handle", str(first), "--span", str(span)]
+    return words, finish(r, lines), lambda s: oca.link_replay(s, device, first, span)
+
+
+def run(program, words, script):
+    done = subprocess.run([program] + words, input=script, capture_output=True, timeout=60)
+    return done.stdout, done.stderr.decode(errors="replace").strip() or None, done.returncode
+
+
+def smallest(differs, script):
+    """Takes lines away while the difference stays."""
+    lines = script.split(b"\n")
+    size = max(1, len(lines) // 2)
+    while size:
+        at = 0
+        while at < len(lines):
+            fewer = lines[:at] + lines[at + size:]
+            if fewer and differs(b"\n".join(fewer)):
+                lines = fewer
+            else:
+                at += size
+        size //= 2
+    return b"\n".join(lines)
+
+
+def compare(program, words, script, expected):
+    if run(program, words, script) == expected(script):
+        return True
+    script = smallest(lambda s: run(program, words, s) != expected(s), script)
+    print("DIFFERENCE:", program, *words, "on the script")
+    print(script.decode(errors="replace"))
+    print("the program: ", run(program, words, script))
+    print("the profile: ", expected(script))
+    return False
+
+
+def main():
+    folder, seconds = sys.argv[1], float(sys.argv[2])
+    seed = int(sys.argv[3]) if len(sys.argv) > 3 else 1
+    r = random.Random(seed)
+    end, scripts, lines = time.time() + seconds, [0, 0], 0
+    while time.time() < end:
+        for kind, (name, make) in enumerate((("ocadev", device_script), ("ocactl", link_script))):
+            words, script, expected = make(r)
+            if not compare(f"{folder}/{name}", words, script, expected):
+                print(f"fuzz: seed {seed}, after {sum(scripts)} scripts without a difference")
+                return 1
+            scripts[kind] += 1
+            lines += script.count(b"\n") + 1
+    print(f"fuzz: seed {seed}: {scripts[0]} device scripts and {scripts[1]} controller scripts, {lines} lines, no difference")
+    return 0
+
+
+if __name__ == "__main__":
+    sys.exit(main())

@@ -1,0 +1,624 @@
+"""A second, plain implementation of the profile in docs/PROTOCOL.md: a device, a controller and the texts of
+`ocadev replay` and `ocactl replay`. It is written from that document alone, to compare the programs with it.
+It favours plain lists over speed. Python 3, standard library only."""
+
+U32, U64 = 2**32 - 1, 2**64 - 1
+LARGEST = 1472
+
+# ---- datagrams
+
+
+class Fault(Exception):
+    def __init__(self, kind, at):
+        super().__init__(kind, at)
+        self.kind, self.at = kind, at
+
+
+def number(data):
+    return int.from_bytes(data, "big")
+
+
+def check(data):
+    """The messages of a datagram, or the first Fault in the order of the checks."""
+    end = len(data)
+    if end == 0:
+        raise Fault(1, 0)
+    if end > LARGEST:
+        raise Fault(2, 1472)
+    messages = []
+    p = 0
+
+    def field(at, size):
+        if at + size > end:
+            raise Fault(9, at)
+        return number(data[at:at + size])
+
+    while p < end:
+        if data[p] != 0x3B:
+            raise Fault(3, p)
+        if field(p + 1, 2) != 1:
+            raise Fault(4, p + 1)
+        size = field(p + 3, 4)
+        if size < 11:
+            raise Fault(5, p + 3)
+        e = p + 1 + size
+        if e > end:
+            raise Fault(9, p + 3)
+        kind = data[p + 7]
+        if kind not in (0, 1, 3, 4):
+            raise Fault(6, p + 7)
+        count = number(data[p + 8:p + 10])
+        if count == 0 or (kind == 4 and count != 1):
+            raise Fault(7, p + 8)
+        if kind == 4:
+            if size not in (11, 13):
+                raise Fault(8, p + 10)
+            messages.append(("keep-alive", data[p + 10:e]))
+        else:
+            m = p + 10
+            for _ in range(count):
+                if m == e:
+                    raise Fault(7, p + 8)
+                if e - m < 4:
+                    raise Fault(8, m)
+                length = number(data[m:m + 4])
+                if length < (10 if kind == 3 else 17) or m + length > e:
+                    raise Fault(8, m)
+                body = data[m:m + length]
+                if kind == 3:
+                    messages.append(("response", number(body[4:8]), body[8], body[9], body[10:]))
+                else:
+                    command = Command(number(body[4:8]), number(body[8:12]), number(body[12:14]),
+                                      number(body[14:16]), body[16], body[17:])
+                    messages.append(("command", kind == 1, command))
+                m += length
+            if m < e:
+                raise Fault(7, p + 8)
+        p = e
+    return messages
+
+
+def pdu(kind, bodies):
+    rest = b"".join(bodies)
+    return b"\x3b\x00\x01" + (9 + len(rest)).to_bytes(4, "big") + bytes([kind]) + len(bodies).to_bytes(2, "big") + rest
+
+
+def response_body(handle, status, count, params):
+    return (10 + len(params)).to_bytes(4, "big") + handle.to_bytes(4, "big") + bytes([status, count]) + params
+
+
+class Command:
+    def __init__(self, handle, target, level, index, count, params):
+        self.handle, self.target, self.level, self.index = handle, target, level, index
+        self.count, self.params = count, bytes(params)
+
+    def asks(self):
+        return (self.target, self.level, self.index, self.count, self.params)
+
+    def body(self):
+        return ((17 + len(self.params)).to_bytes(4, "big") + self.handle.to_bytes(4, "big")
+                + self.target.to_bytes(4, "big") + self.level.to_bytes(2, "big") + self.index.to_bytes(2, "big")
+                + bytes([self.count]) + self.params)
+
+
+# ---- objects
+
+CLASSES = {
+    "block": (1, 1, 3), "mute": (1, 1, 1, 2), "polarity": (1, 1, 1, 3), "switch": (1, 1, 1, 4),
+    "boolean": (1, 1, 1, 1, 1), "int8": (1, 1, 1, 1, 2), "int16": (1, 1, 1, 1, 3), "int32": (1, 1, 1, 1, 4),
+    "int64": (1, 1, 1, 1, 5), "uint8": (1, 1, 1, 1, 6), "uint16": (1, 1, 1, 1, 7), "uint32": (1, 1, 1, 1, 8),
+    "uint64": (1, 1, 1, 1, 9)}
+WIDTHS = {name: (int(name.lstrip("uint")) // 8, name[0] == "i") for name in CLASSES if name.startswith(("int", "uint"))}
+OK, LOCKED, BAD_ONO, PARAMETER_ERROR, OUT_OF_RANGE, NOT_IMPLEMENTED, INVALID, BAD_METHOD, OVERFLOW = 0, 3, 5, 6, 7, 8, 9, 11, 14
+
+
+class Object:
+    def __init__(self, ono, kind, container, role, lockable=True, state=None, names=None, low=None, high=None):
+        self.ono, self.kind, self.container, self.role, self.lockable = ono, kind, container, role, lockable
+        self.label, self.enabled, self.lock = "", True, None
+        self.state, self.names, self.low, self.high = state, names, low, high
+        self.enableds = [True] * len(names) if names else None
+
+
+def bench():
+    return [
+        Object(100, "block", 0, "root"),
+        Object(4096, "block", 100, "desk"),
+        Object(4097, "mute", 4096, "mute", state=1),
+        Object(4098, "polarity", 4096, "polarity", state=1),
+        Object(4099, "switch", 4096, "input", state=0, names=["Line", "Mic", "Off"]),
+        Object(4100, "int16", 4096, "trim", state=0, low=-600, high=600),
+        Object(4101, "boolean", 4096, "lamp", state=False),
+        Object(4102, "uint8", 4096, "dim", lockable=False, state=10, low=0, high=100),
+    ]
+
+
+class Bad(Exception):
+    pass
+
+
+class Reader:
+    def __init__(self, data):
+        self.data = data
+
+    def take(self, n):
+        if len(self.data) < n:
+            raise Bad
+        front, self.data = self.data[:n], self.data[n:]
+        return front
+
+    def unsigned(self, n):
+        return number(self.take(n))
+
+    def signed(self, n):
+        return int.from_bytes(self.take(n), "big", signed=True)
+
+    def boolean(self):
+        return self.take(1)[0] != 0
+
+    def text(self):
+        count = self.unsigned(2)
+        for size in range(0, min(64, len(self.data)) + 1):
+            try:
+                text = self.data[:size].decode("utf-8")
+            except UnicodeDecodeError:
+                continue
+            if len(text) == count:
+                self.take(size)
+                return text
+        raise Bad
+
+    def finish(self):
+        if self.data:
+            raise Bad
+
+
+def u16(n):
+    return n.to_bytes(2, "big")
+
+
+def text_bytes(text):
+    return u16(len(text)) + text.encode("utf-8")
+
+
+def class_bytes(obj):
+    fields = CLASSES[obj.kind]
+    return u16(len(fields)) + b"".join(u16(f) for f in fields) + u16(2)
+
+
+def members(tree, ono):
+    return [o for o in tree if o.container == ono]
+
+
+def descendants(tree, ono):
+    inside = {ono}
+    for o in tree:  # a container stands before its members
+        if o.container in inside:
+            inside.add(o.ono)
+    return [o for o in tree if o.container in inside]
+
+
+def method(obj, level, index):
+    """(access, number of parameters, name), "left out", or None."""
+    common = {(1, 1): ("R", 0), (1, 2): ("R", 0), (1, 3): ("L", 0), (1, 4): ("L", 0), (1, 5): ("R", 0), (1, 6): ("L", 0),
+              (2, 1): ("R", 0), (2, 2): ("W", 1), (2, 8): ("R", 0), (2, 9): ("W", 1), (2, 10): ("R", 0)}
+    if (level, index) in common:
+        return common[(level, index)]
+    if level == 2 and index in (3, 4, 5, 6, 7, 11, 12, 13):
+        return "left out"
+    if obj.kind == "block" and level == 3:
+        if index in (5, 6):
+            return ("R", 0)
+        return "left out" if 1 <= index <= 20 else None
+    if obj.kind in ("mute", "polarity") and level == 4:
+        return {1: ("R", 0), 2: ("W", 1)}.get(index)
+    if obj.kind == "switch" and level == 4:
+        return {1: ("R", 0), 2: ("W", 1), 3: ("R", 1), 4: ("W", 2), 5: ("R", 0), 6: ("W", 1), 7: ("R", 1), 8: ("W", 2),
+                9: ("R", 0), 10: ("W", 1)}.get(index)
+    if level == 5 and (obj.kind == "boolean" or obj.kind in WIDTHS):
+        return {1: ("R", 0), 2: ("W", 1)}.get(index)
+    return None
+
+
+def read_parameters(obj, key, params):
+    r = Reader(params)
+    level, index = key
+    out = []
+    if key == (2, 2):
+        out = [r.boolean()]
+    elif key == (2, 9):
+        out = [r.text()]
+    elif level == 4 and obj.kind in ("mute", "polarity") and index == 2:
+        out = [r.unsigned(1)]
+    elif level == 4 and obj.kind == "switch":
+        if index in (2, 3, 7):
+            out = [r.unsigned(2)]
+        elif index == 4:
+            out = [r.unsigned(2), r.text()]
+        elif index == 8:
+            out = [r.unsigned(2), r.boolean()]
+        elif index in (6, 10):
+            count = r.unsigned(2)
+            if count != len(obj.names):
+                raise Bad
+            out = [[r.text() if index == 6 else r.boolean() for _ in range(count)]]
+    elif level == 5 and index == 2:
+        if obj.kind == "boolean":
+            out = [r.boolean()]
+        else:
+            size, signed = WIDTHS[obj.kind]
+            out = [r.signed(size) if signed else r.unsigned(size)]
+    r.finish()
+    return out
+
+
+def execute(tree, peer, c):
+    """(status, count, parameters); the tree is changed only where the status is 0."""
+    obj = next((o for o in tree if o.ono == c.target), None)
+    if obj is None:
+        return BAD_ONO, 0, b""
+    key = (c.level, c.index)
+    known = method(obj, *key)
+    if known is None:
+        return BAD_METHOD, 0, b""
+    if known == "left out":
+        return NOT_IMPLEMENTED, 0, b""
+    access, count = known
+    if obj.lock and obj.lock[1] != peer and (obj.lock[0] == "total" or access != "R"):
+        return LOCKED, 0, b""
+    try:
+        if c.count != count:
+            raise Bad
+        args = read_parameters(obj, key, c.params)
+    except Bad:
+        return PARAMETER_ERROR, 0, b""
+    level, index = key
+    n = len(obj.names) if obj.names else 0
+    if level == 4 and obj.kind in ("mute", "polarity") and index == 2 and args[0] not in (1, 2):
+        return OUT_OF_RANGE, 0, b""
+    if level == 4 and obj.kind == "switch" and index in (2, 3, 4, 7, 8):
+        if args[0] >= n or (index == 2 and not obj.enableds[args[0]]):
+            return OUT_OF_RANGE, 0, b""
+    if level == 5 and index == 2 and obj.kind != "boolean" and not obj.low <= args[0] <= obj.high:
+        return OUT_OF_RANGE, 0, b""
+    if key in ((1, 3), (1, 6)) and not obj.lockable:
+        return INVALID, 0, b""
+    if key == (1, 4) and obj.lock is None:
+        return INVALID, 0, b""
+    items = answer(tree, obj, key, args)
+    params = b"".join(items)
+    if len(params) > 1452:
+        return OVERFLOW, 0, b""
+    change(obj, peer, key, args)
+    return OK, len(items), params
+
+
+def answer(tree, obj, key, args):
+    level, index = key
+    flag = lambda b: bytes([1 if b else 0])
+    if key == (1, 1):
+        return [class_bytes(obj)]
+    if key == (1, 2):
+        return [flag(obj.lockable)]
+    if key == (1, 5):
+        return [text_bytes(obj.role)]
+    if key == (2, 1):
+        return [flag(obj.enabled)]
+    if key == (2, 8):
+        return [text_bytes(obj.label)]
+    if key == (2, 10):
+        return [obj.container.to_bytes(4, "big")]
+    if level == 3 and index == 5:
+        own = members(tree, obj.ono)
+        return [u16(len(own)) + b"".join(o.ono.to_bytes(4, "big") + class_bytes(o) for o in own)]
+    if level == 3 and index == 6:
+        own = descendants(tree, obj.ono)
+        return [u16(len(own)) + b"".join(o.ono.to_bytes(4, "big") + class_bytes(o) + o.container.to_bytes(4, "big") for o in own)]
+    if level == 4 and obj.kind in ("mute", "polarity") and index == 1:
+        return [bytes([obj.state])]
+    if level == 4 and obj.kind == "switch":
+        if index == 1:
+            return [u16(obj.state), u16(0), u16(len(obj.names) - 1)]
+        if index == 3:
+            return [text_bytes(obj.names[args[0]])]
+        if index == 5:
+            return [u16(len(obj.names)) + b"".join(text_bytes(t) for t in obj.names)]
+        if index == 7:
+            return [flag(obj.enableds[args[0]])]
+        if index == 9:
+            return [u16(len(obj.names)) + b"".join(flag(b) for b in obj.enableds)]
+    if level == 5 and index == 1:
+        if obj.kind == "boolean":
+            return [flag(obj.state)]
+        size, signed = WIDTHS[obj.kind]
+        return [v.to_bytes(size, "big", signed=signed) for v in (obj.state, obj.low, obj.high)]
+    return []
+
+
+def change(obj, peer, key, args):
+    level, index = key
+    if key == (1, 3):
+        obj.lock = ("total", peer)
+    elif key == (1, 6):
+        obj.lock = ("read-only", peer)
+    elif key == (1, 4):
+        obj.lock = None
+    elif key == (2, 2):
+        obj.enabled = args[0]
+    elif key == (2, 9):
+        obj.label = args[0]
+    elif level == 4 and obj.kind == "switch":
+        if index == 2:
+            obj.state = args[0]
+        elif index == 4:
+            obj.names[args[0]] = args[1]
+        elif index == 6:
+            obj.names = list(args[0])
+        elif index == 8:
+            obj.enableds[args[0]] = args[1]
+        elif index == 10:
+            obj.enableds = list(args[0])
+    elif level in (4, 5) and index == 2:
+        obj.state = args[0]
+
+
+# ---- the device
+
+
+class Session:
+    def __init__(self, peer, now):
+        self.peer, self.heard, self.heartbeat = peer, now, 5000
+        self.accepted = []  # (command, reply), never cut
+
+    def judge(self, window, command):
+        handles = [c.handle for c, _ in self.accepted]
+        pushed_out = handles[:max(0, len(handles) - window)]
+        if command.handle not in handles and all(h < command.handle for h in pushed_out):
+            return "fresh", None
+        for kept, reply in self.accepted[max(0, len(handles) - window):]:
+            if kept.handle == command.handle:
+                return ("duplicate", reply) if kept.asks() == command.asks() else ("reused", None)
+        return "old", None
+
+
+class Device:
+    def __init__(self, tree=None, window=32):
+        self.tree, self.window, self.now, self.sessions = tree or bench(), window, 0, []
+
+    def advance(self, now):
+        self.now = max(self.now, now)
+        for s in self.sessions:
+            if self.now - s.heard > 3 * s.heartbeat:
+                for o in self.tree:
+                    if o.lock and o.lock[1] == s.peer:
+                        o.lock = None
+        self.sessions = [s for s in self.sessions if self.now - s.heard <= 120000]
+
+    def datagram(self, peer, data, now):
+        """(the verdict's text, the packets)"""
+        self.advance(now)
+        try:
+            messages = check(data)
+        except Fault as f:
+            return f"malformed {f.kind} at {f.at}", []
+        session = next((s for s in self.sessions if s.peer == peer), None)
+        if session is None:
+            if len(self.sessions) == 16:
+                return "no-room", []
+            session = Session(peer, self.now)
+            self.sessions.append(session)
+        session.heard = self.now
+        counts = {"fresh": 0, "duplicate": 0, "old": 0, "reused": 0}
+        answers = []
+        for message in messages:
+            if message[0] == "keep-alive":
+                ms = number(message[1]) * (1000 if len(message[1]) == 2 else 1)
+                session.heartbeat = max(250, min(ms, 30000))
+                answers.append(("keep-alive", message[1]))
+            elif message[0] == "command":
+                _, respond, command = message
+                verdict, reply = session.judge(self.window, command)
+                counts[verdict] += 1
+                if verdict == "fresh":
+                    reply = execute(self.tree, peer, command)
+                    session.accepted.append((command, reply))
+                if respond and verdict in ("fresh", "duplicate"):
+                    answers.append(("response", response_body(command.handle, *reply)))
+        text = f"served {counts['fresh']} {counts['duplicate']} {counts['old']}"
+        if counts["reused"]:
+            text += f" reused {counts['reused']}"
+        return text, packets(answers)
+
+
+def packets(answers):
+    """Neighbouring responses share one PDU while the datagram has at most 1,472 bytes; each keep-alive is alone."""
+    groups = []
+    for kind, body in answers:
+        if kind == "response" and groups and groups[-1][0] == "response" and len(pdu(3, groups[-1][1] + [body])) <= LARGEST:
+            groups[-1][1].append(body)
+        else:
+            groups.append((kind, [body]))
+    return [pdu(3 if kind == "response" else 4, bodies) for kind, bodies in groups]
+
+
+# ---- the controller
+
+
+class Link:
+    def __init__(self, device, first, span=16, now=0):
+        self.device, self.next, self.span, self.now, self.given, self.lost = device, first, span, now, now, False
+        self.untaken = []  # [command, times given out, last moment, answer or None]
+
+    def submit(self, target, level, index, count, params, now):
+        if self.lost:
+            return "refused 1 lost"
+        if self.next > U32:
+            return "refused 2 handles-spent"
+        if self.untaken and not self.next < self.untaken[0][0].handle + self.span:
+            return "refused 3 span-full"
+        if len(params) > 1445:
+            return "refused 4 too-long"
+        self.now = max(self.now, now)
+        self.untaken.append([Command(self.next, target, level, index, count, params), 0, 0, None])
+        self.next += 1
+        return f"handle {self.next - 1}"
+
+    def due(self, now):
+        """("send", bytes), ("keep-alive", bytes), ("nothing", None) or ("lost", None)"""
+        self.now = max(self.now, now)
+        if self.lost:
+            return "lost", None
+        for u in self.untaken:
+            if u[3] is None and (u[1] == 0 or self.now - u[2] >= 250):
+                if u[1] == 20:
+                    self.lost = True
+                    return "lost", None
+                u[1], u[2], self.given = u[1] + 1, self.now, self.now
+                return "send", pdu(1, [u[0].body()])
+        if self.now - self.given >= 2500:
+            self.given = self.now
+            return "keep-alive", pdu(4, [u16(5)])
+        return "nothing", None
+
+    def datagram(self, peer, data, now):
+        self.now = max(self.now, now)
+        if peer != self.device:
+            return "stranger"
+        try:
+            messages = check(data)
+        except Fault:
+            return "malformed"
+        taken = 0
+        for m in messages:
+            if m[0] == "response":
+                for u in self.untaken:
+                    if u[0].handle == m[1] and u[3] is None:
+                        u[3] = m[2:]
+                        taken += 1
+        return f"answered {taken}" if taken else "nothing new"
+
+    def take(self, handle):
+        for u in self.untaken:
+            if u[0].handle == handle and u[3] is not None:
+                self.untaken.remove(u)
+                return u[3]
+        return None
+
+
+# ---- scripts
+
+
+class LineFault(Exception):
+    pass
+
+
+def digits(field, most, largest):
+    if not 1 <= len(field) <= most or any(ch not in "0123456789" for ch in field) or int(field) > largest:
+        return None
+    return int(field)
+
+
+def peer_of(field):
+    parts = field.split(":")
+    if len(parts) != 2:
+        return None
+    address = parts[0].split(".")
+    values = [digits(a, 3, 255) for a in address] + [digits(parts[1], 5, 65535)]
+    return tuple(values) if len(address) == 4 and None not in values else None
+
+
+def hex_of(field):
+    if field == "-":
+        return b""
+    if len(field) < 2 or len(field) % 2 or any(ch not in "0123456789abcdefABCDEF" for ch in field):
+        return None
+    return bytes.fromhex(field)
+
+
+def hex_text(data):
+    return data.hex() if data else "-"
+
+
+def need(value, fault):
+    if value is None:
+        raise LineFault(fault)
+    return value
+
+
+def device_line(device, fields):
+    if len(fields) >= 2 and fields[1] == "quiet":
+        if len(fields) != 2:
+            raise LineFault("form")
+        device.advance(need(digits(fields[0], 20, U64), "moment"))
+        return ["quiet"]
+    if len(fields) != 3:
+        raise LineFault("form")
+    now = need(digits(fields[0], 20, U64), "moment")
+    peer = need(peer_of(fields[1]), "peer")
+    data = need(hex_of(fields[2]), "hex")
+    text, out = device.datagram(peer, data, now)
+    return [text] + ["> " + hex_text(p) for p in out]
+
+
+def link_line(link, fields):
+    if fields[0] == "take":
+        if len(fields) != 2:
+            raise LineFault("form")
+        answer = link.take(need(digits(fields[1], 10, U32), "number"))
+        return ["none" if answer is None else f"answer {answer[0]} {answer[1]} {hex_text(answer[2])}"]
+    keyword = fields[1] if len(fields) > 1 else ""
+    if len(fields) != {"submit": 7, "due": 2, "from": 4}.get(keyword, -1):
+        raise LineFault("form")
+    now = need(digits(fields[0], 20, U64), "moment")
+    if keyword == "due":
+        kind, data = link.due(now)
+        return [kind if data is None else f"{kind} {hex_text(data)}"]
+    if keyword == "from":
+        peer = need(peer_of(fields[2]), "peer")
+        return [link.datagram(peer, need(hex_of(fields[3]), "hex"), now)]
+    numbers = [digits(fields[2], 10, U32), digits(fields[3], 5, 65535), digits(fields[4], 5, 65535), digits(fields[5], 3, 255)]
+    if None in numbers:
+        raise LineFault("number")
+    return [link.submit(*numbers, need(hex_of(fields[6]), "hex"), now)]
+
+
+def replay(script, serve):
+    """(standard output, the fault's line or None, the exit status) of a script's bytes; serve answers a line's fields."""
+    limit = 16777216
+    over = len(script) > limit
+    lines = script[:limit].split(b"\n")
+    partial = lines.pop()
+    out = []
+    for k, line in enumerate(lines + ([] if over else [partial]), 1):
+        fault = None
+        if len(line) > 4096:
+            fault = "too long"
+        elif line and not line.startswith(b"#"):
+            if any(b > 127 for b in line):
+                fault = "form"
+            else:
+                try:
+                    out += serve(line.decode("ascii").split(" "))
+                except LineFault as f:
+                    fault = str(f)
+        if fault:
+            return text_of(out), f"line {k}: {fault}", 2
+    if over:
+        if len(partial) > 4096:
+            return text_of(out), f"line {len(lines) + 1}: too long", 2
+        return text_of(out), "too much input", 1
+    return text_of(out), None, 0
+
+
+def text_of(lines):
+    return "".join(line + "\n" for line in lines).encode()
+
+
+def device_replay(script, window=32):
+    device = Device(window=window)
+    return replay(script, lambda fields: device_line(device, fields))
+
+
+def link_replay(script, device, first, span=16):
+    link = Link(device, first, span)
+    return replay(script, lambda fields: link_line(link, fields))

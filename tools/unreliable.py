@@ -1,0 +1,125 @@
+#!/usr/bin/env python3
+"""The built programs with memory refused, and with reads and writes that fail or are short, at each place in turn.
+
+Usage: unreliable.py BIN     BIN is the folder with `ocadev`, `ocactl` and `trials`
+
+- Memory: each request of a run is refused in turn, from the first to beyond the last. The run then says `no memory` with
+  status 1 and prints nothing, or it did without that request and prints what it prints with memory.
+- After building: a script asks for no more requests than an empty one, and runs to its end with every later one refused.
+- Ends: each read and each write fails in turn. The run then says `read failed` or `write failed` with status 1, and what
+  it printed is a front of what it prints otherwise. Pieces of 1, 7 and 100 bytes change nothing."""
+import os
+import subprocess
+import sys
+import tempfile
+
+import oca_profile as oca
+
+PEERS = ["127.0.0.1:9001", "127.0.0.1:9002"]
+
+
+def command(handle, target, level, index, count=0, params=b"", respond=True):
+    return oca.pdu(1 if respond else 0, [oca.Command(handle, target, level, index, count, params).body()]).hex()
+
+
+def device_scripts():
+    """Duplicates, a duplicate after a later command, ranges, the window's edge, overtaking: a script each."""
+    get = lambda handle: command(handle, 4097, 4, 1)
+    mute = lambda handle, state: command(handle, 4097, 4, 2, 1, bytes([state]))
+    trim = lambda handle, value: command(handle, 4100, 5, 2, 1, value.to_bytes(2, "big", signed=True))
+    for wanted in (
+        [get(1), get(1)],
+        [mute(2, 1), mute(3, 2), mute(2, 1), get(4)],
+        [trim(6, 600), trim(7, -600), trim(8, 601), command(9, 4100, 5, 1)],
+        [get(h) for h in [*range(1, 34), 1, 2, 0]],
+        [get(h) for h in [*range(6, 39), 5]],
+        [mute(1, 2), mute(2, 1), mute(4, 2), mute(3, 1), get(5)],
+    ):
+        yield "".join(f"{k} {PEERS[0]} {line}\n" for k, line in enumerate(wanted)).encode()
+
+
+def link_scripts():
+    """An idle link, and a command that is given out until the link is lost."""
+    yield b"2499 due\n2500 due\n"
+    yield ("0 submit 4097 4 1 0 -\n0 due\n249 due\n" + "".join(f"{t} due\n" for t in range(250, 5001, 250))
+           + "5000 submit 4097 4 1 0 -\n").encode()
+
+
+class Runs:
+    def __init__(self, folder, layer):
+        self.folder, self.layer = folder, layer
+        self.refused = self.without = self.ends = self.pieces = self.wrong = 0
+
+    def run(self, words, script, **settings):
+        """(standard output, standard error, status, the counts)"""
+        counts = os.path.join(self.layer, "counts")
+        set_to = {name: str(value) for name, value in settings.items()}
+        env = dict(os.environ, LD_PRELOAD=os.path.join(self.layer, "unreliable.so"), COUNTS=counts, **set_to)
+        done = subprocess.run([os.path.join(self.folder, words[0])] + words[1:], input=script, capture_output=True, env=env, timeout=60)
+        with open(counts) as file:
+            return done.stdout, done.stderr, done.returncode, [int(n) for n in file.read().split()]
+
+    def expect(self, good, what):
+        if not good:
+            self.wrong += 1
+            print("WRONG:", what)
+
+    def memory(self, words, script):
+        """Each request of a run refused in turn."""
+        out, err, status, (requests, _, _) = self.run(words, script)
+        for n in range(1, requests + 2):
+            got, fault, code, _ = self.run(words, script, REFUSE=n)
+            if (got, fault, code) == (b"", b"no memory\n", 1):
+                self.refused += 1
+            else:
+                self.without += 1
+                self.expect((got, fault, code) == (out, err, status), f"{words} with request {n} refused: {got!r} {fault!r} {code}")
+        return requests
+
+    def after_building(self, words, script, requests):
+        """No request after the last one of the start."""
+        out, err, status, counts = self.run(words, script)
+        self.expect(counts[0] == requests, f"{words}: {counts[0]} requests for memory, and {requests} with an empty script")
+        self.expect(self.run(words, script, REFUSE_FROM=requests + 1)[:3] == (out, err, status), f"{words} with no memory after its start")
+
+    def failing_ends(self, words, script):
+        out, err, status, (_, reads, writes) = self.run(words, script)
+        for setting, number, fault in (("FAIL_READ", reads, b"read failed\n"), ("FAIL_WRITE", writes, b"write failed\n")):
+            for n in range(1, number + 1):
+                got, said, code, _ = self.run(words, script, PIECE=100, **{setting: n})
+                self.ends += 1
+                self.expect((said, code) == (fault, 1) and out.startswith(got), f"{words} with {setting} {n}: {got!r} {said!r} {code}")
+        for size in (1, 7, 100):
+            self.pieces += 1
+            self.expect(self.run(words, script, PIECE=size)[:3] == (out, err, status), f"{words} in pieces of {size}")
+
+
+def main():
+    folder = os.path.abspath(sys.argv[1])
+    here = os.path.dirname(os.path.abspath(__file__))
+    device, link = ["ocadev", "replay"], ["ocactl", "replay", "--device", "127.0.0.1:65000", "--first-handle", "1"]
+    with tempfile.TemporaryDirectory() as layer:
+        subprocess.run(["gcc", "-O1", "-Wall", "-shared", "-fPIC", "-o", f"{layer}/unreliable.so", f"{here}/unreliable.c", "-ldl"], check=True)
+        runs = Runs(folder, layer)
+        runs.memory(["ocadev", "show"], b"")
+        for words, scripts, expected in ((device, list(device_scripts()), oca.device_replay),
+                                         (link, list(link_scripts()), lambda s: oca.link_replay(s, (127, 0, 0, 1, 65000), 1))):
+            requests = runs.memory(words, b"")
+            for script in scripts:
+                out, err, status, _ = runs.run(words, script)
+                runs.expect((out, err.decode().strip() or None, status) == expected(script), f"{words}: {out!r} {err!r}")
+                runs.after_building(words, script, requests)
+                runs.failing_ends(words, script)
+        start = runs.run(["trials", "call", "nothing"], b"")[3][0]
+        calls = runs.run(["trials", "calls"], b"")[0].decode().split()
+        for name in calls:
+            requests = runs.run(["trials", "call", name], b"")[3][0]
+            print(f"  {name}: {requests - start} requests for memory")
+            runs.memory(["trials", "call", name], b"")
+        print(f"unreliable: {runs.refused} requests for memory refused and answered, {runs.without} done without; "
+              f"{runs.ends} failed reads and writes, {runs.pieces} runs in short pieces; {runs.wrong} wrong")
+    return 1 if runs.wrong else 0
+
+
+if __name__ == "__main__":
+    sys.exit(main())
