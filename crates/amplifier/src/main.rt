@@ -47,7 +47,11 @@ fn words<R: Runtime + AllocGlobal>(rt: &R) -> (u16, u32) {
 }
 
 /// Makes the device and serves it. After each turn the channels are brought to what the objects say.
-fn serve<R: Runtime + AllocGlobal + Net>(rt: &R, port: u16, turns: u32) -> Result<(), &'static str> {
+fn serve<R: Runtime + AllocGlobal + Net>(
+    rt: &R,
+    port: u16,
+    turns: u32,
+) -> Result<(), &'static str> {
     let Ok(tree) = build(rt.alloc()) else {
         return Err("no memory");
     };

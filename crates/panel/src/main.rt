@@ -56,10 +56,7 @@ fn port<R: Runtime + AllocGlobal>(rt: &R) -> u16 {
 
 /// Opens channel 1, sets its gain to -6 dB and reads it back.
 fn set_channel<R: Runtime + AllocGlobal + Net>(rt: &R, port: u16) -> Result<(), &'static str> {
-    let device = Peer {
-        ip: LOOPBACK,
-        port,
-    };
+    let device = Peer { ip: LOOPBACK, port };
     let Ok(mut end) = UdpEnd::bind(rt.alloc(), rt, LOOPBACK, 0) else {
         return Err("socket failed");
     };

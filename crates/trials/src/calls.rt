@@ -44,7 +44,11 @@ pub fn call(alloc: Global, name: &str) -> Answered {
 }
 
 fn said(done: bool) -> Answered {
-    if done { Answered::Done } else { Answered::NoMemory }
+    if done {
+        Answered::Done
+    } else {
+        Answered::NoMemory
+    }
 }
 
 /// Adds a mute; where that is refused for want of memory, the builder is as before and the same call succeeds.

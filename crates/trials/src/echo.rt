@@ -3,7 +3,8 @@ use std::io;
 use std::net::{Ipv4Addr, Net, SocketAddrV4, UdpSocket};
 
 /// The response to a GetState of an OcaMute.
-const RESPONSE: &[u8] = b"\x3b\x00\x01\x00\x00\x00\x14\x03\x00\x01\x00\x00\x00\x0b\x00\x00\x00\x01\x00\x01\x01";
+const RESPONSE: &[u8] =
+    b"\x3b\x00\x01\x00\x00\x00\x14\x03\x00\x01\x00\x00\x00\x0b\x00\x00\x00\x01\x00\x01\x01";
 
 /// Binds 127.0.0.1 at a port of the system's choice, prints where on standard error, and answers so many datagrams.
 pub fn echo<R: Net + Eprint>(rt: &R, datagrams: u32) -> io::Result<()> {

@@ -57,7 +57,9 @@ impl Bench {
         self.outbox.clear();
         self.expected.clear();
         let _ = self.tried.datagram(SENDER, bytes, 0, &mut self.outbox);
-        let _ = self.untouched.datagram(SENDER, bytes, 0, &mut self.expected);
+        let _ = self
+            .untouched
+            .datagram(SENDER, bytes, 0, &mut self.expected);
         same_packets(&self.outbox, &self.expected)
     }
 

@@ -54,11 +54,7 @@ fn damaged<R: Runtime + AllocGlobal>(rt: &R) -> ExitCode {
     };
     let _ = println!(rt;
         "damaged datagrams: {} tried, {} refused with nothing changed, {} accepted, {} of them written back alike, {} wrong",
-        tally.tried,
-        tally.refused,
-        tally.accepted,
-        tally.written_back,
-        tally.wrong
+        tally.tried, tally.refused, tally.accepted, tally.written_back, tally.wrong
     );
     ExitCode::from(if tally.wrong == 0 { 0 } else { 1 })
 }
