@@ -15,13 +15,13 @@ use std::marker::Model;
 /// What the reply window of a session says of a command.
 #[derive(Clone, Copy)]
 pub enum Judged<'a> {
-    /// No accepted command has its handle, which is above all that the window left behind: execute it.
+    /// No accepted command has its handle, which is above all that the window pushed out: execute it.
     Fresh,
     /// It is a duplicate of a command in the window, which got this reply.
     Kept(&'a Reply),
     /// A command in the window has its handle, and asks something else.
     Reused,
-    /// Its handle is not in the window, and at or below one that the window left behind.
+    /// Its handle is not in the window, and at or below one that the window pushed out.
     Old,
 }
 

@@ -7,6 +7,6 @@ use Rattle.oca_types.specs.declared.sizes.Span.{Span}
 abbrev pub window_size : Window → ℕ
 window_size w = w.size
 
--- how far a controller's handles run ahead, from 1 to 32
+-- a new handle lies below the lowest untaken one plus the span, from 1 to 32
 abbrev pub span_size : Span → ℕ
 span_size s = s.size

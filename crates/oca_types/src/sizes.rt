@@ -1,5 +1,5 @@
-//! The sizes that a program chooses: how many answered commands a device keeps for each peer, and how far a
-//! controller's handles may run ahead of its answers.
+//! The sizes that a program chooses: how many accepted commands a device keeps for each peer, and how many handles a
+//! controller has in hand.
 ghost use Rattle.std.specs.Prelude.{◌≤◌};
 
 /// How many commands of one peer a device keeps with their replies: from 1 to 64 (*profile*). The default is 32.
@@ -46,8 +46,8 @@ impl Default for Window {
     }
 }
 
-/// How far the handles that a controller has given out may run ahead of the lowest one that is unanswered:
-/// from 1 to 32 (*profile*). The default is 16.
+/// A controller's new handle lies below its lowest untaken one plus the span: from 1 to 32 (*profile*). The default is
+/// 16.
 #[derive(Clone, Copy, Debug, PartialEq, Eq)]
 pub struct Span {
     size: u8,
