@@ -14,7 +14,6 @@ mod reception;
 mod report;
 mod slot;
 mod table;
-
 #[cfg(test)]
 mod tests;
 

@@ -33,7 +33,10 @@ fn an_answer_is_taken_once(rt: HostRuntime) -> Result<(), Fail> {
     let mut link = link(1, 16)?;
     assert_eq!(rt; ask(&mut link, 0), Ok(Handle(1)));
     assert!(rt; link.take(Handle(1)).is_none());
-    assert_eq!(rt; link.datagram(DEVICE, &response(1), 5), Reception::Answered(1));
+    assert_eq!(rt;
+        link.datagram(DEVICE, &response(1), 5),
+        Reception::Answered(1)
+    );
     let answer = link.take(Handle(1)).ok_or("no answer")?;
     assert_eq!(rt; answer.status, 0);
     assert_eq!(rt; answer.count, 1);
@@ -50,12 +53,21 @@ fn other_senders_and_other_bytes(rt: HostRuntime) -> Result<(), Fail> {
         ip: 0x7f00_0001,
         port: 65001,
     };
-    assert_eq!(rt; link.datagram(stranger, &response(1), 1), Reception::Stranger);
+    assert_eq!(rt;
+        link.datagram(stranger, &response(1), 1),
+        Reception::Stranger
+    );
     assert_eq!(rt; link.datagram(stranger, &[], 1), Reception::Stranger);
     assert_eq!(rt; link.datagram(DEVICE, &[], 1), Reception::Malformed);
-    assert_eq!(rt; link.datagram(DEVICE, &[0x3b; 1473], 1), Reception::Malformed);
+    assert_eq!(rt;
+        link.datagram(DEVICE, &[0x3b; 1473], 1),
+        Reception::Malformed
+    );
     assert_eq!(rt; link.datagram(DEVICE, &COMMAND, 1), Reception::NothingNew);
-    assert_eq!(rt; link.datagram(DEVICE, &response(9), 1), Reception::NothingNew);
+    assert_eq!(rt;
+        link.datagram(DEVICE, &response(9), 1),
+        Reception::NothingNew
+    );
     Ok(())
 }
 
@@ -72,7 +84,10 @@ fn a_datagram_of_146_responses(rt: HostRuntime) -> Result<(), Fail> {
             .try_extend_from_slice(&[0, 0, 0, 10, 0, 0, 0, 1, 5, 0])
             .map_err(|_| "full")?;
     }
-    assert_eq!(rt; link.datagram(DEVICE, packet.as_slice(), 1), Reception::Answered(1));
+    assert_eq!(rt;
+        link.datagram(DEVICE, packet.as_slice(), 1),
+        Reception::Answered(1)
+    );
     let answer = link.take(Handle(1)).ok_or("no answer")?;
     assert_eq!(rt; answer.status, 5);
     Ok(())

@@ -24,15 +24,18 @@ fn a_command_is_sent_and_answered(rt: HostRuntime) -> Result<(), Fail> {
     let mut link = link(1, 16)?;
     let mut end = end(rt.alloc(), 4, None)?;
     assert_eq!(rt; ask(&mut link, 0), Ok(Handle(1)));
-    assert_eq!(rt; drive(&mut link, &mut end, 5), DriveReport {
-        turns: 2,
-        sent: 1,
-        keep_alives: 0,
-        answered: 1,
-        failed_receives: 0,
-        failed_sends: 0,
-        lost: false,
-    });
+    assert_eq!(rt;
+        drive(&mut link, &mut end, 5),
+        DriveReport {
+            turns: 2,
+            sent: 1,
+            keep_alives: 0,
+            answered: 1,
+            failed_receives: 0,
+            failed_sends: 0,
+            lost: false,
+        }
+    );
     let taken = end.taken();
     assert_eq!(rt; taken.len(), 1);
     let (to, packet) = &taken[0];
@@ -52,15 +55,18 @@ fn a_send_that_fails_is_repeated(rt: HostRuntime) -> Result<(), Fail> {
     script.push(Scripted::Quiet { now: 250 })?;
     let mut end = MemoryEnd::new(rt.alloc(), script, 4, Some(0)).map_err(|_| "no memory")?;
     assert_eq!(rt; ask(&mut link, 0), Ok(Handle(1)));
-    assert_eq!(rt; drive(&mut link, &mut end, 3), DriveReport {
-        turns: 3,
-        sent: 2,
-        keep_alives: 0,
-        answered: 0,
-        failed_receives: 1,
-        failed_sends: 1,
-        lost: false,
-    });
+    assert_eq!(rt;
+        drive(&mut link, &mut end, 3),
+        DriveReport {
+            turns: 3,
+            sent: 2,
+            keep_alives: 0,
+            answered: 0,
+            failed_receives: 1,
+            failed_sends: 1,
+            lost: false,
+        }
+    );
     assert_eq!(rt; end.taken().len(), 1);
     Ok(())
 }

@@ -20,10 +20,16 @@ fn sixteen_are_in_flight(rt: HostRuntime) -> Result<(), Fail> {
         assert_eq!(rt; ask(&mut link, 0), Ok(Handle(handle)));
     }
     assert_eq!(rt; ask(&mut link, 0), Err(ControlFault::SpanFull));
-    assert_eq!(rt; link.datagram(DEVICE, &response(2), 1), Reception::Answered(1));
+    assert_eq!(rt;
+        link.datagram(DEVICE, &response(2), 1),
+        Reception::Answered(1)
+    );
     assert!(rt; link.take(Handle(2)).is_some());
     assert_eq!(rt; ask(&mut link, 2), Err(ControlFault::SpanFull));
-    assert_eq!(rt; link.datagram(DEVICE, &response(1), 3), Reception::Answered(1));
+    assert_eq!(rt;
+        link.datagram(DEVICE, &response(1), 3),
+        Reception::Answered(1)
+    );
     assert!(rt; link.take(Handle(1)).is_some());
     assert_eq!(rt; ask(&mut link, 4), Ok(Handle(17)));
     assert_eq!(rt; ask(&mut link, 4), Ok(Handle(18)));

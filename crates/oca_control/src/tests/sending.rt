@@ -39,8 +39,14 @@ fn twenty_sendings_lose_the_link(rt: HostRuntime) -> Result<(), Fail> {
     assert_eq!(rt; link.due(5000, &mut packet), Due::Lost);
     assert_eq!(rt; packet.len(), 0);
     assert_eq!(rt; ask(&mut link, 5000), Err(ControlFault::Lost));
-    assert_eq!(rt; link.datagram(DEVICE, &response(1), 5001), Reception::Answered(1));
-    assert!(rt; link.take(Handle(1)).is_some(), "a lost link still hands answers on");
+    assert_eq!(rt;
+        link.datagram(DEVICE, &response(1), 5001),
+        Reception::Answered(1)
+    );
+    assert!(rt;
+        link.take(Handle(1)).is_some(),
+        "a lost link still hands answers on"
+    );
     Ok(())
 }
 
