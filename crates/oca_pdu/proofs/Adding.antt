@@ -1,15 +1,19 @@
 -- A PDU behind others.
-use Rattle.std.proofs.Common.{◌≡◌, ℕ, ◌+◌, ◌≤◌, ◌<◌, ◌^◌, Bool, List, [], ◌∷◌, ◌++◌, length, sym, ap, ◌∙◌, append_assoc, arith, length-append}
+use Rattle.std.proofs.Common.{◌≡◌, ℕ, ◌+◌, ◌*◌, ◌≤◌, ◌<◌, ◌^◌, Bool, List, [], ◌∷◌, ◌++◌, length, sym, ap, ◌∙◌, append_assoc, arith, length-append}
+use Rattle.std.specs.Int.{w16}
 use Rattle.std.specs.List.{flat_map}
 use Rattle.std.proofs.lemmas.List.{append-nil}
+use Rattle.std.proofs.lemmas.List.Concat.{flat_map-cons}
+use Rattle.std.proofs.lemmas.Nat.{from_be_bytes-to_be_bytes_2}
 use Rattle.std.proofs.lemmas.Grind.{flat_map-append}
 use Rattle.oca_types.specs.Peers.{CommandFields}
 use Rattle.oca_types.specs.declared.status.Status.{Status}
 use Rattle.oca_types.specs.declared.status.Status.TheVariants as status
 use Rattle.oca_types.specs.Status.{status_number}
 use Rattle.oca_pdu.specs.Messages.{ResponseFields, Pdu, Commands, Responses}
-use Rattle.oca_pdu.specs.Encoding.{pdu_encoding, CommandFits, ResponseFits, PduFits}
-use Rattle.oca_pdu.specs.Writing.{AddsPdu}
+use Rattle.oca_pdu.specs.Encoding.{response_encoding, pdu_encoding, CommandFits, ResponseFits, PduFits, IsDatagram}
+use Rattle.oca_pdu.specs.Reading.{number_at}
+use Rattle.oca_pdu.specs.Writing.{AddsPdu, IsResponses, HoldsResponses}
 use Rattle.oca_pdu.proofs.Decided.{each-append}
 
 pub adds : (p : Pdu) (old new : List ℕ) → PduFits p → new ≡ old ++ pdu_encoding p → length new ≤ 1472 → AddsPdu p old new
@@ -53,3 +57,35 @@ status_below status.BadMethod = omega arith
 status_below status.PartiallySucceeded = omega arith
 status_below status.Timeout = omega arith
 status_below status.BufferOverflow = omega arith
+
+-- ---- one response more in a PDU
+
+-- a response has 10 bytes at least
+ten_each : (rs : List ResponseFields) → 10 * length rs ≤ length (flat_map response_encoding rs)
+ten_each [] = omega arith
+ten_each (r ∷ rs) = omega (arith, ten_each rs, ap length (flat_map-cons response_encoding r rs), length-append (response_encoding r) (flat_map response_encoding rs))
+
+responses_len : (rs : List ResponseFields) → length (pdu_encoding (Responses rs)) ≡ 10 + length (flat_map response_encoding rs)
+responses_len rs = omega arith
+
+pub count_below : (bytes : List ℕ) → HoldsResponses bytes → length bytes ≤ 1472 → number_at w16 8 bytes + 1 < 2 ^ 16
+count_below bytes holds short =
+    let rs : List ResponseFields = holds.0 in
+    let many : length rs < 2 ^ 16 = omega (arith, ten_each rs, responses_len rs, ap length holds.1, short) in
+    let count : number_at w16 8 bytes ≡ length rs = ap (number_at w16 8) holds.1 ∙ from_be_bytes-to_be_bytes_2 (length rs) many in
+    omega (arith, count, ten_each rs, responses_len rs, ap length holds.1, short)
+
+pub joins_responses : (rs : List ResponseFields) (r : ResponseFields) (old new : List ℕ) → ResponseFits r → IsDatagram (Responses rs ∷ []) old → IsResponses (rs ++ r ∷ []) new → length new ≤ 1472
+    → IsDatagram (Responses (rs ++ r ∷ []) ∷ []) new
+joins_responses rs r old new fits was is short =
+    let all : List ResponseFields = rs ++ r ∷ [] in
+    let len : length new ≡ 10 + length (flat_map response_encoding all) = ap length is ∙ responses_len all in
+    record {
+      some = omega arith;
+      each = ((omega (arith, length-append rs (r ∷ [])), omega (arith, ten_each all, len, short), each-append ResponseFits rs (r ∷ []) was.each.0.2 (fits, tt), omega (arith, len, short)), tt);
+      bytes_are = is ∙ sym (append-nil (pdu_encoding (Responses all)));
+      short = short;
+    }
+
+pub is_responses : (rs : List ResponseFields) (bytes : List ℕ) → IsDatagram (Responses rs ∷ []) bytes → IsResponses rs bytes
+is_responses rs bytes s = s.bytes_are ∙ append-nil (pdu_encoding (Responses rs))

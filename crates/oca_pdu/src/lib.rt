@@ -25,7 +25,7 @@ pub use laws::{
 };
 pub use message::{Form, Message};
 pub use messages::Messages;
-pub use writing::{write_command, write_keepalive, write_response};
+pub use writing::{extend_response, write_command, write_keepalive, write_response};
 
 #[cfg(test)]
 mod tests;

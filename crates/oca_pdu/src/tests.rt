@@ -3,6 +3,7 @@ ghost use Rattle.std.specs.Prelude.{◌≡◌, count_by};
 ghost use Rattle.oca_pdu.specs.Limits.{is_command};
 ghost use Rattle.oca_pdu.specs.Datagrams.{datagram_messages};
 
+
 use super::*;
 use arrayvec::ArrayVec;
 use oca_types::{Command, Handle, MethodId, Ono, Packet, Params, Reply, Status};

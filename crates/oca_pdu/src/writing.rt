@@ -1,12 +1,16 @@
 //! Appending PDUs of one message to a packet.
-ghost use Rattle.std.specs.Prelude.{◌≡◌, ◌+◌, ◌≤◌, ◌∷◌, ◌++◌, ◌↔◌, [], length, IsOk, OnOk, OnErr};
+ghost use Rattle.std.specs.Prelude.{◌≡◌, ◌+◌, ◌^◌, ◌≤◌, ◌<◌, List, ◌∷◌, ◌++◌, ◌↔◌, [], length, take, drop, slice_index, IsOk, OnOk, OnErr};
+ghost use Rattle.std.specs.Int.{w16, w32};
 ghost use Rattle.arrayvec.specs.ArrayVec.{array_vec_len};
+ghost use Rattle.oca_types.specs.Numbers.{unsigned_encoding};
 ghost use Rattle.oca_types.specs.Peers.{fields_of};
-ghost use Rattle.oca_pdu.specs.Messages.{Commands, Responses, OneKeepAlive, response_with};
-ghost use Rattle.oca_pdu.specs.Encoding.{pdu_encoding, CommandFits, ResponseFits, FormFits};
-ghost use Rattle.oca_pdu.specs.Writing.{AddsPdu};
+ghost use Rattle.oca_pdu.specs.Messages.{ResponseFields, Commands, Responses, OneKeepAlive, response_with};
+ghost use Rattle.oca_pdu.specs.Encoding.{response_encoding, pdu_encoding, CommandFits, ResponseFits, FormFits, IsDatagram};
+ghost use Rattle.oca_pdu.specs.Reading.{number_at};
+ghost use Rattle.oca_pdu.specs.Writing.{AddsPdu, IsResponses, HoldsResponses, responses_size};
 
 use crate::fault::WriteFault;
+use crate::fields;
 use crate::message::Form;
 use oca_types::{Command, Handle, Packet, Reply};
 
@@ -107,20 +111,72 @@ pub fn write_response(packet: &mut Packet, handle: Handle, reply: &Reply) -> Res
     Ok(())
 }
 
-/// The header of a PDU of this response, and the response up to its parameters.
-fn response_front(handle: Handle, reply: &Reply) -> [u8; 20]
-    ensures bytes { result ++ reply.now.params.items ≡ pdu_encoding (Responses (response_with handle reply.now ∷ [])) }
+/// A response up to its parameters.
+fn response_head(handle: Handle, reply: &Reply) -> [u8; 10]
+    ensures bytes { result ++ reply.now.params.items ≡ response_encoding (response_with handle reply.now) }
     ensures fits { ResponseFits (response_with handle reply.now) }
 {
     let Handle(handle) = handle;
     let (status, count) = (reply.status.number(), reply.count);
     let size = 10 + reply.params.len() as u32;
-    let [p0, p1, p2, p3] = (9 + size).to_be_bytes();
     let [s0, s1, s2, s3] = size.to_be_bytes();
     let [h0, h1, h2, h3] = handle.to_be_bytes();
+    [s0, s1, s2, s3, h0, h1, h2, h3, status, count]
+}
+
+/// The header of a PDU of this response, and the response up to its parameters.
+fn response_front(handle: Handle, reply: &Reply) -> [u8; 20]
+    ensures bytes { result ++ reply.now.params.items ≡ pdu_encoding (Responses (response_with handle reply.now ∷ [])) }
+    ensures fits { ResponseFits (response_with handle reply.now) }
+{
+    let size = 19 + reply.params.len() as u32;
+    let [p0, p1, p2, p3] = size.to_be_bytes();
+    let [s0, s1, s2, s3, h0, h1, h2, h3, status, count] = response_head(handle, reply);
     [
         0x3B, 0, 1, p0, p1, p2, p3, 3, 0, 1, s0, s1, s2, s3, h0, h1, h2, h3, status, count,
     ]
+}
+
+/// Sets PduSize in the header of a PDU, and raises its MessageCount by one.
+fn raise_header(pdu: &mut [u8], size: u32)
+    requires long { 10 ≤ length pdu.old }
+    requires count { number_at w16 8 pdu.old + 1 < 2 ^ 16 }
+    ensures { pdu.new ≡ take 3 pdu.old ++ unsigned_encoding w32 size ++ slice_index pdu.old 7 ∷ unsigned_encoding w16 (number_at w16 8 pdu.old + 1) ++ drop 10 pdu.old }
+{
+    let [s0, s1, s2, s3] = size.to_be_bytes();
+    let [c0, c1] = (fields::u16_in(&pdu[8..10]) + 1).to_be_bytes();
+    pdu[3] = s0;
+    pdu[4] = s1;
+    pdu[5] = s2;
+    pdu[6] = s3;
+    pdu[8] = c0;
+    pdu[9] = c1;
+}
+
+/// Appends a response to the PDU of responses that the packet holds (AES70-3): the response, PduSize and MessageCount
+/// are those of one PDU with all of them, the new one last. Refusal: `TooLong` where the packet would pass 1,472 bytes,
+/// and the packet is unchanged.
+pub fn extend_response(packet: &mut Packet, handle: Handle, reply: &Reply) -> Result<(), WriteFault>
+    requires { HoldsResponses packet.old.items }
+    ensures room { IsOk result ↔ (length packet.old.items + length (response_encoding (response_with handle reply.now)) ≤ 1472) }
+    ensures size { (rs : List ResponseFields) → IsResponses rs packet.old.items →
+        (IsOk result ↔ (responses_size (rs ++ response_with handle reply.now ∷ []) ≤ 1472)) }
+    ensures ok { (rs : List ResponseFields) → IsResponses rs packet.old.items →
+        OnOk result (IsResponses (rs ++ response_with handle reply.now ∷ []) packet.new.items) }
+    ensures adds { (rs : List ResponseFields) → IsDatagram (Responses rs ∷ []) packet.old.items →
+        OnOk result (IsDatagram (Responses (rs ++ response_with handle reply.now ∷ []) ∷ []) packet.new.items) }
+    ensures err { OnErr result (packet.new ≡ packet.old) }
+{
+    let params = reply.params.as_slice();
+    let room = 1472 - packet.len();
+    if room < 10 || room - 10 < params.len() {
+        return Err(WriteFault::TooLong);
+    }
+    let size = packet.len() + 9 + params.len();
+    raise_header(packet.as_mut_slice(), size as u32);
+    put(packet, &response_head(handle, reply));
+    put(packet, params);
+    Ok(())
 }
 
 /// Appends a PDU of one keep-alive (AES70-3). Refusal: `TooLong` where the packet would pass 1,472 bytes, and the packet is

@@ -5,5 +5,6 @@ pub mod Reading
 pub mod Taking
 pub mod Status
 pub mod Peers
+pub mod Sizes
 pub mod Classes
 pub mod Methods

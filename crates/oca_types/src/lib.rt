@@ -9,6 +9,7 @@ mod class;
 mod cursor;
 mod fault;
 mod put;
+mod sizes;
 mod status;
 #[cfg(test)]
 mod tests;
@@ -22,6 +23,7 @@ pub use put::{
     put_bool, put_class_identification, put_i8, put_i16, put_i32, put_i64, put_text, put_u8,
     put_u16, put_u32, put_u64,
 };
+pub use sizes::{Span, Window};
 pub use status::Status;
 pub use text::Text;
 pub use words::{Command, Handle, MethodId, NoMemory, Ono, Packet, Params, Peer, Reply};

@@ -1,0 +1,92 @@
+//! The sizes that a program chooses: how many answered commands a device keeps for each peer, and how far a
+//! controller's handles may run ahead of its answers.
+ghost use Rattle.std.specs.Prelude.{◌≤◌};
+
+/// How many commands of one peer a device keeps with their replies: from 1 to 64 (*profile*). The default is 32.
+#[derive(Clone, Copy, Debug, PartialEq, Eq)]
+pub struct Window {
+    size: u8,
+    pub ghost least: { 1 ≤ size },
+    pub ghost most: { size ≤ 64 },
+}
+
+impl Window {
+    ghost use Rattle.std.specs.Prelude.{◌≡◌, ◌≤◌, ◌↔◌, IsSome, IfSome};
+    ghost use Rattle.oca_types.specs.Sizes.{window_size};
+
+    /// A window of this size, exactly where it is from 1 to 64; otherwise `None`.
+    pub fn new(size: u8) -> Option<Window>
+        ensures variant { IsSome result ↔ ((1 ≤ size) × (size ≤ 64)) }
+        ensures value { IfSome result (λ w. window_size w ≡ size) }
+    {
+        match size {
+            1..=64 => Some(Window { size }),
+            _ => None,
+        }
+    }
+
+    /// Its size, from 1 to 64.
+    pub fn get(self) -> u8
+        ensures value { result ≡ window_size self }
+        ensures least { 1 ≤ result }
+        ensures most { result ≤ 64 }
+    {
+        self.size
+    }
+}
+
+impl Default for Window {
+    ghost use Rattle.std.specs.Prelude.{◌≡◌};
+    ghost use Rattle.oca_types.specs.Sizes.{window_size};
+
+    ghost is_default = { λ w. window_size w ≡ 32 };
+
+    fn default() -> Self {
+        Window { size: 32 }
+    }
+}
+
+/// How far the handles that a controller has given out may run ahead of the lowest one that is unanswered:
+/// from 1 to 32 (*profile*). The default is 16.
+#[derive(Clone, Copy, Debug, PartialEq, Eq)]
+pub struct Span {
+    size: u8,
+    pub ghost least: { 1 ≤ size },
+    pub ghost most: { size ≤ 32 },
+}
+
+impl Span {
+    ghost use Rattle.std.specs.Prelude.{◌≡◌, ◌≤◌, ◌↔◌, IsSome, IfSome};
+    ghost use Rattle.oca_types.specs.Sizes.{span_size};
+
+    /// A span of this size, exactly where it is from 1 to 32; otherwise `None`.
+    pub fn new(size: u8) -> Option<Span>
+        ensures variant { IsSome result ↔ ((1 ≤ size) × (size ≤ 32)) }
+        ensures value { IfSome result (λ s. span_size s ≡ size) }
+    {
+        match size {
+            1..=32 => Some(Span { size }),
+            _ => None,
+        }
+    }
+
+    /// Its size, from 1 to 32.
+    pub fn get(self) -> u8
+        ensures value { result ≡ span_size self }
+        ensures least { 1 ≤ result }
+        ensures most { result ≤ 32 }
+    {
+        self.size
+    }
+}
+
+impl Default for Span {
+    ghost use Rattle.std.specs.Prelude.{◌≡◌};
+    ghost use Rattle.oca_types.specs.Sizes.{span_size};
+
+    ghost is_default = { λ s. span_size s ≡ 16 };
+
+    fn default() -> Self {
+        Span { size: 16 }
+    }
+}
