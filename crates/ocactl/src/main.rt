@@ -1,6 +1,8 @@
 //! The controller as a program.
 #![tactic(auto)]
 
+mod fault;
+mod line;
 mod request;
 
 use std::process::ExitCode;
