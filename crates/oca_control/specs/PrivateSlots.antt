@@ -1,14 +1,14 @@
 -- For private contracts: where the untaken commands lie in memory. The command of the handle h lies in the slot number h modulo
 -- 32, and the handle itself is not stored.
 use Rattle.std.specs.Prelude.{◌≡◌, ℕ, zero, suc, ◌+◌, ◌-◌, ◌%◌, ◌<◌, ◌≤◌, ◌^◌, ◌==◌, nat_lt, nat_le, Bool, true, false, not, ◌&&◌, ◌||◌, if◌then◌else◌, List, [], ◌∷◌, ◌++◌, map, length, Option, Some, None, is_none, is_some, slice_index_or}
-use Rattle.std.specs.List.{list_any}
+use Rattle.std.specs.List.{AllByRecursion}
 use Rattle.std.specs.Option.{option_map, option_and_then}
-use Rattle.oca_pdu.specs.Messages.{Pdu, Commands}
+use Rattle.oca_pdu.specs.Messages.{Msg, Command, Response, KeepAlive}
 use Rattle.oca_control.specs.declared.due.Due.{Due}
 use Rattle.oca_control.specs.declared.due.Due.TheVariants as dues
 use Rattle.oca_control.specs.Answers.{AnswerFields}
 use Rattle.oca_control.specs.Untaken.{Untaken, first_due, given_out, waits, answered, answer_under, without_handle}
-use Rattle.oca_control.specs.Links.{Request, command_under, Decision, GivesCommand, GivesKeepAlive, GivesNothing, IsLost}
+use Rattle.oca_control.specs.Links.{Request, command_under, due_bytes, Decision, GivesCommand, GivesKeepAlive, GivesNothing, IsLost}
 
 -- what a slot holds of a command
 pub record Kept : Type 0 where
@@ -84,3 +84,27 @@ after_decision now (Some (GivesCommand c)) us = map (given_out now c.handle) us
 after_decision now (Some GivesKeepAlive) us = us
 after_decision now (Some GivesNothing) us = us
 after_decision now (Some IsLost) us = us
+
+abbrev pub bytes_decided : Option Decision → List ℕ
+bytes_decided None = []
+bytes_decided (Some d) = due_bytes d
+
+-- The handle is the lowest due one from low on and below next; or none of them is due.
+abbrev pub IsLowestDue : ℕ → List (Option Kept) → ℕ → ℕ → Option ℕ → Type 0
+IsLowestDue now slots low next None = first_due now (untaken_from low (next - low) slots) ≡ None
+IsLowestDue now slots low next (Some h) = (low ≤ h) × (h < next) × (kept_is_due now (kept_at h slots) ≡ true)
+    × (first_due now (untaken_from low (next - low) slots) ≡ first_due now (untaken_at h (kept_at h slots)))
+
+-- The slot of a handle from low on and below next; another handle has none.
+abbrev pub IsPlaceOf : ℕ → ℕ → ℕ → Option ℕ → Type 0
+IsPlaceOf h low next None = (low ≤ h) → (h < next) → ⊥
+IsPlaceOf h low next (Some place) = (low ≤ h) × (h < next) × (place ≡ h % 32)
+
+-- The parameters of a response in a datagram have at most 1,452 bytes.
+abbrev pub IsShort : Msg → Type 0
+IsShort (Command respond c) = Unit {0}
+IsShort (Response r) = length r.params ≤ 1452
+IsShort (KeepAlive form) = Unit {0}
+
+abbrev pub AreShort : List Msg → Type 0
+AreShort messages = AllByRecursion IsShort messages

@@ -4,10 +4,13 @@
 mod answer;
 mod due;
 mod fault;
+mod link;
 mod reception;
 mod slot;
+mod table;
 
 pub use answer::Answer;
 pub use due::Due;
 pub use fault::ControlFault;
+pub use link::Link;
 pub use reception::Reception;

@@ -1,0 +1,5 @@
+pub mod Places
+pub mod Tables
+pub mod Views
+pub mod Messages
+pub mod Receiving

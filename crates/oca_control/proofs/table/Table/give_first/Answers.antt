@@ -1,0 +1,25 @@
+use Rattle.std.proofs.Common.{◌≡◌, ap, ◌∙◌, sym, List}
+use Rattle.std.specs.Option.{option_map}
+use Rattle.oca_control.specs.Links.{due_answer}
+use Rattle.oca_control.specs.PrivateSlots.{bytes_decided, after_decision}
+use Rattle.oca_control.proofs.Views.{spent, gives, gives_answer, gives_packet, gives_state, view_given, table, none_decided}
+use Rattle.oca_control.proofs.table.Table.give_first.Goals as goal
+
+pub returns-clause-answer : goal.returns-clause-answer
+returns-clause-answer c =
+    let a = c.self.inside in
+    let g = gives c.args.now a.low a.next c.in-Some.at c.place.result a.slots c.index-self-place.result c.may_repeat.result c.self.invariant c.in-Some.ensures c.place.ensures.value c.may_repeat.ensures c.if-not-may_repeat.false in
+    rw (← c.self.view_is) (gives_answer c.args.now c.in-Some.at _ _ g)
+
+pub returns-clause-packet : goal.returns-clause-packet
+returns-clause-packet c =
+    let a = c.self.inside in
+    let g = gives c.args.now a.low a.next c.in-Some.at c.place.result a.slots c.index-self-place.result c.may_repeat.result c.self.invariant c.in-Some.ensures c.place.ensures.value c.may_repeat.ensures c.if-not-may_repeat.false in
+    rw (← c.self.view_is) (gives_packet c.args.now c.in-Some.at _ _ _ g c.give_out.ensures.packet)
+
+pub returns-clause-state : goal.returns-clause-state
+returns-clause-state c =
+    let a = c.self.inside in
+    let g = gives c.args.now a.low a.next c.in-Some.at c.place.result a.slots c.index-self-place.result c.may_repeat.result c.self.invariant c.in-Some.ensures c.place.ensures.value c.may_repeat.ensures c.if-not-may_repeat.false in
+    rw (← c.self.view_is) (gives_state c.args.now a.next c.in-Some.at _ _ _ g
+      (view_given c.args.now a.low a.next c.in-Some.at c.place.result a.slots c.index-self-place.result c.give_out.new.self c.self.invariant c.in-Some.ensures c.place.ensures.value c.give_out.ensures.slot))

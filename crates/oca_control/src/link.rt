@@ -1,0 +1,205 @@
+//! The link of a controller to a device.
+ghost use Rattle.std.specs.Prelude.{◌≡◌, ◌≤◌, ◌<◌, ℕ, max, if◌then◌else◌, length, List, Option, Some, None};
+ghost use Rattle.std.specs.Option.{option_map};
+ghost use Rattle.oca_types.specs.Sizes.{span_size};
+ghost use Rattle.oca_pdu.specs.Messages.{Msg, msg_of};
+ghost use Rattle.oca_pdu.specs.Datagrams.{messages_left};
+ghost use Rattle.oca_control.specs.Answers.{answer_fields};
+ghost use Rattle.oca_control.specs.Contents.{IsContent};
+ghost use Rattle.oca_control.specs.Untaken.{Untaken, hears, answers_by, hears_all, answers_by_all, answer_under};
+ghost use Rattle.oca_control.specs.Links.{Request, new_link, submission, submitted, decision, due_answer, due_bytes, gone_on, reception, received, taken};
+ghost use Rattle.oca_control.specs.Steps.{ReceivesDatagram};
+ghost use Rattle.oca_control.specs.PrivateSlots.{AreShort, IsShort};
+
+use crate::answer::Answer;
+use crate::due::Due;
+use crate::fault::ControlFault;
+use crate::reception::Reception;
+use crate::table::Table;
+use oca_pdu::{Form, Message, Messages, check, write_keepalive};
+use oca_types::{Handle, MethodId, Ono, Packet, Peer, Span};
+use std::marker::Model;
+
+/// A controller's link to one device.
+///
+/// Commands are submitted and get handles that rise by one. What is due is given out, a command again each 250 ms until its
+/// answer comes, and keep-alives in silence. Answers come in with the device's datagrams, and are taken by handle. A command
+/// that got no answer to 20 sendings loses the link. Moments are in milliseconds; one that is earlier than a moment already
+/// seen counts as the one already seen. No call takes memory: the commands, at most 32, lie in the link itself.
+#[derive(Drop)]
+pub struct Link {
+    device: Peer,
+    moment: u64,
+    sent: u64,
+    lost: bool,
+    span: Span,
+    table: Table,
+}
+
+impl Model for Link {
+    ghost use Rattle.oca_types.specs.Sizes.{span_size};
+    ghost use Rattle.oca_control.specs.Links.{LinkState};
+    ghost use Rattle.oca_control.specs.PrivateSlots.{handle_left};
+
+    ghost Value = { LinkState };
+
+    ghost view = { λ l. record {
+      device = l.device;
+      moment = l.moment;
+      next = handle_left l.table.next;
+      sent = l.sent;
+      lost = l.lost;
+      span = span_size l.span;
+      untaken = l.table.untaken;
+    } };
+}
+
+impl Link {
+    /// A link to the device at this address, whose first command gets this handle, and whose handles run at most a span ahead
+    /// of the lowest untaken one.
+    pub fn new(device: Peer, first_handle: Handle, now: u64, span: Span) -> Link
+        ensures { result ≡ new_link device first_handle.0 now (span_size span) }
+    {
+        Link {
+            device,
+            moment: now,
+            sent: now,
+            lost: false,
+            span,
+            table: Table::new(first_handle),
+        }
+    }
+
+    /// Submits a command, to be given out when it is due, and answers its handle (AES70-3). `count` is ParamCount.
+    ///
+    /// Refusals, in this order, each of which changes nothing and keeps no moment: `Lost`; `HandlesSpent`, after the handle
+    /// 4294967295; `SpanFull`, where the next handle is not below the lowest untaken one plus the span; `TooLong`, above
+    /// 1,445 bytes of parameters.
+    pub fn submit(
+        &mut self,
+        target: Ono,
+        method: MethodId,
+        count: u8,
+        params: &[u8],
+        now: u64,
+    ) -> Result<Handle, ControlFault>
+        ensures answer { let request : Request = record { target = target.0; level = method.level; index = method.index; count = count; params = params.now } in
+            result ≡ submission request self.old }
+        ensures link { let request : Request = record { target = target.0; level = method.level; index = method.index; count = count; params = params.now } in
+            self.new ≡ submitted request now self.old }
+    {
+        if self.lost {
+            return Err(ControlFault::Lost);
+        }
+        let Some(handle) = self.table.next() else {
+            return Err(ControlFault::HandlesSpent);
+        };
+        if !self.table.has_room(self.span.get()) {
+            return Err(ControlFault::SpanFull);
+        }
+        if params.len() > 1445 {
+            return Err(ControlFault::TooLong);
+        }
+        self.moment = self.moment.max(now);
+        self.table.submit(target, method, count, params);
+        Ok(handle)
+    }
+
+    /// Gives out what is due into the packet, which it empties first: the due command with the lowest handle, with unchanged
+    /// bytes, or a keep-alive of 5 seconds where nothing was given out for 2,500 ms. A command is due while it is unanswered,
+    /// and was never given out or was given out 250 ms ago or earlier.
+    ///
+    /// `Lost` where that command was given out 20 times, and from then on. The packet is empty at `Nothing` and `Lost`.
+    pub fn due(&mut self, now: u64, packet: &mut Packet) -> Due
+        ensures answer { result ≡ due_answer (decision now self.old) }
+        ensures packet { packet.new.items ≡ due_bytes (decision now self.old) }
+        ensures link { self.new ≡ gone_on now self.old }
+    {
+        packet.clear();
+        self.moment = self.moment.max(now);
+        if self.lost {
+            return Due::Lost;
+        }
+        match self.table.give_first(self.moment, packet) {
+            Some(Due::Lost) => {
+                self.lost = true;
+                Due::Lost
+            }
+            Some(due) => {
+                self.sent = self.moment;
+                due
+            }
+            None => {
+                if self.moment.saturating_sub(self.sent) < 2500 {
+                    return Due::Nothing;
+                }
+                self.sent = self.moment;
+                let _ = write_keepalive(packet, Form::Seconds(5));
+                Due::KeepAlive
+            }
+        }
+    }
+
+    /// Takes a datagram that came from this address, and answers what became of it. The address is looked at first, then
+    /// the grammar (AES70-3); the responses are taken in order. A response is stored where its handle is that of an untaken
+    /// command without an answer; commands and keep-alives are ignored. The moment is kept in all cases.
+    pub fn datagram(&mut self, from: Peer, bytes: &[u8], now: u64) -> Reception
+        ensures receives { ReceivesDatagram from bytes.now now self.old result self.new }
+        ensures answer { (content : Option (List Msg)) → IsContent content bytes.now → result ≡ reception from content self.old }
+        ensures link { (content : Option (List Msg)) → IsContent content bytes.now → self.new ≡ received from content now self.old }
+    {
+        self.moment = self.moment.max(now);
+        if from != self.device {
+            return Reception::Stranger;
+        }
+        match check(bytes) {
+            Ok(datagram) => match hear_all(&mut self.table, datagram.messages()) {
+                0 => Reception::NothingNew,
+                answered => Reception::Answered(answered),
+            },
+            Err(_) => Reception::Malformed,
+        }
+    }
+
+    /// Takes the answer under this handle, and the command with it. `None` where there is no answer, which changes nothing.
+    pub fn take(&mut self, handle: Handle) -> Option<Answer>
+        ensures answer { option_map answer_fields result ≡ answer_under handle.0 self.old.untaken }
+        ensures link { self.new ≡ taken handle.0 self.old }
+    {
+        self.table.take(handle)
+    }
+}
+
+/// Takes the responses among the messages in, and answers how many commands they answer.
+fn hear_all(table: &mut Table, messages: Messages<'_>) -> u32
+    requires few { length (messages_left messages) ≤ 146 }
+    requires short { AreShort (messages_left messages) }
+    ensures answered { result ≡ answers_by_all (messages_left messages.entry) table.old.untaken }
+    ensures table { table.new ≡ record { next = table.old.next; untaken = hears_all (messages_left messages.entry) table.old.untaken } }
+{
+    let mut answered = 0;
+    for message in messages {
+        if hear(table, message) {
+            answered += 1;
+        }
+    }
+    answered
+}
+
+/// Takes a message in, and answers whether it is a response that a command waited for.
+fn hear(table: &mut Table, message: Message<'_>) -> bool
+    requires { IsShort (msg_of message) }
+    ensures answered { (if result then 1 else 0) ≡ answers_by (msg_of message.entry) table.old.untaken }
+    ensures table { table.new ≡ record { next = table.old.next; untaken = hears (msg_of message.entry) table.old.untaken } }
+{
+    match message {
+        Message::Response {
+            handle,
+            status,
+            count,
+            params,
+        } => table.answer(handle, status, count, params),
+        Message::Command { .. } => false,
+        Message::KeepAlive { .. } => false,
+    }
+}

@@ -1,0 +1,175 @@
+//! The untaken commands of a link, each in the place that its handle names.
+ghost use Rattle.std.specs.Prelude.{◌≡◌, ◌+◌, ◌-◌, ◌%◌, ◌<◌, ◌≤◌, [], ◌∷◌, ◌++◌, map, length, Option, Some, None, true, is_some, if◌then◌else◌, slice_index_or};
+ghost use Rattle.std.specs.List.{list_any};
+ghost use Rattle.std.specs.Option.{option_map};
+ghost use Rattle.oca_control.specs.Answers.{answer_fields};
+ghost use Rattle.oca_control.specs.Untaken.{new_untaken, has_room, first_due, waits, answered, answer_under, without_handle};
+ghost use Rattle.oca_control.specs.Links.{command_under, due_answer};
+ghost use Rattle.oca_control.specs.PrivateSlots.{IsTable, untaken_from, untaken_at, kept_at, kept_is_due, handle_left, first_decided, after_decision, bytes_decided, IsLowestDue, IsPlaceOf};
+
+use crate::answer::Answer;
+use crate::due::Due;
+use crate::slot::Slot;
+use oca_types::{Handle, MethodId, Ono, Packet};
+use std::marker::Model;
+
+/// The untaken commands of a link. They have handles from `low` on and below `next`, at most 32 of them, and the command
+/// of a handle lies in the slot of this handle modulo 32: it is found by its place. `next` is 4294967296 where no handle
+/// is left.
+#[derive(Drop)]
+pub struct Table {
+    low: u64,
+    next: u64,
+    slots: [Slot; 32],
+}
+
+impl Model for Table {
+    ghost use Rattle.std.specs.Prelude.{◌-◌};
+    ghost use Rattle.oca_control.specs.PrivateSlots.{TableState, IsTable, untaken_from};
+
+    ghost Value = { TableState };
+
+    ghost view = { λ t. record { next = t.next; untaken = untaken_from t.low (t.next - t.low) t.slots } };
+
+    ghost invariant = { λ t. IsTable t.low t.next t.slots };
+}
+
+impl Table {
+    /// No command; the first one gets this handle.
+    pub fn new(first: Handle) -> Table
+        ensures { result ≡ record { next = first.0; untaken = [] } }
+    {
+        Table {
+            low: u64::from(first.0),
+            next: u64::from(first.0),
+            slots: Default::default(),
+        }
+    }
+
+    /// The handle of the next command, where one is left.
+    pub fn next(&self) -> Option<Handle>
+        ensures { option_map (λ h. h.0) result ≡ handle_left self.now.next }
+    {
+        u32::try_from(self.next).ok().map(Handle)
+    }
+
+    /// Whether the next handle lies below each untaken one plus the span.
+    pub fn has_room(&self, span: u8) -> bool
+        ensures { result ≡ has_room span self.now.next self.now.untaken }
+    {
+        self.low == self.next || self.next < self.low + u64::from(span)
+    }
+
+    /// Puts a command behind the others, under the next handle.
+    pub fn submit(&mut self, target: Ono, method: MethodId, count: u8, params: &[u8])
+        requires left { self.old.next < 4294967296 }
+        requires room { has_room 32 self.old.next self.old.untaken ≡ true }
+        requires short { length params.now ≤ 1445 }
+        ensures { self.new ≡ record {
+            next = self.old.next + 1;
+            untaken = self.old.untaken ++ new_untaken (command_under self.old.next (record { target = target.0; level = method.level; index = method.index; count = count; params = params.now })) ∷ [];
+        } }
+    {
+        self.slots[place(self.next)].put(target, method, count, params);
+        self.next += 1;
+    }
+
+    /// Gives the due command with the lowest handle out, or answers that it was given out 20 times. Nothing where no
+    /// command is due.
+    pub fn give_first(&mut self, now: u64, packet: &mut Packet) -> Option<Due>
+        requires { packet.old.items ≡ [] }
+        ensures answer { result ≡ option_map due_answer (first_decided now self.old.untaken) }
+        ensures packet { packet.new.items ≡ bytes_decided (first_decided now self.old.untaken) }
+        ensures state { self.new ≡ record { next = self.old.next; untaken = after_decision now (first_decided now self.old.untaken) self.old.untaken } }
+    {
+        let Some(at) = lowest_due(&self.slots, self.low, self.next, now) else {
+            return None;
+        };
+        let handle = Handle(at as u32);
+        let slot = &mut self.slots[place(at)];
+        if !slot.may_repeat() {
+            return Some(Due::Lost);
+        }
+        slot.give_out(handle, now, packet);
+        Some(Due::Send(handle))
+    }
+
+    /// Stores an answer, and answers whether a command waited for it.
+    pub fn answer(&mut self, handle: Handle, status: u8, count: u8, params: &[u8]) -> bool
+        requires { length params.now ≤ 1452 }
+        ensures new { result ≡ list_any (waits handle.0) self.old.untaken }
+        ensures state { self.new ≡ record { next = self.old.next; untaken = map (answered handle.0 (record { status = status; count = count; params = params.now })) self.old.untaken } }
+    {
+        let Some(at) = place_of(handle, self.low, self.next) else {
+            return false;
+        };
+        let slot = &mut self.slots[at];
+        if !slot.waits() {
+            return false;
+        }
+        slot.store(status, count, params);
+        true
+    }
+
+    /// Takes the answer of this handle, where there is one, and the command with it.
+    pub fn take(&mut self, handle: Handle) -> Option<Answer>
+        ensures answer { option_map answer_fields result ≡ answer_under handle.0 self.old.untaken }
+        ensures state { self.new ≡ record { next = self.old.next; untaken = if is_some (answer_under handle.0 self.old.untaken) then without_handle handle.0 self.old.untaken else self.old.untaken } }
+    {
+        let Some(at) = place_of(handle, self.low, self.next) else {
+            return None;
+        };
+        let answer = self.slots[at].take();
+        self.low = lowest_held(&self.slots, self.low, self.next);
+        answer
+    }
+}
+
+/// The slot of a handle.
+fn place(handle: u64) -> usize
+    ensures value { result ≡ handle % 32 }
+    ensures within { result < 32 }
+{
+    (handle % 32) as usize
+}
+
+/// The slot of a handle from `low` on and below `next`; of others none.
+fn place_of(handle: Handle, low: u64, next: u64) -> Option<usize>
+    ensures { IsPlaceOf handle.0 low next result }
+{
+    let handle = u64::from(handle.0);
+    if low <= handle && handle < next {
+        Some(place(handle))
+    } else {
+        None
+    }
+}
+
+/// The lowest due handle from `low` on and below `next`.
+fn lowest_due(slots: &[Slot; 32], low: u64, next: u64, now: u64) -> Option<u64>
+    requires { low ≤ next }
+    ensures { IsLowestDue now slots.now low next result }
+{
+    for handle in low..next {
+        if slots[place(handle)].is_due(now) {
+            return Some(handle);
+        }
+    }
+    None
+}
+
+/// The lowest held handle from `low` on and below `next`, or `next`.
+fn lowest_held(slots: &[Slot; 32], low: u64, next: u64) -> u64
+    requires { low ≤ next }
+    ensures above { low ≤ result }
+    ensures below { result ≤ next }
+    ensures held { result < next → kept_at result slots.now ≡ None → ⊥ }
+    ensures same { untaken_from result (next - result) slots.now ≡ untaken_from low (next - low) slots.now }
+{
+    for handle in low..next {
+        if slots[place(handle)].is_held() {
+            return handle;
+        }
+    }
+    next
+}
