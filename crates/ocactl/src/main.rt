@@ -3,7 +3,9 @@
 
 mod fault;
 mod line;
+mod replay;
 mod request;
+mod words;
 
 use std::process::ExitCode;
 
