@@ -7,9 +7,9 @@ use Rattle.oca_types.specs.declared.words.Peer.{Peer}
 use Rattle.oca_types.specs.Peers.{same_peer}
 use Rattle.oca_pdu.specs.Messages.{Msg}
 use Rattle.oca_session.specs.Accepted.{retained_of}
-use Rattle.oca_session.specs.Table.{Session, Table, session_of, changed, lapsed, stays, is_lapsed, staying, at_with}
+use Rattle.oca_session.specs.Table.{Session, Table, session_of, changed, lapsed, stays, is_lapsed, staying, with_moment_and_sessions}
 use Rattle.oca_session.specs.Table as table
-use Rattle.oca_device.specs.Notes.{Note, What, Admitted, notes_of, is_within, unbroken, run, is_known, without, opened, known, last_moment, heartbeat_of, accepted}
+use Rattle.oca_device.specs.Notes.{Note, Noted, Admitted, notes_of, is_within, unbroken, run, is_known, peers_except, opened, known, last_moment, heartbeat_of, accepted}
 use Rattle.oca_device.specs.States.{State, noted, moved_to, lapsed_at}
 use Rattle.oca_device.specs.Devices.{session_for, table_of}
 use Rattle.oca_device.proofs.Lists.{filter_same, filter_both, filter_mapped, filter_appended, map_appended, map_back}
@@ -70,19 +70,19 @@ opened_has (n ∷ ns) p = by_known (is_known n.at ns n.peer) refl (opened_has ns
     or_true false = refl
 
     by_same_new : (b : Bool) → same_peer n.peer p ≡ b → is_in p (opened ns) ≡ has_notes (notes_of p ns) →
-        (is_in p (without n.peer (opened ns)) || (same_peer n.peer p || false)) ≡ has_notes (cond b (n ∷ notes_of p ns) (notes_of p ns))
-    by_same_new true s h = ap (λ x. is_in p (without n.peer (opened ns)) || (x || false)) s ∙ or_true (is_in p (without n.peer (opened ns)))
+        (is_in p (peers_except n.peer (opened ns)) || (same_peer n.peer p || false)) ≡ has_notes (cond b (n ∷ notes_of p ns) (notes_of p ns))
+    by_same_new true s h = ap (λ x. is_in p (peers_except n.peer (opened ns)) || (x || false)) s ∙ or_true (is_in p (peers_except n.peer (opened ns)))
     by_same_new false s h =
-        ap (λ x. is_in p (without n.peer (opened ns)) || (x || false)) s
-        ∙ or_false (is_in p (without n.peer (opened ns)))
+        ap (λ x. is_in p (peers_except n.peer (opened ns)) || (x || false)) s
+        ∙ or_false (is_in p (peers_except n.peer (opened ns)))
         ∙ in_filtered (λ q. not (same_peer q n.peer)) p (opened ns)
         ∙ ap (λ x. not x && is_in p (opened ns)) (same_turned p n.peer ∙ s)
         ∙ h
 
     by_known : (b : Bool) → is_known n.at ns n.peer ≡ b → is_in p (opened ns) ≡ has_notes (notes_of p ns) →
-        is_in p (cond b (opened ns) (without n.peer (opened ns) ++ n.peer ∷ [])) ≡ has_notes (cond (same_peer n.peer p) (n ∷ notes_of p ns) (notes_of p ns))
+        is_in p (cond b (opened ns) (peers_except n.peer (opened ns) ++ n.peer ∷ [])) ≡ has_notes (cond (same_peer n.peer p) (n ∷ notes_of p ns) (notes_of p ns))
     by_known true k h = by_same_known (same_peer n.peer p) refl k h
-    by_known false k h = list_any-append (λ q. same_peer q p) (without n.peer (opened ns)) (n.peer ∷ []) ∙ by_same_new (same_peer n.peer p) refl h
+    by_known false k h = list_any-append (λ q. same_peer q p) (peers_except n.peer (opened ns)) (n.peer ∷ []) ∙ by_same_new (same_peer n.peer p) refl h
 
 -- the list of the known has exactly those who are known
 pub known_has : (t : ℕ) (ns : List Note) (p : Peer) → is_in p (known t ns) ≡ is_known t ns p
@@ -91,7 +91,7 @@ known_has t ns p = in_filtered (is_known t ns) p (opened ns) ∙ ap (λ x. is_kn
 -- a note of a known peer leaves the known
 known_goes_on : (n : Note) (ns : List Note) → is_known n.at ns n.peer ≡ true → known n.at (n ∷ ns) ≡ known n.at ns
 known_goes_on n ns k =
-    ap (λ b. filter (is_known n.at (n ∷ ns)) (cond b (opened ns) (without n.peer (opened ns) ++ n.peer ∷ []))) k
+    ap (λ b. filter (is_known n.at (n ∷ ns)) (cond b (opened ns) (peers_except n.peer (opened ns) ++ n.peer ∷ []))) k
     ∙ filter_same (is_known n.at (n ∷ ns)) (is_known n.at ns) (λ q. by_same q (same_peer n.peer q) refl) (opened ns)
   where
     by_same : (q : Peer) (b : Bool) → same_peer n.peer q ≡ b → is_known n.at (n ∷ ns) q ≡ is_known n.at ns q
@@ -101,8 +101,8 @@ known_goes_on n ns k =
 -- a note of a peer that wasn't known puts it at the end
 known_begins : (n : Note) (ns : List Note) → is_known n.at ns n.peer ≡ false → known n.at (n ∷ ns) ≡ known n.at ns ++ n.peer ∷ []
 known_begins n ns k =
-    ap (λ b. filter (is_known n.at (n ∷ ns)) (cond b (opened ns) (without n.peer (opened ns) ++ n.peer ∷ []))) k
-    ∙ filter_appended (is_known n.at (n ∷ ns)) (without n.peer (opened ns)) (n.peer ∷ [])
+    ap (λ b. filter (is_known n.at (n ∷ ns)) (cond b (opened ns) (peers_except n.peer (opened ns) ++ n.peer ∷ []))) k
+    ∙ filter_appended (is_known n.at (n ∷ ns)) (peers_except n.peer (opened ns)) (n.peer ∷ [])
     ∙ ap (λ xs. xs ++ filter (is_known n.at (n ∷ ns)) (n.peer ∷ [])) (filter_both (is_known n.at (n ∷ ns)) (λ q. not (same_peer q n.peer)) (is_known n.at ns) (λ q. by_same q (same_peer n.peer q) refl) (opened ns))
     ∙ ap (λ b. known n.at ns ++ cond b (n.peer ∷ []) []) (known_now n ns)
   where
@@ -132,7 +132,7 @@ other_session w n ns q h =
     (sym (other_notes n ns q (same_turned n.peer q ∙ h)))
 
 -- The clock moves.
-pub table_moved : (w t : ℕ) (s : State) → s.moment ≤ t → at_with (table_of w s) t (staying t (table_of w s).sessions) ≡ table_of w (moved_to t s)
+pub table_moved : (w t : ℕ) (s : State) → s.moment ≤ t → with_moment_and_sessions (table_of w s) t (staying t (table_of w s).sessions) ≡ table_of w (moved_to t s)
 table_moved w t s le =
     ap (λ ss. let x : Table = record { window = w; moment = t; sessions = ss } in x)
     (filter_mapped (stays t) (session_for w s.notes) (known s.moment s.notes)
@@ -150,7 +150,7 @@ session_known w s p =
     ∙ ap (λ b. cond b (Some (session_for w s.notes p)) None) (known_has s.moment s.notes p)
 
 -- A note of a known peer changes its session alone.
-pub table_noted : (w : ℕ) (s : State) (p : Peer) (what : What) (f : Session → Session) → is_known s.moment s.notes p ≡ true →
+pub table_noted : (w : ℕ) (s : State) (p : Peer) (what : Noted) (f : Session → Session) → is_known s.moment s.notes p ≡ true →
     f (session_for w s.notes p) ≡ session_for w (noted p what s).notes p →
     changed p f (table_of w s).sessions ≡ (table_of w (noted p what s)).sessions
 table_noted w s p what f k e =
@@ -160,12 +160,12 @@ table_noted w s p what f k e =
 
 -- The first note of a run adds a session.
 pub table_opened : (w : ℕ) (s : State) (p : Peer) (messages : List Msg) → is_known s.moment s.notes p ≡ false →
-    (table_of w s).sessions ++ table.opened w p s.moment ∷ [] ≡ (table_of w (noted p (Admitted messages) s)).sessions
+    (table_of w s).sessions ++ table.opened_session w p s.moment ∷ [] ≡ (table_of w (noted p (Admitted messages) s)).sessions
 table_opened w s p messages k =
     let n : Note = record { peer = p; at = s.moment; what = Admitted messages } in
     let ks = known s.moment s.notes in
     let made = session_for w (n ∷ s.notes) in
-    let new : table.opened w p s.moment ≡ made p =
+    let new : table.opened_session w p s.moment ≡ made p =
     ap (λ (own : List Note). let x : Session = record { peer = p; heard = last_moment own; heartbeat = heartbeat_of own; retained = retained_of w (accepted own) } in x) (sym (run_begins n s.notes k)) in
     ap (λ x. map (session_for w s.notes) ks ++ x ∷ []) new
     ∙ ap (λ xs. xs ++ made p ∷ []) (made_alike (session_for w s.notes) (λ _. refl) made p (other_session w n s.notes) ks (known_has s.moment s.notes p ∙ k))

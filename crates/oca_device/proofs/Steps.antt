@@ -1,24 +1,26 @@
--- What each step of serving does to a device that is in a state.
+-- Noted each step of serving does to a device that is in a state.
 use Rattle.std.proofs.Common.{◌≡◌, ℕ, ◌+◌, ◌≤◌, ◌<◌, Bool, true, false, cond, List, [], ◌∷◌, ◌++◌, length, refl, sym, ap, ◌∙◌, subst, arith}
 use Rattle.std.specs.Prelude.{min, max, nat_lt, ◌||◌, IfSome, Option, Some, None, IsSome, Result, Ok}
 use Rattle.std.proofs.lemmas.Bool.Decides.{nat_tests}
 use Rattle.std.proofs.lemmas.List.{append_assoc, length-map, map-append}
 use Rattle.oca_types.specs.declared.words.Peer.{Peer}
-use Rattle.oca_pdu.specs.Messages.{Msg, Command, Response, KeepAlive}
-use Rattle.oca_session.specs.declared.sessions.Heard.TheVariants as heard
-use Rattle.oca_session.specs.Accepted.{Entry, retained_of, Agrees, Judgement, Fresh, Duplicate, Old}
-use Rattle.oca_session.specs.Table.{Session, Table, session_of, changed, opened, heard_at, with_heartbeat, with_accepted, with_sessions, at_with, present, lapsed, staying, Hears, AgreesAt}
+use Rattle.oca_pdu.specs.Messages.{Msg, Command, Response, KeepAlive, Pdu}
+use Rattle.oca_session.specs.declared.sessions.Admission.TheVariants as heard
+use Rattle.oca_session.specs.Accepted.{Entry, retained_of, Agrees, Judgement, Fresh, Duplicate, Reused, Old}
+use Rattle.oca_session.specs.Table.{Session, Table, session_of, changed, opened_session, heard_at, with_heartbeat, with_accepted, with_sessions, with_moment_and_sessions, present, lapsed, staying, Hears, AgreesAt}
 use Rattle.oca_pdu.specs.declared.fault.PduFault.{PduFault}
 use Rattle.oca_pdu.specs.Reading.{read_datagram}
 use Rattle.oca_device.specs.declared.counts.Counts.{Counts}
 use Rattle.oca_device.specs.declared.verdict.Verdict.TheVariants as verdicts
-use Rattle.oca_device.specs.Notes.{What, Admitted, Heartbeat, Executed, Note, run, is_known, known, last_moment, heartbeat_of, accepted}
+use Rattle.oca_device.specs.Notes.{Noted, Admitted, Heartbeat, Executed, Note, run, is_known, known, last_moment, heartbeat_of, accepted}
 use Rattle.oca_device.specs.States.{State, noted, moved_to, lapsed_at, admits, judged_in, reply_of, after_command, after_message, after_messages, after_reading, time_of, state_after, known_after}
-use Rattle.oca_device.specs.Answers.{counts, plus, answer_to, answers_to_messages, packets_of, packet_of, count_of, counts_of_messages, answers_to_reading, verdict_of_reading, served}
+use Rattle.oca_device.specs.Groups.{with_answers, encodings}
+use Rattle.oca_device.specs.Answers.{counts, plus, answer_to, answers_to_messages, packets_of, count_of, counts_of_messages, answers_to_reading, verdict_of_reading, served}
 use Rattle.oca_tree.specs.declared.object.Object.{Object}
 use Rattle.oca_device.specs.Events.{Event}
 use Rattle.oca_device.specs.Devices.{DeviceState, session_for, table_of, IsIn, Represents}
-use Rattle.oca_device.specs.Serving.{Serves, ServesAll, Receives}
+use Rattle.oca_device.specs.PrivateServing.{Serves, ServesAll, Receives}
+use Rattle.oca_device.proofs.Grouping.{answers_both}
 use Rattle.oca_device.proofs.Runs.{table_moved, lapsed_moved, session_known, table_noted, table_opened, run_goes_on, run_begins}
 
 abbrev session_in : ℕ → Peer → ℕ → List Note → Session
@@ -33,11 +35,11 @@ max_above : (m now : ℕ) → m ≤ max m now
 max_above m now = omega arith
 
 pub clock_moved : (w now : ℕ) (s : State) (old new : Table) (peers : List Peer) → old ≡ table_of w s →
-    peers ≡ lapsed (present old now) old.sessions → new ≡ at_with old (present old now) (staying (present old now) old.sessions) →
+    peers ≡ lapsed (present old now) old.sessions → new ≡ with_moment_and_sessions old (present old now) (staying (present old now) old.sessions) →
     (peers ≡ lapsed_at (max s.moment now) s) × (new ≡ table_of w (moved_to (max s.moment now) s))
 clock_moved w now s old new peers was gone is = (
   gone ∙ ap (λ (t : Table). lapsed (present t now) t.sessions) was ∙ lapsed_moved w (max s.moment now) s,
-  is ∙ ap (λ (t : Table). at_with t (present t now) (staying (present t now) t.sessions)) was ∙ table_moved w (max s.moment now) s (max_above s.moment now),
+  is ∙ ap (λ (t : Table). with_moment_and_sessions t (present t now) (staying (present t now) t.sessions)) was ∙ table_moved w (max s.moment now) s (max_above s.moment now),
 )
 
 -- ---- what is known of the peers in the table
@@ -70,14 +72,14 @@ agrees_there w s p old was k =
 -- ---- a peer is let in
 
 admitted_known : (w : ℕ) (s : State) (p : Peer) (ms : List Msg) → is_known s.moment s.notes p ≡ true →
-    at_with (table_of w s) s.moment (changed p (heard_at s.moment) (table_of w s).sessions) ≡ table_of w (noted p (Admitted ms) s)
+    with_moment_and_sessions (table_of w s) s.moment (changed p (heard_at s.moment) (table_of w s).sessions) ≡ table_of w (noted p (Admitted ms) s)
 admitted_known w s p ms k =
     let n : Note = record { peer = p; at = s.moment; what = Admitted ms } in
     ap (table_at w s.moment) (table_noted w s p (Admitted ms) (heard_at s.moment) k
     (ap (λ (own : List Note). session_in w p (last_moment own) own) (sym (run_goes_on n s.notes k))))
 
 admitted_new : (w : ℕ) (s : State) (p : Peer) (ms : List Msg) → is_known s.moment s.notes p ≡ false →
-    at_with (table_of w s) s.moment ((table_of w s).sessions ++ opened w p s.moment ∷ []) ≡ table_of w (noted p (Admitted ms) s)
+    with_moment_and_sessions (table_of w s) s.moment ((table_of w s).sessions ++ opened_session w p s.moment ∷ []) ≡ table_of w (noted p (Admitted ms) s)
 admitted_new w s p ms k = ap (table_at w s.moment) (table_opened w s p ms k)
 
 room : (a : ℕ) → a < 16 → nat_lt a 16 ≡ true
@@ -106,8 +108,8 @@ pub hears_known : (w : ℕ) (s : State) (p : Peer) (t : ℕ) (old new : Table) �
 hears_known w s p t old new was now h =
     let k = known_there w s p old was h.0 in (
       sym (ap (λ b. b || nat_lt (length (known s.moment s.notes)) 16) k),
-      λ ms. h.1 ∙ ap (λ (u : ℕ). at_with old u (changed p (heard_at u) old.sessions)) now
-          ∙ ap (λ (x : Table). at_with x s.moment (changed p (heard_at s.moment) x.sessions)) was
+      λ ms. h.1 ∙ ap (λ (u : ℕ). with_moment_and_sessions old u (changed p (heard_at u) old.sessions)) now
+          ∙ ap (λ (x : Table). with_moment_and_sessions x s.moment (changed p (heard_at s.moment) x.sessions)) was
           ∙ admitted_known w s p ms k,
     )
 
@@ -117,8 +119,8 @@ hears_opened w s p t old new was now h =
     let k = new_there w s p old was h.0 in
     let few : length (known s.moment s.notes) < 16 = subst (λ (n : ℕ). n < 16) (count_known w s old was) h.1 in (
       sym (ap (λ b. b || nat_lt (length (known s.moment s.notes)) 16) k ∙ room (length (known s.moment s.notes)) few),
-      λ ms. h.2 ∙ ap (λ (u : ℕ). at_with old u (old.sessions ++ opened old.window p u ∷ [])) now
-          ∙ ap (λ (x : Table). at_with x s.moment (x.sessions ++ opened x.window p s.moment ∷ [])) was
+      λ ms. h.2 ∙ ap (λ (u : ℕ). with_moment_and_sessions old u (old.sessions ++ opened_session old.window p u ∷ [])) now
+          ∙ ap (λ (x : Table). with_moment_and_sessions x s.moment (x.sessions ++ opened_session x.window p s.moment ∷ [])) was
           ∙ admitted_new w s p ms k,
     )
 
@@ -128,7 +130,7 @@ hears_no_room w s p t old new was now h =
     let k = new_there w s p old was h.0 in
     let many : 16 ≤ length (known s.moment s.notes) = subst (λ (n : ℕ). 16 ≤ n) (count_known w s old was) h.1 in (
       sym (ap (λ b. b || nat_lt (length (known s.moment s.notes)) 16) k ∙ no_room (length (known s.moment s.notes)) many),
-      h.2 ∙ ap (λ (u : ℕ). at_with old u old.sessions) now ∙ ap (λ (x : Table). at_with x s.moment x.sessions) was,
+      h.2 ∙ ap (λ (u : ℕ). with_moment_and_sessions old u old.sessions) now ∙ ap (λ (x : Table). with_moment_and_sessions x s.moment x.sessions) was,
     )
 
 -- a peer that was let in has the present moment as its last, and is known
@@ -153,7 +155,7 @@ heartbeat_there w ms s p old new was k now is =
     ∙ ap (λ (run_now : List Note). session_in w p (last_moment run_now) run_now) (sym (run_goes_on n s.notes k))))
 
 -- a command was executed, and its reply kept
-pub executed_there : (w : ℕ) (s : State) (p : Peer) (what : What) (e : Entry) (old new : Table) → old ≡ table_of w s → is_known s.moment s.notes p ≡ true → last_moment (run p s.notes) ≡ s.moment →
+pub executed_there : (w : ℕ) (s : State) (p : Peer) (what : Noted) (e : Entry) (old new : Table) → old ≡ table_of w s → is_known s.moment s.notes p ≡ true → last_moment (run p s.notes) ≡ s.moment →
     ((own : List Note) (t : ℕ) → let n : Note = record { peer = p; at = t; what = what } in (heartbeat_of (n ∷ own) ≡ heartbeat_of own) × (accepted (n ∷ own) ≡ accepted own ++ e ∷ [])) →
     new ≡ with_sessions old (changed p (with_accepted w (accepted (run p s.notes) ++ e ∷ [])) old.sessions) → new ≡ table_of w (noted p what s)
 executed_there w s p what e old new was k now says is =
@@ -171,20 +173,22 @@ executed_there w s p what e old new was k now says is =
 -- after a message the run's last moment is still the present one
 pub message_now : (w : ℕ) (s : State) (p : Peer) (m : Msg) → is_known s.moment s.notes p ≡ true → last_moment (run p s.notes) ≡ s.moment →
     last_moment (run p (after_message w p m s).notes) ≡ (after_message w p m s).moment
-message_now w s p (Command respond c) k now = by_judgement (judged_in w s p c.handle)
+message_now w s p (Command respond c) k now = by_judgement (judged_in w s p c)
   where
     by_judgement : (j : Judgement) → last_moment (run p (after_command j p c s).notes) ≡ (after_command j p c s).moment
     by_judgement Fresh = ap last_moment (run_goes_on (record { peer = p; at = s.moment; what = Executed s.tree c (reply_of s.tree p c) }) s.notes k)
     by_judgement (Duplicate reply) = now
+    by_judgement Reused = now
     by_judgement Old = now
 message_now w s p (KeepAlive form) k now = ap last_moment (run_goes_on (record { peer = p; at = s.moment; what = Heartbeat (time_of form) }) s.notes k)
 message_now w s p (Response r) k now = now
 
 plus_assoc : (a b c : Counts) → plus a (plus b c) ≡ plus (plus a b) c
 plus_assoc a b c =
-    ap (λ (n : ℕ). counts n (a.kept + (b.kept + c.kept)) (a.old + (b.old + c.old))) (turned a.executed b.executed c.executed)
-    ∙ ap (λ (n : ℕ). counts (a.executed + b.executed + c.executed) n (a.old + (b.old + c.old))) (turned a.kept b.kept c.kept)
-    ∙ ap (λ (n : ℕ). counts (a.executed + b.executed + c.executed) (a.kept + b.kept + c.kept) n) (turned a.old b.old c.old)
+    ap (λ (n : ℕ). counts n (a.kept + (b.kept + c.kept)) (a.old + (b.old + c.old)) (a.reused + (b.reused + c.reused))) (turned a.executed b.executed c.executed)
+    ∙ ap (λ (n : ℕ). counts (a.executed + b.executed + c.executed) n (a.old + (b.old + c.old)) (a.reused + (b.reused + c.reused))) (turned a.kept b.kept c.kept)
+    ∙ ap (λ (n : ℕ). counts (a.executed + b.executed + c.executed) (a.kept + b.kept + c.kept) n (a.reused + (b.reused + c.reused))) (turned a.old b.old c.old)
+    ∙ ap (λ (n : ℕ). counts (a.executed + b.executed + c.executed) (a.kept + b.kept + c.kept) (a.old + b.old + c.old) n) (turned a.reused b.reused c.reused)
   where
     turned : (x y z : ℕ) → x + (y + z) ≡ x + y + z
     turned x y z = omega arith
@@ -195,7 +199,8 @@ pub record IsHalfway (w : ℕ) (p : Peer) (d : DeviceState) (rest ms : List Msg)
   pub device : IsIn w d mid
   pub now : last_moment (run p mid.notes) ≡ mid.moment
   pub state_is : after_messages w p rest mid ≡ after_messages w p ms s
-  pub packets_are : out ++ packets_of (answers_to_messages w p rest mid) ≡ before ++ packets_of (answers_to_messages w p ms s)
+  pub packets_are : (groups : List Pdu) → before ≡ encodings groups →
+      (so_far : List Pdu) × (out ≡ encodings so_far) × (with_answers so_far (answers_to_messages w p rest mid) ≡ with_answers groups (answers_to_messages w p ms s))
   pub counts_are : plus n (counts_of_messages w p rest mid) ≡ counts_of_messages w p ms s
 
 pub one_further : (w : ℕ) (p : Peer) (d d' : DeviceState) (m : Msg) (rest rest' ms : List Msg) (s : State) (before out out' : List (List ℕ)) (n k : Counts) →
@@ -210,12 +215,15 @@ one_further w p d d' m rest rest' ms s before out out' n k h step has t =
       device = t.device;
       now = message_now w h.mid p m known h.now;
       state_is = sym (ap (λ xs. after_messages w p xs h.mid) step) ∙ h.state_is;
-      packets_are =
-          ap (λ xs. xs ++ packets_of (answers_to_messages w p rest' next)) t.packets
-          ∙ append_assoc out (packets_of (answer_to w p m h.mid)) (packets_of (answers_to_messages w p rest' next))
-          ∙ ap (λ xs. out ++ xs) (sym (map-append packet_of (answer_to w p m h.mid) (answers_to_messages w p rest' next)))
-          ∙ sym (ap (λ xs. out ++ packets_of (answers_to_messages w p xs h.mid)) step)
-          ∙ h.packets_are;
+      packets_are = λ groups is.
+          let x = h.packets_are groups is in
+          let here = answer_to w p m h.mid in (
+            with_answers x.0 here,
+            t.packets x.0 x.1,
+            sym (answers_both x.0 here (answers_to_messages w p rest' next))
+            ∙ sym (ap (λ xs. with_answers x.0 (answers_to_messages w p xs h.mid)) step)
+            ∙ x.2,
+          );
       counts_are =
           ap (λ x. plus (plus n x) (counts_of_messages w p rest' next)) t.counts
           ∙ sym (plus_assoc n (count_of w p m h.mid) (counts_of_messages w p rest' next))
@@ -242,13 +250,13 @@ refused_whole w d p bytes ms s after reads out h none =
 
 pub taken_whole : (w : ℕ) (d : DeviceState) (p : Peer) (bytes : List ℕ) (ms : List Msg) (s : State) (before after : List (List ℕ)) (n : Counts) →
     read_datagram bytes ≡ Ok ms → admits s p ≡ true → before ≡ [] → ServesAll w d p ms (admitted_state p ms s) before after n →
-    Receives w d p bytes s after (verdicts.Served n.executed n.kept n.old)
+    Receives w d p bytes s after (verdicts.Served n.executed n.kept n.old n.reused)
 taken_whole w d p bytes ms s before after n reads let_in none t =
     let all = admitted_state p ms s in
     record {
       device = subst (λ (r : Result (List Msg) PduFault). IsIn w d (after_reading w p r s)) (sym reads)
           (subst (λ (b : Bool). IsIn w d (cond b (after_messages w p ms all) s)) (sym let_in) t.device);
-      packets = t.packets ∙ ap (λ xs. xs ++ packets_of (answers_to_messages w p ms all)) none
+      packets = t.packets [] none
           ∙ sym (ap packets_of (ap (λ (r : Result (List Msg) PduFault). answers_to_reading w p r s) reads
           ∙ ap (λ (b : Bool). cond b (answers_to_messages w p ms all) []) let_in));
       verdict_is = ap served t.counts ∙ sym (ap (λ (r : Result (List Msg) PduFault). verdict_of_reading w p r s) reads

@@ -1,6 +1,6 @@
 -- Deliveries, replies and reports of one turn and of several.
 use Rattle.std.proofs.Common.{◌≡◌, ℕ, ◌+◌, ◌≤◌, ◌<◌, Bool, true, false, cond, List, [], ◌∷◌, ◌++◌, length, refl, sym, ap, ◌∙◌, subst, arith, length-append}
-use Rattle.std.specs.Prelude.{nat_le, take, slice_index_or}
+use Rattle.std.specs.Prelude.{nat_lt, nat_le, take, slice_index_or}
 use Rattle.std.proofs.lemmas.Bool.Decides.{nat_tests}
 use Rattle.std.proofs.lemmas.List.{append_assoc, append-nil, map-append, take_more}
 use Rattle.oca_types.specs.declared.words.Peer.{Peer}
@@ -14,9 +14,9 @@ use Rattle.oca_device.specs.Events.{Event}
 use Rattle.oca_device.specs.Events as event
 use Rattle.oca_device.specs.Answers.{packets, verdict}
 use Rattle.oca_device.specs.Devices.{DeviceState, Represents}
-use Rattle.oca_device.specs.Reports.{no_turns, one_turn, verdict_turn, added, turn_report, events_after, events_after_all, report_of}
+use Rattle.oca_device.specs.Reports.{no_turns, one_turn, verdict_turn, added, turn_report, events_after, events_after_all, report_of, receives_of}
 use Rattle.oca_device.specs.Replies.{Lacks, none, taken, missing, TakesReplies, ServesDeliveries, GoesOn, replies, replies_to, sent_to}
-use Rattle.oca_device.specs.Totals.{IsWithin}
+use Rattle.oca_device.specs.PrivateTotals.{IsWithin}
 
 -- ---- lists without some of their members
 
@@ -34,23 +34,23 @@ lacks_both k j xs ys us vs (missing {k = i} y a) b = subst (λ (n : ℕ). Lacks 
 -- ---- sums of reports
 
 added_none : (r : Report) → added r no_turns ≡ r
-added_none r = sums r.turns r.executed r.kept r.old r.malformed r.no_room r.oversize r.quiet r.failed_receives r.failed_sends
+added_none r = sums r.turns r.executed r.kept r.old r.reused r.malformed r.no_room r.oversize r.quiet r.failed_receives r.failed_sends
   where
-    sums : (a b c d e f g h i j : ℕ) →
-        let x : Report = record { turns = a + 0; executed = b + 0; kept = c + 0; old = d + 0; malformed = e + 0; no_room = f + 0; oversize = g + 0; quiet = h + 0; failed_receives = i + 0; failed_sends = j + 0 } in
-        let y : Report = record { turns = a; executed = b; kept = c; old = d; malformed = e; no_room = f; oversize = g; quiet = h; failed_receives = i; failed_sends = j } in x ≡ y
-    sums a b c d e f g h i j = simp to_zero
+    sums : (a b c d u e f g h i j : ℕ) →
+        let x : Report = record { turns = a + 0; executed = b + 0; kept = c + 0; old = d + 0; reused = u + 0; malformed = e + 0; no_room = f + 0; oversize = g + 0; quiet = h + 0; failed_receives = i + 0; failed_sends = j + 0 } in
+        let y : Report = record { turns = a; executed = b; kept = c; old = d; reused = u; malformed = e; no_room = f; oversize = g; quiet = h; failed_receives = i; failed_sends = j } in x ≡ y
+    sums a b c d u e f g h i j = simp to_zero
       where
         to_zero : (n : ℕ) → n + 0 ≡ n
         to_zero n = omega arith
 
 none_added : (r : Report) → added no_turns r ≡ r
-none_added r = sums r.turns r.executed r.kept r.old r.malformed r.no_room r.oversize r.quiet r.failed_receives r.failed_sends
+none_added r = sums r.turns r.executed r.kept r.old r.reused r.malformed r.no_room r.oversize r.quiet r.failed_receives r.failed_sends
   where
-    sums : (a b c d e f g h i j : ℕ) →
-        let x : Report = record { turns = 0 + a; executed = 0 + b; kept = 0 + c; old = 0 + d; malformed = 0 + e; no_room = 0 + f; oversize = 0 + g; quiet = 0 + h; failed_receives = 0 + i; failed_sends = 0 + j } in
-        let y : Report = record { turns = a; executed = b; kept = c; old = d; malformed = e; no_room = f; oversize = g; quiet = h; failed_receives = i; failed_sends = j } in x ≡ y
-    sums a b c d e f g h i j = simp from_zero
+    sums : (a b c d u e f g h i j : ℕ) →
+        let x : Report = record { turns = 0 + a; executed = 0 + b; kept = 0 + c; old = 0 + d; reused = 0 + u; malformed = 0 + e; no_room = 0 + f; oversize = 0 + g; quiet = 0 + h; failed_receives = 0 + i; failed_sends = 0 + j } in
+        let y : Report = record { turns = a; executed = b; kept = c; old = d; reused = u; malformed = e; no_room = f; oversize = g; quiet = h; failed_receives = i; failed_sends = j } in x ≡ y
+    sums a b c d u e f g h i j = simp from_zero
       where
         from_zero : (n : ℕ) → 0 + n ≡ n
         from_zero n = omega arith
@@ -200,7 +200,7 @@ beyond n h = grind (arith, nat_tests)
 
 -- a verdict is that of one turn
 verdict_one : (v : Verdict) → (verdict_turn v).turns ≡ 1
-verdict_one (verdicts.Served executed kept old) = refl
+verdict_one (verdicts.Served executed kept old reused) = refl
 verdict_one (verdicts.Malformed fault) = refl
 verdict_one verdicts.NoRoom = refl
 
@@ -279,12 +279,12 @@ no_failure_counted a b c k e h below = e ∙ h (subst (λ (n : ℕ). n < last_u6
 
 pub none_within : (r : Report) (m : ℕ) → r ≡ no_turns → IsWithin m r
 none_within r m e =
-    let here : IsWithin m no_turns = record { turns = omega arith; executed = omega arith; kept = omega arith; old = omega arith; malformed = omega arith; no_room = omega arith; oversize = omega arith; quiet = omega arith; failed_receives = omega arith; failed_sends = omega arith } in
+    let here : IsWithin m no_turns = record { turns = omega arith; executed = omega arith; kept = omega arith; old = omega arith; reused = omega arith; malformed = omega arith; no_room = omega arith; oversize = omega arith; quiet = omega arith; failed_receives = omega arith; failed_sends = omega arith } in
     subst (λ (x : Report). IsWithin m x) (sym e) here
 
 pub more_within : (m k n : ℕ) (a b r : Report) → r ≡ added a b → IsWithin m a → IsWithin k b → m + k ≤ n → IsWithin n r
 more_within m k n a b r e x y le =
-    let both : IsWithin n (added a b) = record { turns = omega (arith, x.turns, y.turns); executed = omega (arith, x.executed, y.executed); kept = omega (arith, x.kept, y.kept); old = omega (arith, x.old, y.old); malformed = omega (arith, x.malformed, y.malformed); no_room = omega (arith, x.no_room, y.no_room); oversize = omega (arith, x.oversize, y.oversize); quiet = omega (arith, x.quiet, y.quiet); failed_receives = omega (arith, x.failed_receives, y.failed_receives); failed_sends = omega (arith, x.failed_sends, y.failed_sends) } in
+    let both : IsWithin n (added a b) = record { turns = omega (arith, x.turns, y.turns); executed = omega (arith, x.executed, y.executed); kept = omega (arith, x.kept, y.kept); old = omega (arith, x.old, y.old); reused = omega (arith, x.reused, y.reused); malformed = omega (arith, x.malformed, y.malformed); no_room = omega (arith, x.no_room, y.no_room); oversize = omega (arith, x.oversize, y.oversize); quiet = omega (arith, x.quiet, y.quiet); failed_receives = omega (arith, x.failed_receives, y.failed_receives); failed_sends = omega (arith, x.failed_sends, y.failed_sends) } in
     subst (λ (q : Report). IsWithin n q) (sym e) both
 
 -- failures of the turns so far and of one more
@@ -310,3 +310,21 @@ goes_further a b c f g =
       represents = λ w tree events h.
           subst (λ (es : List Event). Represents w c tree es) (sym (append_assoc g.more f.more events)) (g.represents w tree (f.more ++ events) (f.represents w tree events h));
     }
+
+-- ---- receives, short of their last value
+
+-- one receive a turn
+pub received_further : (a b c k : ℕ) → c ≡ one_more b → (b < last_u64 → b ≡ a + k) → c < last_u64 → c ≡ a + (k + 1)
+received_further a b c k e h below = failure_counted a b c k e h below
+
+pub fewer_turns : (n m : ℕ) → n < m → receives_of n m ≡ n + 1
+fewer_turns n m h = ap (λ b. cond b (n + 1) n) (is_fewer n m h)
+  where
+    is_fewer : (n m : ℕ) → n < m → nat_lt n m ≡ true
+    is_fewer n m h = grind (arith, nat_tests)
+
+pub all_turns : (n m : ℕ) → n ≡ m → receives_of n m ≡ n
+all_turns n m e = ap (λ b. cond b (n + 1) n) (is_not_fewer n m e)
+  where
+    is_not_fewer : (n m : ℕ) → n ≡ m → nat_lt n m ≡ false
+    is_not_fewer n m e = grind (arith, nat_tests)

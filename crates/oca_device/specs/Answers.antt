@@ -5,16 +5,16 @@ use Rattle.oca_types.specs.declared.words.Reply.{Reply}
 use Rattle.oca_types.specs.Status.{status_number}
 use Rattle.oca_types.specs.Peers.{CommandFields}
 use Rattle.oca_pdu.specs.declared.fault.PduFault.{PduFault}
-use Rattle.oca_pdu.specs.Messages.{Msg, Command, Response, KeepAlive, Pdu, Commands, Responses, OneKeepAlive}
-use Rattle.oca_pdu.specs.Encoding.{pdu_encoding}
+use Rattle.oca_pdu.specs.Messages.{Msg, Command, Response, KeepAlive}
 use Rattle.oca_pdu.specs.Reading.{read_datagram}
 use Rattle.oca_tree.specs.declared.object.Object.{Object}
-use Rattle.oca_session.specs.Accepted.{Judgement, Fresh, Duplicate, Old}
+use Rattle.oca_session.specs.Accepted.{Judgement, Fresh, Duplicate, Reused, Old}
 use Rattle.oca_device.specs.declared.counts.Counts.{Counts}
 use Rattle.oca_device.specs.declared.verdict.Verdict.{Verdict}
 use Rattle.oca_device.specs.declared.verdict.Verdict.TheVariants as verdicts
 use Rattle.oca_device.specs.Events.{Event, Datagram, Tick}
 use Rattle.oca_device.specs.Notes.{Admitted}
+use Rattle.oca_device.specs.Groups.{groups_of, encodings}
 use Rattle.oca_device.specs.States.{State, noted, moved_to, admits, judged_in, reply_of, after_message, state_after}
 
 -- ---- answers
@@ -23,17 +23,18 @@ use Rattle.oca_device.specs.States.{State, noted, moved_to, admits, judged_in, r
 abbrev pub response : ℕ → Reply → Msg
 response handle reply = Response (record { handle = handle; status = status_number reply.status; count = reply.count; params = reply.params.items })
 
--- A fresh command is answered with the reply of its execution, a duplicate with the reply that is retained, and an old
--- command not at all.
+-- A fresh command is answered with the reply of its execution, a duplicate with the reply that is retained, and a command that
+-- reuses a handle or is old not at all.
 abbrev pub answer_to_command : Judgement → Peer → CommandFields → State → List Msg
 answer_to_command Fresh p c s = response c.handle (reply_of s.tree p c) ∷ []
 answer_to_command (Duplicate reply) p c s = response c.handle reply ∷ []
+answer_to_command Reused p c s = []
 answer_to_command Old p c s = []
 
 -- A command that asks for no response gets none. A keep-alive is answered with a keep-alive of the same form and the same
 -- time, as it was sent. A response is not answered.
 abbrev pub answer_to : ℕ → Peer → Msg → State → List Msg
-answer_to w p (Command respond c) s = if respond then answer_to_command (judged_in w s p c.handle) p c s else []
+answer_to w p (Command respond c) s = if respond then answer_to_command (judged_in w s p c) p c s else []
 answer_to w p (KeepAlive form) s = KeepAlive form ∷ []
 answer_to w p (Response r) s = []
 
@@ -54,18 +55,10 @@ answers_in w (Tick now) s = []
 abbrev pub answers : ℕ → List Object → List Event → Event → List Msg
 answers w tree events e = answers_in w e (state_after w tree events)
 
--- the PDU of one message
-abbrev pub pdu_of : Msg → Pdu
-pdu_of (Command respond c) = Commands respond (c ∷ [])
-pdu_of (Response r) = Responses (r ∷ [])
-pdu_of (KeepAlive form) = OneKeepAlive form
-
--- Each answer is one datagram of one PDU with one message.
-abbrev pub packet_of : Msg → List ℕ
-packet_of m = pdu_encoding (pdu_of m)
-
+-- Neighbouring responses leave in one PDU while it has at most 1,472 bytes, and each keep-alive in one of its own. Each PDU is one
+-- datagram.
 abbrev pub packets_of : List Msg → List (List ℕ)
-packets_of messages = map packet_of messages
+packets_of messages = encodings (groups_of messages)
 
 -- THE PACKETS of an event after events, all for the event's peer.
 abbrev pub packets : ℕ → List Object → List Event → Event → List (List ℕ)
@@ -73,30 +66,31 @@ packets w tree events e = packets_of (answers w tree events e)
 
 -- ---- the verdict
 
--- numbers of executed commands, of duplicates and of old commands
-abbrev pub counts : ℕ → ℕ → ℕ → Counts
-counts executed kept old = record { executed = executed; kept = kept; old = old }
+-- numbers of executed commands, of duplicates, of old commands and of those that reuse a handle
+abbrev pub counts : ℕ → ℕ → ℕ → ℕ → Counts
+counts executed kept old reused = record { executed = executed; kept = kept; old = old; reused = reused }
 
 abbrev pub plus : Counts → Counts → Counts
-plus a b = counts (a.executed + b.executed) (a.kept + b.kept) (a.old + b.old)
+plus a b = counts (a.executed + b.executed) (a.kept + b.kept) (a.old + b.old) (a.reused + b.reused)
 
 abbrev pub count_of_command : Judgement → Counts
-count_of_command Fresh = counts 1 0 0
-count_of_command (Duplicate reply) = counts 0 1 0
-count_of_command Old = counts 0 0 1
+count_of_command Fresh = counts 1 0 0 0
+count_of_command (Duplicate reply) = counts 0 1 0 0
+count_of_command Old = counts 0 0 1 0
+count_of_command Reused = counts 0 0 0 1
 
 -- commands with and without response are both counted
 abbrev pub count_of : ℕ → Peer → Msg → State → Counts
-count_of w p (Command respond c) s = count_of_command (judged_in w s p c.handle)
-count_of w p (KeepAlive form) s = counts 0 0 0
-count_of w p (Response r) s = counts 0 0 0
+count_of w p (Command respond c) s = count_of_command (judged_in w s p c)
+count_of w p (KeepAlive form) s = counts 0 0 0 0
+count_of w p (Response r) s = counts 0 0 0 0
 
 abbrev pub counts_of_messages : ℕ → Peer → List Msg → State → Counts
-counts_of_messages w p [] s = counts 0 0 0
+counts_of_messages w p [] s = counts 0 0 0 0
 counts_of_messages w p (m ∷ messages) s = plus (count_of w p m s) (counts_of_messages w p messages (after_message w p m s))
 
 abbrev pub served : Counts → Verdict
-served n = verdicts.Served n.executed n.kept n.old
+served n = verdicts.Served n.executed n.kept n.old n.reused
 
 -- malformed with the first fault, or else without room, or else served
 abbrev pub verdict_of_reading : ℕ → Peer → Result (List Msg) PduFault → State → Verdict

@@ -1,11 +1,12 @@
 pub mod Events
 pub mod Notes
 pub mod States
+pub mod Groups
 pub mod Answers
 pub mod Devices
 pub mod Outboxes
-pub mod Serving
 pub mod Reports
 pub mod Replies
-pub mod Totals
-pub mod Laws
+pub mod LawByEvents
+pub mod PrivateServing
+pub mod PrivateTotals

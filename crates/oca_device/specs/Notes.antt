@@ -1,5 +1,5 @@
 -- Everything that is noted of the peers of a device. Nothing is ever taken away from the notes; a session is what the
--- notes of its peer say (profile).
+-- notes of its peer say (profile). In a list of notes the latest stands first, and in a list of peers or commands last.
 use Rattle.std.specs.Prelude.{ℕ, ◌*◌, ◌-◌, nat_le, nat_lt, max, min, Bool, false, not, if◌then◌else◌, List, [], ◌∷◌, ◌++◌, filter}
 use Rattle.oca_types.specs.declared.words.Peer.{Peer}
 use Rattle.oca_types.specs.declared.words.Reply.{Reply}
@@ -10,16 +10,16 @@ use Rattle.oca_session.specs.Accepted.{Entry}
 
 -- What is noted of a peer: a datagram of these messages was admitted, a keep-alive set the heartbeat, or a command was
 -- executed on a tree and gave a reply.
-pub data What : Type 0 where
-  Admitted : (messages : List Msg) → What
-  Heartbeat : (ms : ℕ) → What
-  Executed : (tree : List Object) (request : CommandFields) (reply : Reply) → What
+pub data Noted : Type 0 where
+  Admitted : (messages : List Msg) → Noted
+  Heartbeat : (ms : ℕ) → Noted
+  Executed : (tree : List Object) (request : CommandFields) (reply : Reply) → Noted
 
--- A note: of which peer, at which moment, and what. In a list of notes the latest stands first.
+-- A note: of which peer, at which moment, and what.
 pub record Note : Type 0 where
   pub peer : Peer
   pub at : ℕ
-  pub what : What
+  pub what : Noted
 
 abbrev pub notes_of : Peer → List Note → List Note
 notes_of p notes = filter (λ n. same_peer n.peer p) notes
@@ -46,13 +46,15 @@ run p notes = unbroken (notes_of p notes)
 abbrev pub is_known : ℕ → List Note → Peer → Bool
 is_known t notes p = is_within t (notes_of p notes)
 
-abbrev pub without : Peer → List Peer → List Peer
-without p peers = filter (λ q. not (same_peer q p)) peers
+-- the peers but for one
+abbrev pub peers_except : Peer → List Peer → List Peer
+peers_except p peers = filter (λ q. not (same_peer q p)) peers
 
--- every peer that was ever noted, in the order in which their latest sessions were opened
+-- Every peer that was ever noted, in the order in which their latest sessions were opened: a note whose peer was not known
+-- opens a session, and moves that peer to the end.
 abbrev pub opened : List Note → List Peer
 opened [] = []
-opened (n ∷ notes) = if is_known n.at notes n.peer then opened notes else without n.peer (opened notes) ++ n.peer ∷ []
+opened (n ∷ notes) = if is_known n.at notes n.peer then opened notes else peers_except n.peer (opened notes) ++ n.peer ∷ []
 
 -- the peers known at a moment, in order of opening
 abbrev pub known : ℕ → List Note → List Peer
@@ -65,7 +67,7 @@ abbrev pub last_moment : List Note → ℕ
 last_moment [] = 0
 last_moment (n ∷ notes) = n.at
 
-abbrev pub heartbeat_after : What → ℕ → ℕ
+abbrev pub heartbeat_after : Noted → ℕ → ℕ
 heartbeat_after (Admitted messages) heartbeat = heartbeat
 heartbeat_after (Heartbeat ms) heartbeat = max 250 (min ms 30000)
 heartbeat_after (Executed tree request reply) heartbeat = heartbeat
@@ -76,10 +78,10 @@ abbrev pub heartbeat_of : List Note → ℕ
 heartbeat_of [] = 5000
 heartbeat_of (n ∷ notes) = heartbeat_after n.what (heartbeat_of notes)
 
-abbrev pub accepted_after : What → List Entry → List Entry
+abbrev pub accepted_after : Noted → List Entry → List Entry
 accepted_after (Admitted messages) A = A
 accepted_after (Heartbeat ms) A = A
-accepted_after (Executed tree request reply) A = A ++ (record { handle = request.handle; reply = reply }) ∷ []
+accepted_after (Executed tree request reply) A = A ++ (record { command = request; reply = reply }) ∷ []
 
 -- The accepted commands with their replies, in order of arrival. They are never cut.
 abbrev pub accepted : List Note → List Entry

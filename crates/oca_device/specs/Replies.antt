@@ -53,7 +53,8 @@ pub record ServesDeliveries (old new : DeviceState) (delivered delivered' : List
   pub reported : (w : ℕ) (tree : List Object) (events : List Event) → Represents w old tree events →
       report ≡ record (report_of w tree events deliveries) { failed_sends = report.failed_sends }
 
--- Whatever the end tells: there are events after which the device is what it was before and they make of it.
+-- Whatever the end tells: there is a list `more` such that the device after the call represents what it represented before,
+-- followed by `more`.
 pub record GoesOn (old new : DeviceState) : Type 0 where
   pub more : List Event
   pub represents : (w : ℕ) (tree : List Object) (events : List Event) → Represents w old tree events → Represents w new tree (more ++ events)

@@ -1,5 +1,5 @@
 -- What a report says of the turns of the loop: a turn is one delivery of the end (profile).
-use Rattle.std.specs.Prelude.{ℕ, ◌+◌, nat_le, if◌then◌else◌, List, [], ◌∷◌, length}
+use Rattle.std.specs.Prelude.{ℕ, ◌+◌, nat_le, nat_lt, if◌then◌else◌, List, [], ◌∷◌, length}
 use Rattle.oca_net.specs.Deliveries.{Delivery, Datagram, Quiet, Failed}
 use Rattle.oca_net.specs.Ends.{largest_datagram}
 use Rattle.oca_tree.specs.declared.object.Object.{Object}
@@ -18,6 +18,7 @@ no_turns =
       executed = 0;
       kept = 0;
       old = 0;
+      reused = 0;
       malformed = 0;
       no_room = 0;
       oversize = 0;
@@ -34,6 +35,7 @@ added a b =
       executed = a.executed + b.executed;
       kept = a.kept + b.kept;
       old = a.old + b.old;
+      reused = a.reused + b.reused;
       malformed = a.malformed + b.malformed;
       no_room = a.no_room + b.no_room;
       oversize = a.oversize + b.oversize;
@@ -47,7 +49,7 @@ one_turn = record no_turns { turns = 1 }
 
 -- a turn with this verdict
 abbrev pub verdict_turn : Verdict → Report
-verdict_turn (verdicts.Served executed kept old) = record one_turn { executed = executed; kept = kept; old = old }
+verdict_turn (verdicts.Served executed kept old reused) = record one_turn { executed = executed; kept = kept; old = old; reused = reused }
 verdict_turn (verdicts.Malformed fault) = record one_turn { malformed = 1 }
 verdict_turn verdicts.NoRoom = record one_turn { no_room = 1 }
 
@@ -75,3 +77,7 @@ events_after_all (d ∷ deliveries) events = events_after_all deliveries (events
 abbrev pub report_of : ℕ → List Object → List Event → List Delivery → Report
 report_of w tree events [] = no_turns
 report_of w tree events (d ∷ deliveries) = added (turn_report w tree events d) (report_of w tree (events_after d events) deliveries)
+
+-- How often a loop of at most `bound` turns receives: once a turn, and once more, which answered Closed, where it took fewer turns.
+abbrev pub receives_of : ℕ → ℕ → ℕ
+receives_of turns bound = if nat_lt turns bound then turns + 1 else turns

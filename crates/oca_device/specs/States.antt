@@ -11,16 +11,16 @@ use Rattle.oca_pdu.specs.Reading.{read_datagram}
 use Rattle.oca_tree.specs.declared.object.Object.{Object}
 use Rattle.oca_tree.specs.Execution.{execution}
 use Rattle.oca_tree.specs.Locks.{released}
-use Rattle.oca_session.specs.Accepted.{Judgement, Fresh, Duplicate, Old, judgement}
+use Rattle.oca_session.specs.Accepted.{Judgement, Fresh, Duplicate, Reused, Old, judgement}
 use Rattle.oca_device.specs.Events.{Event, Datagram, Tick}
-use Rattle.oca_device.specs.Notes.{What, Admitted, Heartbeat, Executed, Note, run, is_known, known, accepted, has_lapsed}
+use Rattle.oca_device.specs.Notes.{Noted, Admitted, Heartbeat, Executed, Note, run, is_known, known, accepted, has_lapsed}
 
 pub record State : Type 0 where
   pub tree : List Object
   pub moment : ℕ
   pub notes : List Note
 
-abbrev pub noted : Peer → What → State → State
+abbrev pub noted : Peer → Noted → State → State
 noted p what s = record { tree = s.tree; moment = s.moment; notes = (record { peer = p; at = s.moment; what = what }) ∷ s.notes }
 
 -- ---- the clock moves
@@ -48,9 +48,9 @@ most_sessions = 16
 abbrev pub admits : State → Peer → Bool
 admits s p = is_known s.moment s.notes p || nat_lt (length (known s.moment s.notes)) most_sessions
 
--- what the accepted commands of the peer's session say of a handle
-abbrev pub judged_in : ℕ → State → Peer → ℕ → Judgement
-judged_in w s p h = judgement w (accepted (run p s.notes)) h
+-- what the accepted commands of the peer's session say of a command
+abbrev pub judged_in : ℕ → State → Peer → CommandFields → Judgement
+judged_in w s p c = judgement w (accepted (run p s.notes)) c
 
 -- the reply that executing a command gives
 abbrev pub reply_of : List Object → Peer → CommandFields → Reply
@@ -61,12 +61,14 @@ reply_of tree p c =
       params = record { items = (execution tree p c).parameters };
     }
 
--- A command that is fresh is executed, and its reply noted. A duplicate and an old command change nothing.
+-- A command that is fresh is executed, and its reply noted. A duplicate, a command that reuses a handle and an old command
+-- change nothing.
 abbrev pub after_command : Judgement → Peer → CommandFields → State → State
 after_command Fresh p c s =
     noted p (Executed s.tree c (reply_of s.tree p c))
     (record { tree = (execution s.tree p c).tree; moment = s.moment; notes = s.notes })
 after_command (Duplicate reply) p c s = s
+after_command Reused p c s = s
 after_command Old p c s = s
 
 -- the time of a keep-alive, in milliseconds
@@ -76,7 +78,7 @@ time_of (Millis n) = n
 
 -- Commands with and without response are served alike; responses are ignored.
 abbrev pub after_message : ℕ → Peer → Msg → State → State
-after_message w p (Command respond c) s = after_command (judged_in w s p c.handle) p c s
+after_message w p (Command respond c) s = after_command (judged_in w s p c) p c s
 after_message w p (KeepAlive form) s = noted p (Heartbeat (time_of form)) s
 after_message w p (Response r) s = s
 

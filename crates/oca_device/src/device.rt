@@ -1,6 +1,8 @@
 //! The device: it takes events, and puts its answers into an outbox.
 ghost use Rattle.std.specs.Prelude.{◌≡◌, ℕ, ◌+◌, ◌<◌, ◌≤◌, List, [], ◌∷◌, ◌++◌, length, max, IfOk, IsTrue, IsSome, if◌then◌else◌, Ok, Err};
 ghost use Rattle.oca_types.specs.Peers.{fields_of};
+ghost use Rattle.oca_types.specs.Sizes.{window_size};
+ghost use Rattle.std.specs.List.{AllByRecursion};
 ghost use Rattle.oca_pdu.specs.Messages.{Msg, Command as Commands, msg_of};
 ghost use Rattle.oca_pdu.specs.Datagrams.{messages_left};
 ghost use Rattle.oca_tree.specs.declared.object.Object.{Object};
@@ -11,13 +13,13 @@ ghost use Rattle.oca_device.specs.States.{State, state_after, known_after, noted
 ghost use Rattle.oca_tree.specs.Execution.{execution};
 ghost use Rattle.oca_device.specs.Answers.{packets, verdict};
 
-use crate::counts::Counts;
+use crate::counts::{Counts, EXECUTED, KEPT, NONE, OLD, REUSED};
 use crate::outbox::Outbox;
 use crate::verdict::Verdict;
 use oca_pdu::{Form, Message, Messages, check};
-use oca_session::{Heard, Judged, Sessions};
+use oca_session::{Admission, Judged, Sessions};
 use oca_tree::Tree;
-use oca_types::{Command, NoMemory, Params, Peer, Reply, Status};
+use oca_types::{Command, NoMemory, Params, Peer, Reply, Status, Window};
 use std::alloc::Global;
 use std::marker::Model;
 
@@ -29,6 +31,8 @@ use std::marker::Model;
 pub struct Device {
     tree: Tree,
     sessions: Sessions,
+    /// The room in which a command is executed: its reply is made here once, and read where it is needed.
+    reply: Reply,
 }
 
 impl Model for Device {
@@ -41,14 +45,23 @@ impl Model for Device {
 
 impl Device {
     ghost use Rattle.oca_device.specs.Devices.{Represents, IsIn};
-    ghost use Rattle.oca_device.specs.Serving.{Serves, ServesAll, Receives, may_answer, most_answers};
+    ghost use Rattle.oca_device.specs.PrivateServing.{Serves, ServesAll, Receives, AreGrouped, IsShort, may_answer, most_answers};
 
-    /// A device of these objects, before any event. Takes all the memory that its sessions will need. Refusal: `NoMemory`.
-    pub fn new(alloc: Global, tree: Tree) -> Result<Device, NoMemory>
-        ensures { IfOk result (λ device. Represents 32 device tree []) }
+    /// A device of these objects, with reply windows of this size, before any event. Takes all the memory that its sessions
+    /// will need. Refusal: `NoMemory`.
+    pub fn new(alloc: Global, tree: Tree, window: Window) -> Result<Device, NoMemory>
+        ensures { IfOk result (λ device. Represents (window_size window) device tree []) }
     {
-        let sessions = Sessions::new(alloc)?;
-        Ok(Device { tree, sessions })
+        let sessions = Sessions::new(alloc, window)?;
+        Ok(Device {
+            tree,
+            sessions,
+            reply: Reply {
+                status: Status::Ok,
+                count: 0,
+                params: Params::new(),
+            },
+        })
     }
 
     /// Takes a datagram that came from a peer, and answers what became of it. Its answers are then in the outbox, all for
@@ -57,8 +70,9 @@ impl Device {
     /// First the clock moves: locks of peers that are silent for more than three heartbeats are released, and sessions
     /// that are silent for more than 120,000 ms forgotten. A malformed datagram, and one that finds no room for its
     /// sender's session, change nothing else and get no answer. The messages of any other are served in order: a fresh
-    /// command is executed, a duplicate gets the retained reply, an old command is ignored, and a keep-alive sets the
-    /// heartbeat and is returned. (AES70-3; sessions and windows are the profile's.)
+    /// command is executed, a duplicate gets the retained reply, a command that asks something else under the handle of a
+    /// retained one is ignored, as is an old one, and a keep-alive sets the heartbeat and is returned. Neighbouring responses
+    /// leave in one PDU while it has at most 1,472 bytes. (AES70-3; sessions, windows and grouping are the profile's.)
     pub fn datagram(&mut self, from: Peer, bytes: &[u8], now: u64, outbox: &mut Outbox) -> Verdict
         requires { outbox.old ≡ [] }
         ensures represents { (w : ℕ) (T : List Object) (E : List Event) → Represents w self.old T E →
@@ -122,6 +136,7 @@ impl Device {
                         executed: counts.executed,
                         kept: counts.kept,
                         old: counts.old,
+                        reused: counts.reused,
                     }
                 } else {
                     Verdict::NoRoom
@@ -140,9 +155,9 @@ impl Device {
         ensures known { IsTrue result → IsSome (session_of from self.new.sessions.sessions) }
     {
         match self.sessions.hear(from, now) {
-            Heard::NoRoom => false,
-            Heard::Known => true,
-            Heard::Opened => true,
+            Admission::NoRoom => false,
+            Admission::Known => true,
+            Admission::Opened => true,
         }
     }
 
@@ -150,19 +165,18 @@ impl Device {
     fn serve_messages(&mut self, from: Peer, messages: Messages<'_>, outbox: &mut Outbox) -> Counts
         requires known { IsSome (session_of from self.old.sessions.sessions) }
         requires room { length outbox.old + most_answers (messages_left messages) ≤ 122 }
+        requires groups { AreGrouped outbox.old }
+        requires short { AllByRecursion IsShort (messages_left messages) }
         ensures { (w : ℕ) (s : State) → IsIn w self.old s → last_moment (run from s.notes) ≡ s.moment →
             ServesAll w self.new from (messages_left messages.entry) s outbox.old outbox.new result }
     {
-        let mut counts = Counts {
-            executed: 0,
-            kept: 0,
-            old: 0,
-        };
+        let mut counts = NONE;
         for message in messages {
             let more = self.serve(from, message, outbox);
             counts.executed += more.executed;
             counts.kept += more.kept;
             counts.old += more.old;
+            counts.reused += more.reused;
         }
         counts
     }
@@ -171,11 +185,14 @@ impl Device {
     fn serve(&mut self, from: Peer, message: Message<'_>, outbox: &mut Outbox) -> Counts
         requires known { IsSome (session_of from self.old.sessions.sessions) }
         requires room { length outbox.old + may_answer (msg_of message) ≤ 122 }
+        requires groups { AreGrouped outbox.old }
+        requires short { IsShort (msg_of message) }
         ensures serves { (w : ℕ) (s : State) → IsIn w self.old s → last_moment (run from s.notes) ≡ s.moment →
             Serves w self.new from (msg_of message.entry) s outbox.old outbox.new result }
         ensures known { IsSome (session_of from self.new.sessions.sessions) }
         ensures packets { length outbox.new ≤ length outbox.old + may_answer (msg_of message.entry) }
-        ensures commands { result.executed + result.kept + result.old ≤ may_answer (msg_of message.entry) }
+        ensures groups { AreGrouped outbox.new }
+        ensures commands { result.executed + result.kept + result.old + result.reused ≤ may_answer (msg_of message.entry) }
     {
         match message {
             Message::Command { respond, command } => self.serve_command(
@@ -184,17 +201,9 @@ impl Device {
             Message::KeepAlive { form } => {
                 self.sessions.beat(from, time_of(form));
                 outbox.return_keepalive(form);
-                Counts {
-                    executed: 0,
-                    kept: 0,
-                    old: 0,
-                }
+                NONE
             }
-            Message::Response { .. } => Counts {
-                executed: 0,
-                kept: 0,
-                old: 0,
-            },
+            Message::Response { .. } => NONE,
         }
     }
 
@@ -208,40 +217,32 @@ impl Device {
     ) -> Counts
         requires known { IsSome (session_of from self.old.sessions.sessions) }
         requires room { length outbox.old < 122 }
+        requires groups { AreGrouped outbox.old }
+        requires short { length command.now.params.now ≤ 1445 }
         ensures serves { (w : ℕ) (s : State) → IsIn w self.old s → last_moment (run from s.notes) ≡ s.moment →
             Serves w self.new from (Commands respond (fields_of command.now)) s outbox.old outbox.new result }
         ensures known { IsSome (session_of from self.new.sessions.sessions) }
         ensures packets { length outbox.new ≤ length outbox.old + 1 }
-        ensures commands { result.executed + result.kept + result.old ≡ 1 }
+        ensures groups { AreGrouped outbox.new }
+        ensures commands { result.executed + result.kept + result.old + result.reused ≡ 1 }
     {
-        match self.sessions.judge(from, command.handle) {
+        match self.sessions.judge(from, command) {
             Judged::Fresh => {
-                let reply = execute(&mut self.tree, from, command);
+                execute(&mut self.tree, from, command, &mut self.reply);
                 if respond {
-                    outbox.respond(command.handle, &reply);
+                    outbox.respond(command.handle, &self.reply);
                 }
-                self.sessions.keep(from, command.handle, reply);
-                Counts {
-                    executed: 1,
-                    kept: 0,
-                    old: 0,
-                }
+                self.sessions.keep(from, command, &self.reply);
+                EXECUTED
             }
             Judged::Kept(reply) => {
                 if respond {
                     outbox.respond(command.handle, reply);
                 }
-                Counts {
-                    executed: 0,
-                    kept: 1,
-                    old: 0,
-                }
+                KEPT
             }
-            Judged::Old => Counts {
-                executed: 0,
-                kept: 0,
-                old: 1,
-            },
+            Judged::Reused => REUSED,
+            Judged::Old => OLD,
         }
     }
 }
@@ -255,20 +256,14 @@ fn release_all(tree: &mut Tree, peers: &[Peer])
     }
 }
 
-/// Executes a command of a peer.
-fn execute(tree: &mut Tree, peer: Peer, command: &Command) -> Reply
+/// Executes a command of a peer, and puts its reply in the place of another.
+fn execute(tree: &mut Tree, peer: Peer, command: &Command, reply: &mut Reply)
     ensures tree { tree.new ≡ (execution tree.old peer (fields_of command.now)).tree }
-    ensures reply { result ≡ reply_of tree.old peer (fields_of command.now) }
+    ensures reply { reply.new ≡ reply_of tree.old peer (fields_of command.now) }
 {
-    let mut reply = Reply {
-        status: Status::Ok,
-        count: 0,
-        params: Params::new(),
-    };
     let done = tree.execute(peer, command, &mut reply.params);
     reply.status = done.status;
     reply.count = done.count;
-    reply
 }
 
 /// The time of a keep-alive, in milliseconds.

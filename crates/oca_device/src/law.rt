@@ -1,11 +1,25 @@
-//! The law of a device, over whole histories.
-ghost use Rattle.oca_device.specs.Laws.{EveryHistoryIsLawful, EveryDatagramIsAnsweredByExecutions};
+//! The laws of a device, over whole histories. Nothing here runs: each contract is its law.
+ghost use Rattle.oca_device.specs.Groups.{AnswersHaveOneGrouping};
+ghost use Rattle.oca_device.specs.LawByEvents.{EveryDeviceStandsByEvents, SomethingHappened, OneThingHappened};
 
-/// Over every list of datagrams and clock readings, the device's objects are those after executing each accepted command of
-/// each session once, in order of arrival, with silent holders' locks released; a duplicate in the reply window is answered with
-/// the reply of its own execution, and an older command changes nothing and is not answered. With the clauses of
-/// [`Device`](crate::Device) this is a promise of every run of a device. The function does nothing: its contract is the law.
-pub fn law_of_executions()
-    ensures lawful { EveryHistoryIsLawful }
-    ensures answered { EveryDatagramIsAnsweredByExecutions }
+use oca_pdu::{law_one_list_of_messages, law_reading};
+
+/// Over every list of datagrams and clock readings, what a device is and answers is said by these alone. A well-formed datagram
+/// is admitted where its peer is known, which was last heard at most 120,000 ms ago, or fewer than 16 peers are. The objects are
+/// those after executing each command that a session accepts once, in order of arrival, and releasing the locks of each peer
+/// that is silent for more than three heartbeats. A duplicate of one of the last accepted commands is answered with the reply of
+/// its own execution; a command that asks something else under its handle, and an older one, change nothing and are not answered.
+/// With the clauses of [`Device`](crate::Device) this is a promise of every run of a device.
+pub fn law_by_events()
+    ensures law { EveryDeviceStandsByEvents }
+    ensures happened { SomethingHappened }
+    ensures once { OneThingHappened }
+{
+    law_reading();
+    law_one_list_of_messages();
+}
+
+/// The answers to a datagram are grouped into PDUs in one way alone.
+pub fn law_of_groups()
+    ensures { AnswersHaveOneGrouping }
 {}

@@ -2,7 +2,7 @@
 //!
 //! Begin with [`Device`]. It opens no socket and reads no clock: the caller hands it each datagram with its sender and its
 //! moment, and finds the answers in an [`Outbox`]. [`serve`] does so for any end. What a device is after a list of events is
-//! a function of its opening tree and of these, and [`law_of_executions`] says what follows for every list. All memory is
+//! a function of its opening tree and of these, and [`law_by_events`] says it by the events alone. All memory is
 //! taken in `Device::new` and `Outbox::new`.
 #![tactic(auto)]
 
@@ -15,7 +15,7 @@ mod serving;
 mod verdict;
 
 pub use device::Device;
-pub use law::law_of_executions;
+pub use law::{law_by_events, law_of_groups};
 pub use outbox::Outbox;
 pub use report::Report;
 pub use serving::serve;

@@ -1,19 +1,26 @@
 //! Where a device puts its answers.
-ghost use Rattle.std.specs.Prelude.{◌≡◌, ℕ, ◌+◌, ◌<◌, ◌≤◌, List, [], ◌∷◌, ◌++◌, length, map, IfOk, slice_get, ◌==◌};
+ghost use Rattle.std.specs.Prelude.{◌≡◌, ℕ, ◌+◌, ◌<◌, ◌≤◌, List, [], ◌∷◌, ◌++◌, length, take, IfOk, slice_get, ◌==◌, vec_capacity};
 ghost use Rattle.std.specs.Option.{option_map};
-ghost use Rattle.arrayvec.specs.ArrayVec.{ArrayVec};
-ghost use Rattle.oca_pdu.specs.declared.message.Form.{Form as Forms};
-ghost use Rattle.oca_pdu.specs.Messages.{KeepAlive};
-ghost use Rattle.oca_device.specs.Answers.{packet_of, response};
+ghost use Rattle.oca_pdu.specs.Messages.{Msg, KeepAlive, Pdu};
+ghost use Rattle.oca_pdu.specs.Encoding.{pdu_encoding};
+ghost use Rattle.oca_device.specs.Groups.{pdu_of, with_answer, encodings};
+ghost use Rattle.oca_device.specs.Answers.{response};
+ghost use Rattle.oca_device.specs.Outboxes.{bytes_of_packets};
+ghost use Rattle.oca_device.specs.PrivateServing.{AreGrouped, IsGrouped, Joins, JoinsLast, is_of_responses};
 
-use oca_pdu::{Form, write_keepalive, write_response};
+use oca_pdu::{Form, extend_response, write_keepalive, write_response};
 use oca_types::{Handle, NoMemory, Packet, Reply};
-use std::alloc::{AllocError, Global};
+use std::alloc::Global;
 use std::marker::Model;
 
 /// The most packets that one datagram is answered with: a command has 17 bytes and a keep-alive PDU 12, so a datagram of
 /// 1,472 bytes has at most 122 messages that are answered.
 const MOST_PACKETS: usize = 122;
+
+/// Where a PDU has its PduType, and the type of a PDU of responses (AES70-3).
+const PDU_TYPE_AT: usize = 7;
+
+const RESPONSES: u8 = 3;
 
 /// The packets that answer a datagram, in order, for the peer that sent it. There are at most 122.
 #[derive(Drop)]
@@ -23,24 +30,24 @@ pub struct Outbox {
 }
 
 impl Model for Outbox {
-    ghost use Rattle.std.specs.Prelude.{◌≡◌, ℕ, ◌≤◌, List, length, take};
-    ghost use Rattle.oca_device.specs.Outboxes.{bytes_of};
+    ghost use Rattle.std.specs.Prelude.{◌≡◌, ℕ, ◌≤◌, List, length, take, vec_capacity};
+    ghost use Rattle.oca_device.specs.Outboxes.{bytes_of_packets};
 
     ghost Value = { List (List ℕ) };
 
-    ghost view = { λ a. bytes_of (take a.count a.places.items) };
+    ghost view = { λ a. bytes_of_packets (take a.count a.places.items) };
 
-    ghost invariant = { λ a. (a.count ≤ 122) × (length a.places.items ≡ 122) };
+    ghost invariant = { λ a. (a.count ≤ length a.places.items) × (length a.places.items ≤ 122) × (122 ≤ vec_capacity a.places) };
 }
 
 impl Outbox {
-    ghost use Rattle.oca_device.specs.Outboxes.{bytes_of};
+    ghost use Rattle.oca_device.specs.Outboxes.{bytes_of_packets};
 
     /// An empty outbox, with room for 122 packets, as many as a datagram can ask for. Refusal: `NoMemory`.
     pub fn new(alloc: Global) -> Result<Outbox, NoMemory>
         ensures { IfOk result (λ outbox. outbox ≡ []) }
     {
-        match empty_packets(alloc) {
+        match Vec::with_capacity(alloc, MOST_PACKETS) {
             Ok(places) => Ok(Outbox { count: 0, places }),
             Err(_) => Err(NoMemory),
         }
@@ -77,34 +84,88 @@ impl Outbox {
 
     /// The packets.
     fn packets(&self) -> &[Packet]
-        ensures packets { bytes_of result.now ≡ self.now }
+        ensures packets { bytes_of_packets result.now ≡ self.now }
         ensures most { length result.now ≤ 122 }
     {
         &self.places[..self.count]
     }
 
-    /// Adds the packet of a response.
+    /// Adds a response: to the last packet where that holds responses and has room for it, and else in a packet of its own.
     pub(crate) fn respond(&mut self, handle: Handle, reply: &Reply)
-        requires { length self.old < 122 }
-        ensures { self.new ≡ self.old ++ packet_of (response handle.0 reply.now) ∷ [] }
+        requires room { length self.old < 122 }
+        requires groups { AreGrouped self.old }
+        ensures { IsGrouped (response handle.0 reply.now) self.old self.new }
     {
+        if join_last(&mut self.places, self.count, handle, reply) {
+            return;
+        }
+        make_place(&mut self.places, self.count);
         put_response(&mut self.places[self.count], handle, reply);
         self.count += 1;
     }
 
     /// Adds the packet of a keep-alive.
     pub(crate) fn return_keepalive(&mut self, form: Form)
-        requires { length self.old < 122 }
-        ensures { self.new ≡ self.old ++ packet_of (KeepAlive form) ∷ [] }
+        requires room { length self.old < 122 }
+        requires groups { AreGrouped self.old }
+        ensures { IsGrouped (KeepAlive form) self.old self.new }
     {
+        make_place(&mut self.places, self.count);
         put_keepalive(&mut self.places[self.count], form);
         self.count += 1;
     }
 }
 
+/// Adds a response to the last of the first `count` packets where that holds responses and has room for it, and answers whether
+/// it did.
+fn join_last(places: &mut Vec<Packet>, count: usize, handle: Handle, reply: &Reply) -> bool
+    requires within { count ≤ length places.old.items }
+    requires groups { AreGrouped (bytes_of_packets (take count places.old.items)) }
+    ensures joins { JoinsLast result (response handle.0 reply.now) (bytes_of_packets (take count places.old.items)) (bytes_of_packets (take count places.new.items)) }
+    ensures length { length places.new.items ≡ length places.old.items }
+    ensures room { vec_capacity places.new ≡ vec_capacity places.old }
+{
+    if count == 0 {
+        return false;
+    }
+    join(&mut places[count - 1], handle, reply)
+}
+
+/// Adds a response to the PDU of a packet where that is of responses and has room for it, and answers whether it did.
+fn join(packet: &mut Packet, handle: Handle, reply: &Reply) -> bool
+    requires { (p : Pdu) × (packet.old.items ≡ pdu_encoding p) }
+    ensures { (p : Pdu) → packet.old.items ≡ pdu_encoding p → Joins result p (response handle.0 reply.now) packet.old.items packet.new.items }
+{
+    holds_responses(packet) && extend_response(packet, handle, reply).is_ok()
+}
+
+/// Whether the PDU of a packet is of responses.
+fn holds_responses(packet: &Packet) -> bool
+    ensures { (p : Pdu) → packet.now.items ≡ pdu_encoding p → result ≡ is_of_responses p }
+{
+    packet.as_slice().get(PDU_TYPE_AT) == Some(&RESPONSES)
+}
+
+/// Makes a place for one more packet after these, where none is left from earlier datagrams. It lies in memory that was taken
+/// at first.
+fn make_place(places: &mut Vec<Packet>, count: usize)
+    requires within { count ≤ length places.old.items }
+    requires few { count < 122 }
+    requires most { length places.old.items ≤ 122 }
+    requires room { 122 ≤ vec_capacity places.old }
+    ensures there { count < length places.new.items }
+    ensures most { length places.new.items ≤ 122 }
+    ensures room { 122 ≤ vec_capacity places.new }
+    ensures same { take count places.new.items ≡ take count places.old.items }
+{
+    if count == places.len() {
+        places.push_reserved(Packet::new());
+    }
+}
+
 /// Writes a response in the place of what the packet held.
 fn put_response(packet: &mut Packet, handle: Handle, reply: &Reply)
-    ensures { packet.new.items ≡ packet_of (response handle.0 reply.now) }
+    ensures { packet.new.items ≡ pdu_encoding (pdu_of (response handle.0 reply.now)) }
 {
     packet.clear();
     let _params = reply.params.as_slice();
@@ -116,22 +177,11 @@ fn put_response(packet: &mut Packet, handle: Handle, reply: &Reply)
 
 /// Writes a keep-alive in the place of what the packet held.
 fn put_keepalive(packet: &mut Packet, form: Form)
-    ensures { packet.new.items ≡ packet_of (KeepAlive form) }
+    ensures { packet.new.items ≡ pdu_encoding (pdu_of (KeepAlive form)) }
 {
     packet.clear();
     match write_keepalive(packet, form) {
         Ok(()) => {}
         Err(_) => unreachable!(),
     }
-}
-
-/// As many empty packets as an outbox has room for.
-fn empty_packets(alloc: Global) -> Result<Vec<Packet>, AllocError>
-    ensures { IfOk result (λ v. length v.items ≡ 122) }
-{
-    let mut places = Vec::with_capacity(alloc, MOST_PACKETS)?;
-    for _i in 0..MOST_PACKETS {
-        places.push(Packet::new())?;
-    }
-    Ok(places)
 }

@@ -5,10 +5,12 @@
 pub struct Report {
     /// Receives that delivered something: a datagram, an oversize one, silence or a failure.
     pub turns: u64,
-    /// Commands that were executed, that were duplicates with a retained reply, and that were too old.
+    /// Commands that were executed, that were duplicates with a retained reply, that were too old, and that had the handle
+    /// of a retained command but asked something else.
     pub executed: u64,
     pub kept: u64,
     pub old: u64,
+    pub reused: u64,
     /// Datagrams that were malformed, and that found no room for their sender's session.
     pub malformed: u64,
     pub no_room: u64,

@@ -1,10 +1,10 @@
 //! The loop that serves an end of a link.
 ghost use Rattle.std.specs.Prelude.{◌≡◌, ◌+◌, ◌<◌, ◌≤◌, ◌^◌, ℕ, List, [], ◌∷◌, ◌++◌, IsTrue, IfSome, IfNone, length, ◌-◌, slice_index_or};
 ghost use Rattle.oca_net.specs.Ends.{last_u64};
-ghost use Rattle.oca_device.specs.Reports.{added, no_turns, one_turn, verdict_turn};
+ghost use Rattle.oca_device.specs.Reports.{added, no_turns, one_turn, verdict_turn, receives_of};
 ghost use Rattle.oca_device.specs.Replies.{ServesDeliveries, TakesReplies, GoesOn, sent_to};
-ghost use Rattle.oca_net.specs.Ends.{failures_sent, taken_after};
-ghost use Rattle.oca_device.specs.Totals.{IsWithin, ServesTurn};
+ghost use Rattle.oca_net.specs.Ends.{failures_sent, taken_after, one_more};
+ghost use Rattle.oca_device.specs.PrivateTotals.{IsWithin, ServesTurn};
 
 use crate::device::Device;
 use crate::outbox::Outbox;
@@ -17,8 +17,8 @@ use oca_types::{Packet, Peer};
 ///
 /// A turn receives once. A datagram goes to the device, and its answers are sent to its sender, in order; where a send
 /// fails, it is counted, and the next packet is sent. Silence and an oversize datagram move the clock. A failed receive
-/// does nothing. The loop ends at Closed, which is no turn, or after the turns. The outbox is emptied at first and after
-/// each turn.
+/// does nothing. The loop ends at Closed, which is no turn and after which it receives nothing, or after the turns. The outbox
+/// is emptied at first and after each turn.
 pub fn serve<E: End>(device: &mut Device, end: &mut E, outbox: &mut Outbox, turns: u32) -> Report
     ensures telling { IsTrue (E.tells end.old) →
         ServesDeliveries device.old device.new (E.delivered end.old) (E.delivered end.new) (E.taken end.old) (E.taken end.new) result }
@@ -26,6 +26,7 @@ pub fn serve<E: End>(device: &mut Device, end: &mut E, outbox: &mut Outbox, turn
     ensures tells { E.tells end.new ≡ E.tells end.old }
     ensures turns { result.turns ≤ turns }
     ensures closed { result.turns < turns → IsTrue (E.closed end.new) }
+    ensures receives { E.receives end.new < last_u64 → E.receives end.new ≡ E.receives end.old + receives_of result.turns turns }
     ensures failures { E.failures end.new < last_u64 →
         E.failures end.new ≡ E.failures end.old + (result.failed_receives + result.failed_sends) }
     ensures outbox { outbox.new ≡ [] }
@@ -60,6 +61,7 @@ fn take_turn<E: End>(
     ensures failed { IfSome result (λ turn. E.failures end.new < last_u64 →
         E.failures end.new ≡ E.failures end.old + (turn.failed_receives + turn.failed_sends)) }
     ensures none_failed { IfNone result (E.failures end.new ≡ E.failures end.old) }
+    ensures receives { E.receives end.new ≡ one_more (E.receives end.old) }
     ensures outbox { outbox.new ≡ [] }
 {
     match end.receive(packet) {
@@ -101,6 +103,7 @@ fn send_all<E: End>(end: &mut E, to: Peer, outbox: &Outbox) -> u64
     ensures taken { IsTrue (E.tells end.old) → TakesReplies result (E.taken end.old) (E.taken end.new) (sent_to to outbox.now) }
     ensures closed { E.closed end.new ≡ E.closed end.old }
     ensures failures { E.failures end.new < last_u64 → E.failures end.new ≡ E.failures end.old + result }
+    ensures receives { E.receives end.new ≡ E.receives end.old }
     ensures few { result ≤ 122 }
 {
     let mut failed = 0;
@@ -120,6 +123,7 @@ fn send_one<E: End>(end: &mut E, to: Peer, outbox: &Outbox, i: usize) -> bool
     ensures taken { IsTrue (E.tells end.old) → E.taken end.new ≡ taken_after result to (slice_index_or outbox.now i []) (E.taken end.old) }
     ensures closed { E.closed end.new ≡ E.closed end.old }
     ensures failures { E.failures end.new ≡ failures_sent result (E.failures end.old) }
+    ensures receives { E.receives end.new ≡ E.receives end.old }
 {
     match outbox.get(i) {
         Some(packet) => end.send(to, packet.as_slice()),
@@ -138,6 +142,7 @@ fn sum(a: Report, b: Report) -> Report
         executed: a.executed + b.executed,
         kept: a.kept + b.kept,
         old: a.old + b.old,
+        reused: a.reused + b.reused,
         malformed: a.malformed + b.malformed,
         no_room: a.no_room + b.no_room,
         oversize: a.oversize + b.oversize,
@@ -156,6 +161,7 @@ fn nothing() -> Report
         executed: 0,
         kept: 0,
         old: 0,
+        reused: 0,
         malformed: 0,
         no_room: 0,
         oversize: 0,
@@ -184,10 +190,12 @@ fn of_verdict(verdict: Verdict) -> Report
             executed,
             kept,
             old,
+            reused,
         } => Report {
             executed: u64::from(executed),
             kept: u64::from(kept),
             old: u64::from(old),
+            reused: u64::from(reused),
             ..a_turn()
         },
         Verdict::Malformed(_) => Report {

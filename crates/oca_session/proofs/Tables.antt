@@ -1,10 +1,10 @@
 -- The sessions by their places, and what the calls leave of what holds of them.
-use Rattle.std.proofs.Common.{◌≡◌, ℕ, ◌+◌, ◌<◌, Bool, true, false, cond, List, [], ◌∷◌, ◌++◌, length, take, get_or, Option, Some, None, refl, sym, ap, ◌∙◌, arith, zero, suc, subst}
+use Rattle.std.proofs.Common.{◌≡◌, ◌⊎◌, inl, inr, ℕ, ◌+◌, ◌*◌, ◌<◌, ◌≤◌, Bool, true, false, cond, List, [], ◌∷◌, ◌++◌, length, take, get_or, Option, Some, None, refl, sym, ap, ◌∙◌, arith, zero, suc, subst}
 use Rattle.std.specs.Prelude.{nat_lt, not, ◌||◌, is_some, IfSome, filter, position, All, Contains}
 use Rattle.std.specs.List.{find, list_any, position_or_len}
 use Rattle.std.proofs.Math.ListN.{set}
 use Rattle.std.proofs.Math.Seq.{take-set-lt}
-use Rattle.std.proofs.lemmas.List.{get_or-take, length-take, take_more_set}
+use Rattle.std.proofs.lemmas.List.{get_or-take, length-take, take_more_set, take-set-le}
 use Rattle.std.proofs.lemmas.List.Elements.{All-set}
 use Rattle.std.proofs.lemmas.List.Quantifiers.{position-Some}
 use Rattle.std.proofs.lemmas.Bool.{ltb-true}
@@ -12,8 +12,9 @@ use Rattle.std.proofs.lemmas.Bool.Decides.{nat_tests}
 use Rattle.oca_types.specs.declared.words.Peer.{Peer}
 use Rattle.oca_types.specs.Peers.{same_peer}
 use Rattle.oca_session.specs.Accepted.{Entry, Agrees}
-use Rattle.oca_session.specs.Table.{Session, is_of, session_of, peers_of, changed, opened, heard_at, with_heartbeat, with_entry, with_accepted, is_lapsed, lapsed, stays, forgotten, AgreesAt}
+use Rattle.oca_session.specs.Table.{Session, is_of, session_of, peers_of, changed, opened_session, heard_at, with_heartbeat, with_entry, with_accepted, is_lapsed, lapsed, stays, staying, forgotten, AgreesAt}
 use Rattle.oca_session.specs.Sound.{IsSession, IsOnePerPeer}
+use Rattle.oca_session.specs.PrivateQuiet.{IsQuietUntil}
 use Rattle.oca_session.proofs.Windows.{retained_after_agreed}
 
 one_more : (n : ℕ) → 1 + n ≡ suc n
@@ -157,7 +158,7 @@ All-cons P x xs here rest (suc k) d within = rest k d (omega arith)
 All-tail : {X : Type 0} (P : X → Type 0) (x : X) (xs : List X) → All P (x ∷ xs) → All P xs
 All-tail P x xs all = λ k d within. all (suc k) d (omega arith)
 
-All-push : {X : Type 0} (P : X → Type 0) (xs : List X) (y : X) → All P xs → P y → All P (xs ++ y ∷ [])
+pub All-push : {X : Type 0} (P : X → Type 0) (xs : List X) (y : X) → All P xs → P y → All P (xs ++ y ∷ [])
 All-push P [] y all last = All-cons P y [] last (λ k d within. absurd (omega arith))
 All-push P (x ∷ xs) y all last =
     All-cons P x (xs ++ y ∷ []) (all 0 x (omega arith)) (All-push P xs y (All-tail P x xs all) last)
@@ -316,14 +317,92 @@ entry_sound w e s h = record { size = h.size; least = h.least; most = h.most }
 
 -- ---- an opened session
 
-pub opened_sound : (w : ℕ) (p : Peer) (moment : ℕ) → IsSession w (opened w p moment)
+pub opened_sound : (w : ℕ) (p : Peer) (moment : ℕ) → IsSession w (opened_session w p moment)
 opened_sound w p moment = record { size = refl; least = omega arith; most = omega arith }
 
 -- a session that is opened at the first free place stands last
 pub opened_in : (p : Peer) (w moment : ℕ) (items : List Session) (count : ℕ) (old new : Session) → count < length items →
-    All (IsSession w) items → old ≡ get_or items count old → new ≡ opened old.retained.size p moment →
-    take (count + 1) (set items count new) ≡ take count items ++ opened w p moment ∷ []
+    All (IsSession w) items → old ≡ get_or items count old → new ≡ opened_session old.retained.size p moment →
+    take (count + 1) (set items count new) ≡ take count items ++ opened_session w p moment ∷ []
 opened_in p w moment items count old new below all was is =
     let before : IsSession w old = subst (IsSession w) (sym was) (all count old below) in
     take_more_set items count new below
-    ∙ ap (λ s. take count items ++ s ∷ []) (is ∙ ap (λ n. opened n p moment) before.size)
+    ∙ ap (λ s. take count items ++ s ∷ []) (is ∙ ap (λ n. opened_session n p moment) before.size)
+
+-- ---- where the recent slot is that of the peer
+
+-- as there is one session for a peer, one that is found stands first
+first_place : (p : Peer) (ss : List Session) (i : ℕ) (d : Session) → IsOnePerPeer ss → i < length ss → is_of p (get_or ss i d) ≡ true →
+    position_or_len (is_of p) ss ≡ i
+first_place p [] i d one within here = absurd (omega arith)
+first_place p (s ∷ ss) zero d one within here = ap (λ b. cond (not b) (1 + position_or_len (is_of p) ss) 0) here
+first_place p (s ∷ ss) (suc i) d one within here =
+    let others = IsOnePerPeer-head s ss one in
+    let below : i < length ss = omega arith in
+    let no : is_of p s ≡ false = other_peer' s.peer (get_or ss i d).peer p here (others i d below) in
+    ap (λ b. cond (not b) (1 + position_or_len (is_of p) ss) 0) no
+    ∙ ap (λ n. 1 + n) (first_place p ss i d (IsOnePerPeer-tail s ss one) below here) ∙ one_more i
+
+pub placed_at : (p : Peer) (ss : List Session) (i : ℕ) (d : Session) → IsOnePerPeer ss → i < length ss → is_of p (get_or ss i d) ≡ true →
+    position (is_of p) ss ≡ Some i
+placed_at p ss i d one within here =
+    ap (λ n. cond (nat_lt n (length ss)) (Some n) None) (first_place p ss i d one within here)
+    ∙ ap (λ b. cond b (Some i) None) below
+  where
+    below : nat_lt i (length ss) ≡ true
+    below = grind (arith, nat_tests)
+
+-- ---- up to when no session lapses
+
+lower : (q r : ℕ) (ss : List Session) → IsQuietUntil q ss → r ≤ q → IsQuietUntil r ss
+lower q r ss quiet le = λ k d within. let here = quiet k d within in omega (arith, here, le)
+
+lt_or_le : (a b : ℕ) → (a < b) ⊎ (b ≤ a)
+lt_or_le a b = grind arith
+
+-- a session is written that is quiet as long
+pub quiet_in : (q r : ℕ) (items : List Session) (count at : ℕ) (new : Session) → IsQuietUntil q (take count items) → r ≤ q →
+    r ≤ new.heard + 3 * new.heartbeat → IsQuietUntil r (take count (set items at new))
+quiet_in q r items count at new quiet le mine =
+    let before = lower q r (take count items) quiet le in
+    elim (lt_or_le at count) [
+      | inl lt ↦ subst (IsQuietUntil r) (sym (take-set-lt count items at new lt))
+        (All-set (λ s. r ≤ s.heard + 3 * s.heartbeat) (take count items) at new mine before)
+      | inr ge ↦ subst (IsQuietUntil r) (sym (take-set-le count items at new ge)) before
+    ]
+
+-- a session is opened that is quiet as long
+pub quiet_push : (q r : ℕ) (ss ts : List Session) (new : Session) → ts ≡ ss ++ new ∷ [] → IsQuietUntil q ss → r ≤ q →
+    r ≤ new.heard + 3 * new.heartbeat → IsQuietUntil r ts
+quiet_push q r ss ts new is quiet le mine =
+    subst (IsQuietUntil r) (sym is) (All-push (λ s. r ≤ s.heard + 3 * s.heartbeat) ss new (lower q r ss quiet le) mine)
+
+-- a command is kept
+pub quiet_kept : (p : Peer) (e : Entry) (q : ℕ) (items seen : List Session) (count at : ℕ) (old new : Session) →
+    IsQuietUntil q (take count items) → seen ≡ items → position (is_of p) (take count seen) ≡ Some at →
+    old ≡ get_or items at old → new ≡ with_entry e old → IsQuietUntil q (take count (set items at new))
+quiet_kept p e q items seen count at old new quiet same placed was is =
+    let ss = take count items in
+    let placed' : position (is_of p) ss ≡ Some at = rw (← same) placed in
+    let place = position-Some (is_of p) ss at old placed' in
+    let below : at < count = omega (arith, place.0, length-take count items) in
+    let there : get_or ss at old ≡ old = get_or-take count items at old below ∙ sym was in
+    let before : q ≤ old.heard + 3 * old.heartbeat = subst (λ (s : Session). q ≤ s.heard + 3 * s.heartbeat) there (quiet at old place.0) in
+    quiet_in q q items count at new quiet (omega arith) (subst (λ (s : Session). q ≤ s.heard + 3 * s.heartbeat) (sym is) before)
+
+no_lapse : (q moment : ℕ) (s : Session) → q ≤ s.heard + 3 * s.heartbeat → moment ≤ q → is_lapsed moment s ≡ false
+no_lapse q moment s quiet le = grind (arith, nat_tests)
+
+pub quiet_lapsed : (q moment : ℕ) (ss : List Session) → IsQuietUntil q ss → moment ≤ q → lapsed moment ss ≡ []
+quiet_lapsed q moment [] quiet le = refl
+quiet_lapsed q moment (s ∷ ss) quiet le =
+    let here : q ≤ s.heard + 3 * s.heartbeat = quiet 0 s (omega arith) in
+    rw (no_lapse q moment s here le) (quiet_lapsed q moment ss (All-tail (λ s. q ≤ s.heard + 3 * s.heartbeat) s ss quiet) le)
+
+pub quiet_staying : (w q moment : ℕ) (ss : List Session) → All (IsSession w) ss → IsQuietUntil q ss → moment ≤ q → staying moment ss ≡ ss
+quiet_staying w q moment [] all quiet le = refl
+quiet_staying w q moment (s ∷ ss) all quiet le =
+    let here : q ≤ s.heard + 3 * s.heartbeat = quiet 0 s (omega arith) in
+    let still = lapsed_or_stays w moment s (all 0 s (omega arith)) (no_lapse q moment s here le) in
+    rw still (ap (λ ts. s ∷ ts) (quiet_staying w q moment ss (All-tail (IsSession w) s ss all)
+    (All-tail (λ s. q ≤ s.heard + 3 * s.heartbeat) s ss quiet) le))

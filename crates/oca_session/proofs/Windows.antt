@@ -1,14 +1,14 @@
--- What a window retains judges each handle as the whole list of accepted commands does, and stays that of the list as it grows.
+-- What a window retains judges each command as the whole list of accepted commands does, and stays that of the list as it grows.
 use Rattle.std.proofs.Common.{◌≡◌, ℕ, ◌+◌, ◌-◌, ◌<◌, ◌≤◌, Bool, true, false, cond, List, [], ◌∷◌, ◌++◌, length, take, drop, Option, Some, None, refl, sym, ap, ◌∙◌, arith, append_assoc, length-append, length-drop, ◌⊎◌, inl, inr}
 use Rattle.std.specs.Prelude.{is_some, nat_eq, nat_lt, max, not, ◌&&◌, ◌||◌}
 use Rattle.std.specs.List.{list_any, list_all}
-use Rattle.std.specs.Option.{option_or}
 use Rattle.std.proofs.lemmas.List.{take-append-drop}
 use Rattle.std.proofs.lemmas.List.Folds.{list_any-append}
 use Rattle.std.proofs.lemmas.Bool.Decides.{nat_tests}
 use Rattle.std.proofs.Math.Seq.{take-append-add, drop-append-add}
-use Rattle.oca_session.specs.Accepted.{Entry, window, outside, has_handle, is_below, accepts, entry_under, Fresh, duplicate_or_old, judgement, higher_of, greatest, Retained, retained_of, Agrees}
-use Rattle.oca_session.specs.Judging.{is_above, judgement_by, judgement_from, retained_after}
+use Rattle.oca_types.specs.Peers.{CommandFields}
+use Rattle.oca_session.specs.Accepted.{Entry, window, outside, has_handle, is_below, accepts, entry_under, Fresh, judge_unaccepted, judgement, higher_of, greatest, Retained, retained_of, Agrees}
+use Rattle.oca_session.specs.Judging.{is_above, judge_entry, judgement_by_window, retained_after}
 
 max_assoc : (a b c : ℕ) → max (max a b) c ≡ max a (max b c)
 max_assoc a b c = omega arith
@@ -22,8 +22,8 @@ higher_of_assoc (Some a) (Some b) (Some c) = ap Some (max_assoc a b c)
 greatest-append : (es fs : List Entry) → greatest (es ++ fs) ≡ higher_of (greatest es) (greatest fs)
 greatest-append [] fs = refl
 greatest-append (e ∷ es) fs =
-    ap (higher_of (Some e.handle)) (greatest-append es fs)
-    ∙ sym (higher_of_assoc (Some e.handle) (greatest es) (greatest fs))
+    ap (higher_of (Some e.command.handle)) (greatest-append es fs)
+    ∙ sym (higher_of_assoc (Some e.command.handle) (greatest es) (greatest fs))
 
 -- h is above the greater of two numbers where it is above both
 max_below : (f g h : ℕ) → nat_lt (max f g) h ≡ (nat_lt f h && nat_lt g h)
@@ -42,14 +42,14 @@ is_above-higher_of (Some f) (Some g) h = max_below f g h
 is_above-greatest : (es : List Entry) (h : ℕ) → is_above (greatest es) h ≡ list_all (is_below h) es
 is_above-greatest [] h = refl
 is_above-greatest (e ∷ es) h =
-    is_above-higher_of (Some e.handle) (greatest es) h ∙ ap (λ b. nat_lt e.handle h && b) (is_above-greatest es h)
+    is_above-higher_of (Some e.command.handle) (greatest es) h ∙ ap (λ b. nat_lt e.command.handle h && b) (is_above-greatest es h)
 
 -- none of those below h has the handle h
 none_has : (es : List Entry) (h : ℕ) → list_all (is_below h) es ≡ true → list_any (has_handle h) es ≡ false
 none_has [] h p = refl
 none_has (e ∷ es) h p =
-    let parts = both (nat_lt e.handle h) (list_all (is_below h) es) p in
-    neither (has_handle h e) (list_any (has_handle h) es) (other e.handle h parts.0) (none_has es h parts.1)
+    let parts = both (nat_lt e.command.handle h) (list_all (is_below h) es) p in
+    neither (has_handle h e) (list_any (has_handle h) es) (other e.command.handle h parts.0) (none_has es h parts.1)
   where
     both : (a b : Bool) → (a && b) ≡ true → (a ≡ true) × (b ≡ true)
     both true b q = (refl, q)
@@ -83,14 +83,16 @@ any_is_found h (e ∷ es) = by_test (has_handle h e) (any_is_found h es)
     by_test true found = refl
     by_test false found = found
 
-judgement_by_cases : (found : Option Entry) (above : Bool) → judgement_by found above ≡ cond (not (is_some found) && above) Fresh (duplicate_or_old found)
-judgement_by_cases (Some e) above = refl
-judgement_by_cases None true = refl
-judgement_by_cases None false = refl
+judge_entry_cases : (found : Option Entry) (above : Bool) (c : CommandFields)
+    → judge_entry found above c ≡ cond (not (is_some found) && above) Fresh (judge_unaccepted found c)
+judge_entry_cases (Some e) above c = refl
+judge_entry_cases None true c = refl
+judge_entry_cases None false c = refl
 
--- From what is retained a handle is judged as from the whole list.
-pub judgement_from-retained_of : (w : ℕ) (A : List Entry) (h : ℕ) → judgement_from (retained_of w A) h ≡ judgement w A h
-judgement_from-retained_of w A h =
+-- From what is retained a command is judged as from the whole list.
+pub judgement_by_window-retained_of : (w : ℕ) (A : List Entry) (c : CommandFields) → judgement_by_window (retained_of w A) c ≡ judgement w A c
+judgement_by_window-retained_of w A c =
+    let h = c.handle in
     let out = outside w A in
     let kept = window w A in
     let below = list_all (is_below h) out in
@@ -101,11 +103,11 @@ judgement_from-retained_of w A h =
     ∙ ap (λ b. not (list_any (has_handle h) kept) && b) (is_above-greatest out h)
     ∙ split (list_any (has_handle h) out) (list_any (has_handle h) kept) below (none_has out h)
     ∙ ap (λ b. not b && below) (sym whole) in
-    judgement_by_cases (entry_under h kept) (is_above (greatest out) h)
-    ∙ ap (λ b. cond b Fresh (duplicate_or_old (entry_under h kept))) same
+    judge_entry_cases (entry_under h kept) (is_above (greatest out) h) c
+    ∙ ap (λ b. cond b Fresh (judge_unaccepted (entry_under h kept) c)) same
 
-pub judgement_from_agreed : (w : ℕ) (A : List Entry) (k : Retained) (h : ℕ) → Agrees w A k → judgement_from k h ≡ judgement w A h
-judgement_from_agreed w A k h e = ap (λ x. judgement_from x h) e ∙ judgement_from-retained_of w A h
+pub judgement_by_window_agreed : (w : ℕ) (A : List Entry) (k : Retained) (c : CommandFields) → Agrees w A k → judgement_by_window k c ≡ judgement w A c
+judgement_by_window_agreed w A k c e = ap (λ x. judgement_by_window x c) e ∙ judgement_by_window-retained_of w A c
 
 -- What was pushed out stays out as the rest grows, and the window looks at the rest alone.
 window_rest : {X : Type 0} (w : ℕ) (out rest : List X) → w ≤ length rest → window w (out ++ rest) ≡ window w rest
@@ -158,13 +160,3 @@ retained_after-retained_of w A e =
 
 pub retained_after_agreed : (w : ℕ) (A : List Entry) (k : Retained) (e : Entry) → Agrees w A k → Agrees w (A ++ e ∷ []) (retained_after k e)
 retained_after_agreed w A k e h = ap (λ x. retained_after x e) h ∙ retained_after-retained_of w A e
-
--- what is found in two parts
-pub found_in_parts : (h : ℕ) (es fs : List Entry) → entry_under h (es ++ fs) ≡ option_or (entry_under h es) (entry_under h fs)
-found_in_parts h [] fs = refl
-found_in_parts h (e ∷ es) fs = by_test (has_handle h e) (found_in_parts h es fs)
-  where
-    by_test : (b : Bool) → entry_under h (es ++ fs) ≡ option_or (entry_under h es) (entry_under h fs) →
-        cond b (Some e) (entry_under h (es ++ fs)) ≡ option_or (cond b (Some e) (entry_under h es)) (entry_under h fs)
-    by_test true found = refl
-    by_test false found = found

@@ -1,75 +1,91 @@
 -- The accepted commands of a session, a list that is never cut, and what a reply window of size w retains of them (profile).
-use Rattle.std.specs.Prelude.{◌≡◌, ℕ, ◌-◌, ◌==◌, nat_lt, max, Bool, not, ◌&&◌, if◌then◌else◌, List, [], ◌∷◌, take, drop, length, Option, Some, None}
+-- In each list of commands the latest stands last.
+use Rattle.std.specs.Prelude.{◌≡◌, ℕ, ◌-◌, ◌==◌, nat_eq, nat_lt, max, Bool, not, ◌&&◌, if◌then◌else◌, List, [], ◌∷◌, take, drop, length, Option, Some, None}
 use Rattle.std.specs.List.{list_any, list_all, find}
+use Rattle.std.specs.Cmp.Lexicographic.{pointwise}
 use Rattle.oca_types.specs.declared.words.Reply.{Reply}
+use Rattle.oca_types.specs.Peers.{CommandFields}
 
--- An accepted command: its handle, and the reply that executing it gave.
+-- An accepted command, and the reply that executing it gave (profile).
 pub record Entry : Type 0 where
-  pub handle : ℕ
+  pub command : CommandFields
   pub reply : Reply
 
--- The reply window: the last w of the accepted commands A, or all where there are fewer.
+-- the reply window: the last w of the accepted commands A, or all where there are fewer (profile)
 abbrev pub window : {X : Type 0} → ℕ → List X → List X
 window w A = drop (length A - w) A
 
--- The accepted commands that are outside the window: all before the last w.
+-- the accepted commands outside the window: all before the last w (profile)
 abbrev pub outside : {X : Type 0} → ℕ → List X → List X
 outside w A = take (length A - w) A
 
--- the command has this handle
+-- the command has this handle (AES70-3)
 abbrev pub has_handle : ℕ → Entry → Bool
-has_handle h e = e.handle == h
+has_handle h e = e.command.handle == h
 
--- the command's handle is below this one
+-- the command's handle is below this one (profile)
 abbrev pub is_below : ℕ → Entry → Bool
-is_below h e = nat_lt e.handle h
+is_below h e = nat_lt e.command.handle h
 
--- A handle is accepted where no accepted command has it and it is above the handle of each that is outside the window.
+-- A handle is accepted where no accepted command has it and it is above the handle of each command outside the window
+-- (profile).
 abbrev pub accepts : ℕ → List Entry → ℕ → Bool
 accepts w A h = not (list_any (has_handle h) A) && list_all (is_below h) (outside w A)
 
--- the first command of this handle
+-- the earliest command of this handle (profile)
 abbrev pub entry_under : ℕ → List Entry → Option Entry
 entry_under h A = find (has_handle h) A
 
--- What the accepted commands say of a handle: it is fresh, or a duplicate of a command in the window, which has that
--- command's reply, or else old.
+-- The two commands ask the same: of one object (ONo), one method (DefLevel and MethodIndex), with one ParamCount and the same
+-- parameter bytes. Neither their handles nor their types are compared (profile).
+abbrev pub asks_the_same : CommandFields → CommandFields → Bool
+asks_the_same c d =
+    (c.target == d.target) && (c.level == d.level) && (c.index == d.index) && (c.count == d.count)
+    && pointwise nat_eq c.params d.params
+
+-- What the accepted commands say of a command: it is fresh; or a duplicate of one in the window, which has that one's reply;
+-- or its handle is reused, where the one in the window under its handle asks something else; or it is old (profile).
 pub data Judgement : Type 0 where
   Fresh : Judgement
   Duplicate : (reply : Reply) → Judgement
+  Reused : Judgement
   Old : Judgement
 
--- a duplicate of the command that was found, and old where none was
-abbrev pub duplicate_or_old : Option Entry → Judgement
-duplicate_or_old (Some e) = Duplicate e.reply
-duplicate_or_old None = Old
+-- a command under the handle of an accepted one: a duplicate where it asks the same, else its handle is reused (profile)
+abbrev pub duplicate_or_reused : Entry → CommandFields → Judgement
+duplicate_or_reused e c = if asks_the_same e.command c then Duplicate e.reply else Reused
 
--- what the accepted commands A say of the handle h, where the window has size w
-abbrev pub judgement : ℕ → List Entry → ℕ → Judgement
-judgement w A h = if accepts w A h then Fresh else duplicate_or_old (entry_under h (window w A))
+-- a command that is not accepted, by what the window has under its handle: old where that is nothing (profile)
+abbrev pub judge_unaccepted : Option Entry → CommandFields → Judgement
+judge_unaccepted (Some e) c = duplicate_or_reused e c
+judge_unaccepted None c = Old
 
--- the higher of two floors
+-- What the accepted commands A say of the command c, where the window has size w (profile).
+abbrev pub judgement : ℕ → List Entry → CommandFields → Judgement
+judgement w A c = if accepts w A c.handle then Fresh else judge_unaccepted (entry_under c.handle (window w A)) c
+
+-- the higher of two floors (profile)
 abbrev pub higher_of : Option ℕ → Option ℕ → Option ℕ
 higher_of None g = g
 higher_of (Some f) None = Some f
 higher_of (Some f) (Some g) = Some (max f g)
 
--- the greatest handle, or none where there is no command
+-- the greatest handle, or none where there is no command (profile)
 abbrev pub greatest : List Entry → Option ℕ
 greatest [] = None
-greatest (e ∷ es) = higher_of (Some e.handle) (greatest es)
+greatest (e ∷ es) = higher_of (Some e.command.handle) (greatest es)
 
--- What a window of a size retains: the commands in it with their replies, oldest first, and the floor, the greatest handle
--- outside it.
+-- What a window of a size retains: the commands in it with their replies, and the floor, the greatest handle outside it
+-- (profile).
 pub record Retained : Type 0 where
   pub size : ℕ
   pub entries : List Entry
   pub floor : Option ℕ
 
--- what a window of size w retains of the accepted commands A
+-- what a window of size w retains of the accepted commands A (profile)
 abbrev pub retained_of : ℕ → List Entry → Retained
 retained_of w A = record { size = w; entries = window w A; floor = greatest (outside w A) }
 
--- what is retained is that of the accepted commands A
+-- what is retained is that of the accepted commands A (profile)
 abbrev pub Agrees : ℕ → List Entry → Retained → Type 0
 Agrees w A k = k ≡ retained_of w A

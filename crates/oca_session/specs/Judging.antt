@@ -1,29 +1,33 @@
--- How a handle is judged, and a command added, where only what the window retains is known.
+-- How a command is judged, and one added, where only what the window retains is known (profile). The latest command stands last.
 use Rattle.std.specs.Prelude.{ℕ, nat_lt, Bool, true, if◌then◌else◌, [], ◌∷◌, ◌++◌, Option, Some, None}
+use Rattle.oca_types.specs.Peers.{CommandFields}
 use Rattle.oca_session.specs.declared.window.Judged.{Judged}
 use Rattle.oca_session.specs.declared.window.Judged.TheVariants as answer
-use Rattle.oca_session.specs.Accepted.{Entry, Judgement, Fresh, Duplicate, Old, Retained, entry_under, window, outside, higher_of, greatest}
+use Rattle.oca_session.specs.Accepted.{Entry, Judgement, Fresh, Duplicate, Reused, Old, Retained, duplicate_or_reused, entry_under, window, outside, higher_of, greatest}
 
--- the judgement that the answer of `judge` tells
-abbrev pub judgement_of : Judged → Judgement
-judgement_of answer.Fresh = Fresh
-judgement_of (answer.Kept reply) = Duplicate reply.now
-judgement_of answer.Old = Old
+-- the judgement that the answer of `judge` tells (profile)
+abbrev pub as_judgement : Judged → Judgement
+as_judgement answer.Fresh = Fresh
+as_judgement (answer.Kept reply) = Duplicate reply.now
+as_judgement answer.Reused = Reused
+as_judgement answer.Old = Old
 
--- the handle is above the floor
+-- the handle is above the floor, as each is where there is none (profile)
 abbrev pub is_above : Option ℕ → ℕ → Bool
 is_above None h = true
 is_above (Some floor) h = nat_lt floor h
 
-abbrev pub judgement_by : Option Entry → Bool → Judgement
-judgement_by (Some e) above = Duplicate e.reply
-judgement_by None above = if above then Fresh else Old
+-- a command by the entry under its handle, and where there is none by whether its handle is above the floor (profile)
+abbrev pub judge_entry : Option Entry → Bool → CommandFields → Judgement
+judge_entry (Some e) above c = duplicate_or_reused e c
+judge_entry None above c = if above then Fresh else Old
 
--- A handle that is retained is a duplicate; another is fresh where it is above the floor, and old elsewhere.
-abbrev pub judgement_from : Retained → ℕ → Judgement
-judgement_from k h = judgement_by (entry_under h k.entries) (is_above k.floor h)
+-- A command under a handle that is retained is a duplicate or reuses it; another is fresh where its handle is above the floor,
+-- and else old (profile).
+abbrev pub judgement_by_window : Retained → CommandFields → Judgement
+judgement_by_window k c = judge_entry (entry_under c.handle k.entries) (is_above k.floor c.handle) c
 
--- What is retained after one more accepted command: what no longer fits into the window may raise the floor.
+-- What is retained after one more accepted command: what no longer fits into the window may raise the floor (profile).
 abbrev pub retained_after : Retained → Entry → Retained
 retained_after k e =
     record {

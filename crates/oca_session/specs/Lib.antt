@@ -2,3 +2,5 @@ pub mod Accepted
 pub mod Judging
 pub mod Table
 pub mod Sound
+pub mod PrivateCells
+pub mod PrivateQuiet

@@ -1,113 +1,113 @@
--- The sessions in order of opening, and what each call makes of them (profile). Moments and times are in milliseconds.
+-- The sessions in order of opening, the latest last, and what each call makes of them (profile). Moments and times are in milliseconds.
 use Rattle.std.specs.Prelude.{◌≡◌, ℕ, ◌*◌, ◌-◌, ◌<◌, ◌≤◌, nat_lt, nat_le, max, min, Bool, not, if◌then◌else◌, List, [], ◌∷◌, ◌++◌, map, filter, length, Option, None, IfSome, IsSome}
 use Rattle.std.specs.List.{find}
 use Rattle.oca_types.specs.declared.words.Peer.{Peer}
 use Rattle.oca_types.specs.Peers.{same_peer}
-use Rattle.oca_session.specs.declared.sessions.Heard.{Heard}
-use Rattle.oca_session.specs.declared.sessions.Heard.TheVariants as answer
+use Rattle.oca_session.specs.declared.sessions.Admission.{Admission}
+use Rattle.oca_session.specs.declared.sessions.Admission.TheVariants as answer
 use Rattle.oca_session.specs.Accepted.{Entry, Retained, retained_of, Agrees}
 use Rattle.oca_session.specs.Judging.{retained_after}
 
--- A session: whose it is, when its last datagram was heard, its heartbeat, and what its reply window retains.
+-- A session: whose it is, when its last datagram was heard, its heartbeat, and what its reply window retains (profile).
 pub record Session : Type 0 where
   pub peer : Peer
   pub heard : ℕ
   pub heartbeat : ℕ
   pub retained : Retained
 
--- The size of the reply windows, the present moment, and the sessions in order of opening.
+-- The size of the reply windows, the present moment, and the sessions in order of opening, the latest last (profile).
 pub record Table : Type 0 where
   pub window : ℕ
   pub moment : ℕ
   pub sessions : List Session
 
--- the same window size, with another moment and other sessions
-abbrev pub at_with : Table → ℕ → List Session → Table
-at_with t moment ss = record { window = t.window; moment = moment; sessions = ss }
+-- the same window size, with another moment and other sessions (profile)
+abbrev pub with_moment_and_sessions : Table → ℕ → List Session → Table
+with_moment_and_sessions t moment ss = record { window = t.window; moment = moment; sessions = ss }
 
--- the same window size and moment, with other sessions
+-- the same window size and moment, with other sessions (profile)
 abbrev pub with_sessions : Table → List Session → Table
-with_sessions t ss = at_with t t.moment ss
+with_sessions t ss = with_moment_and_sessions t t.moment ss
 
--- A moment earlier than one already seen counts as the one already seen.
+-- A moment earlier than one already seen counts as the one already seen (profile).
 abbrev pub present : Table → ℕ → ℕ
 present t now = max t.moment now
 
--- the session is that of this peer
+-- the session is that of this peer (profile)
 abbrev pub is_of : Peer → Session → Bool
 is_of p s = same_peer s.peer p
 
--- the session of a peer
+-- the session of a peer (profile)
 abbrev pub session_of : Peer → List Session → Option Session
 session_of p ss = find (is_of p) ss
 
--- the peers of the sessions, in their order
+-- the peers of the sessions, in their order (profile)
 abbrev pub peers_of : List Session → List Peer
 peers_of ss = map (λ s. s.peer) ss
 
--- the sessions where that of the peer is changed by f, and all others are as before
+-- the sessions where that of the peer is changed by f, and all others are as before (profile)
 abbrev pub changed : Peer → (Session → Session) → List Session → List Session
 changed p f ss = map (λ s. if is_of p s then f s else s) ss
 
--- an opened session: the heartbeat 5,000, an empty window and no floor
-abbrev pub opened : ℕ → Peer → ℕ → Session
-opened w p moment = record { peer = p; heard = moment; heartbeat = 5000; retained = retained_of w [] }
+-- an opened session: the heartbeat 5,000, an empty window and no floor (profile)
+abbrev pub opened_session : ℕ → Peer → ℕ → Session
+opened_session w p moment = record { peer = p; heard = moment; heartbeat = 5000; retained = retained_of w [] }
 
--- the session where its peer was last heard at this moment
+-- the session where its peer was last heard at this moment (profile)
 abbrev pub heard_at : ℕ → Session → Session
 heard_at moment s = record s { heard = moment }
 
--- a heartbeat below 250 is raised to it, and one above 30,000 lowered
+-- a heartbeat below 250 is raised to it, and one above 30,000 lowered (profile)
 abbrev pub with_heartbeat : ℕ → Session → Session
 with_heartbeat ms s = record s { heartbeat = max 250 (min ms 30000) }
 
--- the session where one more command is accepted
+-- the session where one more command is accepted (profile)
 abbrev pub with_entry : Entry → Session → Session
 with_entry e s = record s { retained = retained_after s.retained e }
 
--- the session where the accepted commands are A
+-- the session where the accepted commands are A (profile)
 abbrev pub with_accepted : ℕ → List Entry → Session → Session
 with_accepted w A s = record s { retained = retained_of w A }
 
--- how long the peer of the session has been silent
+-- how long the peer of the session has been silent (profile)
 abbrev pub silence : ℕ → Session → ℕ
 silence moment s = moment - s.heard
 
--- A session is lapsed where its silence passes three of its heartbeats.
+-- A session is lapsed where its silence passes three of its heartbeats (profile).
 abbrev pub is_lapsed : ℕ → Session → Bool
 is_lapsed moment s = nat_lt (3 * s.heartbeat) (silence moment s)
 
--- A session stays where its silence doesn't pass 120,000 ms.
+-- A session stays where its silence doesn't pass 120,000 ms (profile).
 abbrev pub stays : ℕ → Session → Bool
 stays moment s = nat_le (silence moment s) 120000
 
--- the peers whose sessions are lapsed
+-- the peers whose sessions are lapsed (profile)
 abbrev pub lapsed : ℕ → List Session → List Peer
 lapsed moment ss = peers_of (filter (is_lapsed moment) ss)
 
--- the sessions that stay, and those that are forgotten, each in their order
+-- the sessions that stay, and those that are forgotten, each in their order (profile)
 abbrev pub staying : ℕ → List Session → List Session
 staying moment ss = filter (stays moment) ss
 
 abbrev pub forgotten : ℕ → List Session → List Session
 forgotten moment ss = filter (λ s. not (stays moment s)) ss
 
--- What hearing a peer at a present moment answers, and what it makes of the table. All three move the present moment.
-abbrev pub Hears : Peer → ℕ → Table → Heard → Table → Type 0
+-- What hearing a peer at the present moment answers, and what it makes of the table; all three answers keep that moment (profile).
+abbrev pub Hears : Peer → ℕ → Table → Admission → Table → Type 0
 Hears p moment old answer.Known new =
-    IsSome (session_of p old.sessions) × (new ≡ at_with old moment (changed p (heard_at moment) old.sessions))
+    IsSome (session_of p old.sessions) × (new ≡ with_moment_and_sessions old moment (changed p (heard_at moment) old.sessions))
 Hears p moment old answer.Opened new =
     (session_of p old.sessions ≡ None) × (length old.sessions < 16)
-    × (new ≡ at_with old moment (old.sessions ++ opened old.window p moment ∷ []))
+    × (new ≡ with_moment_and_sessions old moment (old.sessions ++ opened_session old.window p moment ∷ []))
 Hears p moment old answer.NoRoom new =
-    (session_of p old.sessions ≡ None) × (16 ≤ length old.sessions) × (new ≡ at_with old moment old.sessions)
+    (session_of p old.sessions ≡ None) × (16 ≤ length old.sessions) × (new ≡ with_moment_and_sessions old moment old.sessions)
 
--- who has a session after an answer
-abbrev pub IsKnownAfter : Heard → Peer → List Session → Type 0
+-- who has a session after an answer (profile)
+abbrev pub IsKnownAfter : Admission → Peer → List Session → Type 0
 IsKnownAfter answer.Known p ss = IsSome (session_of p ss)
 IsKnownAfter answer.Opened p ss = IsSome (session_of p ss)
 IsKnownAfter answer.NoRoom p ss = session_of p ss ≡ None
 
--- the session of the peer retains what is that of the accepted commands A
+-- the session of the peer retains what is that of the accepted commands A (profile)
 abbrev pub AgreesAt : Peer → ℕ → List Entry → List Session → Type 0
 AgreesAt p w A ss = IfSome (session_of p ss) (λ s. Agrees w A s.retained)

@@ -1,27 +1,27 @@
 //! The sessions of all peers.
 ghost use Rattle.std.specs.Prelude.{◌≡◌, ℕ, ◌<◌, ◌≤◌, List, [], ◌∷◌, ◌++◌, length, IfOk, IsSome, IfSome, is_some, Some, vec_len, take, position, All, Contains, ◌==◌};
 ghost use Rattle.oca_types.specs.declared.words.Peer.{Peer};
+ghost use Rattle.oca_types.specs.Peers.{fields_of};
+ghost use Rattle.oca_types.specs.Sizes.{window_size};
 ghost use Rattle.oca_session.specs.Accepted.{Entry, judgement, Fresh};
-ghost use Rattle.oca_session.specs.Judging.{judgement_of, judgement_from};
+ghost use Rattle.oca_session.specs.Judging.{as_judgement, judgement_by_window};
 ghost use Rattle.oca_session.specs.Table.{is_of, session_of, peers_of, lapsed, staying, forgotten};
-ghost use Rattle.oca_session.specs.Sound.{IsSession};
+ghost use Rattle.oca_session.specs.Sound.{IsSession, IsOnePerPeer};
+ghost use Rattle.oca_session.specs.PrivateQuiet.{IsQuietUntil};
 
-use crate::session::Place;
+use crate::slot::Slot;
 use crate::window::Judged;
 use arrayvec::ArrayVec;
-use oca_types::{Handle, NoMemory, Peer, Reply};
+use oca_types::{Command, NoMemory, Peer, Reply, Window};
 use std::alloc::{AllocError, Global};
 use std::marker::Model;
 
 /// At most so many sessions.
 const SESSIONS: usize = 16;
 
-/// How many accepted commands a reply window retains.
-const WINDOW: usize = 32;
-
 /// What hearing a peer did.
 #[derive(Clone, Copy, Debug, PartialEq, Eq)]
-pub enum Heard {
+pub enum Admission {
     /// The peer had a session, whose silence ended.
     Known,
     /// A session was opened for the peer.
@@ -39,46 +39,47 @@ pub enum Heard {
 pub struct Sessions {
     window: usize,
     moment: u64,
+    /// Up to this moment no session lapses, and so none is forgotten.
+    quiet_until: u64,
     count: usize,
-    places: Vec<Place>,
+    /// Where the session that was heard last stood: it is looked at first.
+    recent: usize,
+    slots: Vec<Slot>,
 }
 
 impl Model for Sessions {
     ghost use Rattle.std.specs.Prelude.{◌≡◌, ◌<◌, ◌≤◌, length, take, All};
     ghost use Rattle.oca_session.specs.Table.{Table};
     ghost use Rattle.oca_session.specs.Sound.{IsSession, IsOnePerPeer};
+    ghost use Rattle.oca_session.specs.PrivateQuiet.{IsQuietUntil};
 
     ghost Value = { Table };
 
-    ghost view = { λ a. record { window = a.window; moment = a.moment; sessions = take a.count a.places.items } };
+    ghost view = { λ a. record { window = a.window; moment = a.moment; sessions = take a.count a.slots.items } };
 
-    ghost invariant = { λ a. (0 < a.window) × (a.count ≤ 16) × (length a.places.items ≡ 16)
-        × All (IsSession a.window) a.places.items × IsOnePerPeer (take a.count a.places.items) };
+    ghost invariant = { λ a. (0 < a.window) × (a.count ≤ 16) × (length a.slots.items ≡ 16)
+        × All (IsSession a.window) a.slots.items × IsOnePerPeer (take a.count a.slots.items)
+        × IsQuietUntil a.quiet_until (take a.count a.slots.items) };
 }
 
 impl Sessions {
-    ghost use Rattle.oca_session.specs.Table.{at_with, with_sessions, present, changed, with_heartbeat, with_entry, with_accepted, Hears, IsKnownAfter, AgreesAt};
+    ghost use Rattle.oca_session.specs.Table.{with_moment_and_sessions, with_sessions, present, changed, with_heartbeat, with_entry, with_accepted, Hears, IsKnownAfter, AgreesAt};
     ghost use Rattle.oca_session.specs.Sound.{IsTable};
 
-    /// No session, at the moment 0, with reply windows of 32 commands. Takes all the memory that the sessions
-    /// will need, and answers `NoMemory` where that is refused.
-    pub fn new(alloc: Global) -> Result<Sessions, NoMemory>
-        ensures { IfOk result (λ t. t ≡ record { window = 32; moment = 0; sessions = [] }) }
+    /// No session, at the moment 0. Each session will have a reply window of this size, for as long as there are
+    /// these sessions. Takes all the memory that they will need, and answers `NoMemory` where that is refused.
+    pub fn new(alloc: Global, window: Window) -> Result<Sessions, NoMemory>
+        ensures { IfOk result (λ t. t ≡ record { window = window_size window; moment = 0; sessions = [] }) }
     {
-        Sessions::with_window(alloc, WINDOW)
-    }
-
-    /// No session, with reply windows of this size.
-    pub(crate) fn with_window(alloc: Global, window: usize) -> Result<Sessions, NoMemory>
-        requires { 0 < window }
-        ensures { IfOk result (λ t. t ≡ record { window = window; moment = 0; sessions = [] }) }
-    {
-        match spare_places(alloc, window) {
-            Ok(places) => Ok(Sessions {
+        let window = usize::from(window.get());
+        match spare_slots(alloc, window) {
+            Ok(slots) => Ok(Sessions {
                 window,
                 moment: 0,
+                quiet_until: 0,
                 count: 0,
-                places,
+                recent: 0,
+                slots,
             }),
             Err(_) => Err(NoMemory),
         }
@@ -104,7 +105,7 @@ impl Sessions {
     pub fn is_known(&self, peer: Peer) -> bool
         ensures { result ≡ is_some (session_of peer self.now.sessions) }
     {
-        place_of(&self.places[..self.count], peer).is_some()
+        index_of(&self.slots[..self.count], self.recent, peer).is_some()
     }
 
     /// Goes on to a moment, in milliseconds; one that is earlier than the present moment counts as the present.
@@ -114,34 +115,45 @@ impl Sessions {
     /// among those answered.
     pub fn advance(&mut self, now: u64) -> ArrayVec<Peer, 16>
         ensures lapsed { result.items ≡ lapsed (present self.old now) self.old.sessions }
-        ensures staying { self.new ≡ at_with self.old (present self.old now) (staying (present self.old now) self.old.sessions) }
+        ensures staying { self.new ≡ with_moment_and_sessions self.old (present self.old now) (staying (present self.old now) self.old.sessions) }
         ensures forgotten { All (Contains result.items) (peers_of (forgotten (present self.old now) self.old.sessions)) }
     {
         self.moment = self.moment.max(now);
-        let lapsed = lapsed_of(&self.places[..self.count], self.moment);
-        self.count = forget(&mut self.places, self.count, self.moment);
+        if self.moment <= self.quiet_until {
+            return ArrayVec::new();
+        }
+        let lapsed = lapsed_of(&self.slots[..self.count], self.moment);
+        self.count = forget(&mut self.slots, self.count, self.moment);
+        self.quiet_until = quiet_until(&self.slots[..self.count]);
         lapsed
     }
 
-    /// Notes that a peer was heard at a moment, in milliseconds, and opens a session for a peer that has none:
-    /// the last in order, with an empty window, no floor and the heartbeat 5,000. Where there are 16 sessions
-    /// already, no session changes. In all cases the present moment goes on to `now`, unless that is earlier.
-    pub fn hear(&mut self, peer: Peer, now: u64) -> Heard
+    /// Notes that a peer was heard at a moment, in milliseconds. A known peer's silence ends. For another a
+    /// session is opened, the last in order, with an empty window, no floor and the heartbeat 5,000; but where
+    /// there are 16 sessions already, no session changes. In all cases the present moment goes on to `now`,
+    /// unless that is earlier.
+    pub fn hear(&mut self, peer: Peer, now: u64) -> Admission
         ensures hears { Hears peer (present self.old now) self.old result self.new }
         ensures known { IsKnownAfter result peer self.new.sessions }
         ensures window { self.new.window ≡ self.old.window }
     {
         self.moment = self.moment.max(now);
-        if let Some(at) = place_of(&self.places[..self.count], peer) {
-            self.places[at].note(self.moment);
-            return Heard::Known;
+        if let Some(at) = index_of(&self.slots[..self.count], self.recent, peer) {
+            let slot = &mut self.slots[at];
+            slot.note(self.moment);
+            self.quiet_until = self.quiet_until.min(slot.quiet_until());
+            self.recent = at;
+            return Admission::Known;
         }
         if self.count == SESSIONS {
-            return Heard::NoRoom;
+            return Admission::NoRoom;
         }
-        self.places[self.count].open(peer, self.moment);
+        let slot = &mut self.slots[self.count];
+        slot.open(peer, self.moment);
+        self.quiet_until = self.quiet_until.min(slot.quiet_until());
+        self.recent = self.count;
         self.count += 1;
-        Heard::Opened
+        Admission::Opened
     }
 
     /// Sets the heartbeat of a known peer, in milliseconds: to 250 or 30,000 where it is below or above these.
@@ -151,117 +163,142 @@ impl Sessions {
         ensures peers { peers_of self.new.sessions ≡ peers_of self.old.sessions }
         ensures known { (p : Peer) → is_some (session_of p self.new.sessions) ≡ is_some (session_of p self.old.sessions) }
     {
-        let at = place_of_known(&self.places[..self.count], peer);
-        self.places[at].set_heartbeat(ms);
+        let at = index_of_known(&self.slots[..self.count], self.recent, peer);
+        let slot = &mut self.slots[at];
+        slot.set_heartbeat(ms);
+        self.quiet_until = self.quiet_until.min(slot.quiet_until());
     }
 
-    /// What the reply window of a known peer says of a handle: it answers by the accepted commands of the
-    /// session, of which it retains the last 32.
-    pub fn judge(&self, peer: Peer, handle: Handle) -> Judged<'_>
+    /// What the reply window of a known peer says of a command: it answers by the accepted commands of the
+    /// session, of which it retains the last, as many as its size. A command under a retained handle is a
+    /// duplicate where it asks the same (target, DefLevel, MethodIndex, ParamCount and parameter bytes).
+    pub fn judge(&self, peer: Peer, command: &Command<'_>) -> Judged<'_>
         requires { IsSome (session_of peer self.now.sessions) }
-        ensures retained { IfSome (session_of peer self.now.sessions) (λ s. judgement_of result ≡ judgement_from s.retained handle.0) }
-        ensures accepted { (w : ℕ) (A : List Entry) → AgreesAt peer w A self.now.sessions → judgement_of result ≡ judgement w A handle.0 }
+        ensures retained { IfSome (session_of peer self.now.sessions) (λ s. as_judgement result ≡ judgement_by_window s.retained (fields_of command.now)) }
+        ensures accepted { (w : ℕ) (A : List Entry) → AgreesAt peer w A self.now.sessions →
+            as_judgement result ≡ judgement w A (fields_of command.now) }
     {
-        known_place(&self.places[..self.count], peer).judge(handle)
+        known_slot(&self.slots[..self.count], self.recent, peer).judge(command)
     }
 
     /// Adds a fresh command of a known peer, with its reply, to the accepted commands of the session. A full
-    /// window pushes its oldest command out.
-    pub fn keep(&mut self, peer: Peer, handle: Handle, reply: Reply)
+    /// window pushes its oldest command out. The command has at most 1,445 parameter bytes, as each that a
+    /// datagram brings.
+    pub fn keep(&mut self, peer: Peer, command: &Command<'_>, reply: &Reply)
         requires known { IsSome (session_of peer self.old.sessions) }
-        requires fresh { IfSome (session_of peer self.old.sessions) (λ s. judgement_from s.retained handle.0 ≡ Fresh) }
+        requires fresh { IfSome (session_of peer self.old.sessions) (λ s. judgement_by_window s.retained (fields_of command.now) ≡ Fresh) }
+        requires room { length command.now.params.now ≤ 1445 }
         ensures retained { self.new ≡ with_sessions self.old
-            (changed peer (with_entry (record { handle = handle.0; reply = reply })) self.old.sessions) }
+            (changed peer (with_entry (record { command = fields_of command.now; reply = reply.now })) self.old.sessions) }
         ensures accepted { (w : ℕ) (A : List Entry) → AgreesAt peer w A self.old.sessions →
             self.new ≡ with_sessions self.old
-            (changed peer (with_accepted w (A ++ record { handle = handle.0; reply = reply } ∷ [])) self.old.sessions) }
+            (changed peer (with_accepted w (A ++ record { command = fields_of command.now; reply = reply.now } ∷ [])) self.old.sessions) }
         ensures peers { peers_of self.new.sessions ≡ peers_of self.old.sessions }
         ensures known { (p : Peer) → is_some (session_of p self.new.sessions) ≡ is_some (session_of p self.old.sessions) }
     {
-        self.put(peer, handle, reply);
+        self.put(peer, command, reply);
     }
 
-    fn put(&mut self, peer: Peer, handle: Handle, reply: Reply)
+    /// Adds a fresh command of a known peer, with its reply.
+    fn put(&mut self, peer: Peer, command: &Command<'_>, reply: &Reply)
         requires known { IsSome (session_of peer self.old.sessions) }
-        requires fresh { IfSome (session_of peer self.old.sessions) (λ s. judgement_from s.retained handle.0 ≡ Fresh) }
+        requires fresh { IfSome (session_of peer self.old.sessions) (λ s. judgement_by_window s.retained (fields_of command.now) ≡ Fresh) }
+        requires room { length command.now.params.now ≤ 1445 }
         ensures retained { self.new ≡ with_sessions self.old
-            (changed peer (with_entry (record { handle = handle.0; reply = reply })) self.old.sessions) }
+            (changed peer (with_entry (record { command = fields_of command.now; reply = reply.now })) self.old.sessions) }
         ensures one { IsTable self.old }
     {
-        let at = place_of_known(&self.places[..self.count], peer);
-        self.places[at].keep(handle, reply);
+        let at = index_of_known(&self.slots[..self.count], self.recent, peer);
+        self.slots[at].keep(command, reply);
     }
 }
 
-/// Where the session of a peer stands.
-fn place_of(places: &[Place], peer: Peer) -> Option<usize>
-    ensures { result ≡ position (is_of peer) places.now }
+/// Where the session of a peer stands. The recent slot is looked at first.
+fn index_of(slots: &[Slot], recent: usize, peer: Peer) -> Option<usize>
+    requires { IsOnePerPeer slots.now }
+    ensures { result ≡ position (is_of peer) slots.now }
 {
-    places.iter().position(|place| place.is_of(peer))
+    if recent < slots.len() && slots[recent].is_of(peer) {
+        return Some(recent);
+    }
+    slots.iter().position(|slot| slot.is_of(peer))
 }
 
 /// Where the session of a known peer stands.
 #[tactic(auto, using(crate::proofs::Tables::none_known))]
-fn place_of_known(places: &[Place], peer: Peer) -> usize
-    requires { IsSome (session_of peer places.now) }
-    ensures { position (is_of peer) places.now ≡ Some result }
+fn index_of_known(slots: &[Slot], recent: usize, peer: Peer) -> usize
+    requires known { IsSome (session_of peer slots.now) }
+    requires one { IsOnePerPeer slots.now }
+    ensures { position (is_of peer) slots.now ≡ Some result }
 {
-    match place_of(places, peer) {
+    match index_of(slots, recent, peer) {
         Some(at) => at,
         None => unreachable!(),
     }
 }
 
-/// The place of a known peer.
+/// The slot of a known peer.
 #[tactic(auto, using(crate::proofs::Tables::found_at))]
-fn known_place(places: &[Place], peer: Peer) -> &Place
-    requires { IsSome (session_of peer places.now) }
-    ensures { session_of peer places.now ≡ Some result.now }
+fn known_slot(slots: &[Slot], recent: usize, peer: Peer) -> &Slot
+    requires known { IsSome (session_of peer slots.now) }
+    requires one { IsOnePerPeer slots.now }
+    ensures { session_of peer slots.now ≡ Some result.now }
 {
-    &places[place_of_known(places, peer)]
+    &slots[index_of_known(slots, recent, peer)]
 }
 
 /// The peers of the sessions that are lapsed at a moment, in their order.
-fn lapsed_of(places: &[Place], moment: u64) -> ArrayVec<Peer, 16>
-    requires { length places.now ≤ 16 }
-    ensures { result.items ≡ lapsed moment places.now }
+fn lapsed_of(slots: &[Slot], moment: u64) -> ArrayVec<Peer, 16>
+    requires { length slots.now ≤ 16 }
+    ensures { result.items ≡ lapsed moment slots.now }
 {
     let mut lapsed = ArrayVec::new();
-    for place in places {
-        if place.is_lapsed(moment) {
-            lapsed.push(place.peer());
+    for slot in slots {
+        if slot.is_lapsed(moment) {
+            lapsed.push(slot.peer());
         }
     }
     lapsed
 }
 
-/// Moves the sessions that stay to the front, in their order, and answers how many they are. The places of
+/// A moment up to which none of the sessions lapses: that before the first lapse, or the latest.
+fn quiet_until(slots: &[Slot]) -> u64
+    ensures { IsQuietUntil result slots.now }
+{
+    let mut until = u64::MAX;
+    for slot in slots {
+        until = until.min(slot.quiet_until());
+    }
+    until
+}
+
+/// Moves the sessions that stay to the front, in their order, and answers how many they are. The slots of
 /// the others come behind them.
-fn forget(places: &mut Vec<Place>, count: usize, moment: u64) -> usize
-    requires { count ≤ vec_len places.old }
-    ensures front { take result places.new.items ≡ staying moment (take count places.old.items) }
+fn forget(slots: &mut Vec<Slot>, count: usize, moment: u64) -> usize
+    requires { count ≤ vec_len slots.old }
+    ensures front { take result slots.new.items ≡ staying moment (take count slots.old.items) }
     ensures fewer { result ≤ count }
-    ensures length { vec_len places.new ≡ vec_len places.old }
-    ensures sound { (w : ℕ) → All (IsSession w) places.old.items → All (IsSession w) places.new.items }
+    ensures length { vec_len slots.new ≡ vec_len slots.old }
+    ensures sound { (w : ℕ) → All (IsSession w) slots.old.items → All (IsSession w) slots.new.items }
 {
     let mut kept = 0usize;
     for i in 0..count {
-        if places[i].stays(moment) {
-            places.swap(kept, i);
+        if slots[i].stays(moment) {
+            slots.swap(kept, i);
             kept += 1;
         }
     }
     kept
 }
 
-/// Sixteen places for sessions with windows of this size.
-fn spare_places(alloc: Global, window: usize) -> Result<Vec<Place>, AllocError>
+/// Sixteen slots for sessions with windows of this size.
+fn spare_slots(alloc: Global, window: usize) -> Result<Vec<Slot>, AllocError>
     requires { 0 < window }
     ensures { IfOk result (λ v. (length v.items ≡ 16) × All (IsSession window) v.items) }
 {
-    let mut places = Vec::with_capacity(alloc, SESSIONS)?;
+    let mut slots = Vec::with_capacity(alloc, SESSIONS)?;
     for _i in 0..SESSIONS {
-        places.push(Place::spare(alloc, window)?)?;
+        slots.push_reserved(Slot::spare(alloc, window)?);
     }
-    Ok(places)
+    Ok(slots)
 }

@@ -1,89 +1,72 @@
 //! The reply window of one session.
-ghost use Rattle.std.specs.Prelude.{◌≡◌, ℕ, ◌<◌, List, [], ◌∷◌, ◌++◌, IfOk, Some};
-ghost use Rattle.std.specs.Option.{option_copied};
-ghost use Rattle.oca_session.specs.Accepted.{Entry, retained_of, Agrees, judgement, Fresh, higher_of, entry_under, has_handle};
-ghost use Rattle.oca_session.specs.Judging.{judgement_of, judgement_from, retained_after};
+ghost use Rattle.std.specs.Prelude.{◌≡◌, ℕ, ◌<◌, ◌≤◌, List, [], ◌∷◌, ◌++◌, length, position, slice_get, option_map, IfOk, Some};
+ghost use Rattle.oca_types.specs.Peers.{CommandFields, fields_of};
+ghost use Rattle.oca_session.specs.Accepted.{Entry, retained_of, Agrees, judgement, Fresh, higher_of, entry_under, duplicate_or_reused};
+ghost use Rattle.oca_session.specs.Judging.{as_judgement, judgement_by_window, retained_after};
+ghost use Rattle.oca_session.specs.PrivateCells.{is_handle, judge_cell};
 
+use crate::cell::Cell;
 use circular_buffer::HeapCircularBuffer;
-use oca_types::{Handle, Reply};
+use oca_types::{Command, Handle, Reply};
 use std::alloc::{AllocError, Global};
 use std::marker::Model;
 
-/// What the reply window of a session says of a handle.
+/// What the reply window of a session says of a command.
 #[derive(Clone, Copy)]
 pub enum Judged<'a> {
-    /// No accepted command has the handle, and it is above all that the window left behind: execute it.
+    /// No accepted command has its handle, which is above all that the window left behind: execute it.
     Fresh,
-    /// The command is a duplicate of one in the window, which got this reply.
+    /// It is a duplicate of a command in the window, which got this reply.
     Kept(&'a Reply),
-    /// The handle is not in the window, and at or below one that the window left behind.
+    /// A command in the window has its handle, and asks something else.
+    Reused,
+    /// Its handle is not in the window, and at or below one that the window left behind.
     Old,
-}
-
-/// An accepted command of the window: its handle and the reply that it got.
-#[derive(Drop)]
-struct RetainedReply {
-    handle: Handle,
-    reply: Reply,
-}
-
-impl Model for RetainedReply {
-    ghost use Rattle.oca_session.specs.Accepted.{Entry};
-
-    ghost Value = { Entry };
-
-    ghost view = { λ a. record { handle = a.handle.0; reply = a.reply } };
-}
-
-impl RetainedReply {
-    fn has_handle(&self, handle: Handle) -> bool
-        ensures { result ≡ has_handle handle.0 self.now }
-    {
-        self.handle == handle
-    }
-
-    fn handle(&self) -> Handle
-        ensures { result.0 ≡ self.now.handle }
-    {
-        self.handle
-    }
-
-    fn reply(&self) -> &Reply
-        ensures { result.now ≡ self.now.reply }
-    {
-        &self.reply
-    }
 }
 
 /// The last accepted commands of a session with their replies, and the floor, the greatest handle that was
 /// pushed out of the window.
 #[derive(Drop)]
-pub struct Window {
-    entries: HeapCircularBuffer<RetainedReply>,
+pub struct ReplyWindow {
+    /// The handles, oldest first.
+    handles: HeapCircularBuffer<Handle>,
+    /// The rest of the commands and their replies, in cells that are used in turn once all are taken: that of
+    /// the oldest command is at `oldest`, and the others follow it round.
+    cells: Vec<Cell>,
+    oldest: usize,
     floor: Option<u32>,
+    /// Above each handle that was accepted.
+    above: u64,
 }
 
-impl Model for Window {
-    ghost use Rattle.std.specs.Prelude.{◌<◌, ◌≤◌, length};
+impl Model for ReplyWindow {
+    ghost use Rattle.std.specs.Prelude.{◌≡◌, ◌<◌, ◌≤◌, length, vec_capacity};
     ghost use Rattle.oca_session.specs.Accepted.{Retained};
+    ghost use Rattle.oca_session.specs.PrivateCells.{AreBelow, entries_of};
 
     ghost Value = { Retained };
 
-    ghost view = { λ a. record { size = a.entries.capacity; entries = a.entries.items; floor = a.floor } };
+    ghost view = { λ a. record { size = a.handles.capacity; entries = entries_of a.handles.items a.oldest a.cells.items; floor = a.floor } };
 
-    ghost invariant = { λ a. (0 < a.entries.capacity) × (length a.entries.items ≤ a.entries.capacity) };
+    ghost invariant = { λ a. (length a.cells.items ≡ length a.handles.items) × (length a.handles.items ≤ a.handles.capacity)
+        × (a.oldest < a.handles.capacity) × (a.handles.capacity ≤ vec_capacity a.cells)
+        × (length a.handles.items < a.handles.capacity → a.oldest ≡ 0) × AreBelow a.above a.handles.items a.floor };
 }
 
-impl Window {
+impl ReplyWindow {
     /// An empty window of this size, with room for all that it will retain.
-    pub fn new(alloc: Global, size: usize) -> Result<Window, AllocError>
+    pub fn new(alloc: Global, size: usize) -> Result<ReplyWindow, AllocError>
         requires { 0 < size }
         ensures { IfOk result (λ k. k ≡ retained_of size []) }
     {
-        let entries = HeapCircularBuffer::with_capacity(alloc, size)?;
-        Ok(Window {
-            entries,
+        let handles = HeapCircularBuffer::with_capacity(alloc, size)?;
+        let cells = Vec::with_capacity(alloc, size)?;
+        Ok(ReplyWindow {
+            handles,
+            cells,
+            oldest: 0,
             floor: None,
+            above: 0,
         })
     }
 
@@ -91,66 +74,112 @@ impl Window {
     pub fn clear(&mut self)
         ensures { self.new ≡ retained_of self.old.size [] }
     {
-        self.entries.clear();
+        self.handles.clear();
+        self.cells.clear();
+        self.oldest = 0;
         self.floor = None;
+        self.above = 0;
     }
 
-    /// Whether a command of this handle is fresh, a duplicate of one in the window, or too old.
-    pub fn judge(&self, handle: Handle) -> Judged<'_>
-        ensures exact { judgement_of result ≡ judgement_from self.now handle.0 }
-        ensures accepted { (w : ℕ) (A : List Entry) → Agrees w A self.now → judgement_of result ≡ judgement w A handle.0 }
+    /// Whether a command is fresh, a duplicate of one in the window, another under its handle, or too old.
+    pub fn judge(&self, command: &Command<'_>) -> Judged<'_>
+        ensures exact { as_judgement result ≡ judgement_by_window self.now (fields_of command.now) }
+        ensures accepted { (w : ℕ) (A : List Entry) → Agrees w A self.now → as_judgement result ≡ judgement w A (fields_of command.now) }
     {
-        self.judge_retained(handle)
+        self.judge_retained(command)
     }
 
-    /// What is retained under a handle.
-    #[tactic(auto, using(crate::proofs::Windows::found_in_parts))]
-    fn find(&self, handle: Handle) -> Option<&RetainedReply>
-        ensures { option_copied result ≡ entry_under handle.0 self.now.entries }
+    /// The cell of the command that is retained under a handle.
+    fn find(&self, handle: Handle) -> Option<&Cell>
+        ensures { (c : CommandFields) → option_map (λ e. duplicate_or_reused e c) (entry_under handle.0 self.now.entries)
+            ≡ option_map (λ a. judge_cell a.now c) result }
     {
-        let (front, back) = self.entries.as_slices();
-        match entry_of(front, handle) {
-            Some(entry) => Some(entry),
-            None => entry_of(back, handle),
+        let (front, back) = self.handles.as_slices();
+        if let Some(at) = index_of(front, handle) {
+            return Some(self.cell_at(at));
+        }
+        let at = index_of(back, handle)?;
+        Some(self.cell_at(front.len() + at))
+    }
+
+    /// The cell of a command, counted from the oldest.
+    fn cell_at(&self, index: usize) -> &Cell
+        requires { index < length self.now.entries }
+        ensures { (c : CommandFields) → option_map (λ e. duplicate_or_reused e c) (slice_get self.now.entries index)
+            ≡ Some (judge_cell result.now c) }
+    {
+        let rest = self.cells.len() - self.oldest;
+        if index < rest {
+            &self.cells[self.oldest + index]
+        } else {
+            &self.cells[index - rest]
         }
     }
 
-    fn judge_retained(&self, handle: Handle) -> Judged<'_>
-        ensures { judgement_of result ≡ judgement_from self.now handle.0 }
+    /// What the retained commands say of a command.
+    fn judge_retained(&self, command: &Command<'_>) -> Judged<'_>
+        ensures { as_judgement result ≡ judgement_by_window self.now (fields_of command.now) }
     {
-        if let Some(entry) = self.find(handle) {
-            return Judged::Kept(entry.reply());
+        if u64::from(command.handle.0) >= self.above {
+            return Judged::Fresh;
+        }
+        if let Some(cell) = self.find(command.handle) {
+            return judge_by_cell(cell, command);
         }
         match self.floor {
-            Some(floor) if handle.0 <= floor => Judged::Old,
+            Some(floor) if command.handle.0 <= floor => Judged::Old,
             _ => Judged::Fresh,
         }
     }
 
     /// Retains a fresh command with its reply. A full window pushes its oldest out.
-    pub fn keep(&mut self, handle: Handle, reply: Reply)
-        requires { judgement_from self.old handle.0 ≡ Fresh }
-        ensures exact { self.new ≡ retained_after self.old (record { handle = handle.0; reply = reply }) }
+    pub fn keep(&mut self, command: &Command<'_>, reply: &Reply)
+        requires fresh { judgement_by_window self.old (fields_of command.now) ≡ Fresh }
+        requires room { length command.now.params.now ≤ 1445 }
+        ensures exact { self.new ≡ retained_after self.old (record { command = fields_of command.now; reply = reply.now }) }
         ensures accepted { (w : ℕ) (A : List Entry) → Agrees w A self.old →
-            Agrees w (A ++ record { handle = handle.0; reply = reply } ∷ []) self.new }
+            Agrees w (A ++ record { command = fields_of command.now; reply = reply.now } ∷ []) self.new }
     {
-        self.put(RetainedReply { handle, reply });
+        self.put(command, reply);
     }
 
-    fn put(&mut self, entry: RetainedReply)
-        ensures { self.new ≡ retained_after self.old entry }
+    /// Retains a command with its reply.
+    fn put(&mut self, command: &Command<'_>, reply: &Reply)
+        requires { length command.now.params.now ≤ 1445 }
+        ensures { self.new ≡ retained_after self.old (record { command = fields_of command.now; reply = reply.now }) }
     {
-        if let Some(oldest) = self.entries.push_back(entry) {
-            self.floor = Some(raised_floor(self.floor, oldest.handle()));
-        }
+        self.above = self.above.max(u64::from(command.handle.0) + 1);
+        let Some(pushed_out) = self.handles.push_back(command.handle) else {
+            self.cells.push_reserved(Cell::new(command, reply));
+            return;
+        };
+        self.floor = Some(raised_floor(self.floor, pushed_out));
+        let at = self.oldest;
+        self.cells[at].set(command, reply);
+        self.oldest = if at + 1 == self.cells.len() {
+            0
+        } else {
+            at + 1
+        };
     }
 }
 
-/// The entry of a handle among these.
-fn entry_of(entries: &[RetainedReply], handle: Handle) -> Option<&RetainedReply>
-    ensures { option_copied result ≡ entry_under handle.0 entries.now }
+/// What the command in a cell says of another under its handle.
+fn judge_by_cell<'a>(cell: &'a Cell, command: &Command<'_>) -> Judged<'a>
+    ensures { as_judgement result ≡ judge_cell cell.now (fields_of command.now) }
 {
-    entries.iter().find(|entry| entry.has_handle(handle))
+    if cell.asks_the_same(command) {
+        Judged::Kept(cell.reply())
+    } else {
+        Judged::Reused
+    }
+}
+
+/// Where a handle stands among these.
+fn index_of(handles: &[Handle], handle: Handle) -> Option<usize>
+    ensures { result ≡ position (is_handle handle.0) handles.now }
+{
+    handles.iter().position(|other| *other == handle)
 }
 
 /// The floor after a command of this handle was pushed out.

@@ -14,18 +14,20 @@ use Rattle.oca_tree.specs.declared.object.Value.{Value}
 use Rattle.oca_tree.specs.declared.object.Value.TheVariants as values
 use Rattle.oca_tree.specs.declared.request.Request.{Request}
 use Rattle.oca_tree.specs.declared.request.Request.TheVariants as requests
+use Rattle.oca_tree.specs.declared.request.SwitchRequest.TheVariants as switches
 use Rattle.oca_tree.specs.Kinds.{number_at}
-use Rattle.oca_tree.specs.Requests.{positions, whole, exactly, pair_at, items_at, list_at, bare, setting_request, request_of}
+use Rattle.oca_tree.specs.Parameters.{whole, pair_at, items_at, list_at}
+use Rattle.oca_tree.specs.Requests.{positions, with_parameters, without_parameters, setting_request, request_of}
 use Rattle.oca_tree.specs.Execution.{request_at}
 use Rattle.oca_tree.proofs.Items.{with_first}
 
 unfoldable pub FitsPositions : Value → Request → Type 0
-FitsPositions value (requests.SetPositionNames texts) = length texts.items ≡ positions value
-FitsPositions value (requests.SetPositionEnableds truths) = length truths.items ≡ positions value
+FitsPositions value (requests.Switch (switches.SetPositionNames texts)) = length texts ≡ positions value
+FitsPositions value (requests.Switch (switches.SetPositionEnableds truths)) = length truths.items ≡ positions value
 FitsPositions value _ = Unit {0}
 
-asked_bare : (value : Value) (q : Request) → FitsPositions value q → (count : ℕ) (params : List ℕ) (r : Request) → bare q count params ≡ Some r → FitsPositions value r
-asked_bare value q fits count params r e = by ((count == 0) && (length params == 0)) e
+asked_without_parameters : (value : Value) (q : Request) → FitsPositions value q → (count : ℕ) (params : List ℕ) (r : Request) → without_parameters q count params ≡ Some r → FitsPositions value r
+asked_without_parameters value q fits count params r e = by ((count == 0) && (length params == 0)) e
   where
     by : (b : Bool) → cond b (Some q) None ≡ Some r → FitsPositions value r
     by true h = let same : q ≡ r = cc in subst (FitsPositions value) same fits
@@ -74,7 +76,7 @@ module _ {X : Type 0} (item : List ℕ → Option (X × List ℕ)) where
   whole_length n (Some (ys, b ∷ rest)) xs h e = cc
 
   asked_list : (value : Value) (f : List X → Request) → ((xs : List X) → length xs ≡ positions value → FitsPositions value (f xs)) → (count : ℕ) (params : List ℕ) (r : Request)
-      → option_map f (exactly 1 (list_at item (positions value)) count params) ≡ Some r → FitsPositions value r
+      → option_map f (with_parameters 1 (list_at item (positions value)) count params) ≡ Some r → FitsPositions value r
   asked_list value f fits count params r e = by (count == 1) e
     where
       found : (o : Option (List X)) → ((xs : List X) → o ≡ Some xs → length xs ≡ positions value) → option_map f o ≡ Some r → FitsPositions value r
@@ -91,37 +93,37 @@ asked_setting values.Block count params r e = cc
 asked_setting (values.Mute state) count params r e = cc
 asked_setting (values.Polarity state) count params r e = cc
 asked_setting (values.Switch switch) count params r e = cc
-asked_setting (values.Boolean truth) count params r e = asked_one (values.Boolean truth) requests.SetBoolean (λ x. tt) (exactly 1 bool_at count params) r e
-asked_setting (values.Number range) count params r e = asked_one (values.Number range) requests.SetNumber (λ x. tt) (exactly 1 (number_at range.kind) count params) r e
+asked_setting (values.Boolean truth) count params r e = asked_one (values.Boolean truth) requests.SetBoolean (λ x. tt) (with_parameters 1 bool_at count params) r e
+asked_setting (values.Number range) count params r e = asked_one (values.Number range) requests.SetNumber (λ x. tt) (with_parameters 1 (number_at range.kind) count params) r e
 
 asked_fits : (value : Value) (method : Method) (count : ℕ) (params : List ℕ) (r : Request) → request_of value method count params ≡ Some r → FitsPositions value r
 unfolding request_of FitsPositions
-asked_fits value methods.GetClassIdentification count params r e = asked_bare value requests.GetClassIdentification tt count params r e
-asked_fits value methods.GetLockable count params r e = asked_bare value requests.GetLockable tt count params r e
-asked_fits value methods.LockTotal count params r e = asked_bare value requests.LockTotal tt count params r e
-asked_fits value methods.Unlock count params r e = asked_bare value requests.Unlock tt count params r e
-asked_fits value methods.GetRole count params r e = asked_bare value requests.GetRole tt count params r e
-asked_fits value methods.LockReadonly count params r e = asked_bare value requests.LockReadonly tt count params r e
-asked_fits value methods.GetEnabled count params r e = asked_bare value requests.GetEnabled tt count params r e
-asked_fits value methods.SetEnabled count params r e = asked_one value requests.SetEnabled (λ x. tt) (exactly 1 bool_at count params) r e
-asked_fits value methods.GetLabel count params r e = asked_bare value requests.GetLabel tt count params r e
-asked_fits value methods.SetLabel count params r e = asked_one value requests.SetLabel (λ x. tt) (exactly 1 text_at count params) r e
-asked_fits value methods.GetOwner count params r e = asked_bare value requests.GetOwner tt count params r e
-asked_fits value methods.GetMembers count params r e = asked_bare value requests.GetMembers tt count params r e
-asked_fits value methods.GetMembersRecursive count params r e = asked_bare value requests.GetMembersRecursive tt count params r e
-asked_fits value methods.GetState count params r e = asked_bare value requests.GetState tt count params r e
-asked_fits value methods.SetState count params r e = asked_one value requests.SetState (λ x. tt) (exactly 1 (unsigned_at w8) count params) r e
-asked_fits value methods.GetPosition count params r e = asked_bare value requests.GetPosition tt count params r e
-asked_fits value methods.SetPosition count params r e = asked_one value requests.SetPosition (λ x. tt) (exactly 1 (unsigned_at w16) count params) r e
-asked_fits value methods.GetPositionName count params r e = asked_one value requests.GetPositionName (λ x. tt) (exactly 1 (unsigned_at w16) count params) r e
-asked_fits value methods.SetPositionName count params r e = asked_one value (λ x. requests.SetPositionName x.0 x.1) (λ x. tt) (exactly 2 (pair_at (unsigned_at w16) text_at) count params) r e
-asked_fits value methods.GetPositionNames count params r e = asked_bare value requests.GetPositionNames tt count params r e
-asked_fits value methods.SetPositionNames count params r e = asked_list text_at value (λ x. requests.SetPositionNames (record { items = x })) (λ x l. l) count params r e
-asked_fits value methods.GetPositionEnabled count params r e = asked_one value requests.GetPositionEnabled (λ x. tt) (exactly 1 (unsigned_at w16) count params) r e
-asked_fits value methods.SetPositionEnabled count params r e = asked_one value (λ x. requests.SetPositionEnabled x.0 x.1) (λ x. tt) (exactly 2 (pair_at (unsigned_at w16) bool_at) count params) r e
-asked_fits value methods.GetPositionEnableds count params r e = asked_bare value requests.GetPositionEnableds tt count params r e
-asked_fits value methods.SetPositionEnableds count params r e = asked_list bool_at value (λ x. requests.SetPositionEnableds (record { items = x })) (λ x l. l) count params r e
-asked_fits value methods.GetSetting count params r e = asked_bare value requests.GetSetting tt count params r e
+asked_fits value methods.GetClassIdentification count params r e = asked_without_parameters value requests.GetClassIdentification tt count params r e
+asked_fits value methods.GetLockable count params r e = asked_without_parameters value requests.GetLockable tt count params r e
+asked_fits value methods.LockTotal count params r e = asked_without_parameters value requests.LockTotal tt count params r e
+asked_fits value methods.Unlock count params r e = asked_without_parameters value requests.Unlock tt count params r e
+asked_fits value methods.GetRole count params r e = asked_without_parameters value requests.GetRole tt count params r e
+asked_fits value methods.LockReadonly count params r e = asked_without_parameters value requests.LockReadonly tt count params r e
+asked_fits value methods.GetEnabled count params r e = asked_without_parameters value requests.GetEnabled tt count params r e
+asked_fits value methods.SetEnabled count params r e = asked_one value requests.SetEnabled (λ x. tt) (with_parameters 1 bool_at count params) r e
+asked_fits value methods.GetLabel count params r e = asked_without_parameters value requests.GetLabel tt count params r e
+asked_fits value methods.SetLabel count params r e = asked_one value requests.SetLabel (λ x. tt) (with_parameters 1 text_at count params) r e
+asked_fits value methods.GetOwner count params r e = asked_without_parameters value requests.GetOwner tt count params r e
+asked_fits value methods.GetMembers count params r e = asked_without_parameters value requests.GetMembers tt count params r e
+asked_fits value methods.GetMembersRecursive count params r e = asked_without_parameters value requests.GetMembersRecursive tt count params r e
+asked_fits value methods.GetState count params r e = asked_without_parameters value requests.GetState tt count params r e
+asked_fits value methods.SetState count params r e = asked_one value requests.SetState (λ x. tt) (with_parameters 1 (unsigned_at w8) count params) r e
+asked_fits value methods.GetPosition count params r e = asked_without_parameters value (requests.Switch switches.GetPosition) tt count params r e
+asked_fits value methods.SetPosition count params r e = asked_one value (λ n. requests.Switch (switches.SetPosition n)) (λ x. tt) (with_parameters 1 (unsigned_at w16) count params) r e
+asked_fits value methods.GetPositionName count params r e = asked_one value (λ n. requests.Switch (switches.GetPositionName n)) (λ x. tt) (with_parameters 1 (unsigned_at w16) count params) r e
+asked_fits value methods.SetPositionName count params r e = asked_one value (λ x. requests.Switch (switches.SetPositionName x.0 x.1)) (λ x. tt) (with_parameters 2 (pair_at (unsigned_at w16) text_at) count params) r e
+asked_fits value methods.GetPositionNames count params r e = asked_without_parameters value (requests.Switch switches.GetPositionNames) tt count params r e
+asked_fits value methods.SetPositionNames count params r e = asked_list text_at value (λ x. requests.Switch (switches.SetPositionNames x)) (λ x l. l) count params r e
+asked_fits value methods.GetPositionEnabled count params r e = asked_one value (λ n. requests.Switch (switches.GetPositionEnabled n)) (λ x. tt) (with_parameters 1 (unsigned_at w16) count params) r e
+asked_fits value methods.SetPositionEnabled count params r e = asked_one value (λ x. requests.Switch (switches.SetPositionEnabled x.0 x.1)) (λ x. tt) (with_parameters 2 (pair_at (unsigned_at w16) bool_at) count params) r e
+asked_fits value methods.GetPositionEnableds count params r e = asked_without_parameters value (requests.Switch switches.GetPositionEnableds) tt count params r e
+asked_fits value methods.SetPositionEnableds count params r e = asked_list bool_at value (λ x. requests.Switch (switches.SetPositionEnableds (record { items = x }))) (λ x l. l) count params r e
+asked_fits value methods.GetSetting count params r e = asked_without_parameters value requests.GetSetting tt count params r e
 asked_fits value methods.SetSetting count params r e = asked_setting value count params r e
 
 pub request_fits : (o : Object) (kind : MethodKind) (c : CommandFields) (r : Request) → request_at (Some o) kind c ≡ Some r → FitsPositions o.value r

@@ -17,15 +17,15 @@ use Rattle.oca_tree.specs.Locks.{lock_refuses}
 use Rattle.oca_tree.specs.Requests.{request_of, is_out_of_range, is_invalid}
 use Rattle.oca_tree.specs.Execution.{execution, refused, carried_out, answer, answer_count, changed, status_of, by_status, request_at, kind_at}
 use Rattle.oca_tree.specs.Trees.{IsTree, IsSound}
-use Rattle.oca_tree.specs.Inside.{Understood, Answered}
+use Rattle.oca_tree.specs.PrivateSteps.{IsRequestFor, IsAnsweredAs}
 use Rattle.oca_tree.proofs.Positions.{find_some, find_passes, place_found, with_object_at}
 use Rattle.oca_tree.proofs.Asked.{request_fits}
 use Rattle.oca_tree.proofs.Sound.{changed_place, changed_ono, changed_sound, written_tree}
 
-pub understood_ok : (o : Object) (peer : Peer) (c : CommandFields) (method : Method) (access : Access) (r : Request) → kind_at (Some o) c ≡ Known method access
+pub request_ok : (o : Object) (peer : Peer) (c : CommandFields) (method : Method) (access : Access) (r : Request) → kind_at (Some o) c ≡ Known method access
     → lock_refuses o.lock peer access ≡ false → request_of o.value method c.count c.params ≡ Some r → is_out_of_range o.value r ≡ false → is_invalid o.lockable o.lock r ≡ false
-    → Understood (Ok r) o peer c
-understood_ok o peer c method access r kind free asked within valid =
+    → IsRequestFor (Ok r) o peer c
+request_ok o peer c method access r kind free asked within valid =
     (rw kind asked, within, valid, λ tree. rw (kind, free, asked, within, valid) refl)
 
 module _ (tree : List Object) (peer : Peer) (c : CommandFields) where
@@ -38,10 +38,10 @@ module _ (tree : List Object) (peer : Peer) (c : CommandFields) where
     unfolding execution
     at_object = ap (λ x. by_status tree peer x (request_at x (kind_at x c) c) (status_of tree peer x c)) found
 
-    pub exec_refused : (s : Status) → Understood (Err s) o peer c → execution tree peer c ≡ refused tree s
+    pub exec_refused : (s : Status) → IsRequestFor (Err s) o peer c → execution tree peer c ≡ refused tree s
     exec_refused s h = at_object ∙ h tree
 
-    module _ (r : Request) (asked : Understood (Ok r) o peer c) where
+    module _ (r : Request) (asked : IsRequestFor (Ok r) o peer c) where
       with_request : by_status tree peer (Some o) (request_at (Some o) (kind_at (Some o) c) c) (status_of tree peer (Some o) c) ≡ by_status tree peer (Some o) (Some r) (status_of tree peer (Some o) c)
       with_request = ap (λ x. by_status tree peer (Some o) x (status_of tree peer (Some o) c)) asked.0
 
@@ -61,10 +61,10 @@ module _ (tree : List Object) (peer : Peer) (c : CommandFields) where
 same_element : (tree : List Object) (i : ℕ) (d e : Object) → i < length tree → get_or tree i d ≡ get_or tree i e
 same_element tree i d e h = let a = slice_get-get_or tree i d h in let b = slice_get-get_or tree i e h in cc
 
-pub answered_lem : (tree : List Object) (peer : Peer) (c : CommandFields) (i : ℕ) (o : Object) (r : Request) (out : List ℕ)
-    → Some i ≡ position (has_number c.target) tree → o ≡ get_or tree i o → Understood (Ok r) o peer c → out ≡ answer tree o r → length out ≤ 1452 → IsTree tree
-    → Answered (Ok (i, r)) tree out peer c
-answered_lem tree peer c i o r out place here asked is short sound =
+pub answered_at : (tree : List Object) (peer : Peer) (c : CommandFields) (i : ℕ) (o : Object) (r : Request) (out : List ℕ)
+    → Some i ≡ position (has_number c.target) tree → o ≡ get_or tree i o → IsRequestFor (Ok r) o peer c → out ≡ answer tree o r → length out ≤ 1452 → IsTree tree
+    → IsAnsweredAs (Ok (i, r)) tree out peer c
+answered_at tree peer c i o r out place here asked is short sound =
     let found : object_of tree c.target ≡ Some o = find_some (has_number c.target) tree i o place ∙ ap Some (sym here) in
     let within : i < length tree = (place_found (has_number c.target) tree i place).0 in
     let numbered : (o.ono.0 == c.target) ≡ true = find_passes (has_number c.target) tree o found in
@@ -79,8 +79,8 @@ answered_lem tree peer c i o r out place here asked is short sound =
       λ d.
           let at_d : get_or tree i d ≡ o = same_element tree i d o within ∙ sym here in
           rw at_d (
-            done ∙ ap (λ t. record { tree = t; status = statuses.Ok; count = answer_count o.value r; parameters = answer tree o r }) placed
-                ∙ ap (λ xs. record { tree = set tree i (changed o peer r); status = statuses.Ok; count = answer_count o.value r; parameters = xs }) (sym is),
+            done ∙ ap (λ t. record { tree = t; status = statuses.Ok; count = answer_count tree o r; parameters = answer tree o r }) placed
+                ∙ ap (λ xs. record { tree = set tree i (changed o peer r); status = statuses.Ok; count = answer_count tree o r; parameters = xs }) (sym is),
             asked.1,
             after,
           ),

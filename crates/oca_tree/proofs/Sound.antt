@@ -15,11 +15,13 @@ use Rattle.oca_tree.specs.declared.object.Value.{Value}
 use Rattle.oca_tree.specs.declared.object.Value.TheVariants as values
 use Rattle.oca_tree.specs.declared.request.Request.{Request}
 use Rattle.oca_tree.specs.declared.request.Request.TheVariants as requests
+use Rattle.oca_tree.specs.declared.request.SwitchRequest.{SwitchRequest}
+use Rattle.oca_tree.specs.declared.request.SwitchRequest.TheVariants as switches
 use Rattle.oca_tree.specs.Kinds.{IsOfType}
 use Rattle.oca_tree.specs.Places.{Place, place_of, places, is_block_value}
 use Rattle.oca_tree.specs.Locks.{without_lock_of, is_held_by}
-use Rattle.oca_tree.specs.Requests.{is_enabled, is_out_of_range, is_outside, is_bad_position, is_invalid}
-use Rattle.oca_tree.specs.Execution.{changed, changed_value, changed_switch, changed_range}
+use Rattle.oca_tree.specs.Requests.{is_enabled, is_out_of_range, is_outside, is_bad_position, is_bad_switch_request, is_invalid}
+use Rattle.oca_tree.specs.Execution.{changed, changed_value, changed_switch, changed_positions, changed_range}
 use Rattle.oca_tree.proofs.Asked.{FitsPositions}
 use Rattle.oca_tree.specs.Trees.{IsTree, IsSound, IsSoundValue, IsSoundRange, IsSoundSwitch}
 
@@ -54,16 +56,7 @@ changed_place o peer requests.GetMembers = placed o (changed_value o.value reque
 changed_place o peer requests.GetMembersRecursive = placed o (changed_value o.value requests.GetMembersRecursive) (value_block o.value requests.GetMembersRecursive)
 changed_place o peer requests.GetState = placed o (changed_value o.value requests.GetState) (value_block o.value requests.GetState)
 changed_place o peer (requests.SetState n) = placed o (changed_value o.value (requests.SetState n)) (value_block o.value (requests.SetState n))
-changed_place o peer requests.GetPosition = placed o (changed_value o.value requests.GetPosition) (value_block o.value requests.GetPosition)
-changed_place o peer (requests.SetPosition n) = placed o (changed_value o.value (requests.SetPosition n)) (value_block o.value (requests.SetPosition n))
-changed_place o peer (requests.GetPositionName n) = placed o (changed_value o.value (requests.GetPositionName n)) (value_block o.value (requests.GetPositionName n))
-changed_place o peer (requests.SetPositionName n text) = placed o (changed_value o.value (requests.SetPositionName n text)) (value_block o.value (requests.SetPositionName n text))
-changed_place o peer requests.GetPositionNames = placed o (changed_value o.value requests.GetPositionNames) (value_block o.value requests.GetPositionNames)
-changed_place o peer (requests.SetPositionNames texts) = placed o (changed_value o.value (requests.SetPositionNames texts)) (value_block o.value (requests.SetPositionNames texts))
-changed_place o peer (requests.GetPositionEnabled n) = placed o (changed_value o.value (requests.GetPositionEnabled n)) (value_block o.value (requests.GetPositionEnabled n))
-changed_place o peer (requests.SetPositionEnabled n truth) = placed o (changed_value o.value (requests.SetPositionEnabled n truth)) (value_block o.value (requests.SetPositionEnabled n truth))
-changed_place o peer requests.GetPositionEnableds = placed o (changed_value o.value requests.GetPositionEnableds) (value_block o.value requests.GetPositionEnableds)
-changed_place o peer (requests.SetPositionEnableds truths) = placed o (changed_value o.value (requests.SetPositionEnableds truths)) (value_block o.value (requests.SetPositionEnableds truths))
+changed_place o peer (requests.Switch request) = placed o (changed_value o.value (requests.Switch request)) (value_block o.value (requests.Switch request))
 changed_place o peer requests.GetSetting = placed o (changed_value o.value requests.GetSetting) (value_block o.value requests.GetSetting)
 changed_place o peer (requests.SetBoolean truth) = placed o (changed_value o.value (requests.SetBoolean truth)) (value_block o.value (requests.SetBoolean truth))
 changed_place o peer (requests.SetNumber n) = placed o (changed_value o.value (requests.SetNumber n)) (value_block o.value (requests.SetNumber n))
@@ -104,16 +97,7 @@ range_sound range requests.GetMembers s e = s
 range_sound range requests.GetMembersRecursive s e = s
 range_sound range requests.GetState s e = s
 range_sound range (requests.SetState n) s e = s
-range_sound range requests.GetPosition s e = s
-range_sound range (requests.SetPosition n) s e = s
-range_sound range (requests.GetPositionName n) s e = s
-range_sound range (requests.SetPositionName n text) s e = s
-range_sound range requests.GetPositionNames s e = s
-range_sound range (requests.SetPositionNames texts) s e = s
-range_sound range (requests.GetPositionEnabled n) s e = s
-range_sound range (requests.SetPositionEnabled n truth) s e = s
-range_sound range requests.GetPositionEnableds s e = s
-range_sound range (requests.SetPositionEnableds truths) s e = s
+range_sound range (requests.Switch request) s e = s
 range_sound range requests.GetSetting s e = s
 range_sound range (requests.SetBoolean truth) s e = s
 range_sound range (requests.SetNumber n) s e = number_sound range n s e
@@ -123,46 +107,49 @@ current_there : (a b : Bool) → not (a && b) ≡ false → a ≡ true
 current_there true b e = refl
 current_there false b e = cc
 
-position_there : (switch : Switch) (n : ℕ) → is_bad_position switch (requests.SetPosition n) ≡ false → n < length switch.names.items
+position_there : (switch : Switch) (n : ℕ) → is_bad_position switch (switches.SetPosition n) ≡ false → n < length switch.names.items
 position_there switch n e = let t = current_there (nat_lt n (length switch.names.items)) (is_enabled switch n) e in grind (arith, t)
 
-switch_sound : (switch : Switch) (r : Request) → IsSoundSwitch switch → is_bad_position switch r ≡ false → FitsPositions (values.Switch switch) r → IsSoundSwitch (changed_switch switch r)
+switch_sound : (switch : Switch) (r : SwitchRequest) → IsSoundSwitch switch → is_bad_position switch r ≡ false → FitsPositions (values.Switch switch) (requests.Switch r) → IsSoundSwitch (changed_switch switch r)
 unfolding FitsPositions
-switch_sound switch requests.GetClassIdentification s e f = s
-switch_sound switch requests.GetLockable s e f = s
-switch_sound switch requests.LockTotal s e f = s
-switch_sound switch requests.Unlock s e f = s
-switch_sound switch requests.GetRole s e f = s
-switch_sound switch requests.LockReadonly s e f = s
-switch_sound switch requests.GetEnabled s e f = s
-switch_sound switch (requests.SetEnabled truth) s e f = s
-switch_sound switch requests.GetLabel s e f = s
-switch_sound switch (requests.SetLabel text) s e f = s
-switch_sound switch requests.GetOwner s e f = s
-switch_sound switch requests.GetMembers s e f = s
-switch_sound switch requests.GetMembersRecursive s e f = s
-switch_sound switch requests.GetState s e f = s
-switch_sound switch (requests.SetState n) s e f = s
-switch_sound switch requests.GetPosition s e f = s
-switch_sound switch (requests.SetPosition n) s e f = record { few = s.few; both = s.both; position = position_there switch n e }
-switch_sound switch (requests.GetPositionName n) s e f = s
-switch_sound switch (requests.SetPositionName n text) s e f = record { few = rw length-set s.few; both = rw length-set s.both; position = rw length-set s.position }
-switch_sound switch requests.GetPositionNames s e f = s
-switch_sound switch (requests.SetPositionNames texts) s e f = record { few = rw f s.few; both = s.both ∙ sym f; position = rw f s.position }
-switch_sound switch (requests.GetPositionEnabled n) s e f = s
-switch_sound switch (requests.SetPositionEnabled n truth) s e f = record { few = s.few; both = rw length-set s.both; position = s.position }
-switch_sound switch requests.GetPositionEnableds s e f = s
-switch_sound switch (requests.SetPositionEnableds truths) s e f = record { few = s.few; both = f; position = s.position }
-switch_sound switch requests.GetSetting s e f = s
-switch_sound switch (requests.SetBoolean truth) s e f = s
-switch_sound switch (requests.SetNumber n) s e f = s
+switch_sound switch switches.GetPosition s e f = s
+switch_sound switch (switches.SetPosition n) s e f = record { few = s.few; both = s.both; position = position_there switch n e }
+switch_sound switch (switches.GetPositionName n) s e f = s
+switch_sound switch (switches.SetPositionName n text) s e f = record { few = rw length-set s.few; both = rw length-set s.both; position = rw length-set s.position }
+switch_sound switch switches.GetPositionNames s e f = s
+switch_sound switch (switches.SetPositionNames texts) s e f = record { few = rw f s.few; both = s.both ∙ sym f; position = rw f s.position }
+switch_sound switch (switches.GetPositionEnabled n) s e f = s
+switch_sound switch (switches.SetPositionEnabled n truth) s e f = record { few = s.few; both = rw length-set s.both; position = s.position }
+switch_sound switch switches.GetPositionEnableds s e f = s
+switch_sound switch (switches.SetPositionEnableds truths) s e f = record { few = s.few; both = f; position = s.position }
+
+positions_sound : (switch : Switch) (r : Request) → IsSoundSwitch switch → is_bad_switch_request switch r ≡ false → FitsPositions (values.Switch switch) r → IsSoundSwitch (changed_positions switch r)
+positions_sound switch requests.GetClassIdentification s e f = s
+positions_sound switch requests.GetLockable s e f = s
+positions_sound switch requests.LockTotal s e f = s
+positions_sound switch requests.Unlock s e f = s
+positions_sound switch requests.GetRole s e f = s
+positions_sound switch requests.LockReadonly s e f = s
+positions_sound switch requests.GetEnabled s e f = s
+positions_sound switch (requests.SetEnabled truth) s e f = s
+positions_sound switch requests.GetLabel s e f = s
+positions_sound switch (requests.SetLabel text) s e f = s
+positions_sound switch requests.GetOwner s e f = s
+positions_sound switch requests.GetMembers s e f = s
+positions_sound switch requests.GetMembersRecursive s e f = s
+positions_sound switch requests.GetState s e f = s
+positions_sound switch (requests.SetState n) s e f = s
+positions_sound switch (requests.Switch request) s e f = switch_sound switch request s e f
+positions_sound switch requests.GetSetting s e f = s
+positions_sound switch (requests.SetBoolean truth) s e f = s
+positions_sound switch (requests.SetNumber n) s e f = s
 
 value_sound : (v : Value) (r : Request) → IsSoundValue v → is_out_of_range v r ≡ false → FitsPositions v r → IsSoundValue (changed_value v r)
 unfolding changed_value is_out_of_range IsSoundValue
 value_sound values.Block r s e f = tt
 value_sound (values.Mute state) r s e f = tt
 value_sound (values.Polarity state) r s e f = tt
-value_sound (values.Switch switch) r s e f = switch_sound switch r s e f
+value_sound (values.Switch switch) r s e f = positions_sound switch r s e f
 value_sound (values.Boolean truth) r s e f = tt
 value_sound (values.Number range) r s e f = range_sound range r s e
 
@@ -186,16 +173,7 @@ changed_sound o peer requests.GetMembers s range valid f = record { value = valu
 changed_sound o peer requests.GetMembersRecursive s range valid f = record { value = value_sound o.value requests.GetMembersRecursive s.value range f; lock = s.lock }
 changed_sound o peer requests.GetState s range valid f = record { value = value_sound o.value requests.GetState s.value range f; lock = s.lock }
 changed_sound o peer (requests.SetState n) s range valid f = record { value = value_sound o.value (requests.SetState n) s.value range f; lock = s.lock }
-changed_sound o peer requests.GetPosition s range valid f = record { value = value_sound o.value requests.GetPosition s.value range f; lock = s.lock }
-changed_sound o peer (requests.SetPosition n) s range valid f = record { value = value_sound o.value (requests.SetPosition n) s.value range f; lock = s.lock }
-changed_sound o peer (requests.GetPositionName n) s range valid f = record { value = value_sound o.value (requests.GetPositionName n) s.value range f; lock = s.lock }
-changed_sound o peer (requests.SetPositionName n text) s range valid f = record { value = value_sound o.value (requests.SetPositionName n text) s.value range f; lock = s.lock }
-changed_sound o peer requests.GetPositionNames s range valid f = record { value = value_sound o.value requests.GetPositionNames s.value range f; lock = s.lock }
-changed_sound o peer (requests.SetPositionNames texts) s range valid f = record { value = value_sound o.value (requests.SetPositionNames texts) s.value range f; lock = s.lock }
-changed_sound o peer (requests.GetPositionEnabled n) s range valid f = record { value = value_sound o.value (requests.GetPositionEnabled n) s.value range f; lock = s.lock }
-changed_sound o peer (requests.SetPositionEnabled n truth) s range valid f = record { value = value_sound o.value (requests.SetPositionEnabled n truth) s.value range f; lock = s.lock }
-changed_sound o peer requests.GetPositionEnableds s range valid f = record { value = value_sound o.value requests.GetPositionEnableds s.value range f; lock = s.lock }
-changed_sound o peer (requests.SetPositionEnableds truths) s range valid f = record { value = value_sound o.value (requests.SetPositionEnableds truths) s.value range f; lock = s.lock }
+changed_sound o peer (requests.Switch request) s range valid f = record { value = value_sound o.value (requests.Switch request) s.value range f; lock = s.lock }
 changed_sound o peer requests.GetSetting s range valid f = record { value = value_sound o.value requests.GetSetting s.value range f; lock = s.lock }
 changed_sound o peer (requests.SetBoolean truth) s range valid f = record { value = value_sound o.value (requests.SetBoolean truth) s.value range f; lock = s.lock }
 changed_sound o peer (requests.SetNumber n) s range valid f = record { value = value_sound o.value (requests.SetNumber n) s.value range f; lock = s.lock }

@@ -24,6 +24,8 @@ use Rattle.oca_tree.specs.declared.object.Value.{Value}
 use Rattle.oca_tree.specs.declared.object.Value.TheVariants as values
 use Rattle.oca_tree.specs.declared.request.Request.{Request}
 use Rattle.oca_tree.specs.declared.request.Request.TheVariants as requests
+use Rattle.oca_tree.specs.declared.request.SwitchRequest.{SwitchRequest}
+use Rattle.oca_tree.specs.declared.request.SwitchRequest.TheVariants as switches
 use Rattle.oca_tree.specs.Kinds.{number_encoding}
 use Rattle.oca_tree.specs.Objects.{class_of, object_of, with_object, members, descendants}
 use Rattle.oca_tree.specs.Locks.{lock_refuses}
@@ -53,99 +55,61 @@ polarity_number Inverted = 2
 
 -- ---- what each method answers
 
-abbrev pub state_answer : Value → List ℕ
-state_answer (values.Mute state) = unsigned_encoding w8 (mute_number state)
-state_answer (values.Polarity state) = unsigned_encoding w8 (polarity_number state)
-state_answer _ = []
+-- no other value has a state
+abbrev pub state_encoding : Value → List ℕ
+state_encoding (values.Mute state) = unsigned_encoding w8 (mute_number state)
+state_encoding (values.Polarity state) = unsigned_encoding w8 (polarity_number state)
+state_encoding _ = []
 
+abbrev pub position_parameters : Switch → SwitchRequest → List (List ℕ)
 -- the position, the least and the greatest
-abbrev pub position_answer : Switch → List ℕ
-position_answer switch =
-    unsigned_encoding w16 switch.position ++ unsigned_encoding w16 0 ++ unsigned_encoding w16 (length switch.names.items - 1)
+position_parameters switch switches.GetPosition =
+    unsigned_encoding w16 switch.position ∷ unsigned_encoding w16 0 ∷ unsigned_encoding w16 (length switch.names.items - 1) ∷ []
+position_parameters switch (switches.GetPositionName n) = text_encoding (slice_index_or switch.names.items n []) ∷ []
+position_parameters switch switches.GetPositionNames = list_encoding text_encoding switch.names.items ∷ []
+position_parameters switch (switches.GetPositionEnabled n) = bool_encoding (slice_index_or switch.enableds.items n false) ∷ []
+position_parameters switch switches.GetPositionEnableds = list_encoding bool_encoding switch.enableds.items ∷ []
+position_parameters switch _ = []
 
-abbrev pub switch_answer : Switch → Request → List ℕ
-switch_answer switch requests.GetPosition = position_answer switch
-switch_answer switch (requests.GetPositionName n) = text_encoding (slice_index_or switch.names.items n [])
-switch_answer switch requests.GetPositionNames = list_encoding text_encoding switch.names.items
-switch_answer switch (requests.GetPositionEnabled n) = bool_encoding (slice_index_or switch.enableds.items n false)
-switch_answer switch requests.GetPositionEnableds = list_encoding bool_encoding switch.enableds.items
-switch_answer switch _ = []
-
-abbrev pub position_request_answer : Value → Request → List ℕ
-position_request_answer (values.Switch switch) request = switch_answer switch request
-position_request_answer _ request = []
+abbrev pub switch_parameters : Value → SwitchRequest → List (List ℕ)
+switch_parameters (values.Switch switch) request = position_parameters switch request
+switch_parameters _ request = []
 
 -- the setting, and of a number its least and its greatest too
-abbrev pub setting_answer : Value → List ℕ
-setting_answer (values.Boolean truth) = bool_encoding truth
-setting_answer (values.Number range) =
-    number_encoding range.kind range.setting ++ number_encoding range.kind range.least ++ number_encoding range.kind range.greatest
-setting_answer _ = []
+abbrev pub setting_parameters : Value → List (List ℕ)
+setting_parameters (values.Boolean truth) = bool_encoding truth ∷ []
+setting_parameters (values.Number range) =
+    number_encoding range.kind range.setting ∷ number_encoding range.kind range.least ∷ number_encoding range.kind range.greatest ∷ []
+setting_parameters _ = []
 
-unfoldable pub answer : List Object → Object → Request → List ℕ
-answer tree o requests.GetClassIdentification = class_identification_encoding (class_of o.value)
-answer tree o requests.GetLockable = bool_encoding o.lockable
-answer tree o requests.LockTotal = []
-answer tree o requests.Unlock = []
-answer tree o requests.GetRole = text_encoding o.role
-answer tree o requests.LockReadonly = []
-answer tree o requests.GetEnabled = bool_encoding o.enabled
-answer tree o (requests.SetEnabled truth) = []
-answer tree o requests.GetLabel = text_encoding o.label
-answer tree o (requests.SetLabel text) = []
-answer tree o requests.GetOwner = unsigned_encoding w32 o.container.0
-answer tree o requests.GetMembers = list_encoding identification_encoding (members tree o.ono.0)
-answer tree o requests.GetMembersRecursive = list_encoding block_member_encoding (descendants tree o.ono.0)
-answer tree o requests.GetState = state_answer o.value
-answer tree o (requests.SetState n) = []
-answer tree o requests.GetPosition = position_request_answer o.value requests.GetPosition
-answer tree o (requests.SetPosition n) = []
-answer tree o (requests.GetPositionName n) = position_request_answer o.value (requests.GetPositionName n)
-answer tree o (requests.SetPositionName n text) = []
-answer tree o requests.GetPositionNames = position_request_answer o.value requests.GetPositionNames
-answer tree o (requests.SetPositionNames texts) = []
-answer tree o (requests.GetPositionEnabled n) = position_request_answer o.value (requests.GetPositionEnabled n)
-answer tree o (requests.SetPositionEnabled n truth) = []
-answer tree o requests.GetPositionEnableds = position_request_answer o.value requests.GetPositionEnableds
-answer tree o (requests.SetPositionEnableds truths) = []
-answer tree o requests.GetSetting = setting_answer o.value
-answer tree o (requests.SetBoolean truth) = []
-answer tree o (requests.SetNumber n) = []
+-- the parameters of the answer, each encoded; what sets or locks answers its status alone
+unfoldable pub parameters : List Object → Object → Request → List (List ℕ)
+parameters tree o requests.GetClassIdentification = class_identification_encoding (class_of o.value) ∷ []
+parameters tree o requests.GetLockable = bool_encoding o.lockable ∷ []
+parameters tree o requests.GetRole = text_encoding o.role ∷ []
+parameters tree o requests.GetEnabled = bool_encoding o.enabled ∷ []
+parameters tree o requests.GetLabel = text_encoding o.label ∷ []
+parameters tree o requests.GetOwner = unsigned_encoding w32 o.container.0 ∷ []
+parameters tree o requests.GetMembers = list_encoding identification_encoding (members tree o.ono.0) ∷ []
+parameters tree o requests.GetMembersRecursive = list_encoding block_member_encoding (descendants tree o.ono.0) ∷ []
+parameters tree o requests.GetState = state_encoding o.value ∷ []
+parameters tree o (requests.Switch request) = switch_parameters o.value request
+parameters tree o requests.GetSetting = setting_parameters o.value
+parameters tree o _ = []
+
+-- one after another
+abbrev pub joined : List (List ℕ) → List ℕ
+joined [] = []
+joined (x ∷ []) = x
+joined (x ∷ y ∷ xs) = x ++ joined (y ∷ xs)
+
+-- the bytes of the answer's parameters
+abbrev pub answer : List Object → Object → Request → List ℕ
+answer tree o request = joined (parameters tree o request)
 
 -- how many parameters the answer has (ParamCount)
-abbrev pub setting_count : Value → ℕ
-setting_count (values.Number range) = 3
-setting_count _ = 1
-
-unfoldable pub answer_count : Value → Request → ℕ
-answer_count value requests.GetClassIdentification = 1
-answer_count value requests.GetLockable = 1
-answer_count value requests.LockTotal = 0
-answer_count value requests.Unlock = 0
-answer_count value requests.GetRole = 1
-answer_count value requests.LockReadonly = 0
-answer_count value requests.GetEnabled = 1
-answer_count value (requests.SetEnabled truth) = 0
-answer_count value requests.GetLabel = 1
-answer_count value (requests.SetLabel text) = 0
-answer_count value requests.GetOwner = 1
-answer_count value requests.GetMembers = 1
-answer_count value requests.GetMembersRecursive = 1
-answer_count value requests.GetState = 1
-answer_count value (requests.SetState n) = 0
-answer_count value requests.GetPosition = 3
-answer_count value (requests.SetPosition n) = 0
-answer_count value (requests.GetPositionName n) = 1
-answer_count value (requests.SetPositionName n text) = 0
-answer_count value requests.GetPositionNames = 1
-answer_count value (requests.SetPositionNames texts) = 0
-answer_count value (requests.GetPositionEnabled n) = 1
-answer_count value (requests.SetPositionEnabled n truth) = 0
-answer_count value requests.GetPositionEnableds = 1
-answer_count value (requests.SetPositionEnableds truths) = 0
-answer_count value requests.GetSetting = setting_count value
-answer_count value (requests.SetBoolean truth) = 0
-answer_count value (requests.SetNumber n) = 0
+abbrev pub answer_count : List Object → Object → Request → ℕ
+answer_count tree o request = length (parameters tree o request)
 
 -- ---- what each method changes
 
@@ -163,13 +127,17 @@ abbrev pub changed_polarity : PolarityState → Request → PolarityState
 changed_polarity state (requests.SetState n) = polarity_state n
 changed_polarity state _ = state
 
-abbrev pub changed_switch : Switch → Request → Switch
-changed_switch switch (requests.SetPosition n) = record switch { position = n }
-changed_switch switch (requests.SetPositionName n text) = record switch { names = record { items = slice_set switch.names.items n text } }
-changed_switch switch (requests.SetPositionNames texts) = record switch { names = texts }
-changed_switch switch (requests.SetPositionEnabled n truth) = record switch { enableds = record { items = slice_set switch.enableds.items n truth } }
-changed_switch switch (requests.SetPositionEnableds truths) = record switch { enableds = truths }
+abbrev pub changed_switch : Switch → SwitchRequest → Switch
+changed_switch switch (switches.SetPosition n) = record switch { position = n }
+changed_switch switch (switches.SetPositionName n text) = record switch { names = record { items = slice_set switch.names.items n text } }
+changed_switch switch (switches.SetPositionNames texts) = record switch { names = record { items = texts } }
+changed_switch switch (switches.SetPositionEnabled n truth) = record switch { enableds = record { items = slice_set switch.enableds.items n truth } }
+changed_switch switch (switches.SetPositionEnableds truths) = record switch { enableds = truths }
 changed_switch switch _ = switch
+
+abbrev pub changed_positions : Switch → Request → Switch
+changed_positions switch (requests.Switch request) = changed_switch switch request
+changed_positions switch _ = switch
 
 abbrev pub changed_truth : Bool → Request → Bool
 changed_truth truth (requests.SetBoolean set) = set
@@ -184,7 +152,7 @@ unfoldable pub changed_value : Value → Request → Value
 changed_value values.Block request = values.Block
 changed_value (values.Mute state) request = values.Mute (changed_mute state request)
 changed_value (values.Polarity state) request = values.Polarity (changed_polarity state request)
-changed_value (values.Switch switch) request = values.Switch (changed_switch switch request)
+changed_value (values.Switch switch) request = values.Switch (changed_positions switch request)
 changed_value (values.Boolean truth) request = values.Boolean (changed_truth truth request)
 changed_value (values.Number range) request = values.Number (changed_range range request)
 
@@ -263,7 +231,7 @@ refused tree status = record { tree = tree; status = status; count = 0; paramete
 
 abbrev pub carried_out : List Object → Peer → Object → Request → Execution
 carried_out tree peer o r =
-    record { tree = with_object tree (changed o peer r); status = status.Ok; count = answer_count o.value r; parameters = answer tree o r }
+    record { tree = with_object tree (changed o peer r); status = status.Ok; count = answer_count tree o r; parameters = answer tree o r }
 
 -- a command is carried out where its status is OK, and else refused
 abbrev pub by_status : List Object → Peer → Option Object → Option Request → Status → Execution

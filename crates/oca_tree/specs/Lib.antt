@@ -2,10 +2,11 @@ pub mod Kinds
 pub mod Places
 pub mod Objects
 pub mod Locks
+pub mod Parameters
 pub mod Requests
 pub mod Execution
 pub mod Trees
 pub mod Building
 pub mod Bench
 pub mod Readers
-pub mod Inside
+pub mod PrivateSteps

@@ -5,16 +5,21 @@ ghost use Rattle.std.specs.Int.{w8};
 ghost use Rattle.oca_types.specs.Numbers.{bool_encoding};
 ghost use Rattle.oca_types.specs.Texts.{text_encoding};
 ghost use Rattle.oca_tree.specs.Requests.{is_out_of_range};
-ghost use Rattle.oca_tree.specs.Execution.{list_encoding, state_answer, position_answer, switch_answer, position_request_answer, setting_answer, answer, answer_count, mute_number, polarity_number};
+ghost use Rattle.oca_tree.specs.Execution.{list_encoding, state_encoding, position_parameters, switch_parameters, setting_parameters, joined, answer, answer_count, mute_number, polarity_number};
 ghost use Rattle.oca_tree.specs.Requests.{is_bad_position};
 ghost use Rattle.oca_tree.specs.Trees.{IsSoundValue, IsSoundSwitch, IsSoundRange};
-ghost use Rattle.oca_tree.specs.Inside.{Puts, is_listed, item_encoding};
+ghost use Rattle.oca_tree.specs.PrivateSteps.{Puts, is_listed, item_encoding};
+ghost use Rattle.std.specs.Prelude.{List};
+ghost use Rattle.oca_tree.specs.declared.object.Object.{Object as AnObject};
+ghost use Rattle.oca_tree.specs.declared.object.Switch.{Switch};
 ghost use Rattle.oca_tree.specs.declared.object.Value.TheVariants.{Number};
+ghost use Rattle.oca_tree.specs.declared.request.Request.TheVariants.{Switch as AsSwitch};
+ghost use Rattle.oca_tree.specs.declared.request.SwitchRequest.TheVariants.{GetPosition};
 
 use crate::object::{MuteState, Object, PolarityState, Range, Switch, Value};
 use crate::place::reaches;
 use crate::put::{put_bool, put_class, put_number, put_text, put_u8, put_u16, put_u32};
-use crate::request::Request;
+use crate::request::{Request, SwitchRequest};
 use oca_types::{Ono, Params, PutFault, Text};
 
 /// An object's number and class, and where all descendants are listed its container too.
@@ -83,7 +88,7 @@ pub(crate) fn polarity_number(state: PolarityState) -> u8
 }
 
 fn put_state(out: &mut Params, value: &Value) -> Result<(), PutFault>
-    ensures { Puts result out.old.items out.new.items (state_answer value.now) }
+    ensures { Puts result out.old.items out.new.items (state_encoding value.now) }
 {
     match value {
         Value::Mute(state) => put_u8(out, mute_number(*state)),
@@ -95,7 +100,7 @@ fn put_state(out: &mut Params, value: &Value) -> Result<(), PutFault>
 /// The position, the least and the greatest.
 fn put_position(out: &mut Params, switch: &Switch) -> Result<(), PutFault>
     requires { IsSoundSwitch switch.now }
-    ensures { Puts result out.old.items out.new.items (position_answer switch.now) }
+    ensures { Puts result out.old.items out.new.items (joined (position_parameters switch.now GetPosition)) }
 {
     put_u16(out, switch.position)?;
     put_u16(out, 0)?;
@@ -136,30 +141,32 @@ fn put_bool_list(out: &mut Params, truths: &[bool]) -> Result<(), PutFault>
     put_bools(out, truths)
 }
 
-fn put_switch_answer(out: &mut Params, switch: &Switch, request: &Request) -> Result<(), PutFault>
+/// What a switch answers.
+fn put_switch_answer(out: &mut Params, switch: &Switch, request: &SwitchRequest<'_>) -> Result<(), PutFault>
     requires sound { IsSoundSwitch switch.now }
     requires there { is_bad_position switch.now request.now ≡ false }
-    ensures { Puts result out.old.items out.new.items (switch_answer switch.now request.now) }
+    ensures { Puts result out.old.items out.new.items (joined (position_parameters switch.now request.now)) }
 {
     match request {
-        Request::GetPosition => put_position(out, switch),
-        Request::GetPositionName(position) => {
+        SwitchRequest::GetPosition => put_position(out, switch),
+        SwitchRequest::GetPositionName(position) => {
             put_text(out, &switch.names[usize::from(*position)])
         }
-        Request::GetPositionNames => put_text_list(out, &switch.names),
-        Request::GetPositionEnabled(position) => {
+        SwitchRequest::GetPositionNames => put_text_list(out, &switch.names),
+        SwitchRequest::GetPositionEnabled(position) => {
             put_bool(out, switch.enableds[usize::from(*position)])
         }
-        Request::GetPositionEnableds => put_bool_list(out, &switch.enableds),
+        SwitchRequest::GetPositionEnableds => put_bool_list(out, &switch.enableds),
         _ => Ok(()),
     }
 }
 
+/// What a switch answers; any other value answers nothing to it.
 #[tactic(auto, unfolding(crate::specs::Requests::is_out_of_range, crate::specs::Trees::IsSoundValue))]
-fn put_position_answer(out: &mut Params, value: &Value, request: &Request) -> Result<(), PutFault>
+fn put_position_answer(out: &mut Params, value: &Value, request: &SwitchRequest<'_>) -> Result<(), PutFault>
     requires sound { IsSoundValue value.now }
-    requires there { is_out_of_range value.now request.now ≡ false }
-    ensures { Puts result out.old.items out.new.items (position_request_answer value.now request.now) }
+    requires there { is_out_of_range value.now (AsSwitch request.now) ≡ false }
+    ensures { Puts result out.old.items out.new.items (joined (switch_parameters value.now request.now)) }
 {
     match value {
         Value::Switch(switch) => put_switch_answer(out, switch, request),
@@ -167,9 +174,10 @@ fn put_position_answer(out: &mut Params, value: &Value, request: &Request) -> Re
     }
 }
 
+/// The setting of a number, its least and its greatest.
 fn put_range(out: &mut Params, range: &Range) -> Result<(), PutFault>
     requires { IsSoundRange range.now }
-    ensures { Puts result out.old.items out.new.items (setting_answer (Number range.now)) }
+    ensures { Puts result out.old.items out.new.items (joined (setting_parameters (Number range.now))) }
 {
     put_number(out, range.kind, range.setting)?;
     put_number(out, range.kind, range.least)?;
@@ -180,7 +188,7 @@ fn put_range(out: &mut Params, range: &Range) -> Result<(), PutFault>
 #[tactic(auto, unfolding(crate::specs::Trees::IsSoundValue))]
 fn put_setting(out: &mut Params, value: &Value) -> Result<(), PutFault>
     requires { IsSoundValue value.now }
-    ensures { Puts result out.old.items out.new.items (setting_answer value.now) }
+    ensures { Puts result out.old.items out.new.items (joined (setting_parameters value.now)) }
 {
     match value {
         Value::Boolean(truth) => put_bool(out, *truth),
@@ -189,10 +197,24 @@ fn put_setting(out: &mut Params, value: &Value) -> Result<(), PutFault>
     }
 }
 
+/// How many parameters a switch answers.
+fn switch_answer_count(request: &SwitchRequest<'_>) -> u8
+    ensures { (switch : Switch) → result ≡ length (position_parameters switch request.now) }
+{
+    match request {
+        SwitchRequest::GetPosition => 3,
+        SwitchRequest::GetPositionName(_)
+        | SwitchRequest::GetPositionNames
+        | SwitchRequest::GetPositionEnabled(_)
+        | SwitchRequest::GetPositionEnableds => 1,
+        _ => 0,
+    }
+}
+
 /// How many parameters the answer has.
-#[tactic(auto, unfolding(crate::specs::Execution::answer_count))]
-pub(crate) fn answer_count(value: &Value, request: &Request) -> u8
-    ensures { result ≡ answer_count value.now request.now }
+#[tactic(auto, unfolding(crate::specs::Execution::parameters))]
+pub(crate) fn answer_count(object: &Object, request: &Request<'_>) -> u8
+    ensures { (tree : List AnObject) → result ≡ answer_count tree object.now request.now }
 {
     match request {
         Request::GetClassIdentification
@@ -203,27 +225,27 @@ pub(crate) fn answer_count(value: &Value, request: &Request) -> u8
         | Request::GetOwner
         | Request::GetMembers
         | Request::GetMembersRecursive
-        | Request::GetState
-        | Request::GetPositionName(_)
-        | Request::GetPositionNames
-        | Request::GetPositionEnabled(_)
-        | Request::GetPositionEnableds => 1,
-        Request::GetPosition => 3,
-        Request::GetSetting => match value {
+        | Request::GetState => 1,
+        Request::Switch(request) => match &object.value {
+            Value::Switch(_) => switch_answer_count(request),
+            _ => 0,
+        },
+        Request::GetSetting => match &object.value {
             Value::Number(_) => 3,
-            _ => 1,
+            Value::Boolean(_) => 1,
+            _ => 0,
         },
         _ => 0,
     }
 }
 
 /// The parameters of the answer.
-#[tactic(auto, unfolding(crate::specs::Execution::answer))]
+#[tactic(auto, unfolding(crate::specs::Execution::parameters))]
 pub(crate) fn put_answer(
     out: &mut Params,
     objects: &[Object],
     object: &Object,
-    request: &Request,
+    request: &Request<'_>,
 ) -> Result<(), PutFault>
     requires sound { IsSoundValue object.now.value }
     requires range { is_out_of_range object.now.value request.now ≡ false }
@@ -240,11 +262,7 @@ pub(crate) fn put_answer(
         Request::GetMembers => put_members(out, objects, object.ono, false),
         Request::GetMembersRecursive => put_members(out, objects, object.ono, true),
         Request::GetState => put_state(out, &object.value),
-        Request::GetPosition
-        | Request::GetPositionName(_)
-        | Request::GetPositionNames
-        | Request::GetPositionEnabled(_)
-        | Request::GetPositionEnableds => put_position_answer(out, &object.value, request),
+        Request::Switch(request) => put_position_answer(out, &object.value, request),
         Request::GetSetting => put_setting(out, &object.value),
         _ => Ok(()),
     }

@@ -4,7 +4,7 @@ ghost use Rattle.std.specs.List.{list_any};
 ghost use Rattle.oca_tree.specs.Kinds.{IsOfType};
 ghost use Rattle.oca_tree.specs.Building.{Adds, value_of, switch, number, has_bad_name, is_long, root};
 ghost use Rattle.oca_tree.specs.Trees.{IsTree, IsSoundValue};
-ghost use Rattle.oca_tree.specs.Inside.{Makes, MakesValue};
+ghost use Rattle.oca_tree.specs.PrivateSteps.{Makes, MakesValue};
 ghost use Rattle.oca_tree.specs.declared.builder.AddFault.TheVariants.{NoMemory};
 
 use crate::object::{MuteState, NumberKind, Object, PolarityState, Range, Switch, Value};

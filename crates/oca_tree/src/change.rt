@@ -6,9 +6,10 @@ ghost use Rattle.oca_tree.specs.Requests.{is_bad_position};
 ghost use Rattle.oca_tree.specs.Trees.{IsSoundValue, IsSoundSwitch};
 
 use crate::object::{Lock, LockKind, MuteState, Object, PolarityState, Switch, Value};
-use crate::request::Request;
+use crate::request::{Request, SwitchRequest};
 use oca_types::Peer;
 
+/// The state of a mute with this number: 1 is muted.
 fn mute_state(state: u8) -> MuteState
     ensures { result ≡ mute_state state }
 {
@@ -19,6 +20,7 @@ fn mute_state(state: u8) -> MuteState
     }
 }
 
+/// The state of a polarity with this number: 1 is not inverted.
 fn polarity_state(state: u8) -> PolarityState
     ensures { result ≡ polarity_state state }
 {
@@ -29,29 +31,32 @@ fn polarity_state(state: u8) -> PolarityState
     }
 }
 
-fn change_switch(switch: &mut Switch, request: Request)
+/// Sets what is asked of a switch; what only reads leaves it.
+fn change_switch(switch: &mut Switch, request: SwitchRequest<'_>)
     requires sound { IsSoundSwitch switch.old }
     requires there { is_bad_position switch.old request ≡ false }
-    ensures { switch.new ≡ changed_switch switch.old request }
+    ensures { switch.new ≡ changed_switch switch.old request.entry }
 {
     match request {
-        Request::SetPosition(position) => switch.position = position,
-        Request::SetPositionName(position, name) => switch.names[usize::from(position)] = name,
-        Request::SetPositionNames(names) => switch.names = names,
-        Request::SetPositionEnabled(position, truth) => {
+        SwitchRequest::SetPosition(position) => switch.position = position,
+        SwitchRequest::SetPositionName(position, name) => {
+            switch.names[usize::from(position)] = name.text();
+        }
+        SwitchRequest::SetPositionNames(names) => switch.names = names.texts(),
+        SwitchRequest::SetPositionEnabled(position, truth) => {
             switch.enableds[usize::from(position)] = truth;
         }
-        Request::SetPositionEnableds(truths) => switch.enableds = truths,
+        SwitchRequest::SetPositionEnableds(truths) => switch.enableds = truths,
         _ => {}
     }
 }
 
 /// Sets what a request sets of a value; any other leaves it.
 #[tactic(auto, unfolding(crate::specs::Execution::changed_value, crate::specs::Requests::is_out_of_range, crate::specs::Trees::IsSoundValue))]
-fn change_value(value: &mut Value, request: Request)
+fn change_value(value: &mut Value, request: Request<'_>)
     requires sound { IsSoundValue value.old }
     requires there { is_out_of_range value.old request ≡ false }
-    ensures { value.new ≡ changed_value value.old request }
+    ensures { value.new ≡ changed_value value.old request.entry }
 {
     match value {
         Value::Mute(state) => {
@@ -64,7 +69,11 @@ fn change_value(value: &mut Value, request: Request)
                 *state = polarity_state(number);
             }
         }
-        Value::Switch(switch) => change_switch(switch, request),
+        Value::Switch(switch) => {
+            if let Request::Switch(request) = request {
+                change_switch(switch, request);
+            }
+        }
         Value::Boolean(truth) => {
             if let Request::SetBoolean(set) = request {
                 *truth = set;
@@ -81,10 +90,10 @@ fn change_value(value: &mut Value, request: Request)
 
 /// Carries out what a request changes.
 #[tactic(auto, unfolding(crate::specs::Execution::changed))]
-pub(crate) fn change(object: &mut Object, peer: Peer, request: Request)
+pub(crate) fn change(object: &mut Object, peer: Peer, request: Request<'_>)
     requires sound { IsSoundValue object.old.value }
     requires range { is_out_of_range object.old.value request ≡ false }
-    ensures { object.new ≡ changed object.old peer request }
+    ensures { object.new ≡ changed object.old peer request.entry }
 {
     match request {
         Request::LockTotal => {
@@ -101,7 +110,7 @@ pub(crate) fn change(object: &mut Object, peer: Peer, request: Request)
         }
         Request::Unlock => object.lock = None,
         Request::SetEnabled(enabled) => object.enabled = enabled,
-        Request::SetLabel(label) => object.label = label,
+        Request::SetLabel(label) => object.label = label.text(),
         other => change_value(&mut object.value, other),
     }
 }

@@ -5,7 +5,7 @@ ghost use Rattle.oca_types.specs.Methods.{method_kind};
 ghost use Rattle.oca_types.specs.declared.class.MethodKind.TheVariants.{Known};
 ghost use Rattle.oca_tree.specs.Objects.{class_of};
 ghost use Rattle.oca_tree.specs.Trees.{IsTree, IsSound};
-ghost use Rattle.oca_tree.specs.Inside.{Understood, Answered, Executes};
+ghost use Rattle.oca_tree.specs.PrivateSteps.{IsRequestFor, IsAnsweredAs, Executes};
 
 use crate::answer::{answer_count, put_answer};
 use crate::change::change;
@@ -15,16 +15,16 @@ use crate::request::Request;
 use oca_types::{Access, Command, Method, MethodKind, Params, Peer, Status, method_of};
 
 /// What a command asks by this method of an object, or why it is refused.
-fn admitted(
+fn check_request<'a>(
     object: &Object,
     peer: Peer,
-    command: &Command<'_>,
+    command: &Command<'a>,
     method: Method,
     access: Access,
-) -> Result<Request, Status>
+) -> Result<Request<'a>, Status>
     requires sound { IsSound object.now }
     requires known { method_kind (class_of object.now.value) command.now.method ≡ Known method access }
-    ensures { Understood result object.now peer (fields_of command.now) }
+    ensures { IsRequestFor result object.now peer (fields_of command.now) }
 {
     if object.is_locked_for(peer, access) {
         return Err(Status::Locked);
@@ -42,33 +42,33 @@ fn admitted(
 }
 
 /// What a command asks of an object, or why it is refused.
-fn understood(object: &Object, peer: Peer, command: &Command<'_>) -> Result<Request, Status>
+fn request_for<'a>(object: &Object, peer: Peer, command: &Command<'a>) -> Result<Request<'a>, Status>
     requires { IsSound object.now }
-    ensures { Understood result object.now peer (fields_of command.now) }
+    ensures { IsRequestFor result object.now peer (fields_of command.now) }
 {
     match method_of(object.class(), command.method) {
-        MethodKind::Known(method, access) => admitted(object, peer, command, method, access),
+        MethodKind::Known(method, access) => check_request(object, peer, command, method, access),
         MethodKind::LeftOut => Err(Status::NotImplemented),
         MethodKind::Unknown => Err(Status::BadMethod),
     }
 }
 
 /// Finds what a command asks and answers it, or refuses it. It changes no object.
-fn answered(
+fn find_and_answer<'a>(
     objects: &[Object],
     peer: Peer,
-    command: &Command<'_>,
+    command: &Command<'a>,
     out: &mut Params,
-) -> Result<(usize, Request), Status>
+) -> Result<(usize, Request<'a>), Status>
     requires empty { out.old.items ≡ [] }
     requires tree { IsTree objects.now }
-    ensures { Answered result objects.now out.new.items peer (fields_of command.now) }
+    ensures { IsAnsweredAs result objects.now out.new.items peer (fields_of command.now) }
 {
     let Some(at) = place_of(objects, command.target) else {
         return Err(Status::BadOno);
     };
     let object = &objects[at];
-    let request = understood(object, peer, command)?;
+    let request = request_for(object, peer, command)?;
     if put_answer(out, objects, object, &request).is_err() {
         return Err(Status::BufferOverflow);
     }
@@ -88,9 +88,9 @@ pub(crate) fn carry_out(
     ensures done { Executes result objects.old objects.new out.new.items peer (fields_of command.now) }
     ensures tree { IsTree objects.new }
 {
-    let (at, request) = answered(objects, peer, command, out)?;
+    let (at, request) = find_and_answer(objects, peer, command, out)?;
     let object = &mut objects[at];
-    let count = answer_count(&object.value, &request);
+    let count = answer_count(object, &request);
     change(object, peer, request);
     Ok(count)
 }

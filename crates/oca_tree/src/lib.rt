@@ -9,6 +9,7 @@ mod bench_tree;
 mod builder;
 mod change;
 mod execute;
+mod held;
 mod object;
 mod place;
 mod put;

@@ -5,7 +5,7 @@ ghost use Rattle.oca_types.specs.Numbers.{unsigned_encoding, bool_encoding};
 ghost use Rattle.oca_types.specs.Texts.{text_encoding};
 ghost use Rattle.oca_types.specs.Classes.{class_identification_encoding};
 ghost use Rattle.oca_tree.specs.Kinds.{number_encoding, IsOfType};
-ghost use Rattle.oca_tree.specs.Inside.{Puts};
+ghost use Rattle.oca_tree.specs.PrivateSteps.{Puts};
 
 use crate::object::NumberKind;
 use oca_types::{Class, Params, PutFault, Text};

@@ -3,14 +3,30 @@ ghost use Rattle.std.specs.Prelude.{◌≡◌, ◌==◌, ◌≤◌, length};
 ghost use Rattle.oca_tree.specs.Requests.{request_of, positions, is_out_of_range, is_invalid};
 ghost use Rattle.oca_tree.specs.Trees.{IsSoundValue};
 
+use crate::held::{HeldText, HeldTexts};
 use crate::object::{Object, Range, Switch, Value};
 use crate::take;
 use arrayvec::ArrayVec;
-use oca_types::{Method, Text};
+use oca_types::Method;
+
+/// A method of a switch with its parameters.
+#[derive(Drop)]
+pub enum SwitchRequest<'a> {
+    GetPosition,
+    SetPosition(u16),
+    GetPositionName(u16),
+    SetPositionName(u16, HeldText<'a>),
+    GetPositionNames,
+    SetPositionNames(HeldTexts<'a>),
+    GetPositionEnabled(u16),
+    SetPositionEnabled(u16, bool),
+    GetPositionEnableds,
+    SetPositionEnableds(ArrayVec<bool, 16>),
+}
 
 /// A method with its parameters. What SetState and SetSetting set has the type of the object's value.
 #[derive(Drop)]
-pub enum Request {
+pub enum Request<'a> {
     GetClassIdentification,
     GetLockable,
     LockTotal,
@@ -20,29 +36,21 @@ pub enum Request {
     GetEnabled,
     SetEnabled(bool),
     GetLabel,
-    SetLabel(Text),
+    SetLabel(HeldText<'a>),
     GetOwner,
     GetMembers,
     GetMembersRecursive,
     GetState,
     SetState(u8),
-    GetPosition,
-    SetPosition(u16),
-    GetPositionName(u16),
-    SetPositionName(u16, Text),
-    GetPositionNames,
-    SetPositionNames(ArrayVec<Text, 16>),
-    GetPositionEnabled(u16),
-    SetPositionEnabled(u16, bool),
-    GetPositionEnableds,
-    SetPositionEnableds(ArrayVec<bool, 16>),
+    Switch(SwitchRequest<'a>),
     GetSetting,
     SetBoolean(bool),
     SetNumber(i128),
 }
 
-fn bare(request: Request, count: u8, params: &[u8]) -> Option<Request>
-    ensures { result ≡ Rattle.oca_tree.specs.Requests.bare request count params.now }
+/// The request, where there are no parameters.
+fn without_parameters<'a>(request: Request<'a>, count: u8, params: &[u8]) -> Option<Request<'a>>
+    ensures { result ≡ Rattle.oca_tree.specs.Requests.without_parameters request.entry count params.now }
 {
     if count == 0 && params.is_empty() {
         Some(request)
@@ -51,7 +59,8 @@ fn bare(request: Request, count: u8, params: &[u8]) -> Option<Request>
     }
 }
 
-fn setting_request(value: &Value, count: u8, params: &[u8]) -> Option<Request>
+/// What SetSetting asks.
+fn setting_request<'a>(value: &Value, count: u8, params: &[u8]) -> Option<Request<'a>>
     ensures { result ≡ Rattle.oca_tree.specs.Requests.setting_request value.now count params.now }
 {
     match value {
@@ -63,6 +72,7 @@ fn setting_request(value: &Value, count: u8, params: &[u8]) -> Option<Request>
     }
 }
 
+/// How many positions there are.
 fn positions(value: &Value) -> usize
     ensures positions { result ≡ positions value.now }
     ensures few { result ≤ 16 }
@@ -73,36 +83,40 @@ fn positions(value: &Value) -> usize
     }
 }
 
-fn position_name_request(count: u8, params: &[u8]) -> Option<Request>
+/// What SetPositionName asks.
+fn position_name_request(count: u8, params: &[u8]) -> Option<Request<'_>>
     ensures { result ≡ Rattle.oca_tree.specs.Requests.position_name_request count params.now }
 {
     let (position, name) = take::position_and_text(count, params)?;
-    Some(Request::SetPositionName(position, name))
+    Some(Request::Switch(SwitchRequest::SetPositionName(position, name)))
 }
 
-fn position_enabled_request(count: u8, params: &[u8]) -> Option<Request>
+/// What SetPositionEnabled asks.
+fn position_enabled_request<'a>(count: u8, params: &[u8]) -> Option<Request<'a>>
     ensures { result ≡ Rattle.oca_tree.specs.Requests.position_enabled_request count params.now }
 {
     let (position, truth) = take::position_and_bool(count, params)?;
-    Some(Request::SetPositionEnabled(position, truth))
+    Some(Request::Switch(SwitchRequest::SetPositionEnabled(position, truth)))
 }
 
-fn position_names_request(value: &Value, count: u8, params: &[u8]) -> Option<Request>
+/// What SetPositionNames asks: a list of as many names as there are positions.
+fn position_names_request<'a>(value: &Value, count: u8, params: &'a [u8]) -> Option<Request<'a>>
     ensures { result ≡ Rattle.oca_tree.specs.Requests.position_names_request value.now count params.now }
 {
     let names = take::texts(positions(value), count, params)?;
-    Some(Request::SetPositionNames(names))
+    Some(Request::Switch(SwitchRequest::SetPositionNames(names)))
 }
 
-fn position_enableds_request(value: &Value, count: u8, params: &[u8]) -> Option<Request>
+/// What SetPositionEnableds asks: a list of as many Booleans as there are positions.
+fn position_enableds_request<'a>(value: &Value, count: u8, params: &[u8]) -> Option<Request<'a>>
     ensures { result ≡ Rattle.oca_tree.specs.Requests.position_enableds_request value.now count params.now }
 {
     let truths = take::bools(positions(value), count, params)?;
-    Some(Request::SetPositionEnableds(truths))
+    Some(Request::Switch(SwitchRequest::SetPositionEnableds(truths)))
 }
 
 /// Whether the request sets a state that is none of the listed.
-fn is_unlisted(request: &Request) -> bool
+fn is_unlisted(request: &Request<'_>) -> bool
     ensures { result ≡ Rattle.oca_tree.specs.Requests.is_unlisted request.now }
 {
     match request {
@@ -121,22 +135,35 @@ fn can_be_current(switch: &Switch, position: u16) -> bool
 }
 
 /// Whether the request names a position that is not there, or a disabled one to be the current.
-fn is_bad_position(switch: &Switch, request: &Request) -> bool
+fn is_bad_position(switch: &Switch, request: &SwitchRequest<'_>) -> bool
     requires { length switch.now.enableds.items ≡ length switch.now.names.items }
     ensures { result ≡ Rattle.oca_tree.specs.Requests.is_bad_position switch.now request.now }
 {
     match request {
-        Request::SetPosition(position) => !can_be_current(switch, *position),
-        Request::GetPositionName(position)
-        | Request::SetPositionName(position, _)
-        | Request::GetPositionEnabled(position)
-        | Request::SetPositionEnabled(position, _) => usize::from(*position) >= switch.names.len(),
+        SwitchRequest::SetPosition(position) => !can_be_current(switch, *position),
+        SwitchRequest::GetPositionName(position)
+        | SwitchRequest::SetPositionName(position, _)
+        | SwitchRequest::GetPositionEnabled(position)
+        | SwitchRequest::SetPositionEnabled(position, _) => {
+            usize::from(*position) >= switch.names.len()
+        }
+        _ => false,
+    }
+}
+
+/// Whether what is asked of a switch names a position that is not there, or a disabled one to be the current.
+fn is_bad_switch_request(switch: &Switch, request: &Request<'_>) -> bool
+    requires { length switch.now.enableds.items ≡ length switch.now.names.items }
+    ensures { result ≡ Rattle.oca_tree.specs.Requests.is_bad_switch_request switch.now request.now }
+{
+    match request {
+        Request::Switch(request) => is_bad_position(switch, request),
         _ => false,
     }
 }
 
 /// Whether the request sets a number outside its range.
-fn is_outside(range: &Range, request: &Request) -> bool
+fn is_outside(range: &Range, request: &Request<'_>) -> bool
     ensures { result ≡ Rattle.oca_tree.specs.Requests.is_outside range.now request.now }
 {
     match request {
@@ -145,44 +172,44 @@ fn is_outside(range: &Range, request: &Request) -> bool
     }
 }
 
-impl Request {
+impl<'a> Request<'a> {
     /// Reads what a method with these parameters asks of an object with this value; nothing where
     /// they are not the method's.
     #[tactic(auto, unfolding(crate::specs::Requests::request_of))]
-    pub(crate) fn read(value: &Value, method: Method, count: u8, params: &[u8]) -> Option<Request>
+    pub(crate) fn read(value: &Value, method: Method, count: u8, params: &'a [u8]) -> Option<Request<'a>>
         ensures { result ≡ request_of value.now method count params.now }
     {
         match method {
-            Method::GetClassIdentification => bare(Request::GetClassIdentification, count, params),
-            Method::GetLockable => bare(Request::GetLockable, count, params),
-            Method::LockTotal => bare(Request::LockTotal, count, params),
-            Method::Unlock => bare(Request::Unlock, count, params),
-            Method::GetRole => bare(Request::GetRole, count, params),
-            Method::LockReadonly => bare(Request::LockReadonly, count, params),
-            Method::GetEnabled => bare(Request::GetEnabled, count, params),
+            Method::GetClassIdentification => without_parameters(Request::GetClassIdentification, count, params),
+            Method::GetLockable => without_parameters(Request::GetLockable, count, params),
+            Method::LockTotal => without_parameters(Request::LockTotal, count, params),
+            Method::Unlock => without_parameters(Request::Unlock, count, params),
+            Method::GetRole => without_parameters(Request::GetRole, count, params),
+            Method::LockReadonly => without_parameters(Request::LockReadonly, count, params),
+            Method::GetEnabled => without_parameters(Request::GetEnabled, count, params),
             Method::SetEnabled => Some(Request::SetEnabled(take::one_bool(count, params)?)),
-            Method::GetLabel => bare(Request::GetLabel, count, params),
+            Method::GetLabel => without_parameters(Request::GetLabel, count, params),
             Method::SetLabel => Some(Request::SetLabel(take::one_text(count, params)?)),
-            Method::GetOwner => bare(Request::GetOwner, count, params),
-            Method::GetMembers => bare(Request::GetMembers, count, params),
-            Method::GetMembersRecursive => bare(Request::GetMembersRecursive, count, params),
-            Method::GetState => bare(Request::GetState, count, params),
+            Method::GetOwner => without_parameters(Request::GetOwner, count, params),
+            Method::GetMembers => without_parameters(Request::GetMembers, count, params),
+            Method::GetMembersRecursive => without_parameters(Request::GetMembersRecursive, count, params),
+            Method::GetState => without_parameters(Request::GetState, count, params),
             Method::SetState => Some(Request::SetState(take::one_u8(count, params)?)),
-            Method::GetPosition => bare(Request::GetPosition, count, params),
-            Method::SetPosition => Some(Request::SetPosition(take::one_u16(count, params)?)),
+            Method::GetPosition => without_parameters(Request::Switch(SwitchRequest::GetPosition), count, params),
+            Method::SetPosition => Some(Request::Switch(SwitchRequest::SetPosition(take::one_u16(count, params)?))),
             Method::GetPositionName => {
-                Some(Request::GetPositionName(take::one_u16(count, params)?))
+                Some(Request::Switch(SwitchRequest::GetPositionName(take::one_u16(count, params)?)))
             }
             Method::SetPositionName => position_name_request(count, params),
-            Method::GetPositionNames => bare(Request::GetPositionNames, count, params),
+            Method::GetPositionNames => without_parameters(Request::Switch(SwitchRequest::GetPositionNames), count, params),
             Method::SetPositionNames => position_names_request(value, count, params),
             Method::GetPositionEnabled => {
-                Some(Request::GetPositionEnabled(take::one_u16(count, params)?))
+                Some(Request::Switch(SwitchRequest::GetPositionEnabled(take::one_u16(count, params)?)))
             }
             Method::SetPositionEnabled => position_enabled_request(count, params),
-            Method::GetPositionEnableds => bare(Request::GetPositionEnableds, count, params),
+            Method::GetPositionEnableds => without_parameters(Request::Switch(SwitchRequest::GetPositionEnableds), count, params),
             Method::SetPositionEnableds => position_enableds_request(value, count, params),
-            Method::GetSetting => bare(Request::GetSetting, count, params),
+            Method::GetSetting => without_parameters(Request::GetSetting, count, params),
             Method::SetSetting => setting_request(value, count, params),
         }
     }
@@ -195,7 +222,7 @@ impl Request {
     {
         match value {
             Value::Mute(_) | Value::Polarity(_) => is_unlisted(self),
-            Value::Switch(switch) => is_bad_position(switch, self),
+            Value::Switch(switch) => is_bad_switch_request(switch, self),
             Value::Number(range) => is_outside(range, self),
             Value::Block | Value::Boolean(_) => false,
         }

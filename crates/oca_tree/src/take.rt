@@ -5,8 +5,10 @@ ghost use Rattle.std.specs.Option.{option_map};
 ghost use Rattle.oca_types.specs.Reading.{unsigned_at, bool_at, text_at};
 ghost use Rattle.oca_types.specs.Taking.{bytes_left, ReadsAs};
 ghost use Rattle.oca_tree.specs.Kinds.{number_at};
-ghost use Rattle.oca_tree.specs.Requests.{whole, exactly, pair_at, items_at, list_at};
+ghost use Rattle.oca_tree.specs.Parameters.{whole, pair_at, items_at, list_at};
+ghost use Rattle.oca_tree.specs.Requests.{with_parameters};
 
+use crate::held::{HeldText, HeldTexts};
 use crate::object::NumberKind;
 use arrayvec::ArrayVec;
 use oca_types::{Cursor, ReadFault, Text};
@@ -29,7 +31,7 @@ fn take_number(cursor: &mut Cursor<'_>, kind: NumberKind) -> Result<i128, ReadFa
 }
 
 pub(crate) fn one_u8(count: u8, params: &[u8]) -> Option<u8>
-    ensures { result ≡ exactly 1 (unsigned_at w8) count params.now }
+    ensures { result ≡ with_parameters 1 (unsigned_at w8) count params.now }
 {
     if count != 1 {
         return None;
@@ -41,7 +43,7 @@ pub(crate) fn one_u8(count: u8, params: &[u8]) -> Option<u8>
 }
 
 pub(crate) fn one_u16(count: u8, params: &[u8]) -> Option<u16>
-    ensures { result ≡ exactly 1 (unsigned_at w16) count params.now }
+    ensures { result ≡ with_parameters 1 (unsigned_at w16) count params.now }
 {
     if count != 1 {
         return None;
@@ -53,7 +55,7 @@ pub(crate) fn one_u16(count: u8, params: &[u8]) -> Option<u16>
 }
 
 pub(crate) fn one_bool(count: u8, params: &[u8]) -> Option<bool>
-    ensures { result ≡ exactly 1 bool_at count params.now }
+    ensures { result ≡ with_parameters 1 bool_at count params.now }
 {
     if count != 1 {
         return None;
@@ -64,20 +66,18 @@ pub(crate) fn one_bool(count: u8, params: &[u8]) -> Option<bool>
     Some(value)
 }
 
-pub(crate) fn one_text(count: u8, params: &[u8]) -> Option<Text>
-    ensures { result ≡ exactly 1 text_at count params.now }
+pub(crate) fn one_text(count: u8, params: &[u8]) -> Option<HeldText<'_>>
+    ensures { result ≡ with_parameters 1 text_at count params.now }
 {
-    if count != 1 {
-        return None;
+    if count == 1 {
+        HeldText::read(params)
+    } else {
+        None
     }
-    let mut cursor = Cursor::new(params);
-    let value = cursor.take_text().ok()?;
-    cursor.finish().ok()?;
-    Some(value)
 }
 
 pub(crate) fn one_number(kind: NumberKind, count: u8, params: &[u8]) -> Option<i128>
-    ensures { result ≡ exactly 1 (number_at kind) count params.now }
+    ensures { result ≡ with_parameters 1 (number_at kind) count params.now }
 {
     if count != 1 {
         return None;
@@ -88,23 +88,30 @@ pub(crate) fn one_number(kind: NumberKind, count: u8, params: &[u8]) -> Option<i
     Some(value)
 }
 
+/// A Uint16, and the bytes after it.
+fn split_u16(bytes: &[u8]) -> Option<(u16, &[u8])>
+    ensures { option_map (λ x. (x.0, x.1.now)) result ≡ unsigned_at w16 bytes.now }
+{
+    let mut cursor = Cursor::new(bytes);
+    let value = cursor.take_u16().ok()?;
+    Some((value, &bytes[2..]))
+}
+
 /// A position and a text.
-pub(crate) fn position_and_text(count: u8, params: &[u8]) -> Option<(u16, Text)>
-    ensures { result ≡ exactly 2 (pair_at (unsigned_at w16) text_at) count params.now }
+pub(crate) fn position_and_text(count: u8, params: &[u8]) -> Option<(u16, HeldText<'_>)>
+    ensures { result ≡ with_parameters 2 (pair_at (unsigned_at w16) text_at) count params.now }
 {
     if count != 2 {
         return None;
     }
-    let mut cursor = Cursor::new(params);
-    let position = cursor.take_u16().ok()?;
-    let text = cursor.take_text().ok()?;
-    cursor.finish().ok()?;
+    let (position, after) = split_u16(params)?;
+    let text = HeldText::read(after)?;
     Some((position, text))
 }
 
 /// A position and a Boolean.
 pub(crate) fn position_and_bool(count: u8, params: &[u8]) -> Option<(u16, bool)>
-    ensures { result ≡ exactly 2 (pair_at (unsigned_at w16) bool_at) count params.now }
+    ensures { result ≡ with_parameters 2 (pair_at (unsigned_at w16) bool_at) count params.now }
 {
     if count != 2 {
         return None;
@@ -117,7 +124,7 @@ pub(crate) fn position_and_bool(count: u8, params: &[u8]) -> Option<(u16, bool)>
 }
 
 /// So many texts.
-fn take_texts(cursor: &mut Cursor<'_>, number: usize) -> Option<ArrayVec<Text, 16>>
+pub(crate) fn take_texts(cursor: &mut Cursor<'_>, number: usize) -> Option<ArrayVec<Text, 16>>
     requires { number ≤ 16 }
     ensures { option_map (λ v. (v.items, bytes_left cursor.new)) result ≡ items_at text_at number (bytes_left cursor.old) }
 {
@@ -147,27 +154,24 @@ fn take_bools(cursor: &mut Cursor<'_>, number: usize) -> Option<ArrayVec<bool, 1
 }
 
 /// A list of exactly so many texts.
-pub(crate) fn texts(number: usize, count: u8, params: &[u8]) -> Option<ArrayVec<Text, 16>>
+pub(crate) fn texts(number: usize, count: u8, params: &[u8]) -> Option<HeldTexts<'_>>
     requires { number ≤ 16 }
-    ensures { option_map (λ v. v.items) result ≡ exactly 1 (list_at text_at number) count params.now }
+    ensures { result ≡ with_parameters 1 (list_at text_at number) count params.now }
 {
     if count != 1 {
         return None;
     }
-    let mut cursor = Cursor::new(params);
-    let listed = cursor.take_u16().ok()?;
+    let (listed, after) = split_u16(params)?;
     if usize::from(listed) != number {
         return None;
     }
-    let texts = take_texts(&mut cursor, number)?;
-    cursor.finish().ok()?;
-    Some(texts)
+    HeldTexts::read(number, after)
 }
 
 /// A list of exactly so many Booleans.
 pub(crate) fn bools(number: usize, count: u8, params: &[u8]) -> Option<ArrayVec<bool, 16>>
     requires { number ≤ 16 }
-    ensures { option_map (λ v. v.items) result ≡ exactly 1 (list_at bool_at number) count params.now }
+    ensures { option_map (λ v. v.items) result ≡ with_parameters 1 (list_at bool_at number) count params.now }
 {
     if count != 1 {
         return None;

@@ -13,6 +13,7 @@ loop-i-init g c = record {
   taken = λ _. nothing_sent c.args.to c.args.outbox.now (g.E.End.taken c.args.end.now);
   closed = refl;
   failures = λ _. omega arith;
+  receives = refl;
   few = omega arith;
 }
 
@@ -47,5 +48,6 @@ loop-i-preserved g c =
             (one.failures ∙ ap (λ (b : Bool). failures_sent b (g.E.End.failures c.loop-i.end)) w.if-not-send_one.false) inv.failures below
             ∙ ap (λ (k : ℕ). g.E.End.failures c.args.end.now + k) (sym w.failed-is)
       ];
+      receives = one.receives ∙ inv.receives;
       few = elim c.if-not-send_one.branch [ then-not-send_one w ↦ omega arith | else-not-send_one w ↦ omega arith ];
     }

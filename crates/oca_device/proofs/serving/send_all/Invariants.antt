@@ -12,5 +12,6 @@ invariant-loop-i g l = record {
   taken : IsTrue (g.E.End.tells l.fn.end) → TakesReplies l.failed (g.E.End.taken l.fn.end) (g.E.End.taken l.end) (first_sent l.to l.i l.outbox);
   closed : g.E.End.closed l.end ≡ g.E.End.closed l.fn.end;
   failures : g.E.End.failures l.end < last_u64 → g.E.End.failures l.end ≡ g.E.End.failures l.fn.end + l.failed;
+  receives : g.E.End.receives l.end ≡ g.E.End.receives l.fn.end;
   few : l.failed ≤ l.i;
 }

@@ -1,7 +1,7 @@
 use Rattle.std.proofs.Common.{◌≡◌, ℕ, ◌+◌, ap, ◌∙◌, sym, refl, subst, arith}
 use Rattle.oca_device.specs.declared.report.Report.{Report}
 use Rattle.oca_device.specs.Replies.{ServesDeliveries}
-use Rattle.oca_device.proofs.Turns.{no_deliveries, one_more_turn, none_within, more_within, failures_so_far, stays, goes_further}
+use Rattle.oca_device.proofs.Turns.{no_deliveries, one_more_turn, none_within, more_within, failures_so_far, received_further, stays, goes_further}
 use Rattle.oca_device.proofs.serving.serve.Goals as goal
 
 pub loop-turn-init : goal.loop-turn-init
@@ -16,6 +16,7 @@ loop-turn-init g c =
       goes_on = stays c.args.device.now;
       turns = ap (λ (r : Report). r.turns) c.nothing-report.ensures;
       within = none_within c.nothing-report.result _ c.nothing-report.ensures;
+      receives = λ _. omega arith;
       failures = λ _. sym (ap (λ (r : Report). g.E.End.failures c.args.end.now + (r.failed_receives + r.failed_sends)) c.nothing-report.ensures ∙ plus_nothing (g.E.End.failures c.args.end.now));
     }
   where
@@ -39,6 +40,7 @@ loop-turn-preserved g c =
       goes_on = goes_further c.args.device.now c.loop-turn.device c.take_turn.new.device inv.goes_on one.any_end;
       turns = ap (λ (r : Report). r.turns) c.sum-report.ensures ∙ ap (λ (n : ℕ). n + c.in-Some.turn.turns) inv.turns ∙ ap (λ (n : ℕ). c.loop-turn._turn + n) one.one;
       within = more_within _ 4294967295 _ c.loop-turn.report c.in-Some.turn c.sum-report.result c.sum-report.ensures inv.within one.fits (omega arith);
+      receives = received_further (g.E.End.receives c.args.end.now) (g.E.End.receives c.loop-turn.end) (g.E.End.receives c.take_turn.new.end) c.loop-turn._turn one.receives inv.receives;
       failures = λ below.
           failures_so_far (g.E.End.failures c.args.end.now) (g.E.End.failures c.loop-turn.end) (g.E.End.failures c.take_turn.new.end)
           c.loop-turn.report.failed_receives c.loop-turn.report.failed_sends c.in-Some.turn.failed_receives c.in-Some.turn.failed_sends inv.failures one.failed below

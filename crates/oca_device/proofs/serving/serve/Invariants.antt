@@ -2,7 +2,7 @@ use Rattle.std.proofs.Common.{◌≡◌, ◌+◌, ◌*◌, ◌<◌, []}
 use Rattle.std.specs.Prelude.{IsTrue}
 use Rattle.oca_net.specs.Ends.{last_u64}
 use Rattle.oca_device.specs.Replies.{ServesDeliveries, GoesOn}
-use Rattle.oca_device.specs.Totals.{IsWithin}
+use Rattle.oca_device.specs.PrivateTotals.{IsWithin}
 use Rattle.oca_device.proofs.serving.serve.Given as goal
 
 abbrev pub invariant-loop-turn : goal.invariant-loop-turn
@@ -14,6 +14,7 @@ invariant-loop-turn g l = record {
   goes_on : GoesOn l.fn.device l.device;
   turns : l.report.turns ≡ l._turn;
   within : IsWithin (l._turn * 4294967295) l.report;
+  receives : g.E.End.receives l.end < last_u64 → g.E.End.receives l.end ≡ g.E.End.receives l.fn.end + l._turn;
   failures : g.E.End.failures l.end < last_u64 →
       g.E.End.failures l.end ≡ g.E.End.failures l.fn.end + (l.report.failed_receives + l.report.failed_sends);
 }

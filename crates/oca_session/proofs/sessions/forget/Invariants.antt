@@ -8,6 +8,6 @@ use Rattle.oca_session.proofs.sessions.forget.Given as goal
 abbrev pub invariant-loop-i : goal.invariant-loop-i
 invariant-loop-i l =
     record {
-      filters : FiltersInPlace (stays l.moment) l.fn.places.items l.places.items l.kept l.i;
-      sound : (w : ℕ) → All (IsSession w) l.fn.places.items → All (IsSession w) l.places.items;
+      filters : FiltersInPlace (stays l.moment) l.fn.slots.items l.slots.items l.kept l.i;
+      sound : (w : ℕ) → All (IsSession w) l.fn.slots.items → All (IsSession w) l.slots.items;
     }

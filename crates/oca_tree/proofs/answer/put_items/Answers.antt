@@ -1,6 +1,6 @@
 use Rattle.std.proofs.Common.{sym}
 use Rattle.std.proofs.lemmas.Result.{err_from_is_err_and}
-use Rattle.oca_tree.specs.Inside.{is_listed, item_encoding}
+use Rattle.oca_tree.specs.PrivateSteps.{is_listed, item_encoding}
 use Rattle.oca_tree.proofs.Puts.{put_full_kept}
 use Rattle.oca_tree.proofs.answer.put_items.Goals as goal
 

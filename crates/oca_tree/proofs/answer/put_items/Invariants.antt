@@ -1,6 +1,6 @@
 use Rattle.std.proofs.Common.{◌≡◌, ◌++◌, drop}
 use Rattle.std.specs.List.{flat_map, filter}
-use Rattle.oca_tree.specs.Inside.{is_listed, item_encoding}
+use Rattle.oca_tree.specs.PrivateSteps.{is_listed, item_encoding}
 use Rattle.oca_tree.proofs.answer.put_items.Given as goal
 
 -- what is put so far and what is left make the whole

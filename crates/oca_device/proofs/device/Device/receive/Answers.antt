@@ -1,17 +1,26 @@
-use Rattle.std.proofs.Common.{Bool, cond, List, length, arith, ap, ◌∙◌, sym, subst}
+use Rattle.std.proofs.Common.{Bool, cond, List, [], length, arith, ap, ◌∙◌, sym, subst}
+use Rattle.std.specs.List.{AllByRecursion}
 use Rattle.oca_pdu.specs.Messages.{Msg}
 use Rattle.oca_pdu.specs.Datagrams.{datagram_messages, messages_left}
 use Rattle.oca_device.specs.Notes.{Admitted}
 use Rattle.oca_device.specs.States.{noted}
 use Rattle.oca_device.specs.Devices.{IsIn}
-use Rattle.oca_device.specs.Serving.{ServesAll}
-use Rattle.oca_device.proofs.Bounds.{answers_counted}
+use Rattle.oca_device.specs.PrivateServing.{ServesAll, IsShort}
+use Rattle.oca_device.proofs.Bounds.{answers_counted, all_short}
 use Rattle.oca_device.proofs.Steps.{refused_whole, taken_whole, admitted_now}
 use Rattle.oca_device.proofs.device.Device.receive.Goals as goal
 
 pub serve_messages-counts-requires-clause-room : goal.serve_messages-counts-requires-clause-room
 serve_messages-counts-requires-clause-room c =
     omega (arith, answers_counted (messages_left c.messages.result), c.messages.ensures.limits.no_responses, ap length c.requires.empty)
+
+pub serve_messages-counts-requires-clause-groups : goal.serve_messages-counts-requires-clause-groups
+serve_messages-counts-requires-clause-groups c = ([], c.requires.empty)
+
+pub serve_messages-counts-requires-clause-short : goal.serve_messages-counts-requires-clause-short
+serve_messages-counts-requires-clause-short c =
+    let found = c.in-Ok.ensures.found in
+    subst (λ (ms : List Msg). AllByRecursion IsShort ms) (sym (c.messages.ensures.all ∙ found.2)) (all_short found.0 c.args.bytes.now found.1)
 
 pub returns-else-admit : goal.returns-else-admit
 returns-else-admit c = λ w s h.

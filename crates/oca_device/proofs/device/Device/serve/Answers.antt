@@ -21,7 +21,7 @@ returns-in-KeepAlive-clause-serves c = λ w s h now.
         sessions = heartbeat_there w (time_of form) s p old c.beat.new.self was.sessions (known_there w s p old was.sessions has) now
             (c.beat.ensures.heartbeat ∙ ap (λ (m : ℕ). with_sessions old (changed p (with_heartbeat m) old.sessions)) c.time_of.ensures);
       };
-      packets = c.return_keepalive.ensures;
+      packets = c.return_keepalive.ensures.groups;
       counts = refl;
     })
 

@@ -1,7 +1,15 @@
-use Rattle.std.proofs.Common.{ap, arith}
-use Rattle.oca_device.specs.Serving.{most_answers}
+use Rattle.std.proofs.Common.{◌≡◌, List, ◌∷◌, ap, arith, subst}
+use Rattle.std.specs.List.{AllByRecursion}
+use Rattle.oca_pdu.specs.Messages.{Msg}
+use Rattle.oca_device.specs.PrivateServing.{IsShort, most_answers}
 use Rattle.oca_device.proofs.Steps.{one_further}
 use Rattle.oca_device.proofs.device.Device.serve_messages.Goals as goal
+
+first_short : (xs ys : List Msg) (m : Msg) → xs ≡ m ∷ ys → AllByRecursion IsShort xs → IsShort m × AllByRecursion IsShort ys
+first_short xs ys m e h = subst (λ (zs : List Msg). AllByRecursion IsShort zs) e h
+
+pub serve-more-requires-clause-short : goal.serve-more-requires-clause-short
+serve-more-requires-clause-short c = (first_short _ _ _ c.in-Some.ensures.steps c.loop-message.invariant.short).0
 
 pub loop-message-preserved : goal.loop-message-preserved
 loop-message-preserved c =
@@ -11,6 +19,8 @@ loop-message-preserved c =
     record {
       known = c.serve-more.ensures.known;
       room = omega (arith, inv.room, c.serve-more.ensures.packets, fewer);
+      groups = c.serve-more.ensures.groups;
+      short = (first_short _ _ _ step inv.short).1;
       few = omega (arith, inv.few, c.serve-more.ensures.commands, fewer);
       served = λ w s h now.
           let before = inv.served w s h now in

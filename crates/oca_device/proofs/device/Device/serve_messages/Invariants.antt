@@ -1,11 +1,12 @@
 use Rattle.std.proofs.Common.{◌≡◌, ℕ, ◌+◌, ◌≤◌, length}
 use Rattle.std.specs.Prelude.{IsSome}
+use Rattle.std.specs.List.{AllByRecursion}
 use Rattle.oca_pdu.specs.Datagrams.{messages_left}
 use Rattle.oca_session.specs.Table.{session_of}
 use Rattle.oca_device.specs.Notes.{run, last_moment}
 use Rattle.oca_device.specs.States.{State}
 use Rattle.oca_device.specs.Devices.{IsIn}
-use Rattle.oca_device.specs.Serving.{most_answers}
+use Rattle.oca_device.specs.PrivateServing.{AreGrouped, IsShort, most_answers}
 use Rattle.oca_device.proofs.Steps.{IsHalfway}
 use Rattle.oca_device.proofs.device.Device.serve_messages.Given as goal
 
@@ -15,7 +16,9 @@ invariant-loop-message l =
     record {
       known : IsSome (session_of l.from l.self.sessions.sessions);
       room : length l.outbox + most_answers rest ≤ 122;
-      few : l.counts.executed + l.counts.kept + l.counts.old + most_answers rest ≤ 122;
+      groups : AreGrouped l.outbox;
+      short : AllByRecursion IsShort rest;
+      few : l.counts.executed + l.counts.kept + l.counts.old + l.counts.reused + most_answers rest ≤ 122;
       served : (w : ℕ) (s : State) → IsIn w l.fn.self s → last_moment (run l.from s.notes) ≡ s.moment →
           IsHalfway w l.from l.self rest (messages_left l.fn.messages) s l.fn.outbox l.outbox l.counts;
     }

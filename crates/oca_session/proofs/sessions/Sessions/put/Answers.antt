@@ -1,40 +1,48 @@
 use Rattle.std.proofs.Common.{◌≡◌, ap, sym, subst, ◌∙◌, refl}
 use Rattle.std.proofs.Math.ListN.{length-set}
 use Rattle.std.specs.Prelude.{Option, IfSome}
-use Rattle.oca_session.specs.Accepted.{Fresh}
-use Rattle.oca_session.specs.Judging.{judgement_from}
+use Rattle.oca_types.specs.declared.words.Command.{Command}
+use Rattle.oca_types.specs.declared.words.Reply.{Reply}
+use Rattle.oca_types.specs.Peers.{fields_of}
+use Rattle.oca_session.specs.Accepted.{Entry, Fresh}
+use Rattle.oca_session.specs.Judging.{judgement_by_window}
 use Rattle.oca_session.specs.Table.{Session, Table, session_of, with_entry}
-use Rattle.oca_session.proofs.Tables.{changed_in, session_in, one_in, sound_in, entry_sound}
+use Rattle.oca_session.proofs.Tables.{changed_in, session_in, one_in, sound_in, entry_sound, quiet_kept}
 use Rattle.oca_session.proofs.sessions.Sessions.put.Goals as goal
+
+abbrev kept : Command → Reply → Entry
+kept d r = record { command = fields_of d; reply = r }
 
 pub keep-requires : goal.keep-requires
 keep-requires c =
     let a = c.self.inside in
-    let at = c.place_of_known-at in
-    let fresh : Option Session → Type 0 = λ o. IfSome o (λ s. judgement_from s.retained c.args.handle.0 ≡ Fresh) in
+    let at = c.index_of_known-at in
+    let fresh : Option Session → Type 0 = λ o. IfSome o (λ s. judgement_by_window s.retained (fields_of c.args.command.now) ≡ Fresh) in
     let seen = ap (λ t. session_of c.args.peer t.sessions) c.self.view_is in
-    let found = session_in c.args.peer a.places.items c.deref.result.now a.count at.result _
+    let found = session_in c.args.peer a.slots.items c.deref.result.now a.count at.result _
     c.deref.ensures.value at.ensures c.index_mut.ensures.value in
-    subst fresh (sym seen ∙ found) c.requires.fresh
+    record { fresh = subst fresh (sym seen ∙ found) c.requires.fresh; room = c.requires.room }
 
 pub invariant_of-self : goal.invariant_of-self
 invariant_of-self c =
     let a = c.self.inside in
-    let at = c.place_of_known-at in
-    let f = with_entry (record { handle = c.args.handle.0; reply = c.args.reply }) in (
+    let at = c.index_of_known-at in
+    let f = with_entry (kept c.args.command.now c.args.reply.now) in (
       c.self.invariant.0,
       c.self.invariant.1,
-      length-set a.places.items at.result _ ∙ c.self.invariant.2,
-      sound_in a.window c.args.peer f (entry_sound a.window _) a.places.items c.deref.result.now a.count at.result _ _
+      length-set a.slots.items at.result _ ∙ c.self.invariant.2,
+      sound_in a.window c.args.peer f (entry_sound a.window _) a.slots.items c.deref.result.now a.count at.result _ _
           c.self.invariant.3 c.deref.ensures.value at.ensures c.index_mut.ensures.value c.keep.ensures,
-      one_in c.args.peer f (λ s. refl) a.places.items c.deref.result.now a.count at.result _ _
+      one_in c.args.peer f (λ s. refl) a.slots.items c.deref.result.now a.count at.result _ _
           c.self.invariant.4 c.deref.ensures.value at.ensures c.index_mut.ensures.value c.keep.ensures,
+      quiet_kept c.args.peer _ a.quiet_until a.slots.items c.deref.result.now a.count at.result _ _
+          c.self.invariant.5 c.deref.ensures.value at.ensures c.index_mut.ensures.value c.keep.ensures,
     )
 
 pub returns-clause-retained : goal.returns-clause-retained
 returns-clause-retained c =
     let a = c.self.inside in
-    let at = c.place_of_known-at in
+    let at = c.index_of_known-at in
     rw (← c.self.view_is) (ap (λ ss. let t : Table = record { window = a.window; moment = a.moment; sessions = ss } in t)
-    (changed_in c.args.peer (with_entry (record { handle = c.args.handle.0; reply = c.args.reply })) a.places.items c.deref.result.now a.count at.result _ _
+    (changed_in c.args.peer (with_entry (kept c.args.command.now c.args.reply.now)) a.slots.items c.deref.result.now a.count at.result _ _
     c.self.invariant.4 c.deref.ensures.value at.ensures c.index_mut.ensures.value c.keep.ensures))

@@ -1,0 +1,113 @@
+-- Each answer fits into a datagram.
+use Rattle.std.proofs.Common.{◌≡◌, ℕ, ◌+◌, ◌≤◌, ◌<◌, Bool, true, false, cond, List, [], ◌∷◌, ◌++◌, length, refl, sym, ap, ◌∙◌, subst, arith}
+use Rattle.std.specs.Prelude.{map, nat_lt, nat_eq, ◌&&◌, ◌||◌, ⊤, Option, Some, None, is_none}
+use Rattle.std.specs.List.{AllByRecursion}
+use Rattle.std.proofs.lemmas.Bool.Decides.{nat_tests}
+use Rattle.oca_types.specs.declared.words.Peer.{Peer}
+use Rattle.oca_types.specs.declared.status.Status.{Status}
+use Rattle.oca_types.specs.declared.status.Status.TheVariants as status
+use Rattle.oca_types.specs.Peers.{same_peer, CommandFields}
+use Rattle.oca_types.specs.Status.{status_number}
+use Rattle.oca_pdu.specs.Messages.{Msg, Command, Response, KeepAlive}
+use Rattle.oca_tree.specs.declared.object.Object.{Object}
+use Rattle.oca_tree.specs.declared.request.Request.{Request}
+use Rattle.oca_tree.specs.Objects.{object_of}
+use Rattle.oca_tree.specs.Execution.{Execution, answer, execution, by_status, status_of, status_lines, first_that_applies, kind_at, request_at, is_unknown, is_left_out, is_locked, on_both}
+use Rattle.oca_tree.specs.Requests.{is_out_of_range, is_invalid}
+use Rattle.oca_tree.specs.Locks.{released}
+use Rattle.oca_device.specs.Groups.{IsAnswer}
+use Rattle.oca_device.specs.LawByEvents.{Happening, Passes, Says, Change, Executes, Releases, reply, replies, answers, changes, clock, admitted, accepted_by, served_of, accepts_handle, is_duplicate, with_command}
+
+-- ---- the parameters of an answer
+
+last_line : (a b c d e f g h : Bool) →
+    first_that_applies ((a, status.BadOno) ∷ (b, status.BadMethod) ∷ (c, status.NotImplemented) ∷ (d, status.Locked) ∷ (e, status.ParameterError)
+    ∷ (f, status.ParameterOutOfRange) ∷ (g, status.InvalidRequest) ∷ (h, status.BufferOverflow) ∷ []) ≡ status.Ok → h ≡ false
+last_line true b c d e f g h q = absurd cc
+last_line false true c d e f g h q = absurd cc
+last_line false false true d e f g h q = absurd cc
+last_line false false false true e f g h q = absurd cc
+last_line false false false false true f g h q = absurd cc
+last_line false false false false false true g h q = absurd cc
+last_line false false false false false false true h q = absurd cc
+last_line false false false false false false false true q = absurd cc
+last_line false false false false false false false false q = refl
+
+not_above : (n : ℕ) → nat_lt 1452 n ≡ false → n ≤ 1452
+not_above n h = grind (arith, nat_tests)
+
+none_long : 0 ≤ 1452
+none_long = omega arith
+
+status_short : (tree : List Object) (peer : Peer) (o : Object) (r : Request) (s : Status) → (s ≡ status.Ok → length (answer tree o r) ≤ 1452) →
+    length (by_status tree peer (Some o) (Some r) s).parameters ≤ 1452
+status_short tree peer o r status.Ok h = h refl
+status_short tree peer o r status.ProtocolVersionError h = none_long
+status_short tree peer o r status.DeviceError h = none_long
+status_short tree peer o r status.Locked h = none_long
+status_short tree peer o r status.BadFormat h = none_long
+status_short tree peer o r status.BadOno h = none_long
+status_short tree peer o r status.ParameterError h = none_long
+status_short tree peer o r status.ParameterOutOfRange h = none_long
+status_short tree peer o r status.NotImplemented h = none_long
+status_short tree peer o r status.InvalidRequest h = none_long
+status_short tree peer o r status.ProcessingFailed h = none_long
+status_short tree peer o r status.BadMethod h = none_long
+status_short tree peer o r status.PartiallySucceeded h = none_long
+status_short tree peer o r status.Timeout h = none_long
+status_short tree peer o r status.BufferOverflow h = none_long
+
+found_short : (tree : List Object) (peer : Peer) (c : CommandFields) (o : Option Object) (r : Option Request) → request_at o (kind_at o c) c ≡ r →
+    length (by_status tree peer o r (status_of tree peer o c)).parameters ≤ 1452
+found_short tree peer c None r e = none_long
+found_short tree peer c (Some o) None e = none_long
+found_short tree peer c (Some o) (Some r) e =
+    status_short tree peer o r (status_of tree peer (Some o) c) (λ q. not_above (length (answer tree o r))
+    (sym (ap (λ (x : Option Request). on_both (λ o r. nat_lt 1452 (length (answer tree o r))) (Some o) x) e) ∙ last_line (is_none (Some o)) (is_unknown (kind_at (Some o) c)) (is_left_out (kind_at (Some o) c)) (is_locked (Some o) (kind_at (Some o) c) peer) (is_none (request_at (Some o) (kind_at (Some o) c) c))
+    (on_both (λ x y. is_out_of_range x.value y) (Some o) (request_at (Some o) (kind_at (Some o) c) c)) (on_both (λ x y. is_invalid x.lockable x.lock y) (Some o) (request_at (Some o) (kind_at (Some o) c) c))
+    (on_both (λ x y. nat_lt 1452 (length (answer tree x y))) (Some o) (request_at (Some o) (kind_at (Some o) c) c)) q))
+
+pub execution_short : (tree : List Object) (peer : Peer) (c : CommandFields) → length (execution tree peer c).parameters ≤ 1452
+unfolding execution
+execution_short tree peer c =
+    let o = object_of tree c.target in
+    found_short tree peer c o (request_at o (kind_at o c) c) refl
+
+-- ---- the answers of the law
+
+abbrev AreAnswers : List Msg → Type 0
+AreAnswers ms = AllByRecursion IsAnswer ms
+
+abbrev its : Execution → ℕ → Msg
+its x h = Response (record { handle = h; status = status_number x.status; count = x.count; params = x.parameters })
+
+reply_fits : (p : Peer) (h : ℕ) (r : List Msg) (tree : List Object) (C : List Change) → AreAnswers r → AreAnswers (reply p h r tree C)
+reply_fits p h r tree [] a = a
+reply_fits p h r tree (Releases q ∷ C) a = reply_fits p h r (released tree q) C a
+reply_fits p h r tree (Executes q c ∷ C) a = reply_fits p h (cond (same_peer q p && nat_eq c.handle h) (its (execution tree q c) h ∷ []) r) (execution tree q c).tree C (by (same_peer q p && nat_eq c.handle h))
+  where
+    by : (b : Bool) → AreAnswers (cond b (its (execution tree q c) h ∷ []) r)
+    by true = (execution_short tree q c, tt)
+    by false = a
+
+both_answers : (xs ys : List Msg) → AreAnswers xs → AreAnswers ys → AreAnswers (xs ++ ys)
+both_answers [] ys h k = k
+both_answers (x ∷ xs) ys h k = (h.0, both_answers xs ys h.1 k)
+
+where_answers : (b : Bool) (xs : List Msg) → AreAnswers xs → AreAnswers (cond b xs [])
+where_answers true xs h = h
+where_answers false xs h = tt
+
+replies_fit : (w : ℕ) (under : ℕ → List Msg) (A : List CommandFields) (ms : List Msg) → ((h : ℕ) → AreAnswers (under h)) → AreAnswers (replies w under A ms)
+replies_fit w under A [] u = tt
+replies_fit w under A (Command respond c ∷ ms) u =
+    both_answers _ _ (where_answers (respond && (accepts_handle w A c.handle || is_duplicate w A c)) (under c.handle) (u c.handle)) (replies_fit w under (with_command w A c) ms u)
+replies_fit w under A (KeepAlive form ∷ ms) u = (tt, replies_fit w under A ms u)
+replies_fit w under A (Response r ∷ ms) u = replies_fit w under A ms u
+
+pub answers_fit : (w : ℕ) (tree : List Object) (H : List Happening) → AllByRecursion IsAnswer (answers w tree H)
+answers_fit w tree [] = tt
+answers_fit w tree (Passes now ∷ H) = tt
+answers_fit w tree (Says p ms ∷ H) =
+    replies_fit w (λ h. reply p h [] tree (changes w (Says p ms ∷ H))) (accepted_by w (clock H) p (admitted H)) (served_of p ms H)
+    (λ h. reply_fits p h [] tree (changes w (Says p ms ∷ H)) tt)

@@ -1,0 +1,237 @@
+-- The notes of a peer and its admitted datagrams say the same of its session.
+use Rattle.std.proofs.Common.{◌≡◌, ℕ, Bool, true, false, cond, List, [], ◌∷◌, ◌++◌, length, refl, sym, ap, ◌∙◌, subst}
+use Rattle.std.specs.Prelude.{map, filter, not, ◌&&◌, ◌||◌, ◌-◌, ◌*◌, nat_le, nat_lt, if◌then◌else◌}
+use Rattle.std.proofs.lemmas.List.{append-nil}
+use Rattle.oca_types.specs.declared.words.Peer.{Peer}
+use Rattle.oca_types.specs.Peers.{same_peer, CommandFields}
+use Rattle.oca_pdu.specs.Messages.{Msg, Command, Response, KeepAlive}
+use Rattle.oca_device.specs.Notes.{Noted, Admitted, Heartbeat, Executed, Note, notes_of, is_within, unbroken, run, is_known, peers_except, opened, known, accepted, heartbeat_of, last_moment, has_lapsed}
+use Rattle.oca_device.specs.States.{State, noted, admits, judged_in, reply_of, after_command, after_messages, time_of, lapsed_at}
+use Rattle.oca_device.specs.LawByEvents.{Arrival, Happening, session, is_open, said, heard, heartbeat, accepted_of, accepts_handle, admitted, clock, is_silent, silent, has_room}
+use Rattle.oca_device.specs.LawByEvents as law
+use Rattle.oca_device.proofs.Lists.{filter_same, filter_both}
+use Rattle.oca_device.proofs.Peers.{same_self, same_is, same_turned}
+use Rattle.oca_device.proofs.Runs.{run_goes_on, run_begins, known_now}
+use Rattle.oca_device.proofs.Acceptance.{commands_of, accepted_both}
+use Rattle.oca_device.proofs.Messages.{executed_of, fresh_state, fresh_known, fresh_note, after_judged, kept_alive, alive_known, messages_executed, messages_heartbeat, messages_other, heartbeat_both, other_note}
+
+-- the session of a peer's last datagram, at whatever moment one looks
+abbrev pub latest : Peer → List Arrival → List Arrival
+latest q [] = []
+latest q (a ∷ D) = if not (same_peer a.from q) then latest q D else a ∷ session a.at q D
+
+abbrev pub within : ℕ → List Arrival → Bool
+within t [] = false
+within t (a ∷ own) = nat_le (t - a.at) 120000
+
+pub session_latest : (t : ℕ) (q : Peer) (D : List Arrival) → session t q D ≡ cond (within t (latest q D)) (latest q D) []
+session_latest t q [] = refl
+session_latest t q (a ∷ D) = by (same_peer a.from q) (session_latest t q D)
+  where
+    by : (b : Bool) → session t q D ≡ cond (within t (latest q D)) (latest q D) [] →
+        cond (not b) (session t q D) (cond (nat_le (t - a.at) 120000) (a ∷ session a.at q D) [])
+        ≡ cond (within t (cond (not b) (latest q D) (a ∷ session a.at q D))) (cond (not b) (latest q D) (a ∷ session a.at q D)) []
+    by true h = refl
+    by false h = h
+
+open_where : (t : ℕ) (own : List Arrival) → is_open (cond (within t own) own []) ≡ within t own
+open_where t [] = refl
+open_where t (a ∷ own) = by (nat_le (t - a.at) 120000)
+  where
+    by : (b : Bool) → is_open (cond b (a ∷ own) []) ≡ b
+    by true = refl
+    by false = refl
+
+-- a peer is known where its latest session is within the silence
+pub known_where : (t : ℕ) (q : Peer) (D : List Arrival) → law.is_known t q D ≡ within t (latest q D)
+known_where t q D = ap is_open (session_latest t q D) ∙ open_where t (latest q D)
+
+-- ---- the notes of a peer say of its session what its admitted datagrams say
+
+pub record Bridged (w : ℕ) (own : List Note) (S : List Arrival) : Type 0 where
+  pub moments : (t : ℕ) → is_within t own ≡ within t S
+  pub last : last_moment (unbroken own) ≡ heard S
+  pub beat : heartbeat_of (unbroken own) ≡ law.heartbeat_of S
+  pub commands : commands_of (accepted (unbroken own)) ≡ accepted_of w [] (said S)
+
+pub none_bridged : (w : ℕ) → Bridged w [] []
+none_bridged w = record { moments = λ t. refl; last = refl; beat = refl; commands = refl }
+
+-- each note of a datagram has its moment
+abbrev IsNow : Peer → State → ℕ → Type 0
+IsNow p s at = ((t : ℕ) → is_within t (notes_of p s.notes) ≡ nat_le (t - at) 120000) × (last_moment (run p s.notes) ≡ at)
+
+noted_now : (p : Peer) (what : Noted) (s : State) → IsNow p (noted p what s) s.moment
+noted_now p what s =
+    (λ t. ap (λ b. is_within t (cond b (note ∷ notes_of p s.notes) (notes_of p s.notes))) (same_self p),
+     ap (λ b. last_moment (unbroken (cond b (note ∷ notes_of p s.notes) (notes_of p s.notes)))) (same_self p))
+  where
+    note : Note
+    note = record { peer = p; at = s.moment; what = what }
+
+moved_now : (p : Peer) (s : State) (a b : ℕ) → a ≡ b → IsNow p s a → IsNow p s b
+moved_now p s a b e h = subst (λ (x : ℕ). IsNow p s x) e h
+
+messages_now : (w : ℕ) (p : Peer) (ms : List Msg) (s : State) (at : ℕ) → s.moment ≡ at → IsNow p s at → IsNow p (after_messages w p ms s) at
+messages_now w p [] s at e h = h
+messages_now w p (Command respond c ∷ ms) s at e h =
+    subst (λ (x : State). IsNow p (after_messages w p ms x) at) (sym (after_judged w p c s))
+    (by (accepts_handle w (executed_of p s.notes) c.handle)
+    (messages_now w p ms (fresh_state p c s) at e (moved_now p (fresh_state p c s) s.moment at e (noted_now p (Executed s.tree c (reply_of s.tree p c)) s)))
+    (messages_now w p ms s at e h))
+  where
+    by : (b : Bool) → IsNow p (after_messages w p ms (fresh_state p c s)) at → IsNow p (after_messages w p ms s) at → IsNow p (after_messages w p ms (cond b (fresh_state p c s) s)) at
+    by true f g = f
+    by false f g = g
+messages_now w p (KeepAlive form ∷ ms) s at e h =
+    messages_now w p ms (kept_alive p (time_of form) s) at e (moved_now p (kept_alive p (time_of form) s) s.moment at e (noted_now p (Heartbeat (time_of form)) s))
+messages_now w p (Response r ∷ ms) s at e h = messages_now w p ms s at e h
+
+-- ---- a datagram is let in
+
+abbrev pub let_in : Peer → List Msg → State → State
+let_in p ms s = noted p (Admitted ms) s
+
+abbrev pub let_in_note : Peer → List Msg → State → Note
+let_in_note p ms s = record { peer = p; at = s.moment; what = Admitted ms }
+
+pub let_in_known : (p : Peer) (ms : List Msg) (s : State) → is_known (let_in p ms s).moment (let_in p ms s).notes p ≡ true
+let_in_known p ms s = known_now (let_in_note p ms s) s.notes
+
+abbrev pub arrival : Peer → List Msg → ℕ → Arrival
+arrival p ms t = record { from = p; messages = ms; at = t }
+
+-- the session of the moment, where its peer is known or not
+session_now : (w : ℕ) (p : Peer) (s : State) (D : List Arrival) (b : Bool) → Bridged w (notes_of p s.notes) (latest p D) → is_known s.moment s.notes p ≡ b →
+    session s.moment p D ≡ cond b (latest p D) []
+session_now w p s D b h k = session_latest s.moment p D ∙ ap (λ x. cond x (latest p D) []) (sym (h.moments s.moment) ∙ k)
+
+-- who is let in has what its present session has
+let_in_beat : (w : ℕ) (p : Peer) (ms : List Msg) (s : State) (D : List Arrival) → Bridged w (notes_of p s.notes) (latest p D) →
+    heartbeat_of (run p (let_in p ms s).notes) ≡ law.heartbeat_of (session s.moment p D)
+let_in_beat w p ms s D h = by (is_known s.moment s.notes p) refl
+  where
+    by : (b : Bool) → is_known s.moment s.notes p ≡ b → heartbeat_of (run p (let_in p ms s).notes) ≡ law.heartbeat_of (session s.moment p D)
+    by true k = ap heartbeat_of (run_goes_on (let_in_note p ms s) s.notes k) ∙ h.beat ∙ ap law.heartbeat_of (sym (session_now w p s D true h k))
+    by false k = ap heartbeat_of (run_begins (let_in_note p ms s) s.notes k) ∙ ap law.heartbeat_of (sym (session_now w p s D false h k))
+
+pub let_in_executed : (w : ℕ) (p : Peer) (ms : List Msg) (s : State) (D : List Arrival) → Bridged w (notes_of p s.notes) (latest p D) →
+    executed_of p (let_in p ms s).notes ≡ accepted_of w [] (said (session s.moment p D))
+let_in_executed w p ms s D h = by (is_known s.moment s.notes p) refl
+  where
+    by : (b : Bool) → is_known s.moment s.notes p ≡ b → executed_of p (let_in p ms s).notes ≡ accepted_of w [] (said (session s.moment p D))
+    by true k = ap (λ (x : List Note). commands_of (accepted x)) (run_goes_on (let_in_note p ms s) s.notes k) ∙ h.commands
+        ∙ ap (λ (x : List Arrival). accepted_of w [] (said x)) (sym (session_now w p s D true h k))
+    by false k = ap (λ (x : List Note). commands_of (accepted x)) (run_begins (let_in_note p ms s) s.notes k)
+        ∙ ap (λ (x : List Arrival). accepted_of w [] (said x)) (sym (session_now w p s D false h k))
+
+-- an admitted datagram keeps the bridge of its own peer
+own_bridged : (w : ℕ) (p : Peer) (ms : List Msg) (s : State) (D : List Arrival) → Bridged w (notes_of p s.notes) (latest p D) →
+    Bridged w (notes_of p (after_messages w p ms (let_in p ms s)).notes) (latest p (arrival p ms s.moment ∷ D))
+own_bridged w p ms s D h =
+    subst (λ (b : Bool). Bridged w (notes_of p (after_messages w p ms (let_in p ms s)).notes) (cond (not b) (latest p D) (arrival p ms s.moment ∷ session s.moment p D))) (sym (same_self p))
+    record {
+      moments = now.0;
+      last = now.1;
+      beat = messages_heartbeat w p ms (let_in p ms s) (let_in_known p ms s)
+          ∙ ap (λ (b : ℕ). heartbeat b ms) (let_in_beat w p ms s D h)
+          ∙ sym (heartbeat_both 5000 (said own) ms);
+      commands = messages_executed w p ms (let_in p ms s) (let_in_known p ms s)
+          ∙ ap (λ (A : List CommandFields). A ++ accepted_of w A ms) (let_in_executed w p ms s D h)
+          ∙ sym (accepted_both w [] (said own) ms);
+    }
+  where
+    own : List Arrival
+    own = session s.moment p D
+    now : IsNow p (after_messages w p ms (let_in p ms s)) s.moment
+    now = messages_now w p ms (let_in p ms s) s.moment refl (noted_now p (Admitted ms) s)
+
+-- and of any other peer
+other_bridged : (w : ℕ) (p q : Peer) (ms : List Msg) (s : State) (D : List Arrival) → same_peer p q ≡ false → Bridged w (notes_of q s.notes) (latest q D) →
+    Bridged w (notes_of q (after_messages w p ms (let_in p ms s)).notes) (latest q (arrival p ms s.moment ∷ D))
+other_bridged w p q ms s D e h =
+    subst (λ (b : Bool). Bridged w (notes_of q (after_messages w p ms (let_in p ms s)).notes) (cond (not b) (latest q D) (arrival p ms s.moment ∷ session s.moment q D))) (sym e)
+    (subst (λ (own : List Note). Bridged w own (latest q D)) (sym (messages_other w p q ms (let_in p ms s) e ∙ other_note (let_in_note p ms s) s.notes q e)) h)
+
+-- ---- who opened
+
+messages_opened : (w : ℕ) (p : Peer) (ms : List Msg) (s : State) → is_known s.moment s.notes p ≡ true → opened (after_messages w p ms s).notes ≡ opened s.notes
+messages_opened w p [] s k = refl
+messages_opened w p (Command respond c ∷ ms) s k =
+    ap (λ (x : State). opened (after_messages w p ms x).notes) (after_judged w p c s)
+    ∙ by (accepts_handle w (executed_of p s.notes) c.handle)
+    (messages_opened w p ms (fresh_state p c s) (fresh_known p c s) ∙ ap (λ b. cond b (opened s.notes) (peers_except p (opened s.notes) ++ p ∷ [])) k)
+    (messages_opened w p ms s k)
+  where
+    by : (b : Bool) → opened (after_messages w p ms (fresh_state p c s)).notes ≡ opened s.notes → opened (after_messages w p ms s).notes ≡ opened s.notes →
+        opened (after_messages w p ms (cond b (fresh_state p c s) s)).notes ≡ opened s.notes
+    by true f g = f
+    by false f g = g
+messages_opened w p (KeepAlive form ∷ ms) s k =
+    messages_opened w p ms (kept_alive p (time_of form) s) (alive_known p (time_of form) s) ∙ ap (λ b. cond b (opened s.notes) (peers_except p (opened s.notes) ++ p ∷ [])) k
+messages_opened w p (Response r ∷ ms) s k = messages_opened w p ms s k
+
+-- ---- all peers
+
+pub record AllBridged (w : ℕ) (s : State) (D : List Arrival) : Type 0 where
+  pub each : (q : Peer) → Bridged w (notes_of q s.notes) (latest q D)
+  pub opened_is : opened s.notes ≡ law.opened D
+
+pub same_known : (w t : ℕ) (s : State) (D : List Arrival) → AllBridged w s D → (p : Peer) → is_known t s.notes p ≡ law.is_known t p D
+same_known w t s D h p = (h.each p).moments t ∙ sym (known_where t p D)
+
+pub known_are : (w t : ℕ) (s : State) (D : List Arrival) → AllBridged w s D → known t s.notes ≡ law.known t D
+known_are w t s D h = filter_same (is_known t s.notes) (λ p. law.is_known t p D) (same_known w t s D h) (opened s.notes)
+    ∙ ap (filter (λ p. law.is_known t p D)) h.opened_is
+
+pub same_room : (w : ℕ) (s : State) (p : Peer) (D : List Arrival) → AllBridged w s D → admits s p ≡ has_room s.moment p D
+same_room w s p D h =
+    ap (λ b. b || nat_lt (length (known s.moment s.notes)) 16) (same_known w s.moment s D h p)
+    ∙ ap (λ (ps : List Peer). law.is_known s.moment p D || nat_lt (length ps) 16) (known_are w s.moment s D h)
+
+-- an admitted datagram keeps the bridges
+pub let_in_bridged : (w : ℕ) (p : Peer) (ms : List Msg) (s : State) (D : List Arrival) → AllBridged w s D → AllBridged w (after_messages w p ms (let_in p ms s)) (arrival p ms s.moment ∷ D)
+let_in_bridged w p ms s D h = record {
+  each = λ q. by q (same_peer p q) refl;
+  opened_is = messages_opened w p ms (let_in p ms s) (let_in_known p ms s)
+      ∙ ap (λ b. cond b (opened s.notes) (peers_except p (opened s.notes) ++ p ∷ [])) (same_known w s.moment s D h p)
+      ∙ ap (λ (ps : List Peer). cond (law.is_known s.moment p D) ps (peers_except p ps ++ p ∷ [])) h.opened_is;
+}
+  where
+    after : State
+    after = after_messages w p ms (let_in p ms s)
+    by : (q : Peer) (b : Bool) → same_peer p q ≡ b → Bridged w (notes_of q after.notes) (latest q (arrival p ms s.moment ∷ D))
+    by q true e = subst (λ (x : Peer). Bridged w (notes_of x after.notes) (latest x (arrival p ms s.moment ∷ D))) (same_is p q e) (own_bridged w p ms s D (h.each p))
+    by q false e = other_bridged w p q ms s D e (h.each q)
+
+-- ---- who is silent
+
+pub same_silent : (w t : ℕ) (s : State) (H : List Happening) → s.moment ≡ clock H → AllBridged w s (admitted H) → lapsed_at t s ≡ silent t H
+same_silent w t s H c h =
+    filter_both (has_lapsed t s.notes) (is_known s.moment s.notes) both (λ p. refl) (opened s.notes)
+    ∙ filter_same both both' same (opened s.notes)
+    ∙ ap (filter both') h.opened_is
+    ∙ sym (filter_both (λ p. is_silent t (session (clock H) p D)) (λ p. law.is_known (clock H) p D) both' (λ p. refl) (law.opened D))
+  where
+    D : List Arrival
+    D = admitted H
+    both : Peer → Bool
+    both p = is_known s.moment s.notes p && has_lapsed t s.notes p
+    both' : Peer → Bool
+    both' p = law.is_known (clock H) p D && is_silent t (session (clock H) p D)
+    same : (p : Peer) → both p ≡ both' p
+    same p =
+        by (is_known s.moment s.notes p) refl
+        ∙ ap (λ (m : ℕ). law.is_known m p D && is_silent t (session m p D)) c
+      where
+        by : (b : Bool) → is_known s.moment s.notes p ≡ b → (b && has_lapsed t s.notes p) ≡ (law.is_known s.moment p D && is_silent t (session s.moment p D))
+        by true k =
+            ap (λ (x : ℕ). nat_lt (3 * x) (t - last_moment (run p s.notes))) (h.each p).beat
+            ∙ ap (λ (x : ℕ). nat_lt (3 * law.heartbeat_of (latest p D)) (t - x)) (h.each p).last
+            ∙ ap (λ (x : List Arrival). is_silent t x) (sym (session_now w p s D true (h.each p) k))
+            ∙ ap (λ b. b && is_silent t (session s.moment p D)) (sym k ∙ same_known w s.moment s D h p)
+        by false k = ap (λ b. b && is_silent t (session s.moment p D)) (sym k ∙ same_known w s.moment s D h p)
+
+-- what is known of a known peer
+pub session_is : (w : ℕ) (s : State) (D : List Arrival) (p : Peer) → AllBridged w s D → is_known s.moment s.notes p ≡ true → session s.moment p D ≡ latest p D
+session_is w s D p h k = session_now w p s D true (h.each p) k

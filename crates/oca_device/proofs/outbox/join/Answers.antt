@@ -1,0 +1,24 @@
+use Rattle.std.proofs.Common.{◌≡◌, List, Bool, true, false, ap, ◌∙◌, sym, subst}
+use Rattle.arrayvec.specs.ArrayVec.{ArrayVec}
+use Rattle.std.specs.Prelude.{ℕ, OnErr}
+use Rattle.oca_pdu.specs.Messages.{Pdu, Commands, Responses, OneKeepAlive, response_with}
+use Rattle.oca_pdu.specs.Encoding.{pdu_encoding}
+use Rattle.oca_device.specs.Answers.{response}
+use Rattle.oca_device.specs.PrivateServing.{Joins, is_of_responses}
+use Rattle.oca_device.proofs.Grouping.{extended, items_kept}
+use Rattle.oca_device.proofs.outbox.join.Goals as goal
+
+pub returns-then-holds_responses : goal.returns-then-holds_responses
+returns-then-holds_responses c = λ p e. by p e (c.if-holds_responses.ensures p e)
+  where
+    old : List ℕ
+    old = c.args.packet.now.items
+    new : List ℕ
+    new = c.extend_response.new.packet.items
+    by : (p : Pdu) → old ≡ pdu_encoding p → true ≡ is_of_responses p → Joins c.is_ok.result p (response c.args.handle.0 c.args.reply.now) old new
+    by (Responses rs) e is =
+        subst (λ (b : Bool). Joins b (Responses rs) (response c.args.handle.0 c.args.reply.now) old new) (sym c.is_ok.ensures.value)
+        (extended rs (response_with c.args.handle c.args.reply.now) old new c.extend_response.result
+        (c.extend_response.ensures.size rs e) (c.extend_response.ensures.ok rs e) (items_kept c.args.packet.now c.extend_response.new.packet c.extend_response.result c.extend_response.ensures.err))
+    by (OneKeepAlive form) e is = absurd cc
+    by (Commands respond cs) e is = absurd cc

@@ -1,0 +1,73 @@
+-- What serving a datagram, its messages or one message makes of a device and its outbox, and how many answers there are at most.
+use Rattle.std.specs.Prelude.{◌≡◌, ℕ, ◌+◌, ◌≤◌, Bool, true, false, ⊤, List, [], ◌∷◌, ◌++◌, length}
+use Rattle.oca_types.specs.declared.words.Peer.{Peer}
+use Rattle.oca_pdu.specs.Messages.{Msg, Command, Response, KeepAlive, Pdu, Commands, Responses, OneKeepAlive}
+use Rattle.oca_pdu.specs.Encoding.{pdu_encoding}
+use Rattle.oca_pdu.specs.Reading.{read_datagram}
+use Rattle.oca_device.specs.declared.counts.Counts.{Counts}
+use Rattle.oca_device.specs.declared.verdict.Verdict.{Verdict}
+use Rattle.oca_device.specs.Groups.{pdu_of, last_with, with_answer, with_answers, encodings}
+use Rattle.oca_device.specs.States.{State, after_message, after_messages, after_reading}
+use Rattle.oca_device.specs.Answers.{answer_to, answers_to_messages, answers_to_reading, packets_of, count_of, counts_of_messages, verdict_of_reading}
+use Rattle.oca_device.specs.Devices.{DeviceState, IsIn}
+
+-- the packets are those of some groups
+abbrev pub AreGrouped : List (List ℕ) → Type 0
+AreGrouped packets = (groups : List Pdu) × (packets ≡ encodings groups)
+
+-- The packets of groups became those of the groups with one more answer, which are one more at most.
+pub record IsGrouped (m : Msg) (before after : List (List ℕ)) : Type 0 where
+  pub groups : (groups : List Pdu) → before ≡ encodings groups → after ≡ encodings (with_answer groups m)
+  pub still : AreGrouped after
+  pub most : length after ≤ length before + 1
+
+-- the PDU is of responses
+abbrev pub is_of_responses : Pdu → Bool
+is_of_responses (Responses rs) = true
+is_of_responses (OneKeepAlive form) = false
+is_of_responses (Commands respond cs) = false
+
+-- An answer joined a packet's PDU, or it begins a packet of its own and that one is as before.
+abbrev pub Joins : Bool → Pdu → Msg → List ℕ → List ℕ → Type 0
+Joins true p m before after = (q : Pdu) × (last_with p m ≡ q ∷ []) × (after ≡ pdu_encoding q)
+Joins false p m before after = (last_with p m ≡ p ∷ pdu_of m ∷ []) × (after ≡ before)
+
+-- An answer joined the last of the packets of groups, or it begins a packet of its own and they are as before.
+abbrev pub JoinsLast : Bool → Msg → List (List ℕ) → List (List ℕ) → Type 0
+JoinsLast true m before after = (length after ≡ length before) × ((groups : List Pdu) → before ≡ encodings groups → after ≡ encodings (with_answer groups m))
+JoinsLast false m before after = (after ≡ before)
+    × ((groups : List Pdu) → before ≡ encodings groups → with_answer groups m ≡ groups ++ pdu_of m ∷ [])
+
+-- a command has at most 1,445 bytes of parameters, as each in a well-formed datagram has
+abbrev pub IsShort : Msg → Type 0
+IsShort (Command respond c) = length c.params ≤ 1445
+IsShort (Response r) = ⊤
+IsShort (KeepAlive form) = ⊤
+
+-- one message
+pub record Serves (w : ℕ) (new : DeviceState) (p : Peer) (m : Msg) (s : State) (before after : List (List ℕ)) (n : Counts) : Type 0 where
+  pub device : IsIn w new (after_message w p m s)
+  pub packets : (groups : List Pdu) → before ≡ encodings groups → after ≡ encodings (with_answers groups (answer_to w p m s))
+  pub counts : n ≡ count_of w p m s
+
+-- several messages
+pub record ServesAll (w : ℕ) (new : DeviceState) (p : Peer) (ms : List Msg) (s : State) (before after : List (List ℕ)) (n : Counts) : Type 0 where
+  pub device : IsIn w new (after_messages w p ms s)
+  pub packets : (groups : List Pdu) → before ≡ encodings groups → after ≡ encodings (with_answers groups (answers_to_messages w p ms s))
+  pub counts : n ≡ counts_of_messages w p ms s
+
+-- a datagram, when the clock has moved
+pub record Receives (w : ℕ) (new : DeviceState) (p : Peer) (bytes : List ℕ) (s : State) (after : List (List ℕ)) (verdict : Verdict) : Type 0 where
+  pub device : IsIn w new (after_reading w p (read_datagram bytes) s)
+  pub packets : after ≡ packets_of (answers_to_reading w p (read_datagram bytes) s)
+  pub verdict_is : verdict ≡ verdict_of_reading w p (read_datagram bytes) s
+
+-- a message has one answer at most, and a response none
+abbrev pub may_answer : Msg → ℕ
+may_answer (Command respond c) = 1
+may_answer (KeepAlive form) = 1
+may_answer (Response r) = 0
+
+abbrev pub most_answers : List Msg → ℕ
+most_answers [] = 0
+most_answers (m ∷ messages) = may_answer m + most_answers messages

@@ -1,0 +1,70 @@
+use Rattle.std.proofs.Common.{◌≡◌, ◌⊎◌, inl, inr, ℕ, ◌+◌, ◌-◌, ◌≤◌, ◌<◌, ◌∷◌, [], ◌++◌, length, drop, length-append, length-drop, sym, ap, ◌∙◌, arith, refl}
+use Rattle.std.proofs.lemmas.List.{length-set}
+use Rattle.std.specs.Prelude.{Some}
+use Rattle.oca_session.specs.Judging.{retained_after}
+use Rattle.oca_session.proofs.Rings.{kept_more, kept_full, below_more, below_raised, pushed_full, pushed_room}
+use Rattle.oca_session.proofs.window.ReplyWindow.put.Goals as goal
+use Rattle.oca_session.proofs.window.ReplyWindow.put.Goals.{then-at-len, else-at-len}
+
+pub invariant_of-self : goal.invariant_of-self
+invariant_of-self c =
+    let a = c.self.inside in
+    let hs = a.handles.items in
+    let x = c.args.command.now.handle in
+    let room = pushed_room hs x a.handles.capacity (sym c.push_back.ensures.value ∙ c.in_default.is) in
+    let long : length (drop (length (hs ++ x ∷ []) - a.handles.capacity) (hs ++ x ∷ [])) ≡ length hs + 1 =
+    rw (length-drop, length-append) (omega (arith, room)) in
+    let more : length c.push_reserved.new.self.items ≡ length a.cells.items + 1 = rw (c.push_reserved.ensures.items, length-append) refl in
+    let le : a.above ≤ c.max-self-inside.result = omega arith in
+    let lt : x.0 < c.max-self-inside.result = omega arith in
+    rw c.push_back.ensures.items (
+      omega (arith, more, long, c.self.invariant.0),
+      omega (arith, long, room),
+      c.self.invariant.2,
+      omega (arith, c.self.invariant.3, c.push_reserved.ensures.capacity),
+      λ few. c.self.invariant.4 room,
+      below_more a.above c.max-self-inside.result _ hs a.floor x c.self.invariant.5 le lt,
+    )
+
+pub returns-in_default : goal.returns-in_default
+returns-in_default c =
+    let a = c.self.inside in
+    let room = pushed_room a.handles.items c.args.command.now.handle a.handles.capacity (sym c.push_back.ensures.value ∙ c.in_default.is) in
+    rw (← c.self.view_is, c.push_back.ensures.items, c.push_reserved.ensures.items)
+    (kept_more a.handles.items a.oldest a.cells.items c.self.invariant.0 a.handles.capacity a.floor c.args.command.now.handle c.new.result room (c.self.invariant.4 room) ∙ ap (retained_after _) c.new.ensures)
+
+pub invariant_of-self-2 : goal.invariant_of-self-2
+invariant_of-self-2 c =
+    let a = c.self.inside in
+    let hs = a.handles.items in
+    let full = pushed_full hs c.args.command.now.handle c.in-Some.pushed_out a.handles.capacity (sym c.push_back.ensures.value ∙ c.in-Some.is) in
+    let long : length (drop (length (hs ++ c.args.command.now.handle ∷ []) - a.handles.capacity) (hs ++ c.args.command.now.handle ∷ [])) ≡ a.handles.capacity =
+    rw (length-drop, length-append) (omega (arith, full.0, c.self.invariant.1)) in
+    let le : a.above ≤ c.max-self-inside.result = omega arith in
+    let lt : c.args.command.now.handle.0 < c.max-self-inside.result = omega arith in
+    let next : c.if-at-len.self < a.handles.capacity =
+    elim c.if-at-len.branch [
+      | then-at-len w ↦ omega (arith, w.self-is, c.self.invariant.2)
+      | else-at-len w ↦ omega (arith, w.self-is, w.if-at-len.false, c.len.ensures, c.self.invariant.0, c.self.invariant.1, c.self.invariant.2, full.0)
+    ] in
+    rw c.push_back.ensures.items (
+      rw (length-set, long) (omega (arith, full.0, c.self.invariant.0, c.self.invariant.1)),
+      omega (arith, long),
+      next,
+      c.self.invariant.3,
+      λ few. absurd (omega (arith, few, long)),
+      below_raised a.above c.max-self-inside.result _ hs a.floor c.args.command.now.handle c.in-Some.pushed_out c.raised_floor.result c.self.invariant.5 le lt full.1 c.raised_floor.ensures,
+    )
+
+pub returns : goal.returns
+returns c =
+    let a = c.self.inside in
+    let full = pushed_full a.handles.items c.args.command.now.handle c.in-Some.pushed_out a.handles.capacity (sym c.push_back.ensures.value ∙ c.in-Some.is) in
+    let next : ((a.oldest + 1 ≡ length a.cells.items) × (c.if-at-len.self ≡ 0)) ⊎ (c.if-at-len.self ≡ a.oldest + 1) =
+    elim c.if-at-len.branch [
+      | then-at-len w ↦ inl (omega (arith, w.if-at-len.true, c.len.ensures), w.self-is)
+      | else-at-len w ↦ inr w.self-is
+    ] in
+    rw (← c.self.view_is, c.push_back.ensures.items)
+    (kept_full a.handles.items a.oldest c.if-at-len.self a.cells.items c.self.invariant.0 a.handles.capacity a.floor c.raised_floor.result c.args.command.now.handle c.in-Some.pushed_out c.set.new.self
+    (omega (arith, full.0, c.self.invariant.1)) (omega (arith, full.0, c.self.invariant.0, c.self.invariant.2)) next full.1 c.raised_floor.ensures ∙ ap (retained_after _) c.set.ensures)

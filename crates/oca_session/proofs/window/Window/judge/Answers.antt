@@ -1,6 +1,0 @@
-use Rattle.std.proofs.Common.{◌∙◌}
-use Rattle.oca_session.proofs.Windows.{judgement_from_agreed}
-use Rattle.oca_session.proofs.window.Window.judge.Goals as goal
-
-pub returns-clause-accepted : goal.returns-clause-accepted
-returns-clause-accepted c = λ w A h. c.judge_retained.ensures ∙ judgement_from_agreed w A c.args.self.now c.args.handle.0 h

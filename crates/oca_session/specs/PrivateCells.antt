@@ -1,0 +1,41 @@
+-- What a window keeps (private contracts alone cite it): the handles in order, and a cell for each, found by counting from the
+-- oldest (profile).
+use Rattle.std.specs.Prelude.{ℕ, ◌<◌, ◌==◌, Bool, List, [], ◌∷◌, ◌++◌, take, drop, Option, IfSome, All}
+use Rattle.oca_types.specs.declared.words.Handle.{Handle}
+use Rattle.oca_session.specs.declared.cell.Cell.{Cell}
+use Rattle.oca_types.specs.Peers.{CommandFields}
+use Rattle.oca_session.specs.Accepted.{Entry, Judgement, duplicate_or_reused}
+
+-- the handle is this one (profile)
+abbrev pub is_handle : ℕ → Handle → Bool
+is_handle h x = x.0 == h
+
+-- cells that are used in turn, in order: those from o on, and then those before it (profile)
+abbrev pub turned : {X : Type 0} → ℕ → List X → List X
+turned o xs = drop o xs ++ take o xs
+
+-- what two lists hold at the same index, put together (profile)
+abbrev pub paired : {X Y Z : Type 0} → (X → Y → Z) → List X → List Y → List Z
+paired f [] ys = []
+paired f (x ∷ xs) [] = []
+paired f (x ∷ xs) (y ∷ ys) = f x y ∷ paired f xs ys
+
+-- the accepted command of a handle, from what its cell holds (profile)
+abbrev pub entry_in : Handle → Cell → Entry
+entry_in x a =
+    record {
+      command = record { handle = x.0; target = a.target.0; level = a.method.level; index = a.method.index; count = a.count; params = a.params.items };
+      reply = a.reply;
+    }
+
+-- the accepted commands whose handles are these, where the cell of the first is at o (profile)
+abbrev pub entries_of : List Handle → ℕ → List Cell → List Entry
+entries_of xs o cs = paired entry_in xs (turned o cs)
+
+-- each handle, and the floor, is below this number (profile)
+abbrev pub AreBelow : ℕ → List Handle → Option ℕ → Type 0
+AreBelow above xs floor = All (λ x. x.0 < above) xs × IfSome floor (λ f. f < above)
+
+-- what a cell says of a command under its handle (profile)
+abbrev pub judge_cell : Cell → CommandFields → Judgement
+judge_cell a c = duplicate_or_reused (entry_in (record { 0 = c.handle }) a) c

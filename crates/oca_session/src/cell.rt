@@ -1,0 +1,90 @@
+//! What a reply window retains of one command.
+ghost use Rattle.std.specs.Prelude.{◌≡◌, ◌≤◌, length};
+ghost use Rattle.oca_types.specs.Peers.{fields_of};
+ghost use Rattle.oca_session.specs.Accepted.{asks_the_same};
+ghost use Rattle.oca_session.specs.PrivateCells.{entry_in};
+
+use arrayvec::ArrayVec;
+use oca_types::{Command, MethodId, Ono, Params, Reply};
+
+/// The most parameter bytes that a command has: what a datagram of 1,472 bytes leaves beside the rest of its one PDU.
+const COMMAND_BYTES: usize = 1_445;
+
+/// An accepted command but for its handle, and the reply that it got.
+#[derive(Drop)]
+pub struct Cell {
+    target: Ono,
+    method: MethodId,
+    count: u8,
+    params: ArrayVec<u8, COMMAND_BYTES>,
+    reply: Reply,
+}
+
+impl Cell {
+    /// A cell that holds this command and its reply.
+    pub fn new(command: &Command<'_>, reply: &Reply) -> Cell
+        requires { length command.now.params.now ≤ 1445 }
+        ensures { entry_in command.now.handle result ≡ record { command = fields_of command.now; reply = reply.now } }
+    {
+        let mut cell = Cell {
+            target: command.target,
+            method: command.method,
+            count: command.count,
+            params: ArrayVec::new(),
+            reply: Reply {
+                status: reply.status,
+                count: reply.count,
+                params: Params::new(),
+            },
+        };
+        copy_bytes(&mut cell.params, command.params);
+        copy_bytes(&mut cell.reply.params, reply.params.as_slice());
+        cell
+    }
+
+    /// Writes a command and its reply over those that the cell held.
+    pub fn set(&mut self, command: &Command<'_>, reply: &Reply)
+        requires { length command.now.params.now ≤ 1445 }
+        ensures { entry_in command.now.handle self.new ≡ record { command = fields_of command.now; reply = reply.now } }
+    {
+        self.target = command.target;
+        self.method = command.method;
+        self.count = command.count;
+        copy_bytes(&mut self.params, command.params);
+        self.reply.status = reply.status;
+        self.reply.count = reply.count;
+        copy_bytes(&mut self.reply.params, reply.params.as_slice());
+    }
+
+    /// Whether the command that it holds and this one ask the same. The bytes of the parameters are compared last,
+    /// where there are as many.
+    pub fn asks_the_same(&self, command: &Command<'_>) -> bool
+        ensures { result ≡ asks_the_same (entry_in command.now.handle self.now).command (fields_of command.now) }
+    {
+        self.target == command.target
+            && self.method.level == command.method.level
+            && self.method.index == command.method.index
+            && self.count == command.count
+            && *self.params.as_slice() == *command.params
+    }
+
+    /// The reply.
+    pub fn reply(&self) -> &Reply
+        ensures { result.now ≡ self.now.reply }
+    {
+        &self.reply
+    }
+}
+
+/// Writes bytes over others. Only the cells of others that were more are cleared.
+fn copy_bytes<const N: usize>(room: &mut ArrayVec<u8, N>, bytes: &[u8])
+    requires { length bytes.now ≤ N }
+    ensures { room.new.items ≡ bytes.now }
+{
+    if room.len() > bytes.len() {
+        room.truncate(bytes.len());
+    }
+    let (front, rest) = bytes.split_at(room.len());
+    room.as_mut_slice().copy_from_slice(front);
+    let _ = room.try_extend_from_slice(rest);
+}

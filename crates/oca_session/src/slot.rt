@@ -1,0 +1,124 @@
+//! One session.
+ghost use Rattle.std.specs.Prelude.{◌≡◌, ℕ, ◌+◌, ◌*◌, ◌<◌, ◌≤◌, List, length, IfOk};
+ghost use Rattle.oca_types.specs.Peers.{fields_of};
+ghost use Rattle.oca_session.specs.Accepted.{Entry, Agrees, judgement, Fresh};
+ghost use Rattle.oca_session.specs.Judging.{as_judgement, judgement_by_window};
+ghost use Rattle.oca_session.specs.Table.{is_of, is_lapsed, stays, heard_at, with_heartbeat, opened_session, with_entry};
+
+use crate::window::{Judged, ReplyWindow};
+use oca_types::{Command, Peer, Reply};
+use std::alloc::{AllocError, Global};
+use std::marker::Model;
+
+/// A heartbeat before any keep-alive, in milliseconds.
+const FIRST_HEARTBEAT: u32 = 5_000;
+
+/// The slot of a session: of the session that has it, or of the last that had it.
+#[derive(Drop)]
+pub struct Slot {
+    peer: Peer,
+    heard: u64,
+    heartbeat: u32,
+    window: ReplyWindow,
+}
+
+impl Model for Slot {
+    ghost use Rattle.oca_session.specs.Table.{Session};
+
+    ghost Value = { Session };
+
+    ghost view = { λ a. record { peer = a.peer; heard = a.heard; heartbeat = a.heartbeat; retained = a.window } };
+}
+
+impl Slot {
+    /// A slot that no session has had yet.
+    pub fn spare(alloc: Global, size: usize) -> Result<Slot, AllocError>
+        requires { 0 < size }
+        ensures { IfOk result (λ s. s ≡ opened_session size (record { ip = 0; port = 0 }) 0) }
+    {
+        let window = ReplyWindow::new(alloc, size)?;
+        Ok(Slot {
+            peer: Peer { ip: 0, port: 0 },
+            heard: 0,
+            heartbeat: FIRST_HEARTBEAT,
+            window,
+        })
+    }
+
+    /// Begins a session with an empty window.
+    pub fn open(&mut self, peer: Peer, moment: u64)
+        ensures { self.new ≡ opened_session self.old.retained.size peer moment }
+    {
+        self.peer = peer;
+        self.heard = moment;
+        self.heartbeat = FIRST_HEARTBEAT;
+        self.window.clear();
+    }
+
+    /// Whose it is.
+    pub fn peer(&self) -> Peer
+        ensures { result ≡ self.now.peer }
+    {
+        self.peer
+    }
+
+    /// Whether it is that of the peer.
+    pub fn is_of(&self, peer: Peer) -> bool
+        ensures { result ≡ is_of peer self.now }
+    {
+        self.peer == peer
+    }
+
+    /// Whether the silence passes three heartbeats.
+    pub fn is_lapsed(&self, moment: u64) -> bool
+        ensures { result ≡ is_lapsed moment self.now }
+    {
+        3 * u64::from(self.heartbeat) < moment.saturating_sub(self.heard)
+    }
+
+    /// A moment up to which its silence does not pass three heartbeats.
+    pub fn quiet_until(&self) -> u64
+        ensures { result ≤ self.now.heard + 3 * self.now.heartbeat }
+    {
+        self.heard.saturating_add(3 * u64::from(self.heartbeat))
+    }
+
+    /// Whether the silence does not pass 120,000 ms.
+    pub fn stays(&self, moment: u64) -> bool
+        ensures { result ≡ stays moment self.now }
+    {
+        moment.saturating_sub(self.heard) <= 120_000
+    }
+
+    /// Ends the silence.
+    pub fn note(&mut self, moment: u64)
+        ensures { self.new ≡ heard_at moment self.old }
+    {
+        self.heard = moment;
+    }
+
+    /// Sets the heartbeat, within its limits.
+    pub fn set_heartbeat(&mut self, ms: u64)
+        ensures { self.new ≡ with_heartbeat ms self.old }
+    {
+        self.heartbeat = ms.min(30_000).max(250) as u32;
+    }
+
+    /// What its window says of a command.
+    pub fn judge(&self, command: &Command<'_>) -> Judged<'_>
+        ensures exact { as_judgement result ≡ judgement_by_window self.now.retained (fields_of command.now) }
+        ensures accepted { (w : ℕ) (A : List Entry) → Agrees w A self.now.retained →
+            as_judgement result ≡ judgement w A (fields_of command.now) }
+    {
+        self.window.judge(command)
+    }
+
+    /// Retains a fresh command with its reply.
+    pub fn keep(&mut self, command: &Command<'_>, reply: &Reply)
+        requires fresh { judgement_by_window self.old.retained (fields_of command.now) ≡ Fresh }
+        requires room { length command.now.params.now ≤ 1445 }
+        ensures { self.new ≡ with_entry (record { command = fields_of command.now; reply = reply.now }) self.old }
+    {
+        self.window.keep(command, reply);
+    }
+}

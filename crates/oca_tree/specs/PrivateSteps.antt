@@ -1,0 +1,61 @@
+-- What the tree's own functions say to one another. No public clause cites it.
+use Rattle.std.specs.Prelude.{◌≡◌, ℕ, ◌==◌, Bool, true, false, if◌then◌else◌, List, [], ◌∷◌, ◌++◌, length, ◌<◌, ◌+◌, slice_set, slice_index_or, nat_lt, Option, Some, None, Result, Ok, Err}
+use Rattle.oca_types.specs.declared.words.Peer.{Peer}
+use Rattle.oca_types.specs.declared.status.Status.{Status}
+use Rattle.oca_types.specs.declared.status.Status.TheVariants as status
+use Rattle.oca_types.specs.Peers.{CommandFields}
+use Rattle.oca_tree.specs.declared.object.Object.{Object}
+use Rattle.oca_tree.specs.declared.object.Value.{Value}
+use Rattle.oca_tree.specs.declared.request.Request.{Request}
+use Rattle.oca_tree.specs.declared.builder.AddFault.{AddFault}
+use Rattle.oca_tree.specs.declared.builder.Spec.{Spec}
+use Rattle.oca_tree.specs.Places.{places, reaches}
+use Rattle.oca_tree.specs.Requests.{is_out_of_range, is_invalid}
+use Rattle.oca_tree.specs.Execution.{identification_encoding, block_member_encoding, answer, kind_at, request_at, status_of, by_status, refused, execution, changed, answer_count}
+use Rattle.oca_tree.specs.Trees.{IsTree, IsSoundValue}
+use Rattle.oca_tree.specs.Building.{add_fault, object_of_spec, is_bad_value}
+
+-- A put leaves the bytes at the end, or the bytes would have passed the room.
+abbrev pub Puts : {X E : Type 0} → Result X E → List ℕ → List ℕ → List ℕ → Type 0
+Puts (Ok _) old new bytes = new ≡ old ++ bytes
+Puts (Err _) old new bytes = 1452 < length old + length bytes
+
+-- members and descendants in one: whether an object is listed, and how
+abbrev pub is_listed : List Object → ℕ → Bool → Object → Bool
+is_listed tree block true o = reaches (places tree) block o.container.0
+is_listed tree block false o = o.container.0 == block
+
+abbrev pub item_encoding : Bool → Object → List ℕ
+item_encoding true o = block_member_encoding o
+item_encoding false o = identification_encoding o
+
+-- A command is understood at an object, and then only the answer can be too long, or it is refused whatever the tree.
+abbrev pub IsRequestFor : Result Request Status → Object → Peer → CommandFields → Type 0
+IsRequestFor (Ok r) o peer c =
+    (request_at (Some o) (kind_at (Some o) c) c ≡ Some r)
+    × (is_out_of_range o.value r ≡ false) × (is_invalid o.lockable o.lock r ≡ false)
+    × ((tree : List Object) → status_of tree peer (Some o) c ≡ (if nat_lt 1452 (length (answer tree o r)) then status.BufferOverflow else status.Ok))
+IsRequestFor (Err s) o peer c =
+    (tree : List Object) → by_status tree peer (Some o) (request_at (Some o) (kind_at (Some o) c) c) (status_of tree peer (Some o) c) ≡ refused tree s
+
+-- An object was found, and what is asked of it can be done and has this answer; or the command is refused.
+abbrev pub IsAnsweredAs : Result (ℕ × Request) Status → List Object → List ℕ → Peer → CommandFields → Type 0
+IsAnsweredAs (Ok found) tree out peer c = (found.0 < length tree) × ((d : Object) → let o = slice_index_or tree found.0 d in
+    (execution tree peer c ≡ record { tree = slice_set tree found.0 (changed o peer found.1); status = status.Ok; count = answer_count tree o found.1; parameters = out })
+    × (is_out_of_range o.value found.1 ≡ false) × IsTree (slice_set tree found.0 (changed o peer found.1)))
+IsAnsweredAs (Err s) tree out peer c = execution tree peer c ≡ refused tree s
+
+-- A command was carried out, or refused with nothing changed, as its execution says.
+abbrev pub Executes : Result ℕ Status → List Object → List Object → List ℕ → Peer → CommandFields → Type 0
+Executes (Ok count) old new out peer c = execution old peer c ≡ record { tree = new; status = status.Ok; count = count; parameters = out }
+Executes (Err s) old new out peer c = (execution old peer c ≡ refused old s) × (new ≡ old)
+
+-- A value is made where it is in range.
+abbrev pub MakesValue : Option Value → Value → Type 0
+MakesValue None value = is_bad_value value ≡ true
+MakesValue (Some v) value = (v ≡ value) × (is_bad_value value ≡ false) × IsSoundValue v
+
+-- An object was made for a place that is free, or the first line that applies refuses it.
+abbrev pub Makes : Result Object AddFault → List Object → ℕ → ℕ → Spec → Type 0
+Makes (Ok o) tree container ono spec = (add_fault tree container ono spec ≡ None) × (o ≡ object_of_spec container ono spec) × IsTree (tree ++ o ∷ [])
+Makes (Err e) tree container ono spec = add_fault tree container ono spec ≡ Some e
