@@ -3,10 +3,7 @@ use Rattle.std.proofs.Common.{◌≡◌, ℕ, ◌+◌, ◌<◌, ◌≤◌, Bool,
 use Rattle.std.specs.Prelude.{nat_lt, nat_eq, ◌&&◌}
 use Rattle.std.proofs.lemmas.Bool.Decides.{nat_tests}
 use Rattle.oca_pdu.specs.Messages.{Msg}
-use Rattle.oca_control.specs.declared.reception.Reception.{Reception}
-use Rattle.oca_control.specs.declared.reception.Reception.TheVariants as receptions
 use Rattle.oca_control.specs.Untaken.{Untaken, has_room, hears, hears_all, answers_by, answers_by_all}
-use Rattle.oca_control.specs.Links.{reception_of}
 use Rattle.oca_control.specs.PrivateSlots.{TableState, AreShort, IsShort}
 
 pub record HearsOn (rest : List Msg) (us : List Untaken) (hi n : ℕ) (all : List Msg) (first : List Untaken) (start : ℕ) : Type 0 where
@@ -35,21 +32,6 @@ hears_further m rest rest' all us first us' hi hi' n n' start h step heard next 
   where
     plus_assoc : (a b c : ℕ) → a + b + c ≡ a + (b + c)
     plus_assoc a b c = omega arith
-
--- what is answered of a count
-pub no_answers : (n : ℕ) (ms : List Msg) (us : List Untaken) → n ≡ answers_by_all ms us → n ≡ 0 → receptions.NothingNew ≡ reception_of (Some ms) us
-no_answers n ms us is none = sym (ap (λ b. cond b receptions.NothingNew (receptions.Answered (answers_by_all ms us))) (equal (answers_by_all ms us) (sym is ∙ none)))
-  where
-    equal : (a : ℕ) → a ≡ 0 → nat_eq a 0 ≡ true
-    equal a p = grind (arith, nat_tests)
-
-pub some_answers : (n : ℕ) (ms : List Msg) (us : List Untaken) → n ≡ answers_by_all ms us → (n ≡ 0 → ⊥) → receptions.Answered n ≡ reception_of (Some ms) us
-some_answers n ms us is some =
-    ap receptions.Answered is
-    ∙ sym (ap (λ b. cond b receptions.NothingNew (receptions.Answered (answers_by_all ms us))) (unequal (answers_by_all ms us) (λ e. some (is ∙ e))))
-  where
-    unequal : (a : ℕ) → (a ≡ 0 → ⊥) → nat_eq a 0 ≡ false
-    unequal a p = grind (arith, nat_tests)
 
 -- Room within a span is room within 32 handles.
 pub room_in_all : (s h : ℕ) (us : List Untaken) → s ≤ 32 → has_room s h us ≡ true → has_room 32 h us ≡ true

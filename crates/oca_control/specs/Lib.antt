@@ -6,4 +6,6 @@ pub mod Contents
 pub mod Untaken
 pub mod Links
 pub mod Steps
+pub mod Driving
 pub mod PrivateSlots
+pub mod PrivateDriving

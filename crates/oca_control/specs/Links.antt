@@ -115,11 +115,14 @@ after_due IsLost now l = record l { moment = now; lost = true }
 abbrev pub gone_on : ℕ → LinkState → LinkState
 gone_on now l = after_due (decision now l) (present now l) l
 
--- DATAGRAM. What it answers of messages, or of bytes that are no datagram.
+-- DATAGRAM. What it answers where so many commands were answered.
+abbrev pub reception_counted : ℕ → Reception
+reception_counted n = if n == 0 then receptions.NothingNew else receptions.Answered n
+
+-- what it answers of messages, or of bytes that are no datagram
 abbrev pub reception_of : Option (List Msg) → List Untaken → Reception
 reception_of None us = receptions.Malformed
-reception_of (Some messages) us =
-    if answers_by_all messages us == 0 then receptions.NothingNew else receptions.Answered (answers_by_all messages us)
+reception_of (Some messages) us = reception_counted (answers_by_all messages us)
 
 -- what `datagram` answers: the address is looked at first
 abbrev pub reception : Peer → Option (List Msg) → LinkState → Reception

@@ -7,7 +7,7 @@ ghost use Rattle.oca_pdu.specs.Datagrams.{messages_left};
 ghost use Rattle.oca_control.specs.Answers.{answer_fields};
 ghost use Rattle.oca_control.specs.Contents.{IsContent};
 ghost use Rattle.oca_control.specs.Untaken.{Untaken, hears, answers_by, hears_all, answers_by_all, answer_under};
-ghost use Rattle.oca_control.specs.Links.{Request, new_link, submission, submitted, decision, due_answer, due_bytes, gone_on, reception, received, taken};
+ghost use Rattle.oca_control.specs.Links.{Request, reception_counted, new_link, submission, submitted, decision, due_answer, due_bytes, gone_on, reception, received, taken};
 ghost use Rattle.oca_control.specs.Steps.{ReceivesDatagram};
 ghost use Rattle.oca_control.specs.PrivateSlots.{AreShort, IsShort};
 
@@ -153,10 +153,7 @@ impl Link {
             return Reception::Stranger;
         }
         match check(bytes) {
-            Ok(datagram) => match hear_all(&mut self.table, datagram.messages()) {
-                0 => Reception::NothingNew,
-                answered => Reception::Answered(answered),
-            },
+            Ok(datagram) => counted(hear_all(&mut self.table, datagram.messages())),
             Err(_) => Reception::Malformed,
         }
     }
@@ -167,6 +164,33 @@ impl Link {
         ensures link { self.new ≡ taken handle.0 self.old }
     {
         self.table.take(handle)
+    }
+}
+
+impl Link {
+    /// The device's address.
+    pub(crate) fn device(&self) -> Peer
+        ensures { result ≡ self.now.device }
+    {
+        self.device
+    }
+
+    /// The span, at most 32.
+    pub(crate) fn span(&self) -> u8
+        ensures span { result ≡ self.now.span }
+        ensures most { result ≤ 32 }
+    {
+        self.span.get()
+    }
+}
+
+/// What is answered where so many commands were.
+fn counted(answered: u32) -> Reception
+    ensures { result ≡ reception_counted answered }
+{
+    match answered {
+        0 => Reception::NothingNew,
+        _ => Reception::Answered(answered),
     }
 }
 

@@ -1,0 +1,144 @@
+-- What the loop makes of a link and an end (*profile*).
+use Rattle.std.specs.Prelude.{◌≡◌, ℕ, zero, suc, ◌+◌, ◌<◌, ◌≤◌, nat_lt, Bool, true, false, not, ◌&&◌, if◌then◌else◌, List, [], ◌∷◌, ◌++◌, length, count_by}
+use Rattle.std.specs.List.{list_any, flat_map}
+use Rattle.oca_types.specs.declared.words.Peer.{Peer}
+use Rattle.oca_net.specs.Deliveries.{Delivery, Datagram, Quiet, Failed, Sent}
+use Rattle.oca_net.specs.Ends.{largest_datagram}
+use Rattle.oca_control.specs.declared.reception.Reception.{Reception}
+use Rattle.oca_control.specs.declared.reception.Reception.TheVariants as receptions
+use Rattle.oca_control.specs.declared.report.DriveReport.{DriveReport}
+use Rattle.oca_control.specs.Links.{LinkState, Decision, GivesCommand, GivesKeepAlive, GivesNothing, IsLost, decision, gone_on, due_bytes}
+use Rattle.oca_control.specs.Steps.{ReceivesDatagram}
+
+-- how many commands a datagram answered
+abbrev pub answered_by : Reception → ℕ
+answered_by (receptions.Answered n) = n
+answered_by receptions.Stranger = 0
+answered_by receptions.Malformed = 0
+answered_by receptions.NothingNew = 0
+
+abbrev pub is_command : Decision → Bool
+is_command (GivesCommand c) = true
+is_command GivesKeepAlive = false
+is_command GivesNothing = false
+is_command IsLost = false
+
+abbrev pub is_keep_alive : Decision → Bool
+is_keep_alive (GivesCommand c) = false
+is_keep_alive GivesKeepAlive = true
+is_keep_alive GivesNothing = false
+is_keep_alive IsLost = false
+
+abbrev pub is_lost : Decision → Bool
+is_lost (GivesCommand c) = false
+is_lost GivesKeepAlive = false
+is_lost GivesNothing = false
+is_lost IsLost = true
+
+-- something was given out, so that `due` is asked again
+abbrev pub goes_on : Decision → Bool
+goes_on (GivesCommand c) = true
+goes_on GivesKeepAlive = true
+goes_on GivesNothing = false
+goes_on IsLost = false
+
+-- what at most n calls of `due` decide at a moment, until one gives nothing out
+unfoldable pub decisions_from : ℕ → ℕ → LinkState → List Decision
+decisions_from now zero l = []
+decisions_from now (suc n) l = decision now l ∷ (if goes_on (decision now l) then decisions_from now n (gone_on now l) else [])
+
+-- the link after them
+unfoldable pub link_from : ℕ → ℕ → LinkState → LinkState
+link_from now zero l = l
+link_from now (suc n) l = if goes_on (decision now l) then link_from now n (gone_on now l) else gone_on now l
+
+-- the datagrams that they hand to the end, for the device
+abbrev pub given_to : Peer → Decision → List Sent
+given_to device d = if goes_on d then (record { to = device; bytes = due_bytes d }) ∷ [] else []
+
+abbrev pub all_given_to : Peer → List Decision → List Sent
+all_given_to device decisions = flat_map (given_to device) decisions
+
+-- What is heard of a delivery: a datagram of at most 1,472 bytes is one for the link, and nothing else is.
+pub record HearsDatagram (from : Peer) (bytes : List ℕ) (now : ℕ) (old new : LinkState) (answered : ℕ) : Type 0 where
+  pub short : length bytes ≤ largest_datagram → (answer : Reception) × ReceivesDatagram from bytes now old answer new × (answered ≡ answered_by answer)
+  pub long : largest_datagram < length bytes → (new ≡ old) × (answered ≡ 0)
+
+abbrev pub Hears : Delivery → LinkState → LinkState → ℕ → Type 0
+Hears (Datagram from bytes now) old new answered = HearsDatagram from bytes now old new answered
+Hears (Quiet now) old new answered = (new ≡ old) × (answered ≡ 0)
+Hears Failed old new answered = (new ≡ old) × (answered ≡ 0)
+
+-- What is then given out: `due` is called at most once more than the span has handles, and not after a failed receive.
+abbrev pub GivesAll : ℕ → LinkState → LinkState → List Decision → Type 0
+GivesAll now old new decisions = (decisions ≡ decisions_from now (old.span + 1) old) × (new ≡ link_from now (old.span + 1) old)
+
+abbrev pub Gives : Delivery → LinkState → LinkState → List Decision → Type 0
+Gives (Datagram from bytes now) old new decisions = GivesAll now old new decisions
+Gives (Quiet now) old new decisions = GivesAll now old new decisions
+Gives Failed old new decisions = (decisions ≡ []) × (new ≡ old)
+
+-- A TURN: what was delivered is heard, and then what is due is given out.
+pub record DrivesTurn (d : Delivery) (old new : LinkState) (decisions : List Decision) (answered : ℕ) : Type 0 where
+  pub between : LinkState
+  pub hears : Hears d old between answered
+  pub gives : Gives d between new decisions
+
+-- THE TURNS, one for each delivery. After one in which the link is lost there is no other.
+pub data Drives : (deliveries : List Delivery) (old new : LinkState) (decisions : List Decision) (answered : ℕ) → Type 0 where
+  NoTurn : {l : LinkState} → Drives [] l l [] 0
+  OneMore : {ds : List Delivery} {old l new : LinkState} {gs hs : List Decision} {n k : ℕ} (d : Delivery) →
+      Drives ds old l gs n → list_any is_lost gs ≡ false → DrivesTurn d l new hs k → Drives (ds ++ d ∷ []) old new (gs ++ hs) (n + k)
+
+abbrev pub is_failed_delivery : Delivery → Bool
+is_failed_delivery (Datagram from bytes now) = false
+is_failed_delivery (Quiet now) = false
+is_failed_delivery Failed = true
+
+-- the report of turns in which so many sends failed
+abbrev pub report_of : List Delivery → List Decision → ℕ → ℕ → DriveReport
+report_of deliveries decisions answered failed_sends =
+    record {
+      turns = length deliveries;
+      sent = count_by is_command decisions;
+      keep_alives = count_by is_keep_alive decisions;
+      answered = answered;
+      failed_receives = count_by is_failed_delivery deliveries;
+      failed_sends = failed_sends;
+      lost = list_any is_lost decisions;
+    }
+
+-- The first list is the second without k of its members.
+pub data Lacks {X : Type 0} : (k : ℕ) (xs ys : List X) → Type 0 where
+  none : Lacks 0 [] []
+  kept : {k : ℕ} {xs ys : List X} (x : X) → Lacks k xs ys → Lacks k (x ∷ xs) (x ∷ ys)
+  missing : {k : ℕ} {xs ys : List X} (y : X) → Lacks k xs ys → Lacks (k + 1) xs (y ∷ ys)
+
+-- What an end took grew by these datagrams, but for those whose send failed.
+pub record TakesGiven (failed : ℕ) (old new given : List Sent) : Type 0 where
+  pub sent : List Sent
+  pub grew : new ≡ old ++ sent
+  pub part : Lacks failed sent given
+
+-- A link was driven by an end that tells: what the end delivered grew by the turns' deliveries, what it took by what was given
+-- out but for the failed sends, and the report is that of the turns.
+pub record DrivesTelling (old new : LinkState) (delivered delivered' : List Delivery) (taken taken' : List Sent) (report : DriveReport) : Type 0 where
+  pub deliveries : List Delivery
+  pub decisions : List Decision
+  pub answered : ℕ
+  pub grew : delivered' ≡ delivered ++ deliveries
+  pub drives : Drives deliveries old new decisions answered
+  pub reported : report ≡ report_of deliveries decisions answered report.failed_sends
+  pub took : TakesGiven report.failed_sends taken taken' (all_given_to old.device decisions)
+
+-- Whatever the end tells: there are deliveries of which the turns are what was done and reported.
+pub record DrivesAny (old new : LinkState) (report : DriveReport) : Type 0 where
+  pub deliveries : List Delivery
+  pub decisions : List Decision
+  pub answered : ℕ
+  pub drives : Drives deliveries old new decisions answered
+  pub reported : report ≡ report_of deliveries decisions answered report.failed_sends
+
+-- how often is received: once a turn, and once more where neither the turns nor a lost link ended the loop
+abbrev pub receives_of : DriveReport → ℕ → ℕ
+receives_of report turns = report.turns + (if nat_lt report.turns turns && not report.lost then 1 else 0)
