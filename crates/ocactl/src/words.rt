@@ -1,4 +1,6 @@
 //! The words of the command line.
+ghost use Rattle.std.specs.Prelude.{◌≤◌, IfSome};
+
 use super::fault::RunFault;
 use super::request::Submission;
 use arrayvec::ArrayVec;
@@ -252,7 +254,9 @@ fn sending_in(words: &ArgMatches<'_>) -> Option<Sending> {
 }
 
 /// The number that an option says.
-fn number_in(words: &ArgMatches<'_>, name: &str, most: usize, largest: u64) -> Option<u64> {
+fn number_in(words: &ArgMatches<'_>, name: &str, most: usize, largest: u64) -> Option<u64>
+    ensures { IfSome result (λ n. n ≤ largest) }
+{
     number(words.get_str(name)?.as_bytes(), most, largest)
 }
 

@@ -10,4 +10,4 @@ returns-in-Some g c =
 
 pub returns-in-None : goal.returns-in-None
 returns-in-None g c =
-    take-served _ _ _ None _ _ _ (sym (ap (option_map answer_fields) c.in-None.is) ∙ c.take.ensures.answer) c.take.ensures.link c.print_line-2.ensures
+    take-served _ _ _ None _ _ _ (sym (ap (option_map answer_fields) c.in-None.is) ∙ c.take.ensures.answer) c.take.ensures.link c.print_line-in-None.ensures
