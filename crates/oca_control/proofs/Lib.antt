@@ -3,3 +3,4 @@ pub mod Tables
 pub mod Views
 pub mod Messages
 pub mod Receiving
+pub mod Turns

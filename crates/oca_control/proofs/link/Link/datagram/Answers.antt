@@ -1,4 +1,4 @@
-use Rattle.std.proofs.Common.{rules, arith, ◌≡◌, ap, ◌∙◌, sym}
+use Rattle.std.proofs.Common.{rules, arith, Some, ◌≡◌, ap, ◌∙◌, sym}
 use Rattle.oca_pdu.specs.Reading.{read_datagram}
 use Rattle.oca_pdu.specs.Datagrams.{datagram_messages}
 use Rattle.oca_control.proofs.Messages.{content_read, has_content, one_content, datagram_short}
@@ -16,3 +16,13 @@ pub hear_all-requires-clause-short : goal.hear_all-requires-clause-short
 hear_all-requires-clause-short c =
     let found = c.in-Ok.ensures.found in
     datagram_short found.0 c.args.bytes.now _ found.1 (c.messages.ensures.all ∙ found.2)
+
+pub returns-in-Ok-clause-receives : goal.returns-in-Ok-clause-receives
+returns-in-Ok-clause-receives c =
+    let found = c.in-Ok.ensures.found in
+    record {
+      content = Some (datagram_messages c.in-Ok.datagram);
+      holds = (found.0, found.1, sym found.2);
+      answer_is = search rules;
+      link_is = search rules;
+    }
