@@ -1,1 +1,4 @@
 pub mod FieldLemmas
+pub mod PrintLemmas
+pub mod ServeLemmas
+pub mod ExchangeLemmas

@@ -1,0 +1,46 @@
+-- How a command fares, and is printed.
+use Rattle.std.proofs.Common.{◌≡◌, ℕ, List, [], ◌++◌, Option, Some, None, Result, Ok, Err, refl, sym, ap, ◌∙◌, subst}
+use Rattle.oca_types.specs.declared.words.Handle.{Handle}
+use Rattle.oca_script.specs.declared.fault.WriteFailed.{WriteFailed}
+use Rattle.oca_script.specs.Ends.{Output}
+use Rattle.oca_script.specs.Printing.{Prints, PrintsAll, PrintsPart}
+use Rattle.oca_control.specs.declared.fault.ControlFault.{ControlFault}
+use Rattle.std.specs.Prelude.{is_some, if◌then◌else◌}
+use Rattle.oca_control.specs.Answers.{AnswerFields}
+use Rattle.oca_control.specs.Untaken.{answer_under, without_handle}
+use Rattle.oca_control.specs.Links.{LinkState, Request, submission, submitted, after_submission, taken}
+use Rattle.ocactl.specs.declared.exchange.Outcome.{Outcome}
+use Rattle.ocactl.specs.Exchanges.{Waits, Sends, refused_by, outcome_text}
+use Rattle.ocactl.specs.PrivateExchanges.{ExchangesAndPrints}
+use Rattle.ocactl.proofs.PrintLemmas.{then-flushed, not-printed}
+
+pub sends-ok : (old mid new : LinkState) (request : Request) (answer : Result Handle ControlFault) (h : Handle) (o : Outcome)
+    → answer ≡ Ok h → answer ≡ submission request old → mid ≡ submitted request 0 old → Waits h.0 mid o new → Sends request (submission request old) old o new
+sends-ok old mid new request answer h o is e link w =
+    subst (λ (z : Result Handle ControlFault). Sends request z old o new) (sym is ∙ e) (subst (λ (l : LinkState). Waits h.0 l o new) link w)
+
+pub sends-refused : (old mid : LinkState) (request : Request) (answer : Result Handle ControlFault) (fault : ControlFault) (o : Outcome)
+    → answer ≡ Err fault → answer ≡ submission request old → mid ≡ submitted request 0 old → o ≡ refused_by fault → Sends request (submission request old) old o mid
+sends-refused old mid request answer fault o is e link by =
+    let same : mid ≡ old = link ∙ ap (λ (z : Result Handle ControlFault). after_submission z request 0 old) (sym e ∙ is) in
+    subst (λ (z : Result Handle ControlFault). Sends request z old o mid) (sym is ∙ e) (by, same)
+
+pub exchanged : (old new : LinkState) (request : Request) (o : Outcome) (r : Result Unit WriteFailed) (a b c : Output)
+    → Sends request (submission request old) old o new → PrintsAll a b (outcome_text o) → Prints r b c [] → ExchangesAndPrints old request new r a c
+exchanged old new request o r a b c h p q = record {
+  text = outcome_text o;
+  serves = (o, h, refl);
+  prints = then-flushed r a b c (outcome_text o) p q;
+}
+
+pub exchanged-part : (old new : LinkState) (request : Request) (o : Outcome) (r : Result Unit WriteFailed) (e f : WriteFailed) (a b : Output)
+    → r ≡ Err e → Sends request (submission request old) old o new → Prints (Err f) a b (outcome_text o) → ExchangesAndPrints old request new r a b
+exchanged-part old new request o r e f a b is h p = record {
+  text = outcome_text o;
+  serves = (o, h, refl);
+  prints = not-printed r e f a b (outcome_text o) is p;
+}
+
+-- where there is no answer, nothing is taken
+pub nothing-taken : (l : LinkState) (h : ℕ) → answer_under h l.untaken ≡ None → taken h l ≡ l
+nothing-taken l h none = ap (λ (o : Option AnswerFields). record l { untaken = if is_some o then without_handle h l.untaken else l.untaken }) none

@@ -1,0 +1,58 @@
+-- How a command fares that is sent over a network (*profile*).
+use Rattle.std.specs.Prelude.{◌≡◌, ℕ, ◌==◌, true, if◌then◌else◌, List, codes, Option, Some, None, Result, Ok, Err}
+use Rattle.oca_types.specs.declared.words.Handle.{Handle}
+use Rattle.oca_control.specs.declared.fault.ControlFault.{ControlFault}
+use Rattle.oca_control.specs.declared.fault.ControlFault.TheVariants as faults
+use Rattle.oca_control.specs.declared.report.DriveReport.{DriveReport}
+use Rattle.oca_control.specs.Answers.{answer_fields}
+use Rattle.oca_control.specs.Links.{LinkState, Request, submission, submitted, taken}
+use Rattle.oca_control.specs.Untaken.{answer_under}
+use Rattle.oca_control.specs.Driving.{DrivesAny}
+use Rattle.ocactl.specs.declared.exchange.Outcome.{Outcome}
+use Rattle.ocactl.specs.declared.exchange.Outcome.TheVariants as outcomes
+use Rattle.ocactl.specs.Printing.{answer_text, refusal_text}
+
+-- the line that is printed
+abbrev pub outcome_text : Outcome → List ℕ
+outcome_text (outcomes.Answered a) = answer_text (answer_fields a)
+outcome_text (outcomes.Refused fault) = refusal_text fault
+outcome_text outcomes.Lost = codes "lost\n"
+outcome_text outcomes.Unanswered = codes "no answer\n"
+
+-- the exit status: 0 for an answer with the status 0, 4 for another, 3 where there is none
+abbrev pub outcome_status : Outcome → ℕ
+outcome_status (outcomes.Answered a) = if a.status == 0 then 0 else 4
+outcome_status (outcomes.Refused fault) = 3
+outcome_status outcomes.Lost = 3
+outcome_status outcomes.Unanswered = 3
+
+-- The link was driven, time after time.
+pub data HasDriven : (old new : LinkState) → Type 0 where
+  NotYet : {l : LinkState} → HasDriven l l
+  OnceMore : {old l new : LinkState} (report : DriveReport) → HasDriven old l → DrivesAny l new report → HasDriven old new
+
+-- From a link under whose handle h an answer is waited for, to the link after it. The link is driven; an answer is the one that
+-- it then holds, and is taken.
+abbrev pub Waits : ℕ → LinkState → Outcome → LinkState → Type 0
+Waits h old (outcomes.Answered a) new =
+    (l : LinkState) × HasDriven old l × (answer_under h l.untaken ≡ Some (answer_fields a)) × (new ≡ taken h l)
+Waits h old (outcomes.Refused fault) new = ⊥
+Waits h old outcomes.Lost new = (l : LinkState) × (report : DriveReport) × HasDriven old l × DrivesAny l new report × (report.lost ≡ true)
+Waits h old outcomes.Unanswered new = HasDriven old new × (answer_under h new.untaken ≡ None)
+
+-- how a command fares that the link refuses
+abbrev pub refused_by : ControlFault → Outcome
+refused_by faults.Lost = outcomes.Lost
+refused_by faults.HandlesSpent = outcomes.Refused faults.HandlesSpent
+refused_by faults.SpanFull = outcomes.Refused faults.SpanFull
+refused_by faults.TooLong = outcomes.Refused faults.TooLong
+
+-- The command was submitted at moment 0, and its answer waited for; or it was refused, which changes nothing.
+abbrev pub Sends : Request → Result Handle ControlFault → LinkState → Outcome → LinkState → Type 0
+Sends request (Ok handle) old outcome new = Waits handle.0 (submitted request 0 old) outcome new
+Sends request (Err fault) old outcome new = (outcome ≡ refused_by fault) × (new ≡ old)
+
+-- the command was sent, and how it fared is printed
+abbrev pub Exchanges : LinkState → Request → LinkState → List ℕ → Type 0
+Exchanges old request new text =
+    (outcome : Outcome) × Sends request (submission request old) old outcome new × (text ≡ outcome_text outcome)

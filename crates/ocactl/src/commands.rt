@@ -1,0 +1,90 @@
+//! Commands from lines, each sent and answered before the next is read.
+ghost use Rattle.std.specs.Prelude.{◌≡◌};
+ghost use Rattle.oca_script.specs.Printing.{Prints};
+ghost use Rattle.oca_control.specs.Links.{Request};
+ghost use Rattle.ocactl.specs.Requests.{asked_command};
+ghost use Rattle.ocactl.specs.Exchanges.{Exchanges};
+ghost use Rattle.ocactl.specs.PrivateRequests.{request_in};
+ghost use Rattle.ocactl.specs.PrivateExchanges.{ExchangesAndPrints};
+
+use super::exchange::{print_outcome, send};
+use super::request::{MOST_BYTES, Submission, command_by};
+use oca_control::Link;
+use oca_net::End;
+use oca_script::{Language, Printer, ReplayFault, Sink, Source, Stop, WriteFailed};
+use std::marker::PhantomData;
+
+/// How many turns a command of a line waits for its answer: the link is lost long before.
+const TURNS: u32 = u32::MAX;
+
+/// A link, the end that it is driven over, and the greatest exit status of a command so far.
+pub struct Session<E> {
+    pub link: Link,
+    pub end: E,
+    pub lost: bool,
+}
+
+impl<E: Drop> Drop for Session<E> {
+    fn drop(self) {
+        let Session {
+            link: _,
+            end: _,
+            lost: _,
+        } = self;
+    }
+}
+
+/// The language of lines of commands.
+pub struct Commands<E>(PhantomData<E>);
+
+impl<E: End> Language for Commands<E> {
+    type State = Session<E>;
+
+    type Room = [u8; MOST_BYTES];
+
+    ghost Request = { Request };
+
+    ghost asked = { asked_command };
+
+    ghost serves = { λ old request new text. Exchanges old.link request new.link text };
+
+    fn serve_line<W: Sink>(
+        session: &mut Session<E>,
+        room: &mut [u8; MOST_BYTES],
+        line: &[u8],
+        printer: &mut Printer<W>,
+    ) -> Result<(), Stop> {
+        match command_by(line, room) {
+            Err(fault) => Err(Stop::Line(fault)),
+            Ok(command) => match exchange(session, command, printer) {
+                Ok(()) => Ok(()),
+                Err(WriteFailed) => Err(Stop::Write),
+            },
+        }
+    }
+}
+
+/// Sends a command, and writes how it fared.
+fn exchange<E: End, W: Sink>(
+    session: &mut Session<E>,
+    command: Submission<'_>,
+    printer: &mut Printer<W>,
+) -> Result<(), WriteFailed>
+    ensures { ExchangesAndPrints session.old.link (request_in command.entry) session.new.link result printer.old printer.new }
+{
+    let outcome = send(&mut session.link, &mut session.end, command, TURNS);
+    session.lost = session.lost || outcome.status() == 3;
+    print_outcome(&outcome, printer)?;
+    printer.flush()
+}
+
+/// Sends the commands that the source has to give over the session, each once the one before was answered, and writes how each
+/// fared.
+pub fn send_all<E: End, R: Source, W: Sink>(
+    session: &mut Session<E>,
+    reader: &mut R,
+    printer: &mut Printer<W>,
+) -> Result<(), ReplayFault> {
+    let mut room = [0; MOST_BYTES];
+    oca_script::replay::replay::<Commands<E>, R, W>(session, &mut room, reader, printer)
+}
