@@ -15,10 +15,7 @@ const VERDICT_ROOM: usize = 128;
 const PACKET_ROOM: usize = 2960;
 
 /// Prints what became of a datagram.
-pub fn print_verdict<W: Sink>(
-    verdict: Verdict,
-    printer: &mut Printer<W>,
-) -> Result<(), WriteFailed>
+pub fn print_verdict<W: Sink>(verdict: Verdict, printer: &mut Printer<W>) -> Result<(), WriteFailed>
     ensures { Prints result printer.old printer.new (verdict_text verdict) }
 {
     printer.make_room(VERDICT_ROOM)?;
@@ -27,10 +24,7 @@ pub fn print_verdict<W: Sink>(
 }
 
 /// Prints each packet, in order.
-pub fn print_packets<W: Sink>(
-    outbox: &Outbox,
-    printer: &mut Printer<W>,
-) -> Result<(), WriteFailed>
+pub fn print_packets<W: Sink>(outbox: &Outbox, printer: &mut Printer<W>) -> Result<(), WriteFailed>
     ensures { Prints result printer.old printer.new (flat_map packet_text outbox.now) }
 {
     for i in 0..outbox.len() {

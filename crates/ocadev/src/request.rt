@@ -112,13 +112,13 @@ fn bytes_after<'a>(
     ensures { event_asked result ≡ datagram_after now from (fields rest.now) }
 {
     let (text, more) = first_field(rest);
-    if more.is_some() {
-        return Err(LineFault::Form);
+    match more {
+        Some(_) => Err(LineFault::Form),
+        None => match hex_bytes(text, room) {
+            Some(bytes) => Ok(Request::Datagram { now, from, bytes }),
+            None => Err(LineFault::Hex),
+        },
     }
-    let Some(bytes) = hex_bytes(text, room) else {
-        return Err(LineFault::Hex);
-    };
-    Ok(Request::Datagram { now, from, bytes })
 }
 
 /// What the fields of the line ask for. The bytes of a datagram are put into `room`.

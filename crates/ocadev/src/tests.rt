@@ -220,10 +220,32 @@ fn bad_words(rt: HostRuntime) {
         &["ocadev", "serve", "--port", "+1", "--turns", "1"],
         &["ocadev", "serve", "--port", "000000", "--turns", "1"],
         &["ocadev", "serve", "--port", "0", "--turns", "4294967296"],
-        &["ocadev", "serve", "--port", "0", "--turns", "1", "--ip", "127.0.0.256"],
-        &["ocadev", "serve", "--port", "0", "--turns", "1", "--ip", "127.0.0.1:1"],
-        &["ocadev", "serve", "--port", "0", "--turns", "1", "--window", "65"],
-        &["ocadev", "serve", "--port", "0", "--port", "0", "--turns", "1"],
+        &[
+            "ocadev",
+            "serve",
+            "--port",
+            "0",
+            "--turns",
+            "1",
+            "--ip",
+            "127.0.0.256",
+        ],
+        &[
+            "ocadev",
+            "serve",
+            "--port",
+            "0",
+            "--turns",
+            "1",
+            "--ip",
+            "127.0.0.1:1",
+        ],
+        &[
+            "ocadev", "serve", "--port", "0", "--turns", "1", "--window", "65",
+        ],
+        &[
+            "ocadev", "serve", "--port", "0", "--port", "0", "--turns", "1",
+        ],
         &["ocadev", "replay", "--window", "0"],
         &["ocadev", "replay", "--window", "65"],
         &["ocadev", "replay", "--window", "0032"],
@@ -254,7 +276,10 @@ fn help(rt: HostRuntime) {
         let mut from = PieceReader::new(GET_1, 1000, 0);
         let mut to = ShortWriter::new(1000, usize::MAX);
         let mut faults = ShortWriter::new(1000, usize::MAX);
-        assert_eq!(rt; run(rt.alloc(), &rt, words, &mut from, &mut to, &mut faults), 0);
+        assert_eq!(rt;
+            run(rt.alloc(), &rt, words, &mut from, &mut to, &mut faults),
+            0
+        );
         assert!(rt; !to.taken.is_empty());
         assert!(rt; faults.taken.is_empty());
     }
@@ -356,7 +381,10 @@ fn statuses_of_failing_ends(rt: HostRuntime) {
         let mut faults = ShortWriter::new(1000, usize::MAX);
         let mut from = PieceReader::new(UNMUTES, 30, usize::MAX);
         let mut to = ShortWriter::new(1000, 10);
-        assert_eq!(rt; run(rt.alloc(), &rt, words, &mut from, &mut to, &mut faults), 1);
+        assert_eq!(rt;
+            run(rt.alloc(), &rt, words, &mut from, &mut to, &mut faults),
+            1
+        );
         assert!(rt; faults.taken.as_slice() == b"write failed\n".as_slice());
     }
 }
@@ -375,8 +403,18 @@ fn faults_of_a_run(rt: HostRuntime) {
     reports_as(&rt, RunFault::from(hex), b"line 7: hex\n", 2);
     reports_as(&rt, RunFault::NoMemory, b"no memory\n", 1);
     reports_as(&rt, RunFault::from(ReplayFault::Read), b"read failed\n", 1);
-    reports_as(&rt, RunFault::from(ReplayFault::Write), b"write failed\n", 1);
-    reports_as(&rt, RunFault::from(ReplayFault::TooMuch), b"too much input\n", 1);
+    reports_as(
+        &rt,
+        RunFault::from(ReplayFault::Write),
+        b"write failed\n",
+        1,
+    );
+    reports_as(
+        &rt,
+        RunFault::from(ReplayFault::TooMuch),
+        b"too much input\n",
+        1,
+    );
     reports_as(&rt, RunFault::from(BindFault::Io), b"socket failed\n", 1);
     reports_as(&rt, RunFault::from(BindFault::NoMemory), b"no memory\n", 1);
 }
@@ -474,13 +512,23 @@ fn serves_nobody(rt: HostRuntime) {
         ),
         0
     );
-    let text = b"turns 2 executed 0 kept 0 old 0 reused 0 malformed 0 no-room 0 oversize 0 quiet 2 failed-receives 0 failed-sends 0\n";
+    let text =
+        b"turns 2 executed 0 kept 0 old 0 reused 0 malformed 0 no-room 0 oversize 0 quiet 2 failed-receives 0 failed-sends 0\n";
     assert!(rt; to.taken.as_slice() == text.as_slice());
     assert!(rt; faults.taken.as_slice().starts_with(b"listening 127.0.0.1:"));
     assert!(rt; faults.taken.as_slice().ends_with(b"\n"));
     runs_as(
         &rt,
-        &["ocadev", "serve", "--port", "0", "--turns", "2", "--ip", "192.0.2.1"],
+        &[
+            "ocadev",
+            "serve",
+            "--port",
+            "0",
+            "--turns",
+            "2",
+            "--ip",
+            "192.0.2.1",
+        ],
         b"",
         1,
         b"",
