@@ -16,9 +16,9 @@ use oca_types::{Packet, Peer};
 /// Drives a link over an end for at most so many turns, and answers what was done.
 ///
 /// A turn receives once. A datagram goes to the link. Then, at a datagram, at silence and at an oversize datagram, what is
-/// due is handed to the end, for the device, until nothing is due or the link is lost, and at most once more than the span
+/// due is handed to the end, for the device, until `due` answers `Nothing` or `Lost`, and at most once more than the span
 /// has handles; where a send fails, it is counted. A failed receive does nothing else. The loop ends at Closed, which is no turn
-/// and after which it receives nothing, after a turn in which the link is lost, or after the turns.
+/// and after which it receives nothing, after a turn in which `due` answers `Lost`, or after the turns.
 pub fn drive<E: End>(link: &mut Link, end: &mut E, turns: u32) -> DriveReport
     ensures telling { IsTrue (E.tells end.old) →
         DrivesTelling link.old link.new (E.delivered end.old) (E.delivered end.new) (E.taken end.old) (E.taken end.new) result }

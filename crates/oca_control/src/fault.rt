@@ -5,7 +5,7 @@
 pub enum ControlFault {
     /// The link is lost.
     Lost = 1,
-    /// The handle 4294967295 was given out: none is left.
+    /// A command got the handle 4294967295: none is left.
     HandlesSpent = 2,
     /// The next handle would not lie below the lowest untaken one plus the span.
     SpanFull = 3,

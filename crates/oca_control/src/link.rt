@@ -55,8 +55,8 @@ impl Model for Link {
 }
 
 impl Link {
-    /// A link to the device at this address, whose first command gets this handle, and whose handles run at most a span ahead
-    /// of the lowest untaken one.
+    /// A link to the device at this address, whose first command gets this handle, and whose handles stay
+    /// below the lowest untaken one plus the span.
     pub fn new(device: Peer, first_handle: Handle, now: u64, span: Span) -> Link
         ensures { result ≡ new_link device first_handle.0 now (span_size span) }
     {

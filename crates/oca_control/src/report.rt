@@ -3,7 +3,7 @@
 /// What the loop [`drive`](crate::drive) did.
 #[derive(Clone, Copy, Debug, PartialEq, Eq)]
 pub struct DriveReport {
-    /// The turns: how often something was received, or a receive failed.
+    /// The turns: receives that delivered something: a datagram, an oversize one, silence or a failure.
     pub turns: u64,
     /// The commands that were handed to the end, first sendings and repeats, failed sends included.
     pub sent: u64,
@@ -15,6 +15,6 @@ pub struct DriveReport {
     pub failed_receives: u64,
     /// The sends that failed.
     pub failed_sends: u64,
-    /// Whether the link is lost, and so no longer gives anything out.
+    /// Whether `due` answered `Lost`, which ends the loop.
     pub lost: bool,
 }

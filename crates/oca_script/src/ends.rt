@@ -40,7 +40,8 @@ pub trait Sink {
         ensures failed { Remembers result (failed self.old) (failed self.new) };
 }
 
-/// Any reader, with whether a read of it has failed.
+/// Any reader, with whether a read of it has failed. That the flag is raised only where the reader failed is shown by tests:
+/// the standard library's readers have no word for a failure.
 pub struct FromReader<R> {
     reader: R,
     failed: bool,
@@ -84,7 +85,8 @@ impl<R: Read> Source for FromReader<R> {
     }
 }
 
-/// Any writer, with whether a write to it has failed. A write that takes nothing has.
+/// Any writer, with whether a write to it has failed. A write that takes nothing has. That the flag is raised only there is
+/// shown by tests: the standard library's writers have no word for a failure.
 pub struct ToWriter<W> {
     writer: W,
     failed: bool,

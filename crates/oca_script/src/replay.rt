@@ -156,8 +156,8 @@ fn serve_piece<L: Language, W: Sink>(
 /// Replays the script that the source has to give, by the rules of a language: the lines are counted from 1, and the text
 /// of the requests before the first bad line is written, and before it what the printer held. Faults: `Line` with the first
 /// bad line and its fault; `TooMuch` beyond 16,777,216 bytes where no line within them is bad; `Read` and `Write` where a
-/// read or a write failed in this call and nowhere else: some first requests were served then, and their text was written,
-/// or at `Write` a front of it. (The form of a script is the profile's.)
+/// read or a write of ends that had not failed before failed in this call, and nowhere else: some first requests were
+/// served then, and their text was written, or at `Write` a front of it. (The form of a script is the profile's.)
 pub fn replay<L: Language, R: Source, W: Sink>(
     state: &mut L::State,
     room: &mut L::Room,
