@@ -1,26 +1,46 @@
-# make demo   builds without proving, runs the examples and compares what they print: about a minute
-# make build  proves and builds the programs into bin
-# make test   the gate: every proof from nothing, must-fail edits, tests, programs, and the steps of gate/steps
-.PHONY: build demo test bench clean
+# make demo    builds without proving, runs the examples and compares what they print: about a minute
+# make build   proves and builds the programs into bin
+# make test    the gate: every proof from nothing, must-fail edits, tests, programs, and the steps of gate/steps
+# make lossy   both programs over a network that loses, doubles, delays and reorders: COMMANDS=200 SEED=1
+# make fuzz    both programs against a second implementation of the profile, on random scripts: SECONDS=60 SEED=1
+# make bench   instructions, memory, requests a second
+COMMANDS = 200
+SECONDS = 60
+SEED = 1
+PROGRAMS = ocadev ocactl trials amplifier panel
+.PHONY: build demo test lossy fuzz bench clean
 
 demo:
 	@echo "Building by 'rt try' and running the examples; nothing is proved yet by that. This takes about a minute."
 	@python3 examples/run.py
 
 build:
-	@echo "Proving and building ocadev with the crates below it. The first time this takes some 15 minutes on 4 processors;"
-	@echo "after an edit, mostly seconds to minutes. Each crate is named as it is checked."
-	cd crates/ocadev && rt run -- show > /dev/null
+	@echo "Proving and building $(PROGRAMS) with the crates below them. The first time this takes some 20 minutes on 4"
+	@echo "processors; after an edit, mostly seconds to minutes. Each crate is named as it is checked."
 	mkdir -p bin
-	cp crates/ocadev/out/ocadev bin/ocadev
+	cd crates/ocadev && rt run -- show > /dev/null
+	cd crates/ocactl && rt run -- --help > /dev/null
+	cd crates/trials && rt run -- calls > /dev/null
+	cd crates/amplifier && rt run > /dev/null
+	cd crates/panel && rt run > /dev/null
+	for program in $(PROGRAMS); do cp crates/$$program/out/$$program bin/; done
 	python3 examples/run.py bin/ocadev
 
 test:
 	@python3 gate/run.py
 
-# instructions and memory of `ocadev replay` on three scripts
+lossy:
+	@test -x bin/ocactl || $(MAKE) build
+	@python3 tools/lossy.py bin $(COMMANDS) $(SEED)
+
+fuzz:
+	@test -x bin/ocactl || $(MAKE) build
+	@python3 tools/fuzz.py bin $(SECONDS) $(SEED)
+
 bench: build
 	python3 bench/run.py bin/ocadev
+	python3 bench/core.py bin
+	python3 bench/sockets.py bin
 
 clean:
 	rm -rf bin crates/*/out out

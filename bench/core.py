@@ -1,0 +1,31 @@
+#!/usr/bin/env python3
+"""Instructions a command of `Device::datagram` alone, datagrams made in memory (valgrind --tool=callgrind).
+
+Usage: core.py BIN     BIN is the folder with `trials`
+
+single: one GetState a datagram. packed: 86 of them. copies: the same command again and again. What making the datagrams
+costs is taken off."""
+import re
+import subprocess
+import sys
+import tempfile
+
+
+def instructions(program, kind, count, way):
+    with tempfile.TemporaryDirectory() as folder:
+        run = subprocess.run(
+            ["valgrind", "--tool=callgrind", f"--callgrind-out-file={folder}/out", program, "bench", kind, str(count), way],
+            stdout=subprocess.DEVNULL, stderr=subprocess.PIPE, text=True, check=True)
+    return int(re.search(r"Collected : (\d+)", run.stderr).group(1))
+
+
+def main():
+    program = f"{sys.argv[1]}/trials"
+    print("kind    instructions-a-command")
+    for kind, commands, count in (("single", 1, 4000), ("packed", 86, 100), ("copies", 1, 4000)):
+        # from 100 datagrams on, so that the first use of the window's places is left out
+        cost = [instructions(program, kind, n, "served") - instructions(program, kind, n, "made") for n in (100, 100 + count)]
+        print(f"{kind:7} {(cost[1] - cost[0]) / (count * commands):8.0f}", flush=True)
+
+
+main()
