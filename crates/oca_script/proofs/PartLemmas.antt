@@ -111,11 +111,17 @@ peer_before-found t r1 r2 r3 r4 rest a b c d port ha hb hc hd hp =
     (longer 46 hb.digits C (32 ∷ rest) r1 r2 hb.whole
     (longer 46 hc.digits D (32 ∷ rest) r2 r3 hc.whole (longer 58 hd.digits hp.digits (32 ∷ rest) r3 r4 hd.whole hp.whole))) in
     let free : Free 32 A =
-    free-append 32 ha.digits (46 ∷ B) (number-free 32 3 255 a ha.digits low ha.value)
-    (refl, free-append 32 hb.digits (46 ∷ C) (number-free 32 3 255 b hb.digits low hb.value)
-    (refl, free-append 32 hc.digits (46 ∷ D) (number-free 32 3 255 c hc.digits low hc.value)
-    (refl, free-append 32 hd.digits (58 ∷ hp.digits) (number-free 32 3 255 d hd.digits low hd.value)
-    (refl, number-free 32 5 65535 port hp.digits low hp.value)))) in
+    free-append 32 ha.digits (46 ∷ B) (number-free 32 3 255 a ha.digits low ha.value) (
+      refl,
+      free-append 32 hb.digits (46 ∷ C) (number-free 32 3 255 b hb.digits low hb.value) (
+        refl,
+        free-append 32 hc.digits (46 ∷ D) (number-free 32 3 255 c hc.digits low hc.value) (
+          refl,
+          free-append 32 hd.digits (58 ∷ hp.digits) (number-free 32 3 255 d hd.digits low hd.value)
+              (refl, number-free 32 5 65535 port hp.digits low hp.value),
+        ),
+      ),
+    ) in
     record {
       field = A;
       parted = rw whole (free-after 32 A rest free);
@@ -124,9 +130,14 @@ peer_before-found t r1 r2 r3 r4 rest a b c d port ha hb hc hd hp =
         free-after 46 hb.digits C (number-free 46 3 255 b hb.digits dot hb.value),
         free-after 46 hc.digits D (number-free 46 3 255 c hc.digits dot hc.value),
         free-after 58 hd.digits hp.digits (number-free 58 3 255 d hd.digits colon hd.value),
-        ha.value, hb.value, hc.value, hd.value, hp.value,
+        ha.value,
+        hb.value,
+        hc.value,
+        hd.value,
+        hp.value,
       ) refl;
     }
 
 pub ruleset number_before_rules = (number_before-on, number_before-found)
+
 pub ruleset peer_before_rules = (peer_before-found)

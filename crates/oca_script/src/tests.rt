@@ -1,12 +1,12 @@
 ghost use Rattle.std.specs.Prelude.{Ok};
 
 use super::fakes::{Discard, PatternReader, PieceReader, ShortWriter};
-use super::field::{address, first_field, hex_bytes, moment, number, number_before, peer, peer_before};
+use super::field::{
+    address, first_field, hex_bytes, moment, number, number_before, peer, peer_before,
+};
 use super::language::Language;
 use super::replay::replay;
-use super::{
-    FromReader, LineFault, Printer, ReplayFault, Sink, Stop, ToWriter, WriteFailed,
-};
+use super::{FromReader, LineFault, Printer, ReplayFault, Sink, Stop, ToWriter, WriteFailed};
 use oca_types::Peer;
 use std::process::Abort;
 use std::test::Fail;
@@ -130,7 +130,14 @@ fn readers_and_writers(rt: HostRuntime) {
                 &mut lines, &mut 0, &mut from, &mut to,
             );
             let whole = place == TEXT.len();
-            assert_eq!(rt; ended, if whole { Ok(()) } else { Err(ReplayFault::Write) });
+            assert_eq!(rt;
+                ended,
+                if whole {
+                    Ok(())
+                } else {
+                    Err(ReplayFault::Write)
+                }
+            );
             drop(to);
             assert_eq!(rt; short.taken.len(), place);
             assert!(rt; TEXT.starts_with(short.taken.as_slice()));
@@ -263,7 +270,14 @@ fn peers(rt: HostRuntime) {
 fn addresses(rt: HostRuntime) {
     assert_eq!(rt; address(b"127.0.0.1"), Some(0x7f000001));
     assert_eq!(rt; address(b"255.1.002.3"), Some(0xff010203));
-    for text in [b"127.0.0.256".as_slice(), b"127.0.0", b"127.0.0.1.1", b"127.0.0.1:1", b"127.0.0.", b""] {
+    for text in [
+        b"127.0.0.256".as_slice(),
+        b"127.0.0",
+        b"127.0.0.1.1",
+        b"127.0.0.1:1",
+        b"127.0.0.",
+        b"",
+    ] {
         assert_eq!(rt; address(text), None);
     }
 }
@@ -272,8 +286,17 @@ fn addresses(rt: HostRuntime) {
 #[test]
 fn before_a_separator(rt: HostRuntime) {
     assert!(rt; number_before(b"07 x y", b' ', 2, 9) == Some((7, b"x y".as_slice())));
-    assert!(rt; number_before(b"18446744073709551615 ", b' ', 20, u64::MAX) == Some((u64::MAX, b"".as_slice())));
-    for text in [b"18446744073709551616 ".as_slice(), b" ", b"1", b"-1 ", b"000000000000000000001 "] {
+    assert!(rt;
+        number_before(b"18446744073709551615 ", b' ', 20, u64::MAX)
+            == Some((u64::MAX, b"".as_slice()))
+    );
+    for text in [
+        b"18446744073709551616 ".as_slice(),
+        b" ",
+        b"1",
+        b"-1 ",
+        b"000000000000000000001 ",
+    ] {
         assert!(rt; number_before(text, b' ', 20, u64::MAX).is_none());
     }
     assert!(rt; number_before(b"256.", b'.', 3, 255).is_none());
@@ -282,7 +305,12 @@ fn before_a_separator(rt: HostRuntime) {
         port: 9001,
     };
     assert!(rt; peer_before(b"127.0.0.1:9001 3b 00") == Some((local, b"3b 00".as_slice())));
-    for text in [b"127.0.0.1:9001".as_slice(), b"127.0.0.1:65536 ", b"127.0.0:1 ", b"quiet "] {
+    for text in [
+        b"127.0.0.1:9001".as_slice(),
+        b"127.0.0.1:65536 ",
+        b"127.0.0:1 ",
+        b"quiet ",
+    ] {
         assert!(rt; peer_before(text).is_none());
     }
 }
