@@ -10,7 +10,7 @@ use Rattle.oca_control.specs.Answers.{AnswerFields}
 use Rattle.oca_control.specs.Untaken.{answer_under, without_handle}
 use Rattle.oca_control.specs.Links.{LinkState, Request, submission, submitted, after_submission, taken}
 use Rattle.ocactl.specs.declared.exchange.Outcome.{Outcome}
-use Rattle.ocactl.specs.Exchanges.{Waits, Sends, refused_by, outcome_text}
+use Rattle.ocactl.specs.Exchanges.{HasDriven, Waits, Sends, refused_by, outcome_text}
 use Rattle.ocactl.specs.PrivateExchanges.{ExchangesAndPrints}
 use Rattle.ocactl.proofs.PrintLemmas.{then-flushed, not-printed}
 
@@ -44,3 +44,14 @@ exchanged-part old new request o r e f a b is h p = record {
 -- where there is no answer, nothing is taken
 pub nothing-taken : (l : LinkState) (h : ℕ) → answer_under h l.untaken ≡ None → taken h l ≡ l
 nothing-taken l h none = ap (λ (o : Option AnswerFields). record l { untaken = if is_some o then without_handle h l.untaken else l.untaken }) none
+
+-- where no answer was held, the link after a take is the one before
+not-taken : (l m : LinkState) (h : ℕ) (answer : Option AnswerFields) → answer ≡ None → answer ≡ answer_under h l.untaken → m ≡ taken h l → m ≡ l
+not-taken l m h answer none e link = link ∙ nothing-taken l h (sym e ∙ none)
+
+pub still-driven : (old l m : LinkState) (h : ℕ) (answer : Option AnswerFields) → HasDriven old l → answer ≡ None → answer ≡ answer_under h l.untaken → m ≡ taken h l → HasDriven old m
+still-driven old l m h answer driven none e link = subst (HasDriven old) (sym (not-taken l m h answer none e link)) driven
+
+pub still-none : (l m : LinkState) (h : ℕ) (answer : Option AnswerFields) → answer ≡ None → answer ≡ answer_under h l.untaken → m ≡ taken h l → answer_under h m.untaken ≡ None
+still-none l m h answer none e link =
+    ap (λ (k : LinkState). answer_under h k.untaken) (not-taken l m h answer none e link) ∙ sym e ∙ none

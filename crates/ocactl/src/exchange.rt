@@ -31,28 +31,23 @@ impl Outcome {
         ensures { result ≡ outcome_status self.now }
     {
         match self {
-            Outcome::Answered(answer) => {
-                if answer.status == 0 {
-                    0
-                } else {
-                    4
-                }
-            }
+            Outcome::Answered(answer) => { if answer.status == 0 { 0 } else { 4 } }
             Outcome::Refused(_) | Outcome::Lost | Outcome::Unanswered => 3,
         }
     }
 }
 
 /// Submits the command at moment 0, and waits for its answer at most so many turns, of at most 50 ms each at a socket.
-pub fn send<E: End>(
-    link: &mut Link,
-    end: &mut E,
-    command: Submission<'_>,
-    turns: u32,
-) -> Outcome
+pub fn send<E: End>(link: &mut Link, end: &mut E, command: Submission<'_>, turns: u32) -> Outcome
     ensures { Sends (request_in command.entry) (submission (request_in command.entry) link.old) link.old result link.new }
 {
-    match link.submit(command.target, command.method, command.count, command.params, 0) {
+    match link.submit(
+        command.target,
+        command.method,
+        command.count,
+        command.params,
+        0,
+    ) {
         Ok(handle) => wait_for(link, end, handle, turns),
         Err(fault) => refused(fault),
     }

@@ -87,18 +87,14 @@ fn linked<'a>(
     Command::new(alloc, name)
         .about(about)
         .after_help(example)
-        .arg(
-            option(alloc, "device", "A.B.C.D:PORT", "The device's address").required(true),
-        )?
-        .arg(
-            option(
-                alloc,
-                "first-handle",
-                "H",
-                "The handle of the first command, 0 to 4294967295",
-            )
-            .required(true),
-        )?
+        .arg(option(alloc, "device", "A.B.C.D:PORT", "The device's address").required(true))?
+        .arg(option(
+            alloc,
+            "first-handle",
+            "H",
+            "The handle of the first command, 0 to 4294967295",
+        )
+        .required(true))?
         .arg(option(
             alloc,
             "span",
@@ -117,7 +113,8 @@ fn port_option<'a>(alloc: Global) -> Arg<'a> {
     )
 }
 
-const REPLAY_EXAMPLE: &str = "Lines: N submit ONO LEVEL INDEX COUNT HEX, N due, N from A.B.C.D:PORT HEX, take H; N is a moment in ms.
+const REPLAY_EXAMPLE: &str =
+    "Lines: N submit ONO LEVEL INDEX COUNT HEX, N due, N from A.B.C.D:PORT HEX, take H; N is a moment in ms.
 
 Example: printf '0 submit 4097 4 1 0 -\\n0 due\\n' | ocactl replay --device 127.0.0.1:65000 --first-handle 1";
 
@@ -140,7 +137,13 @@ fn send_command<'a>(alloc: Global) -> Result<Command<'a>, AllocError> {
     .arg(option(alloc, "target", "ONO", "The target's object number").required(true))?
     .arg(option(alloc, "level", "L", "The method's DefLevel").required(true))?
     .arg(option(alloc, "index", "I", "The method's MethodIndex").required(true))?
-    .arg(option(alloc, "count", "C", "ParamCount: how many parameters there are").required(true))?
+    .arg(option(
+        alloc,
+        "count",
+        "C",
+        "ParamCount: how many parameters there are",
+    )
+    .required(true))?
     .arg(option(
         alloc,
         "params",

@@ -59,7 +59,11 @@ fn an_answered_command(rt: HostRuntime) -> Result<(), Fail> {
     };
     assert_eq!(rt; (answer.status, answer.count), (0, 1));
     assert_eq!(rt; answer.params.as_slice(), [1].as_slice());
-    assert_eq!(rt; end.delivered().len(), 3, "no turn is taken after the answer");
+    assert_eq!(rt;
+        end.delivered().len(),
+        3,
+        "no turn is taken after the answer"
+    );
     let mut get = [0u8; 27];
     hex::decode_to_slice(GET_1, &mut get).map_err(|_| "hex")?;
     assert_eq!(rt; end.taken().len(), 1);

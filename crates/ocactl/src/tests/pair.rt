@@ -28,7 +28,10 @@ fn a_device_and_a_link_turn_by_turn(rt: HostRuntime) -> Result<(), Fail> {
     let first = link.submit(Ono(4097), GET_STATE, 0, &[], 0);
     assert_eq!(rt; first, Ok(Handle(1)));
     assert_eq!(rt; drive(&mut link, &mut link_end, 1).sent, 1);
-    assert_eq!(rt; serve(&mut device, &mut device_end, &mut outbox, 1).executed, 1);
+    assert_eq!(rt;
+        serve(&mut device, &mut device_end, &mut outbox, 1).executed,
+        1
+    );
     assert_eq!(rt; drive(&mut link, &mut link_end, 1).answered, 1);
     let Some(answer) = link.take(Handle(1)) else {
         return Err("no answer".into());
@@ -40,7 +43,10 @@ fn a_device_and_a_link_turn_by_turn(rt: HostRuntime) -> Result<(), Fail> {
         assert_eq!(rt; next, Ok(Handle(handle)));
     }
     assert_eq!(rt; drive(&mut link, &mut link_end, 1).sent, 16);
-    assert_eq!(rt; serve(&mut device, &mut device_end, &mut outbox, 16).executed, 16);
+    assert_eq!(rt;
+        serve(&mut device, &mut device_end, &mut outbox, 16).executed,
+        16
+    );
     assert_eq!(rt; drive(&mut link, &mut link_end, 16).answered, 16);
     for handle in 2..18u32 {
         assert!(rt; link.take(Handle(handle)).is_some());

@@ -52,8 +52,22 @@ fn silent_port(rt: &(impl AllocGlobal + Net + Clock)) -> Result<String, Fail> {
 #[test]
 fn no_answer(rt: HostRuntime) -> Result<(), Fail> {
     let device = silent_port(&rt)?;
-    sends_as(&rt, device.as_str(), &["--turns", "2"], 3, b"no answer\n", b"")?;
-    sends_as(&rt, device.as_str(), &["--turns", "0"], 3, b"no answer\n", b"")
+    sends_as(
+        &rt,
+        device.as_str(),
+        &["--turns", "2"],
+        3,
+        b"no answer\n",
+        b"",
+    )?;
+    sends_as(
+        &rt,
+        device.as_str(),
+        &["--turns", "0"],
+        3,
+        b"no answer\n",
+        b"",
+    )
 }
 
 #[test]

@@ -132,13 +132,27 @@ fn bad_words_of_send(rt: HostRuntime) {
     bad_send(&rt, "127.0.0.1:65000", &["--params", long.as_str()]);
     runs_as(
         &rt,
-        &["ocactl", "send", "--device", "127.0.0.1:1", "--first-handle", "1"],
+        &[
+            "ocactl",
+            "send",
+            "--device",
+            "127.0.0.1:1",
+            "--first-handle",
+            "1",
+        ],
         b"",
         2,
         b"",
         b"bad words\n",
     );
-    runs_as(&rt, &["ocactl", "run", "--port", "1"], b"", 2, b"", b"bad words\n");
+    runs_as(
+        &rt,
+        &["ocactl", "run", "--port", "1"],
+        b"",
+        2,
+        b"",
+        b"bad words\n",
+    );
 }
 
 #[test]
@@ -190,7 +204,14 @@ fn runs_with_failing_ends(rt: HostRuntime) {
     let mut to = Printer::new(ShortWriter::new(1000, NO_LIMIT));
     let mut faults = Printer::new(ShortWriter::new(1000, NO_LIMIT));
     assert_eq!(rt;
-        run(rt.alloc(), &rt, REPLAY.as_slice(), &mut from, &mut to, &mut faults),
+        run(
+            rt.alloc(),
+            &rt,
+            REPLAY.as_slice(),
+            &mut from,
+            &mut to,
+            &mut faults
+        ),
         1
     );
     assert!(rt; to.sink().taken.as_slice() == b"nothing\n".as_slice());
