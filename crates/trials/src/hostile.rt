@@ -119,7 +119,8 @@ fn is_malformed(verdict: Verdict, fault: oca_pdu::PduFault) -> bool {
     }
 }
 
-fn same_packets(a: &Outbox, b: &Outbox) -> bool {
+/// Whether both hold the same packets.
+pub fn same_packets(a: &Outbox, b: &Outbox) -> bool {
     if a.len() != b.len() {
         return false;
     }
@@ -135,7 +136,8 @@ fn same_packets(a: &Outbox, b: &Outbox) -> bool {
     true
 }
 
-fn same_objects(a: &Device, b: &Device) -> bool {
+/// Whether both devices have the same objects, with the same locks and settings.
+pub fn same_objects(a: &Device, b: &Device) -> bool {
     if a.tree().len() != b.tree().len() {
         return false;
     }

@@ -8,6 +8,7 @@
 mod calls;
 mod core_bench;
 mod echo;
+mod ends;
 mod hostile;
 mod vectors;
 
@@ -56,7 +57,16 @@ fn damaged<R: Runtime + AllocGlobal>(rt: &R) -> ExitCode {
         "damaged datagrams: {} tried, {} refused with nothing changed, {} accepted, {} of them written back alike, {} wrong",
         tally.tried, tally.refused, tally.accepted, tally.written_back, tally.wrong
     );
-    ExitCode::from(if tally.wrong == 0 { 0 } else { 1 })
+    let Ok(ends) = ends::failing_ends(rt.alloc()) else {
+        return said(rt, "no memory", 1);
+    };
+    let _ = println!(rt;
+        "failing ends: {} runs with a failed receive, {} with a failed send, {} wrong",
+        ends.receives,
+        ends.sends,
+        ends.wrong
+    );
+    ExitCode::from(if tally.wrong == 0 && ends.wrong == 0 { 0 } else { 1 })
 }
 
 /// A bare loop at a socket.
