@@ -195,6 +195,7 @@ none_left f c h (y ∷ xs) x all e =
   where
     turned : (a b : ℕ) → nat_eq a b ≡ false → nat_eq b a ≡ false
     turned a b p = grind (arith, nat_tests)
+
     other : nat_eq y.handle h ≡ false
     other = ap (nat_eq y.handle) (sym (equal_is x.handle h e)) ∙ turned x.handle y.handle all.0
 
@@ -206,6 +207,7 @@ any_asks f c (e ∷ es) d = by (nat_eq e.command.handle c.handle) refl (f (asks_
   where
     rest : Bool
     rest = list_any (λ x. nat_eq x.handle c.handle && f (asks_the_same x c)) (commands_of es)
+
     by : (b : Bool) → nat_eq e.command.handle c.handle ≡ b → (k : Bool) → f (asks_the_same e.command c) ≡ k → rest ≡ asks_so f (entry_under c.handle es) c →
         ((b && k) || rest) ≡ asks_so f (cond b (Some e) (entry_under c.handle es)) c
     by true q true r ih = sym r

@@ -72,6 +72,7 @@ module _ (w : ℕ) (p : Peer) (c : CommandFields) (s : State) (under : ℕ → L
           answer_to_command (cond k (Duplicate e.reply) Reused) p c s ≡ cond k (under c.handle) []
       by_asked e true q = sym q
       by_asked e false q = refl
+
       by : (b : Bool) → accepts w A c.handle ≡ b → (o : Option Entry) → ((e : Entry) → o ≡ Some e → under c.handle ≡ response c.handle e.reply ∷ []) →
           answer_to_command (cond b Fresh (judge_unaccepted o c)) p c s ≡ cond (b || asks_so (λ x. x) o c) (under c.handle) []
       by true q o f = sym (new q)
@@ -97,22 +98,27 @@ messages_answered w p (Command respond c ∷ ms) s under k d u =
   where
     here : List Msg
     here = cond (respond && (accepts_handle w (executed_of p s.notes) c.handle || is_duplicate w (executed_of p s.notes) c)) (under c.handle) []
+
     respond_or : (r b : Bool) →
         cond r (cond b (under c.handle) []) [] ++ answers_to_messages w p ms (after_command (judged_in w s p c) p c s)
         ≡ cond (r && b) (under c.handle) [] ++ answers_to_messages w p ms (after_command (judged_in w s p c) p c s)
     respond_or true b = refl
     respond_or false b = refl
+
     fresh_all : accepts_handle w (executed_of p s.notes) c.handle ≡ true → AnswersUnder under (accepted (run p (after_messages w p ms (fresh_state p c s)).notes))
     fresh_all is_so = subst (λ (x : State). AnswersUnder under (accepted (run p (after_messages w p ms x).notes)))
         (after_judged w p c s ∙ ap (λ b. cond b (fresh_state p c s) s) is_so) u
+
     same_all : accepts_handle w (executed_of p s.notes) c.handle ≡ false → AnswersUnder under (accepted (run p (after_messages w p ms s).notes))
     same_all is_not = subst (λ (x : State). AnswersUnder under (accepted (run p (after_messages w p ms x).notes)))
         (after_judged w p c s ∙ ap (λ b. cond b (fresh_state p c s) s) is_not) u
+
     fresh_under : accepts_handle w (executed_of p s.notes) c.handle ≡ true → accepts w (accepted (run p s.notes)) c.handle ≡ true →
         under c.handle ≡ response c.handle (reply_of s.tree p c) ∷ []
     fresh_under is_so new = fresh_all is_so c.handle (entry_of p c s) (found_later c.handle _ _ (entry_of p c s)
         (accepted_grows w p ms (fresh_state p c s) (fresh_known p c s))
         (ap (entry_under c.handle) (fresh_accepted p c s k) ∙ found_last (accepted (run p s.notes)) (entry_of p c s) (new_where_accepted w (accepted (run p s.notes)) c.handle new)))
+
     by : (b : Bool) → accepts_handle w (executed_of p s.notes) c.handle ≡ b →
         (accepts_handle w (executed_of p s.notes) c.handle ≡ true → answers_to_messages w p ms (fresh_state p c s) ≡ replies w under (executed_of p s.notes ++ c ∷ []) ms) →
         (accepts_handle w (executed_of p s.notes) c.handle ≡ false → answers_to_messages w p ms s ≡ replies w under (executed_of p s.notes) ms) →

@@ -129,6 +129,7 @@ still_first p (Responses (s ∷ rs)) [] (Response r) g h = by (nat_le (length (p
     still (Responses xs) k = k
     still (OneKeepAlive form) k = tt
     still (Commands respond cs) k = tt
+
     by : (b : Bool) → FullFirst p (cond b (Responses (s ∷ rs ++ r ∷ []) ∷ []) (Responses (s ∷ rs) ∷ Responses (r ∷ []) ∷ []))
     by true = still p h
     by false = h
@@ -228,6 +229,7 @@ not_full rs ss (Responses (x ∷ xs) ∷ groups) r more Z all full g e f =
   where
     longer_fits : size (rs ++ r ∷ []) ≤ size ss
     longer_fits = subst (λ (ys : List ResponseFields). size (rs ++ r ∷ []) ≤ size ys) (append_assoc rs (r ∷ []) more ∙ sym e) (size_more (rs ++ r ∷ []) more)
+
     contradiction : x ≡ r → ⊥
     contradiction q = omega (arith, longer_fits, g.1, subst (λ (y : ResponseFields). 1472 < length (pdu_encoding (Responses (rs ++ y ∷ [])))) q full)
 
@@ -236,7 +238,6 @@ nothing_said (Responses []) groups g e = omega (arith, g.0)
 nothing_said (Responses (r ∷ rs)) groups g e = cc
 nothing_said (OneKeepAlive form) groups g e = cc
 nothing_said (Commands respond cs) groups g e = g
-
 
 alive_or : Pdu → Msg → Pdu
 alive_or d (KeepAlive form) = OneKeepAlive form

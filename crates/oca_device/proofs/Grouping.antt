@@ -95,6 +95,7 @@ module _ {X Y : Type 0} (rs : List ResponseFields) (r : ResponseFields) (old new
     where
       never : false ≡ true → ⊥
       never e = cc
+
       by : (b : Bool) → nat_le (responses_size (rs ++ r ∷ [])) 1472 ≡ b →
           cond b (Responses (rs ++ r ∷ []) ∷ []) (Responses rs ∷ Responses (r ∷ []) ∷ []) ≡ Responses rs ∷ Responses (r ∷ []) ∷ []
       by true e = absurd (never (size.1 (is_at_most (responses_size (rs ++ r ∷ [])) e)))

@@ -214,11 +214,14 @@ command_counted w p c s d =
   where
     A : List Entry
     A = accepted (run p s.notes)
+
     o : Option Entry
     o = entry_under c.handle (window w A)
+
     by_asked : (e : Entry) (k : Bool) → count_of_command (cond k (Duplicate e.reply) Reused) ≡ cond k (counts 0 1 0 0) (cond (not k) (counts 0 0 0 1) (counts 0 0 1 0))
     by_asked e true = refl
     by_asked e false = refl
+
     by : (b : Bool) (o : Option Entry) → count_of_command (cond b Fresh (judge_unaccepted o c))
         ≡ cond b (counts 1 0 0 0) (cond (asks_so (λ x. x) o c) (counts 0 1 0 0) (cond (asks_so not o c) (counts 0 0 0 1) (counts 0 0 1 0)))
     by true o = refl
@@ -239,6 +242,7 @@ messages_counted w p (Command respond c ∷ ms) s k d =
   where
     A : List CommandFields
     A = executed_of p s.notes
+
     by : (b : Bool) → accepts_handle w A c.handle ≡ b →
         (accepts_handle w A c.handle ≡ true → counts_of_messages w p ms (fresh_state p c s) ≡ all_counted w (A ++ c ∷ []) ms) →
         counts_of_messages w p ms s ≡ all_counted w A ms →
@@ -254,6 +258,7 @@ messages_counted w p (KeepAlive form ∷ ms) s k d =
   where
     from_zero : (n : ℕ) → 0 + n ≡ n
     from_zero n = omega arith
+
     none_before : (x : Counts) → plus (counts 0 0 0 0) x ≡ x
     none_before x = sums x.executed x.kept x.old x.reused
       where
@@ -263,6 +268,7 @@ messages_counted w p (Response r ∷ ms) s k d = none_before (counts_of_messages
   where
     from_zero : (n : ℕ) → 0 + n ≡ n
     from_zero n = omega arith
+
     none_before : (x : Counts) → plus (counts 0 0 0 0) x ≡ x
     none_before x = sums x.executed x.kept x.old x.reused
       where

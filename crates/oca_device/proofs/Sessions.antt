@@ -62,9 +62,10 @@ abbrev IsNow : Peer → State → ℕ → Type 0
 IsNow p s at = ((t : ℕ) → is_within t (notes_of p s.notes) ≡ nat_le (t - at) 120000) × (last_moment (run p s.notes) ≡ at)
 
 noted_now : (p : Peer) (what : Noted) (s : State) → IsNow p (noted p what s) s.moment
-noted_now p what s =
-    (λ t. ap (λ b. is_within t (cond b (note ∷ notes_of p s.notes) (notes_of p s.notes))) (same_self p),
-     ap (λ b. last_moment (unbroken (cond b (note ∷ notes_of p s.notes) (notes_of p s.notes)))) (same_self p))
+noted_now p what s = (
+  λ t. ap (λ b. is_within t (cond b (note ∷ notes_of p s.notes) (notes_of p s.notes))) (same_self p),
+  ap (λ b. last_moment (unbroken (cond b (note ∷ notes_of p s.notes) (notes_of p s.notes)))) (same_self p),
+)
   where
     note : Note
     note = record { peer = p; at = s.moment; what = what }
@@ -143,6 +144,7 @@ own_bridged w p ms s D h =
   where
     own : List Arrival
     own = session s.moment p D
+
     now : IsNow p (after_messages w p ms (let_in p ms s)) s.moment
     now = messages_now w p ms (let_in p ms s) s.moment refl (noted_now p (Admitted ms) s)
 
@@ -200,6 +202,7 @@ let_in_bridged w p ms s D h = record {
   where
     after : State
     after = after_messages w p ms (let_in p ms s)
+
     by : (q : Peer) (b : Bool) → same_peer p q ≡ b → Bridged w (notes_of q after.notes) (latest q (arrival p ms s.moment ∷ D))
     by q true e = subst (λ (x : Peer). Bridged w (notes_of x after.notes) (latest x (arrival p ms s.moment ∷ D))) (same_is p q e) (own_bridged w p ms s D (h.each p))
     by q false e = other_bridged w p q ms s D e (h.each q)
@@ -215,10 +218,13 @@ same_silent w t s H c h =
   where
     D : List Arrival
     D = admitted H
+
     both : Peer → Bool
     both p = is_known s.moment s.notes p && has_lapsed t s.notes p
+
     both' : Peer → Bool
     both' p = law.is_known (clock H) p D && is_silent t (session (clock H) p D)
+
     same : (p : Peer) → both p ≡ both' p
     same p =
         by (is_known s.moment s.notes p) refl

@@ -221,8 +221,8 @@ one_further w p d d' m rest rest' ms s before out out' n k h step has t =
             with_answers x.0 here,
             t.packets x.0 x.1,
             sym (answers_both x.0 here (answers_to_messages w p rest' next))
-            ∙ sym (ap (λ xs. with_answers x.0 (answers_to_messages w p xs h.mid)) step)
-            ∙ x.2,
+                ∙ sym (ap (λ xs. with_answers x.0 (answers_to_messages w p xs h.mid)) step)
+                ∙ x.2,
           );
       counts_are =
           ap (λ x. plus (plus n x) (counts_of_messages w p rest' next)) t.counts

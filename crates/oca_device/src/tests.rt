@@ -1,10 +1,13 @@
-//! The worked examples of the profile, over the bench device. Expected bytes are those of AES70-3's layouts, written out
-//! or put together here, and never the device's own.
-use crate::{Device, Outbox, Report, Verdict, serve};
-use oca_net::{MemoryEnd, Scripted};
-use oca_pdu::{PduFault, PduFaultKind};
+//! Examples over the bench device. Expected bytes are those of AES70-3's layouts, written out or put together here, and never
+//! the device's own.
+mod commands;
+mod grouping;
+mod serving;
+mod sessions;
+
+use crate::{Device, Outbox, Verdict};
 use oca_tree::bench;
-use oca_types::{Packet, Peer};
+use oca_types::{Packet, Peer, Window};
 use std::alloc::Global;
 use std::process::Abort;
 use std::test::Fail;
@@ -111,11 +114,12 @@ fn done(handle: u32) -> Packet {
     response(handle, 0, 0, &[])
 }
 
-fn served(executed: u32, kept: u32, old: u32) -> Verdict {
+fn served(executed: u32, kept: u32) -> Verdict {
     Verdict::Served {
         executed,
         kept,
-        old,
+        old: 0,
+        reused: 0,
     }
 }
 
@@ -123,24 +127,35 @@ const EXECUTED: Verdict = Verdict::Served {
     executed: 1,
     kept: 0,
     old: 0,
+    reused: 0,
 };
 
 const KEPT: Verdict = Verdict::Served {
     executed: 0,
     kept: 1,
     old: 0,
+    reused: 0,
 };
 
 const OLD: Verdict = Verdict::Served {
     executed: 0,
     kept: 0,
     old: 1,
+    reused: 0,
+};
+
+const REUSED: Verdict = Verdict::Served {
+    executed: 0,
+    kept: 0,
+    old: 0,
+    reused: 1,
 };
 
 const NOTHING: Verdict = Verdict::Served {
     executed: 0,
     kept: 0,
     old: 0,
+    reused: 0,
 };
 
 #[derive(Drop)]
@@ -151,9 +166,14 @@ struct Bench {
 
 impl Bench {
     fn new(alloc: Global) -> Result<Bench, Fail> {
+        Bench::with_window(alloc, 32)
+    }
+
+    fn with_window(alloc: Global, size: u8) -> Result<Bench, Fail> {
+        let window = Window::new(size).ok_or("no window")?;
         let tree = bench(alloc).map_err(|_| "no memory")?;
         Ok(Bench {
-            device: Device::new(alloc, tree).map_err(|_| "no memory")?,
+            device: Device::new(alloc, tree, window).map_err(|_| "no memory")?,
             outbox: Outbox::new(alloc).map_err(|_| "no memory")?,
         })
     }
@@ -190,6 +210,14 @@ impl Bench {
         self.outbox.len()
     }
 
+    /// The number of bytes of the packet of this number.
+    fn length(&self, i: usize) -> usize {
+        match self.outbox.get(i) {
+            Some(packet) => packet.len(),
+            None => 0,
+        }
+    }
+
     /// The packet of this number is the one that is wanted.
     fn holds(&self, rt: &impl Abort, i: usize, want: &Packet) {
         match self.outbox.get(i) {
@@ -197,372 +225,4 @@ impl Bench {
             None => assert!(rt; false, "no packet {i}"),
         }
     }
-}
-
-#[test]
-fn answers_and_repeats(rt: HostRuntime) -> Result<(), Fail> {
-    let mut bench = Bench::new(rt.alloc())?;
-    assert!(rt; bench.outbox.is_empty());
-    bench.takes(&rt, A, 0, pack(&GET), EXECUTED, Some(pack(&MUTED)));
-    bench.takes(&rt, A, 0, pack(&GET), KEPT, Some(pack(&MUTED)));
-    bench.takes(&rt, A, 0, pack(&MUTE), EXECUTED, Some(pack(&MUTE_DONE)));
-    bench.takes(&rt, A, 0, set_state(3, 2), EXECUTED, Some(done(3)));
-    bench.takes(&rt, A, 0, pack(&MUTE), KEPT, Some(pack(&MUTE_DONE)));
-    bench.takes(&rt, A, 0, get_state(4), EXECUTED, Some(state(4, 2)));
-    assert_eq!(rt; bench.device.sessions(), 1);
-    assert_eq!(rt; bench.device.tree().len(), 8);
-    Ok(())
-}
-
-#[test]
-fn refuses_out_of_range(rt: HostRuntime) -> Result<(), Fail> {
-    let mut bench = Bench::new(rt.alloc())?;
-    for (handle, setting, status) in [
-        (6, [2u8, 0x58], 0u8),
-        (7, [0xfd, 0xa8], 0),
-        (8, [2, 0x59], 7),
-    ] {
-        let set = command(1, handle, 4100, (5, 2), &setting);
-        bench.takes(
-            &rt,
-            A,
-            0,
-            set,
-            EXECUTED,
-            Some(response(handle, status, 0, &[])),
-        );
-    }
-    bench.takes(
-        &rt,
-        A,
-        0,
-        command(1, 9, 4100, (5, 1), &[]),
-        EXECUTED,
-        Some(pack(&SETTING)),
-    );
-    Ok(())
-}
-
-#[test]
-fn keeps_the_last_replies(rt: HostRuntime) -> Result<(), Fail> {
-    let mut bench = Bench::new(rt.alloc())?;
-    for handle in 1..34u32 {
-        bench.takes(
-            &rt,
-            A,
-            0,
-            get_state(handle),
-            EXECUTED,
-            Some(state(handle, 1)),
-        );
-    }
-    bench.takes(&rt, A, 0, get_state(1), OLD, None);
-    bench.takes(&rt, A, 0, get_state(2), KEPT, Some(state(2, 1)));
-    bench.takes(&rt, A, 0, get_state(0), OLD, None);
-
-    let mut bench = Bench::new(rt.alloc())?;
-    for handle in 6..39u32 {
-        bench.takes(
-            &rt,
-            A,
-            0,
-            get_state(handle),
-            EXECUTED,
-            Some(state(handle, 1)),
-        );
-    }
-    bench.takes(&rt, A, 0, set_state(5, 2), OLD, None);
-    bench.takes(&rt, A, 0, get_state(39), EXECUTED, Some(state(39, 1)));
-    Ok(())
-}
-
-#[test]
-fn executes_in_order_of_arrival(rt: HostRuntime) -> Result<(), Fail> {
-    let mut bench = Bench::new(rt.alloc())?;
-    for (handle, to) in [(1, 2), (2, 1), (4, 2), (3, 1)] {
-        bench.takes(
-            &rt,
-            A,
-            0,
-            set_state(handle, to),
-            EXECUTED,
-            Some(done(handle)),
-        );
-    }
-    bench.takes(&rt, A, 0, get_state(5), EXECUTED, Some(state(5, 1)));
-    Ok(())
-}
-
-#[test]
-fn takes_full_datagrams(rt: HostRuntime) -> Result<(), Fail> {
-    let mut bench = Bench::new(rt.alloc())?;
-    let mut commands = Packet::new();
-    put(&mut commands, &[0x3b, 0, 1, 0, 0, 5, 0xbf, 1, 0, 86]);
-    for handle in 1..87u32 {
-        put(&mut commands, &[0, 0, 0, 17]);
-        put(&mut commands, &handle.to_be_bytes());
-        put(&mut commands, &[0, 0, 0x10, 1, 0, 4, 0, 1, 0]);
-    }
-    assert_eq!(rt; commands.len(), 1472);
-    assert_eq!(rt;
-        bench.answers(&rt, commands.as_slice(), served(86, 0, 0)),
-        86
-    );
-    for i in 0..86usize {
-        bench.holds(&rt, i, &state(i as u32 + 1, 1));
-    }
-    let mut longer = commands.as_slice().to_vec(rt.alloc())?;
-    longer.push(0)?;
-    let too_long = Verdict::Malformed(PduFault {
-        kind: PduFaultKind::TooLong,
-        at: 1472,
-    });
-    assert_eq!(rt; bench.answers(&rt, &longer, too_long), 0);
-
-    let mut responses = Packet::new();
-    put(&mut responses, &[0x3b, 0, 1, 0, 0, 5, 0xbd, 3, 0, 146]);
-    for _ in 0..146 {
-        put(&mut responses, &[0, 0, 0, 10, 0, 0, 0, 1, 0, 0]);
-    }
-    assert_eq!(rt; responses.len(), 1470);
-    bench.takes(&rt, A, 0, responses, NOTHING, None);
-
-    let mut keep_alives = Packet::new();
-    for _ in 0..122 {
-        put(&mut keep_alives, &ONE_SECOND);
-    }
-    assert_eq!(rt; bench.answers(&rt, keep_alives.as_slice(), NOTHING), 122);
-    Ok(())
-}
-
-#[test]
-fn ignores_malformed_datagrams(rt: HostRuntime) -> Result<(), Fail> {
-    let mut bench = Bench::new(rt.alloc())?;
-    let mut cut = Packet::new();
-    put(&mut cut, &GET);
-    put(&mut cut, &ONE_SECOND[..11]);
-    let truncated = Verdict::Malformed(PduFault {
-        kind: PduFaultKind::Truncated,
-        at: 30,
-    });
-    bench.takes(&rt, A, 0, cut, truncated, None);
-    assert_eq!(rt; bench.device.sessions(), 0);
-    bench.takes(&rt, A, 0, pack(&GET), EXECUTED, Some(pack(&MUTED)));
-    let empty = Verdict::Malformed(PduFault {
-        kind: PduFaultKind::Empty,
-        at: 0,
-    });
-    bench.takes(&rt, A, 500, Packet::new(), empty, None);
-    bench.takes(&rt, A, 100, pack(&GET), KEPT, Some(pack(&MUTED)));
-    Ok(())
-}
-
-#[test]
-fn returns_keep_alives(rt: HostRuntime) -> Result<(), Fail> {
-    let mut bench = Bench::new(rt.alloc())?;
-    bench.takes(
-        &rt,
-        A,
-        0,
-        pack(&ONE_SECOND),
-        NOTHING,
-        Some(pack(&ONE_SECOND)),
-    );
-    bench.takes(&rt, A, 0, pack(&MILLIS), NOTHING, Some(pack(&MILLIS)));
-    bench.takes(
-        &rt,
-        A,
-        0,
-        pack(&NO_SECONDS),
-        NOTHING,
-        Some(pack(&NO_SECONDS)),
-    );
-    bench.takes(
-        &rt,
-        A,
-        0,
-        command(1, 1, 4097, (1, 3), &[]),
-        EXECUTED,
-        Some(done(1)),
-    );
-    bench.takes(
-        &rt,
-        B,
-        750,
-        set_state(1, 2),
-        EXECUTED,
-        Some(response(1, 3, 0, &[])),
-    );
-    bench.takes(&rt, B, 751, set_state(2, 2), EXECUTED, Some(done(2)));
-    Ok(())
-}
-
-#[test]
-fn releases_locks_and_keeps_replies(rt: HostRuntime) -> Result<(), Fail> {
-    let mut bench = Bench::new(rt.alloc())?;
-    bench.takes(
-        &rt,
-        A,
-        0,
-        pack(&ONE_SECOND),
-        NOTHING,
-        Some(pack(&ONE_SECOND)),
-    );
-    bench.takes(
-        &rt,
-        A,
-        0,
-        command(1, 1, 4097, (1, 3), &[]),
-        EXECUTED,
-        Some(done(1)),
-    );
-    bench.takes(
-        &rt,
-        B,
-        3000,
-        command(1, 1, 4097, (1, 5), &[]),
-        EXECUTED,
-        Some(response(1, 3, 0, &[])),
-    );
-    let role = response(2, 0, 1, &[0, 4, b'm', b'u', b't', b'e']);
-    bench.takes(
-        &rt,
-        B,
-        3001,
-        command(1, 2, 4097, (1, 5), &[]),
-        EXECUTED,
-        Some(role),
-    );
-    bench.takes(
-        &rt,
-        A,
-        3002,
-        command(1, 1, 4097, (1, 3), &[]),
-        KEPT,
-        Some(done(1)),
-    );
-    bench.takes(&rt, B, 3003, get_state(3), EXECUTED, Some(state(3, 1)));
-    Ok(())
-}
-
-#[test]
-fn forgets_silent_sessions(rt: HostRuntime) -> Result<(), Fail> {
-    let mut bench = Bench::new(rt.alloc())?;
-    bench.takes(&rt, A, 0, set_state(1, 2), EXECUTED, Some(done(1)));
-    bench.takes(&rt, A, 120_000, set_state(1, 2), KEPT, Some(done(1)));
-    bench.device.tick(240_000);
-    assert_eq!(rt; bench.device.sessions(), 1);
-    bench.device.tick(240_001);
-    assert_eq!(rt; bench.device.sessions(), 0);
-    bench.takes(&rt, A, 240_001, set_state(1, 2), EXECUTED, Some(done(1)));
-    Ok(())
-}
-
-#[test]
-fn has_room_for_16_sessions(rt: HostRuntime) -> Result<(), Fail> {
-    let mut bench = Bench::new(rt.alloc())?;
-    for port in 9001..9017u16 {
-        bench.takes(&rt, port, 0, pack(&GET), EXECUTED, Some(pack(&MUTED)));
-    }
-    bench.takes(&rt, 9017, 1, pack(&GET), Verdict::NoRoom, None);
-    for port in 9002..9017u16 {
-        bench.takes(&rt, port, 60_000, pack(&GET), KEPT, Some(pack(&MUTED)));
-    }
-    assert_eq!(rt; bench.device.sessions(), 16);
-    bench.takes(&rt, 9017, 120_001, pack(&GET), EXECUTED, Some(pack(&MUTED)));
-    assert_eq!(rt; bench.device.sessions(), 16);
-    bench.takes(&rt, A, 120_001, pack(&GET), Verdict::NoRoom, None);
-    Ok(())
-}
-
-#[test]
-fn retains_replies_that_were_not_sent(rt: HostRuntime) -> Result<(), Fail> {
-    let mut bench = Bench::new(rt.alloc())?;
-    bench.takes(&rt, A, 0, command(0, 1, 4097, (4, 2), &[2]), EXECUTED, None);
-    bench.takes(&rt, A, 0, command(0, 1, 4097, (4, 2), &[2]), KEPT, None);
-    bench.takes(&rt, A, 0, set_state(1, 2), KEPT, Some(done(1)));
-    bench.takes(&rt, A, 0, get_state(2), EXECUTED, Some(state(2, 2)));
-    Ok(())
-}
-
-/// GetState from A at 0, a failure, silence at 10, and GetState from A again.
-fn script(alloc: Global) -> Result<Vec<Scripted>, Fail> {
-    let mut script = Vec::new(alloc);
-    script.push(Scripted::Datagram {
-        from: peer(A),
-        bytes: GET.to_vec(alloc)?,
-        now: 0,
-    })?;
-    script.push(Scripted::Failed)?;
-    script.push(Scripted::Quiet { now: 10 })?;
-    script.push(Scripted::Datagram {
-        from: peer(A),
-        bytes: GET.to_vec(alloc)?,
-        now: 20,
-    })?;
-    Ok(script)
-}
-
-/// What a run over the first three entries of the script reports.
-const THREE_TURNS: Report = Report {
-    turns: 3,
-    executed: 1,
-    kept: 0,
-    old: 0,
-    malformed: 0,
-    no_room: 0,
-    oversize: 0,
-    quiet: 1,
-    failed_receives: 1,
-    failed_sends: 0,
-};
-
-#[test]
-fn serves_an_end(rt: HostRuntime) -> Result<(), Fail> {
-    let mut bench = Bench::new(rt.alloc())?;
-    let mut end = MemoryEnd::new(rt.alloc(), script(rt.alloc())?, 4, None).map_err(
-        |_| "no memory",
-    )?;
-    assert_eq!(rt;
-        serve(&mut bench.device, &mut end, &mut bench.outbox, 3),
-        THREE_TURNS
-    );
-    assert_eq!(rt; end.taken().len(), 1);
-    if let Some((to, packet)) = end.taken().first() {
-        assert_eq!(rt; *to, peer(A));
-        assert_eq!(rt; packet.as_slice(), MUTED.as_slice());
-    }
-    assert_eq!(rt;
-        serve(&mut bench.device, &mut end, &mut bench.outbox, 9).turns,
-        1
-    );
-    assert_eq!(rt; end.taken().len(), 2);
-    assert_eq!(rt; end.failures(), 1);
-    Ok(())
-}
-
-#[test]
-fn goes_on_after_a_failed_send(rt: HostRuntime) -> Result<(), Fail> {
-    let mut bench = Bench::new(rt.alloc())?;
-    let mut end = MemoryEnd::new(rt.alloc(), script(rt.alloc())?, 4, Some(0)).map_err(
-        |_| "no memory",
-    )?;
-    let report = serve(&mut bench.device, &mut end, &mut bench.outbox, 3);
-    assert_eq!(rt;
-        report,
-        Report {
-            failed_sends: 1,
-            ..THREE_TURNS
-        }
-    );
-    assert_eq!(rt; end.taken().len(), 0);
-    assert_eq!(rt;
-        serve(&mut bench.device, &mut end, &mut bench.outbox, 3).kept,
-        1
-    );
-    assert_eq!(rt; end.taken().len(), 1);
-    if let Some((_, packet)) = end.taken().first() {
-        assert_eq!(rt; packet.as_slice(), MUTED.as_slice());
-    }
-    Ok(())
 }

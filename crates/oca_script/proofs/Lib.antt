@@ -1,4 +1,5 @@
 pub mod FieldLemmas
+pub mod PartLemmas
 pub mod SearchLemmas
 pub mod TextLemmas
 pub mod PrintLemmas

@@ -6,7 +6,8 @@ use Rattle.oca_script.specs.declared.fault.LineFault.{LineFault}
 use Rattle.oca_script.specs.declared.fault.LineFault.TheVariants.{TooLong}
 use Rattle.oca_script.specs.declared.fault.ReplayFault.{ReplayFault}
 use Rattle.oca_script.specs.declared.fault.ReplayFault.TheVariants.{Line}
-use Rattle.oca_script.specs.Script.{Script, script_from, line_then, parsed}
+use Rattle.oca_script.specs.PrivateScript.{script_from}
+use Rattle.oca_script.specs.Script.{Script, line_then, parsed}
 use Rattle.oca_script.specs.PrivateSteps.{Step}
 use Rattle.oca_script.specs.Ends.{Output}
 use Rattle.oca_script.proofs.ScriptLemmas.{script_from-ended, script_from-kept, script_from-long}

@@ -9,11 +9,12 @@ use Rattle.oca_script.specs.declared.fault.ReplayFault.TheVariants.{Line, Read, 
 use Rattle.oca_script.specs.declared.progress.Progress.{Progress}
 use Rattle.oca_script.specs.Ends.{Input, Output}
 use Rattle.oca_script.specs.Printing.{Emits, AppendsFront, PrintsAll, PrintsPart, WritesWhole, WritesFront}
-use Rattle.oca_script.specs.Script.{Script, script, script_from, behind, ends_by, line_then, parsed}
+use Rattle.oca_script.specs.PrivateScript.{script_from}
+use Rattle.oca_script.specs.Script.{Script, script, behind, ends_by, line_then, parsed}
 use Rattle.oca_script.specs.Replaying.{Runs, BeginsWith, Ends, known_bytes, Outcome, Replays, Reads, ReadFails, Writes}
 use Rattle.oca_script.specs.PrivateSteps.{Printed, PrintedAtEnd, AccountsFor, Step, Performs, Performance, is_end_failure}
 use Rattle.oca_script.proofs.PrintLemmas.{PrintsAll-nil, PrintsAll-then, PrintsPart-then}
-use Rattle.oca_script.proofs.ScriptLemmas.{script_from-end, script_from-too_much}
+use Rattle.oca_script.proofs.ScriptLemmas.{script-from, script_from-end, script_from-too_much}
 use Rattle.oca_script.proofs.StepLemmas.{Runs-then, Printed-then, Step-then, Step-at, Step-as, Step-nothing, Step-unread, behind-behind}
 
 known-end : (o : Option (List ℕ)) → IsAtEnd o → known_bytes o ≡ []
@@ -38,7 +39,7 @@ module _ {S R : Type 0} (asked : List (List ℕ) → Result R LineFault) (serves
     counted = refl;
     numbered = omega arith;
     step = Step-nothing serves d w (Ok tt) _ _ (PrintsAll-nil w) (λ more.
-        ap (λ n. script_from asked n [] 16777216 more) (sym f) ∙ ap (λ (l : List ℕ). script_from asked p.number l 16777216 more) (sym e));
+        script-from asked more ∙ ap (λ n. script_from asked n [] 16777216 more) (sym f) ∙ ap (λ (l : List ℕ). script_from asked p.number l 16777216 more) (sym e));
   }
 
   -- what is held is handed to the sink

@@ -3,51 +3,48 @@ use Rattle.std.proofs.Common.{◌≡◌, ℕ, suc, ◌+◌, ◌<◌, ◌≤◌, 
 use Rattle.std.proofs.lemmas.Bool.Decides.{nat_tests}
 use Rattle.std.proofs.lemmas.Bool.{eqb-true}
 use Rattle.std.specs.Option.{option_map}
-use Rattle.oca_script.specs.Fields.{fields, split_at}
+use Rattle.oca_script.specs.Fields.{fields, onto_first, split_at}
 use Rattle.oca_script.specs.declared.fault.LineFault.{LineFault}
 use Rattle.oca_script.specs.declared.fault.LineFault.TheVariants.{TooLong}
 use Rattle.oca_script.specs.declared.fault.ReplayFault.{ReplayFault}
 use Rattle.oca_script.specs.declared.fault.ReplayFault.TheVariants.{Line, TooMuch}
-use Rattle.oca_script.specs.Script.{Cut, script_of, script_from, line_then, ends_by, all_lines, counted_lines, cut_after, with_line, parsed, parsed_by, asks}
+use Rattle.oca_script.specs.Script.{lines, counted, script_of, script, line_then, ends_by, parsed, parsed_by, asks}
+use Rattle.oca_script.specs.PrivateScript.{onto_line, script_from}
 
 leb-suc : (a b : ℕ) → leb (suc a) (suc b) ≡ leb a b
 leb-suc a b = grind (arith, nat_tests)
 
--- what stands of a line begins the first of the lines
-pub record Begins (line : List ℕ) (c : Cut) : Type 0 where
-  pub rest : List ℕ
-  pub lines : List (List ℕ)
-  pub all : all_lines c ≡ (line ++ rest) ∷ lines
-  pub counted : 4096 < length line → (others : List (List ℕ)) × (counted_lines c ≡ (line ++ rest) ∷ others)
-
-cut_after-begins : (line bytes : List ℕ) → Begins line (cut_after line bytes)
-cut_after-begins line [] = record {
-  rest = [];
-  lines = [];
-  all = ap (λ (l : List ℕ). l ∷ []) (sym (append-nil line));
-  counted = λ long.
-      let test : ltb 4096 (length line) ≡ true = grind (arith, nat_tests) in
-      ([], rw test (ap (λ (l : List ℕ). l ∷ []) (sym (append-nil line))));
-}
-cut_after-begins line (b ∷ bs) =
-    let more = cut_after-begins (line ++ b ∷ []) bs in
-    elim (b == 10) as (λ v. Begins line (cond v (with_line line (cut_after [] bs)) (cut_after (line ++ b ∷ []) bs))) [
-      | true ↦ record {
-        rest = [];
-        lines = all_lines (cut_after [] bs);
-        all = ap (λ (l : List ℕ). l ∷ all_lines (cut_after [] bs)) (sym (append-nil line));
-        counted = λ long. (counted_lines (cut_after [] bs), ap (λ (l : List ℕ). l ∷ counted_lines (cut_after [] bs)) (sym (append-nil line)));
-      }
-      | false ↦ record {
-        rest = b ∷ more.rest;
-        lines = more.lines;
-        all = more.all ∙ ap (λ (l : List ℕ). l ∷ more.lines) (append_assoc line (b ∷ []) more.rest);
-        counted = λ long.
-            let grown : length (line ++ b ∷ []) ≡ length line + 1 = simp length-append in
-            let h = more.counted (omega arith) in
-            (h.0, h.1 ∙ ap (λ (l : List ℕ). l ∷ h.0) (append_assoc line (b ∷ []) more.rest));
-      }
+-- there is at least one line
+pub lines-some : (text : List ℕ) → (f : List ℕ) × (fs : List (List ℕ)) × (lines text ≡ f ∷ fs)
+lines-some [] = ([], [], refl)
+lines-some (b ∷ bs) =
+    let h = lines-some bs in
+    elim (b == 10) as (λ v. (f : List ℕ) × (fs : List (List ℕ)) × (cond v ([] ∷ lines bs) (onto_first b (lines bs)) ≡ f ∷ fs)) [
+      | true ↦ ([], lines bs, refl)
+      | false ↦ (b ∷ h.0, h.1, ap (onto_first b) h.2)
     ]
+
+onto_line-nil : (text : List ℕ) → onto_line [] (lines text) ≡ lines text
+onto_line-nil text = let h = lines-some text in ap (onto_line []) h.2 ∙ sym h.2
+
+-- where a line is ended it counts
+counted-more : (line : List ℕ) (text : List ℕ) → counted (line ∷ lines text) ≡ line ∷ counted (lines text)
+counted-more line text = let h = lines-some text in ap (λ ls. counted (line ∷ ls)) h.2 ∙ ap (λ ls. line ∷ counted ls) (sym h.2)
+
+onto_line-byte : (line : List ℕ) (b : ℕ) (text : List ℕ) → onto_line line (onto_first b (lines text)) ≡ onto_line (line ++ b ∷ []) (lines text)
+onto_line-byte line b text =
+    let h = lines-some text in
+    ap (λ ls. onto_line line (onto_first b ls)) h.2 ∙ ap (λ (l : List ℕ). l ∷ h.1) (sym (append_assoc line (b ∷ []) h.0)) ∙ ap (onto_line (line ++ b ∷ [])) (sym h.2)
+
+onto_line-first : (line text : List ℕ) → (rest : List ℕ) × (more : List (List ℕ)) × (onto_line line (lines text) ≡ (line ++ rest) ∷ more)
+onto_line-first line text = let h = lines-some text in (h.0, h.1, ap (onto_line line) h.2)
+
+-- a first line that is too long counts
+counted-long : (line : List ℕ) (ls : List (List ℕ)) → 4096 < length line → (more : List (List ℕ)) × (counted (line ∷ ls) ≡ line ∷ more)
+counted-long line [] long =
+    let test : ltb 4096 (length line) ≡ true = grind (arith, nat_tests) in
+    ([], rw test refl)
+counted-long line (next ∷ ls) long = (counted (next ∷ ls), refl)
 
 pub asks-long : (line : List ℕ) → 4096 < length line → asks line ≡ Err TooLong
 unfolding asks
@@ -69,13 +66,18 @@ abbrev past : ℕ → Option (List ℕ × List ℕ) → Option (List ℕ × List
 past b o = option_map (λ p. (b ∷ p.0, p.1)) o
 
 module _ {R : Type 0} (asked : List (List ℕ) → Result R LineFault) where
+  -- the whole is left
+  pub script-from : (bytes : List ℕ) → script asked bytes ≡ script_from asked 1 [] 16777216 bytes
+  unfolding script script_from
+  script-from bytes = rw (onto_line-nil bytes, onto_line-nil (take 16777216 bytes)) refl
+
   -- nothing is left
   pub script_from-end : (k : ℕ) (line : List ℕ) (left : ℕ)
       → script_from asked k line left [] ≡ line_then k (parsed asked line) (ends_by (Ok tt))
   unfolding script_from
   script_from-end k line left =
       let fits : leb 0 left ≡ true = grind (arith, nat_tests) in
-      rw fits refl
+      rw (fits, append-nil line) refl
 
   -- a line feed
   pub script_from-line_feed : (k : ℕ) (line : List ℕ) (left : ℕ) (more : List ℕ)
@@ -84,19 +86,22 @@ module _ {R : Type 0} (asked : List (List ℕ) → Result R LineFault) where
   script_from-line_feed k line left more =
       rw (leb-suc (length more) left)
       (elim (leb (length more) left) as (λ v.
-      cond v (script_of asked k (all_lines (cut_after line (10 ∷ more))) (Ok tt))
-      (script_of asked k (counted_lines (cut_after line (10 ∷ take left more))) (Err TooMuch))
-      ≡ line_then k (parsed asked line) (cond v (script_of asked (k + 1) (all_lines (cut_after [] more)) (Ok tt))
-      (script_of asked (k + 1) (counted_lines (cut_after [] (take left more))) (Err TooMuch)))) [
-        | true ↦ refl
-        | false ↦ refl
+      cond v (script_of asked k ((line ++ []) ∷ lines more) (Ok tt)) (script_of asked k (counted ((line ++ []) ∷ lines (take left more))) (Err TooMuch))
+      ≡ line_then k (parsed asked line) (cond v (script_of asked (k + 1) (onto_line [] (lines more)) (Ok tt))
+      (script_of asked (k + 1) (counted (onto_line [] (lines (take left more)))) (Err TooMuch)))) [
+        | true ↦ ap (λ (l : List ℕ). script_of asked k (l ∷ lines more) (Ok tt)) (append-nil line)
+            ∙ ap (λ ls. line_then k (parsed asked line) (script_of asked (k + 1) ls (Ok tt))) (sym (onto_line-nil more))
+        | false ↦ ap (λ (l : List ℕ). script_of asked k (counted (l ∷ lines (take left more))) (Err TooMuch)) (append-nil line)
+            ∙ ap (λ ls. script_of asked k ls (Err TooMuch)) (counted-more line (take left more))
+            ∙ ap (λ ls. line_then k (parsed asked line) (script_of asked (k + 1) (counted ls) (Err TooMuch))) (sym (onto_line-nil (take left more)))
       ])
 
   -- another byte
   pub script_from-byte : (k : ℕ) (line : List ℕ) (left b : ℕ) (more : List ℕ) → (b == 10) ≡ false
       → script_from asked k line (suc left) (b ∷ more) ≡ script_from asked k (line ++ b ∷ []) left more
   unfolding script_from
-  script_from-byte k line left b more other = rw (leb-suc (length more) left, other) refl
+  script_from-byte k line left b more other =
+      rw (leb-suc (length more) left, other, onto_line-byte line b more, onto_line-byte line b (take left more)) refl
 
   -- more than counts, behind a line that is not too long
   pub script_from-too_much : (k : ℕ) (line : List ℕ) (b : ℕ) (more : List ℕ) → length line ≤ 4096
@@ -105,28 +110,29 @@ module _ {R : Type 0} (asked : List (List ℕ) → Result R LineFault) where
   script_from-too_much k line b more short =
       let over : leb (suc (length more)) 0 ≡ false = grind (arith, nat_tests) in
       let not_long : ltb 4096 (length line) ≡ false = grind (arith, nat_tests) in
-      rw (over, not_long) refl
+      rw (over, append-nil line, not_long) refl
 
-  script_of-long : (k : ℕ) (line rest : List ℕ) (lines all : List (List ℕ)) (end : Result Unit ReplayFault) → 4096 < length line
-      → all ≡ (line ++ rest) ∷ lines → script_of asked k all end ≡ ends_by (Err (Line k TooLong))
-  script_of-long k line rest lines all end long e =
+  script_of-long : (k : ℕ) (line rest : List ℕ) (more all : List (List ℕ)) (end : Result Unit ReplayFault) → 4096 < length line
+      → all ≡ (line ++ rest) ∷ more → script_of asked k all end ≡ ends_by (Err (Line k TooLong))
+  script_of-long k line rest more all end long e =
       let longer : 4096 < length (line ++ rest) = omega (arith, length-append line rest) in
       ap (λ (ls : List (List ℕ)). script_of asked k ls end) e
-      ∙ ap (λ p. line_then k (parsed_by p (asked (fields (line ++ rest)))) (script_of asked (k + 1) lines end)) (asks-long (line ++ rest) longer)
+      ∙ ap (λ p. line_then k (parsed_by p (asked (fields (line ++ rest)))) (script_of asked (k + 1) more end)) (asks-long (line ++ rest) longer)
 
   -- a line that is too long already
   pub script_from-long : (k : ℕ) (line : List ℕ) (left : ℕ) (more : List ℕ) → 4096 < length line
       → script_from asked k line left more ≡ ends_by (Err (Line k TooLong))
   unfolding script_from
   script_from-long k line left more long =
-      let h = cut_after-begins line more in
-      let short = cut_after-begins line (take left more) in
-      let counted = short.counted long in
+      let h = onto_line-first line more in
+      let short = onto_line-first line (take left more) in
+      let longer : 4096 < length (line ++ short.0) = omega (arith, length-append line short.0) in
+      let counts = counted-long (line ++ short.0) short.1 longer in
       elim (leb (length more) left) as (λ v.
-      cond v (script_of asked k (all_lines (cut_after line more)) (Ok tt)) (script_of asked k (counted_lines (cut_after line (take left more))) (Err TooMuch))
+      cond v (script_of asked k (onto_line line (lines more)) (Ok tt)) (script_of asked k (counted (onto_line line (lines (take left more)))) (Err TooMuch))
       ≡ ends_by (Err (Line k TooLong))) [
-        | true ↦ script_of-long k line h.rest h.lines _ _ long h.all
-        | false ↦ script_of-long k line short.rest counted.0 _ _ long counted.1
+        | true ↦ script_of-long k line h.0 h.1 _ _ long h.2
+        | false ↦ script_of-long k line short.0 counts.0 _ _ long (ap counted short.2 ∙ counts.1)
       ]
 
   -- a line's last bytes, its line feed, and the rest

@@ -1,5 +1,5 @@
 -- The fields of a script's line, and the values that they encode (profile).
-use Rattle.std.specs.Prelude.{ℕ, ◌+◌, ◌-◌, ◌*◌, ◌^◌, ◌==◌, ◌&&◌, ◌||◌, nat_le, nat_lt, if◌then◌else◌, List, [], ◌∷◌, length, codes, Option, Some, None}
+use Rattle.std.specs.Prelude.{◌≡◌, ℕ, ◌+◌, ◌++◌, ◌-◌, ◌*◌, ◌^◌, ◌==◌, ◌&&◌, ◌||◌, nat_le, nat_lt, if◌then◌else◌, List, [], ◌∷◌, length, codes, Option, Some, None}
 use Rattle.std.specs.Option.{option_map}
 use Rattle.std.specs.Result.{result_ok}
 use Rattle.std.specs.Str.{bytes_eq}
@@ -8,15 +8,19 @@ use Rattle.oca_types.specs.declared.words.Peer.{Peer}
 
 -- ---- fields
 
--- b in front of the first field
+-- b in front of the first part
 abbrev pub onto_first : ℕ → List (List ℕ) → List (List ℕ)
 onto_first b [] = (b ∷ []) ∷ []
-onto_first b (f ∷ fs) = (b ∷ f) ∷ fs
+onto_first b (p ∷ ps) = (b ∷ p) ∷ ps
 
--- the fields of a line: what stands between single spaces, empty ones included
+-- what stands between separators, empty parts included
+abbrev pub split_on : ℕ → List ℕ → List (List ℕ)
+split_on separator [] = [] ∷ []
+split_on separator (b ∷ bs) = if b == separator then [] ∷ split_on separator bs else onto_first b (split_on separator bs)
+
+-- the fields of a line: what stands between single spaces
 abbrev pub fields : List ℕ → List (List ℕ)
-fields [] = [] ∷ []
-fields (b ∷ bs) = if b == 32 then [] ∷ fields bs else onto_first b (fields bs)
+fields line = split_on 32 line
 
 -- the fields that follow a space, where one was found
 abbrev pub fields_after : Option (List ℕ) → List (List ℕ)
@@ -46,6 +50,12 @@ number_of most largest digits =
     if (length digits == 0) || nat_lt most (length digits) then None
     else at_most largest (value_after 0 digits)
 
+-- n is the number that the digits before a separator write, and `rest` is what stands after it
+pub record NumberBefore (separator most largest : ℕ) (text : List ℕ) (n : ℕ) (rest : List ℕ) : Type 0 where
+  pub digits : List ℕ
+  pub whole : text ≡ digits ++ separator ∷ rest
+  pub value : number_of most largest digits ≡ Some n
+
 -- a moment in milliseconds: one to twenty digits, in 64 bits
 abbrev pub moment_of : List ℕ → Option ℕ
 moment_of text = number_of 20 (2 ^ 64 - 1) text
@@ -55,6 +65,18 @@ moment_of text = number_of 20 (2 ^ 64 - 1) text
 abbrev pub then_in : {A B : Type 0} → Option A → (A → Option B) → Option B
 then_in None f = None
 then_in (Some x) f = f x
+
+-- an address: a.b.c.d, each number in decimal digits
+unfoldable pub address_of : List ℕ → Option ℕ
+address_of text =
+    then_in (split_at 46 text) (λ p.
+    then_in (split_at 46 p.1) (λ q.
+    then_in (split_at 46 q.1) (λ r.
+    then_in (number_of 3 255 p.0) (λ a.
+    then_in (number_of 3 255 q.0) (λ b.
+    then_in (number_of 3 255 r.0) (λ c.
+    then_in (number_of 3 255 r.1) (λ d.
+    Some (((a * 256 + b) * 256 + c) * 256 + d))))))))
 
 -- a peer: a.b.c.d:port, each number in decimal digits
 unfoldable pub peer_of : List ℕ → Option Peer
@@ -69,6 +91,12 @@ peer_of text =
     then_in (number_of 3 255 s.0) (λ d.
     then_in (number_of 5 65535 s.1) (λ port.
     Some (record { ip = ((a * 256 + b) * 256 + c) * 256 + d; port = port }))))))))))
+
+-- the peer that the text before the first space writes, and `rest` is what stands after it
+pub record PeerBefore (text : List ℕ) (peer : Peer) (rest : List ℕ) : Type 0 where
+  pub field : List ℕ
+  pub parted : split_at 32 text ≡ Some (field, rest)
+  pub value : peer_of field ≡ Some peer
 
 -- ---- bytes
 

@@ -5,4 +5,5 @@ pub mod Ends
 pub mod Printing
 pub mod Replaying
 pub mod PrivateSplitting
+pub mod PrivateScript
 pub mod PrivateSteps

@@ -1,7 +1,7 @@
 -- What a script asks for, as a function of its bytes (profile).
 use Rattle.std.specs.Prelude.{ℕ, ◌+◌, ◌==◌, Bool, true, false, if◌then◌else◌, nat_le, nat_lt, List, [], ◌∷◌, ◌++◌, length, take, Option, Some, None, Result, Ok, Err}
 use Rattle.std.specs.List.{list_all}
-use Rattle.oca_script.specs.Fields.{fields}
+use Rattle.oca_script.specs.Fields.{split_on, fields}
 use Rattle.oca_script.specs.declared.fault.LineFault.{LineFault}
 use Rattle.oca_script.specs.declared.fault.LineFault.TheVariants.{TooLong, Form}
 use Rattle.oca_script.specs.declared.fault.ReplayFault.{ReplayFault}
@@ -37,26 +37,16 @@ parsed asked line = parsed_by (asks line) (asked (fields line))
 
 -- ---- lines
 
--- the lines that a line feed ends, and what stands behind the last line feed
-pub record Cut : Type 0 where
-  pub ended : List (List ℕ)
-  pub rest : List ℕ
+-- the lines of a text: what stands between its line feeds. The last has none, and where it is empty it is skipped like any
+-- empty line.
+abbrev pub lines : List ℕ → List (List ℕ)
+lines text = split_on 10 text
 
-abbrev pub with_line : List ℕ → Cut → Cut
-with_line line c = record { ended = line ∷ c.ended; rest = c.rest }
-
--- bytes cut at their line feeds, where `line` stands before them
-abbrev pub cut_after : List ℕ → List ℕ → Cut
-cut_after line [] = record { ended = []; rest = line }
-cut_after line (b ∷ bs) = if b == 10 then with_line line (cut_after [] bs) else cut_after (line ++ b ∷ []) bs
-
--- all lines; the last may lack its line feed, and an empty last one is skipped like any empty line
-abbrev pub all_lines : Cut → List (List ℕ)
-all_lines c = c.ended ++ c.rest ∷ []
-
--- the lines that count where more bytes follow: those that are ended, and one that is too long already
-abbrev pub counted_lines : Cut → List (List ℕ)
-counted_lines c = c.ended ++ (if nat_lt 4096 (length c.rest) then c.rest ∷ [] else [])
+-- The lines that count where more bytes follow: those that a line feed ends, and the last where it is too long already.
+abbrev pub counted : List (List ℕ) → List (List ℕ)
+counted [] = []
+counted (line ∷ []) = if nat_lt 4096 (length line) then line ∷ [] else []
+counted (line ∷ next ∷ more) = line ∷ counted (next ∷ more)
 
 -- ---- the whole script
 
@@ -84,12 +74,8 @@ abbrev pub script_of : {R : Type 0} → (List (List ℕ) → Result R LineFault)
 script_of asked number [] ending = ends_by ending
 script_of asked number (line ∷ lines) ending = line_then number (parsed asked line) (script_of asked (number + 1) lines ending)
 
--- what `bytes` ask for where `line` stands before them in the line of that number, and `left` of them count
-unfoldable pub script_from : {R : Type 0} → (List (List ℕ) → Result R LineFault) → ℕ → List ℕ → ℕ → List ℕ → Script R
-script_from asked number line left bytes =
-    if nat_le (length bytes) left then script_of asked number (all_lines (cut_after line bytes)) (Ok tt)
-    else script_of asked number (counted_lines (cut_after line (take left bytes))) (Err TooMuch)
-
--- What a script asks for. Of more than 16,777,216 bytes only the first 16,777,216 count.
-abbrev pub script : {R : Type 0} → (List (List ℕ) → Result R LineFault) → List ℕ → Script R
-script asked bytes = script_from asked 1 [] 16777216 bytes
+-- What a script asks for, by its lines, which are numbered from 1. Of more than 16,777,216 bytes only the first 16,777,216 count.
+unfoldable pub script : {R : Type 0} → (List (List ℕ) → Result R LineFault) → List ℕ → Script R
+script asked bytes =
+    if nat_le (length bytes) 16777216 then script_of asked 1 (lines bytes) (Ok tt)
+    else script_of asked 1 (counted (lines (take 16777216 bytes))) (Err TooMuch)

@@ -1,9 +1,12 @@
-//! Sources and sinks in memory for tests, which cut their bytes and fail where they are told to.
+//! Readers and writers in memory for tests, which cut their bytes and fail where they are told to. Each is also a source or a
+//! sink of a script.
 ghost use Rattle.std.specs.Prelude.{◌<◌, Some, None, false};
 
 use super::ends::{Sink, Source};
 use super::fault::{ReadFailed, WriteFailed};
 use arrayvec::ArrayVec;
+use std::io;
+use std::io::{ErrorKind, Read, Write};
 
 /// Gives its bytes in pieces of at most `piece`, and fails once `before_fault` of them were given.
 #[derive(Drop)]
@@ -52,6 +55,17 @@ impl Source for PieceReader<'_> {
     }
 }
 
+impl Read for PieceReader<'_> {
+    ghost remaining = { λ r. Some r.rest.now };
+
+    fn read(&mut self, buf: &mut [u8]) -> io::Result<usize> {
+        match Source::read(self, buf) {
+            Ok(count) => Ok(count),
+            Err(ReadFailed) => Err(io::Error::new(ErrorKind::Other, "fault")),
+        }
+    }
+}
+
 /// Gives its pattern again and again, `left` bytes in all.
 #[derive(Drop)]
 pub struct PatternReader<'a> {
@@ -78,22 +92,34 @@ impl Source for PatternReader<'_> {
     }
 }
 
-/// Takes at most `most` bytes in a call, and `room` in all. Beyond that it fails.
+impl Read for PatternReader<'_> {
+    fn read(&mut self, buf: &mut [u8]) -> io::Result<usize> {
+        match Source::read(self, buf) {
+            Ok(count) => Ok(count),
+            Err(ReadFailed) => Err(io::Error::new(ErrorKind::Other, "fault")),
+        }
+    }
+}
+
+/// Takes at most `most` bytes in a call, and `room` in all. Beyond that it fails; as a writer it takes nothing where
+/// `takes_nothing` says so.
 #[derive(Drop)]
 pub struct ShortWriter {
     pub taken: ArrayVec<u8, 16384>,
     pub most: usize,
     pub room: usize,
+    pub takes_nothing: bool,
     pub failed: bool,
 }
 
 impl ShortWriter {
-    /// A writer that has taken nothing.
+    /// A writer that has taken nothing, and fails beyond its room.
     pub fn new(most: usize, room: usize) -> ShortWriter {
         ShortWriter {
             taken: ArrayVec::new(),
             most,
             room,
+            takes_nothing: false,
             failed: false,
         }
     }
@@ -116,5 +142,39 @@ impl Sink for ShortWriter {
         }
         self.room -= count;
         Ok(count)
+    }
+}
+
+impl Write for ShortWriter {
+    ghost contents = { λ w. Some w.taken.items };
+
+    fn write(&mut self, buf: &[u8]) -> io::Result<usize> {
+        match Sink::write(self, buf) {
+            Ok(count) => Ok(count),
+            Err(WriteFailed) => {
+                if self.takes_nothing {
+                    return Ok(0);
+                }
+                Err(io::Error::new(ErrorKind::Other, "fault"))
+            }
+        }
+    }
+
+    fn flush(&mut self) -> io::Result<()> {
+        Ok(())
+    }
+}
+
+/// Takes everything, and keeps nothing of it.
+#[derive(Drop)]
+pub struct Discard;
+
+impl Sink for Discard {
+    ghost contents = { λ _. None };
+
+    ghost failed = { λ _. false };
+
+    fn write(&mut self, bytes: &[u8]) -> Result<usize, WriteFailed> {
+        Ok(bytes.len())
     }
 }

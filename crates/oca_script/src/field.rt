@@ -1,7 +1,7 @@
 //! The fields of a line.
-ghost use Rattle.std.specs.Prelude.{◌≡◌, ◌+◌, ◌*◌, ◌≤◌, ◌<◌, IfSome, ◌∷◌, length};
+ghost use Rattle.std.specs.Prelude.{◌≡◌, ◌+◌, ◌*◌, ◌≤◌, ◌<◌, ◌⊎◌, IfSome, ◌∷◌, length};
 ghost use Rattle.std.specs.Option.{option_copied};
-ghost use Rattle.oca_script.specs.Fields.{number_of, moment_of, split_at, peer_of, fields, fields_after, hex_of};
+ghost use Rattle.oca_script.specs.Fields.{number_of, moment_of, split_at, address_of, peer_of, fields, fields_after, hex_of, NumberBefore, PeerBefore};
 ghost use Rattle.oca_script.specs.PrivateSplitting.{split_view, given_bytes};
 
 use oca_types::Peer;
@@ -29,6 +29,32 @@ pub fn number(digits: &[u8], most: usize, largest: u64) -> Option<u64>
         value = value * 10 + add;
     }
     if value <= largest { Some(value) } else { None }
+}
+
+/// The number that one to `most` digits at the front write, where the byte `end` follows them and the number is at most
+/// `largest`, and what stands after that byte. Digits of too large a number may be refused too.
+#[tactic(auto, using(crate::proofs::PartLemmas::number_before_rules))]
+pub fn number_before(text: &[u8], end: u8, most: usize, largest: u64) -> Option<(u64, &[u8])>
+    requires { (end < 48) ⊎ (57 < end) }
+    ensures value { IfSome result (λ p. NumberBefore end most largest text.now p.0 p.1.now) }
+    ensures bound { IfSome result (λ p. p.0 ≤ largest) }
+    ensures within { IfSome result (λ p. length p.1.now ≤ length text.now) }
+{
+    let mut value: u64 = 0;
+    for i in 0..text.len() {
+        let digit = text[i];
+        if digit < b'0' || digit > b'9' {
+            if digit != end || i == 0 || value > largest {
+                return None;
+            }
+            return Some((value, &text[i + 1..]));
+        }
+        if i >= most {
+            return None;
+        }
+        value = value.checked_mul(10)?.checked_add((digit - b'0') as u64)?;
+    }
+    None
 }
 
 /// A moment in milliseconds: one to twenty decimal digits, in 64 bits.
@@ -79,6 +105,40 @@ pub fn peer(text: &[u8]) -> Option<Peer>
     let port = number(port, 5, 65535)? as u16;
     let ip = ((a * 256 + b) * 256 + c) * 256 + d;
     Some(Peer { ip, port })
+}
+
+/// An address: `a.b.c.d` in decimal numbers of at most 255, one to three digits each, the first in the highest byte.
+#[tactic(auto, unfolding(crate::specs::Fields::address_of))]
+pub fn address(text: &[u8]) -> Option<u32>
+    ensures { result ≡ address_of text.now }
+{
+    let (a, rest) = split_at_byte(text, b'.')?;
+    let (b, rest) = split_at_byte(rest, b'.')?;
+    let (c, d) = split_at_byte(rest, b'.')?;
+    let a = number(a, 3, 255)? as u32;
+    let b = number(b, 3, 255)? as u32;
+    let c = number(c, 3, 255)? as u32;
+    let d = number(d, 3, 255)? as u32;
+    Some(((a * 256 + b) * 256 + c) * 256 + d)
+}
+
+/// A peer that a space follows, and what stands after that space.
+#[tactic(auto, using(crate::proofs::PartLemmas::peer_before_rules))]
+pub fn peer_before(text: &[u8]) -> Option<(Peer, &[u8])>
+    ensures value { IfSome result (λ p. PeerBefore text.now p.0 p.1.now) }
+    ensures within { IfSome result (λ p. length p.1.now ≤ length text.now) }
+{
+    let (a, rest) = number_before(text, b'.', 3, 255)?;
+    let (b, rest) = number_before(rest, b'.', 3, 255)?;
+    let (c, rest) = number_before(rest, b'.', 3, 255)?;
+    let (d, rest) = number_before(rest, b':', 3, 255)?;
+    let (port, rest) = number_before(rest, b' ', 5, 65535)?;
+    let ip = ((a * 256 + b) * 256 + c) * 256 + d;
+    let peer = Peer {
+        ip: ip as u32,
+        port: port as u16,
+    };
+    Some((peer, rest))
 }
 
 /// The bytes of a field: `-` for none, else an even number, two or more, of hexadecimal digits of

@@ -21,3 +21,5 @@ pub use fault::{LineFault, ReadFailed, ReplayFault, Stop, WriteFailed};
 pub use language::Language;
 pub use printer::Printer;
 
+#[cfg(test)]
+mod tests;

@@ -125,11 +125,7 @@ fn hand_on<W: Sink>(sink: &mut W, held: &mut Buffer<CAPACITY>) -> Result<(), Wri
 }
 
 /// Makes room for so many bytes.
-fn free<W: Sink>(
-    sink: &mut W,
-    held: &mut Buffer<CAPACITY>,
-    room: usize,
-) -> Result<(), WriteFailed>
+fn free<W: Sink>(sink: &mut W, held: &mut Buffer<CAPACITY>, room: usize) -> Result<(), WriteFailed>
     requires { room ≤ 8192 }
     ensures prints { Prints result (output (W.contents sink.old) held.old (W.failed sink.old)) (output (W.contents sink.new) held.new (W.failed sink.new)) [] }
     ensures room { OnOk result (length held.new + room ≤ 8192) }

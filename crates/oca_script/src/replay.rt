@@ -4,7 +4,8 @@ ghost use Rattle.std.specs.Prelude.{true, Ok as ok};
 ghost use Rattle.std.specs.Io.KnownBytes.{Consumes, Keeps, IsAtEnd};
 ghost use Rattle.oca_script.specs.Ends.{input, Remembers};
 ghost use Rattle.oca_script.specs.Fields.{fields};
-ghost use Rattle.oca_script.specs.Script.{Script, is_skipped as skipped_line, is_ascii as ascii_line, asks, parsed, parsed_by, line_then, script_from};
+ghost use Rattle.oca_script.specs.Script.{Script, is_skipped as skipped_line, is_ascii as ascii_line, asks, parsed, parsed_by, line_then};
+ghost use Rattle.oca_script.specs.PrivateScript.{script_from};
 ghost use Rattle.oca_script.specs.Replaying.{Outcome, Replays};
 ghost use Rattle.oca_script.specs.PrivateSteps.{Step, Performance, is_end_failure};
 

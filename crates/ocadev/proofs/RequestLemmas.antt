@@ -1,8 +1,14 @@
 -- Facts on the fields of a line.
-use Rattle.std.proofs.Common.{◌≡◌, ℕ, List, [], ◌∷◌, ◌++◌, Option, Some, None, Err, refl, sym, ap, ◌∙◌, ◌==◌, Bool, true, false, cond}
-use Rattle.oca_script.specs.Fields.{fields, fields_after, onto_first}
+use Rattle.std.proofs.Common.{◌≡◌, ◌⊎◌, ◌<◌, inl, arith, ℕ, List, [], ◌∷◌, ◌++◌, Option, Some, None, Err, refl, sym, ap, ◌∙◌, ◌==◌, Bool, true, false, cond}
+use Rattle.std.specs.Prelude.{codes}
+use Rattle.std.proofs.lemmas.Slice.Eq.{bytes_eq-Decides}
+use Rattle.oca_types.specs.declared.words.Peer.{Peer}
+use Rattle.oca_script.specs.Fields.{fields, fields_after, onto_first, moment_of, peer_of, NumberBefore, PeerBefore}
+use Rattle.oca_script.proofs.FieldLemmas.{fields-more}
+use Rattle.oca_script.proofs.PartLemmas.{free-after, number-free}
 use Rattle.oca_script.specs.declared.fault.LineFault.TheVariants.{Form}
-use Rattle.ocadev.specs.Requests.{asked_event}
+use Rattle.ocadev.specs.Requests.{asked_event, is_quiet, datagram_of}
+use Rattle.ocadev.specs.PrivateRequests.{datagram_after}
 
 -- there is at least one field
 pub record AtLeastOne (fs : List (List ℕ)) : Type 0 where
@@ -35,3 +41,42 @@ request-of_four s a b c o1 o2 o3 r1 r2 r3 f1 e1 f2 e2 f3 e3 =
     let g2 : fields r1 ≡ b ∷ fields r2 = f2 ∙ ap (λ o. b ∷ fields_after o) e2 in
     let g3 : fields r2 ≡ c ∷ fields r3 = f3 ∙ ap (λ o. c ∷ fields_after o) e3 in
     four (fields s) a b c r3 (g1 ∙ ap (λ (fs : List (List ℕ)). a ∷ fs) (g2 ∙ ap (λ (fs : List (List ℕ)). b ∷ fs) g3))
+
+-- ---- a datagram's line in one pass
+
+-- what writes a peer is not the word of a clock reading
+not_quiet : (text : List ℕ) (peer : Peer) → peer_of text ≡ Some peer → is_quiet text ≡ false
+unfolding peer_of
+not_quiet text peer e = by_test (is_quiet text) refl
+  where
+    by_test : (v : Bool) → is_quiet text ≡ v → is_quiet text ≡ false
+    by_test false is = is
+    by_test true is =
+        let same : text ≡ codes "quiet" = grind (arith, bytes_eq-Decides, is) in
+        let none : peer_of text ≡ None = ap peer_of same in
+        cc (none, e)
+
+two : (m p f : List ℕ) (fs : List (List ℕ)) (now : ℕ) (peer : Peer) → moment_of m ≡ Some now → peer_of p ≡ Some peer
+    → asked_event (m ∷ p ∷ f ∷ fs) ≡ datagram_after now peer (f ∷ fs)
+unfolding datagram_of
+two m p f [] now peer at_m at_p = let no = not_quiet p peer at_p in rw (no, at_m, at_p) refl
+two m p f (g ∷ gs) now peer at_m at_p = refl
+
+pub line-datagram : (line rest after : List ℕ) (now : ℕ) (peer : Peer) → NumberBefore 32 20 18446744073709551615 line now rest → PeerBefore rest peer after
+    → asked_event (fields line) ≡ datagram_after now peer (fields after)
+line-datagram line rest after now peer h k =
+    let low : (32 < 48) ⊎ (57 < 32) = inl (omega arith) in
+    let first : fields line ≡ h.digits ∷ fields rest =
+    ap fields h.whole ∙ fields-more (h.digits ++ 32 ∷ rest) h.digits rest (free-after 32 h.digits rest (number-free 32 20 18446744073709551615 now h.digits low h.value)) in
+    let second : fields rest ≡ k.field ∷ fields after = fields-more rest k.field after k.parted in
+    let third = fields-some after in
+    ap asked_event (first ∙ ap (λ (fs : List (List ℕ)). h.digits ∷ fs) (second ∙ ap (λ (fs : List (List ℕ)). k.field ∷ fs) third.are))
+    ∙ two h.digits k.field third.first third.others now peer h.value k.value
+    ∙ ap (datagram_after now peer) (sym third.are)
+
+-- more than one field is left
+pub bytes-more : (now : ℕ) (peer : Peer) (rest first : List ℕ) (o : Option (List ℕ)) (more : List ℕ) → fields rest ≡ first ∷ fields_after o → o ≡ Some more
+    → Err Form ≡ datagram_after now peer (fields rest)
+bytes-more now peer rest first o more e is =
+    let some = fields-some more in
+    sym (ap (datagram_after now peer) (e ∙ ap (λ p. first ∷ fields_after p) is ∙ ap (λ (fs : List (List ℕ)). first ∷ fs) some.are))

@@ -2,7 +2,6 @@
 use Rattle.std.proofs.Common.{◌≡◌, ℕ, ◌+◌, List, [], ◌∷◌, ◌++◌, Option, Some, None, Result, Ok, Err, refl, sym, ap, ◌∙◌, append_assoc, append-nil, subst}
 use Rattle.std.specs.Prelude.{codes, IfSome}
 use Rattle.std.specs.List.{flat_map}
-use Rattle.std.specs.Io.KnownBytes.{Appends}
 use Rattle.oca_types.specs.declared.words.Peer.{Peer}
 use Rattle.oca_tree.specs.declared.object.Object.{Object}
 use Rattle.oca_device.specs.declared.verdict.Verdict.{Verdict}
@@ -15,24 +14,26 @@ use Rattle.oca_script.specs.declared.fault.ReplayFault.TheVariants.{Line, Read, 
 use Rattle.oca_script.specs.declared.fault.Stop.{Stop}
 use Rattle.oca_script.specs.declared.fault.Stop.TheVariants as stop
 use Rattle.oca_script.specs.declared.fault.WriteFailed.{WriteFailed}
-use Rattle.oca_script.specs.Printing.{Emits, Prints, AppendsFront}
+use Rattle.oca_script.specs.Ends.{Input, Output}
+use Rattle.oca_script.specs.Printing.{Prints, PrintsAll, PrintsPart, WritesWhole}
 use Rattle.oca_script.specs.Script.{Script, script}
-use Rattle.oca_script.specs.Replaying.{Runs, Takes, Served, Writes, Reads, Ends, BeginsWith, known_bytes, Replays as ReplaysScript, Outcome as ScriptOutcome}
+use Rattle.oca_script.specs.Replaying.{Runs, ServesLine, Served, Writes, Reads, Ends, BeginsWith, known_bytes, Replays as ReplaysScript, Outcome as ScriptOutcome}
 use Rattle.ocadev.specs.declared.request.Request.{Request}
 use Rattle.ocadev.specs.declared.request.Request.TheVariants as asks
 use Rattle.ocadev.proofs.PacketLemmas.{prints-then, prints-less}
-use Rattle.ocadev.specs.Requests.{asked_event, event_of, event_asked}
+use Rattle.ocadev.specs.Requests.{asked_event}
+use Rattle.ocadev.specs.PrivateRequests.{event_of, event_asked}
 use Rattle.ocadev.specs.Printing.{verdict_text, packet_text, event_text, events_text, events_then}
 use Rattle.ocadev.specs.Replaying.{Serves, ServesAndPrints, Whole, Part, Replays, Outcome, device_script}
 
 -- ---- an event
 
-pub tick-served : (a b : DeviceState) (now : ℕ) (request : Request) (r : Result Unit WriteFailed) (u v : Option (List ℕ)) (p q : List ℕ) → request ≡ asks.Tick now
+pub tick-served : (a b : DeviceState) (now : ℕ) (request : Request) (r : Result Unit WriteFailed) (u v : Output) → request ≡ asks.Tick now
     → ((w : ℕ) (tree : List Object) (events : List Event) → Represents w a tree events → Represents w b tree (Tick now ∷ events))
-    → Prints r u p v q (codes "quiet\n") → ServesAndPrints a (event_of request) b r u p v q
+    → Prints r u v (codes "quiet\n") → ServesAndPrints a (event_of request) b r u v
 unfolding event_text
-tick-served a b now request r u v p q e h prints =
-    subst (λ (x : Request). ServesAndPrints a (event_of x) b r u p v q) (sym e)
+tick-served a b now request r u v e h prints =
+    subst (λ (x : Request). ServesAndPrints a (event_of x) b r u v) (sym e)
     (record {
       text = codes "quiet\n";
       serves = record { represents = h; prints = λ w tree events at_a. refl };
@@ -53,50 +54,47 @@ datagram-serves a b from bytes now v ps h sent said = record {
 }
 
 -- the verdict was printed, and the packets as far as r says
-pub datagram-served : (a b : DeviceState) (from : Peer) (bytes : List ℕ) (now : ℕ) (v : Verdict) (ps : List (List ℕ)) (line : List ℕ) (r : Result Unit WriteFailed) (x : Unit {0}) (k l m : Option (List ℕ)) (p q s : List ℕ)
-    → line ≡ verdict_text v
+pub datagram-served : (a b : DeviceState) (from : Peer) (bytes : List ℕ) (now : ℕ) (v : Verdict) (ps : List (List ℕ)) (r : Result Unit WriteFailed) (k l m : Output)
     → ((w : ℕ) (tree : List Object) (events : List Event) → Represents w a tree events → Represents w b tree (Datagram from bytes now ∷ events))
     → ((w : ℕ) (tree : List Object) (events : List Event) → Represents w a tree events → ps ≡ packets w tree events (Datagram from bytes now))
     → ((w : ℕ) (tree : List Object) (events : List Event) → Represents w a tree events → v ≡ verdict w tree events from bytes now)
-    → Prints (Ok x) k p l q line → Prints r l q m s (flat_map packet_text ps) → ServesAndPrints a (Datagram from bytes now) b r k p m s
-datagram-served a b from bytes now v ps line r x k l m p q s e h sent said first more = record {
+    → PrintsAll k l (verdict_text v) → Prints r l m (flat_map packet_text ps) → ServesAndPrints a (Datagram from bytes now) b r k m
+datagram-served a b from bytes now v ps r k l m h sent said first more = record {
   text = verdict_text v ++ flat_map packet_text ps;
   serves = datagram-serves a b from bytes now v ps h sent said;
-  prints = prints-then r x k l m p q s (verdict_text v) (flat_map packet_text ps) (subst (λ (t : List ℕ). Prints (Ok x) k p l q t) e first) more;
+  prints = prints-then r k l m (verdict_text v) (flat_map packet_text ps) first more;
 }
 
 -- the verdict was printed in part
-pub datagram-cut : (a b : DeviceState) (from : Peer) (bytes : List ℕ) (now : ℕ) (v : Verdict) (ps : List (List ℕ)) (line : List ℕ) (r : Result Unit WriteFailed) (x y : WriteFailed) (k l : Option (List ℕ)) (p q s : List ℕ)
-    → line ≡ verdict_text v
+pub datagram-cut : (a b : DeviceState) (from : Peer) (bytes : List ℕ) (now : ℕ) (v : Verdict) (ps : List (List ℕ)) (r : Result Unit WriteFailed) (x : WriteFailed) (k l : Output)
     → ((w : ℕ) (tree : List Object) (events : List Event) → Represents w a tree events → Represents w b tree (Datagram from bytes now ∷ events))
     → ((w : ℕ) (tree : List Object) (events : List Event) → Represents w a tree events → ps ≡ packets w tree events (Datagram from bytes now))
     → ((w : ℕ) (tree : List Object) (events : List Event) → Represents w a tree events → v ≡ verdict w tree events from bytes now)
-    → r ≡ Err x → Prints (Err y) k p l q line → ServesAndPrints a (Datagram from bytes now) b r k p l s
-datagram-cut a b from bytes now v ps line r x y k l p q s e h sent said is first = record {
+    → r ≡ Err x → PrintsPart k l (verdict_text v) → ServesAndPrints a (Datagram from bytes now) b r k l
+datagram-cut a b from bytes now v ps r x k l h sent said is first = record {
   text = verdict_text v ++ flat_map packet_text ps;
   serves = datagram-serves a b from bytes now v ps h sent said;
-  prints = prints-less r x y k l p q s (verdict_text v) (flat_map packet_text ps) is (subst (λ (t : List ℕ). Prints (Err y) k p l q t) e first);
+  prints = prints-less r x k l (verdict_text v) (flat_map packet_text ps) is first;
 }
 
 -- ---- a line
 
-pub line-taken : (a b : DeviceState) (r : Result Unit WriteFailed) (u : Unit {0}) (was is : Option (List ℕ)) (p q : List ℕ) (x : Result Event LineFault) (request : Request)
-    → r ≡ Ok u → Ok (event_of request) ≡ x → ServesAndPrints a (event_of request) b r was p is q → Takes x Serves a b (Ok tt) was p is q
-line-taken a b r u was is p q x request e asked h =
-    subst (λ (z : Result Event LineFault). Takes z Serves a b (Ok tt) was p is q) asked
-    (record { text = h.text; rest = q; serves_it = h.serves; emits = subst (λ (z : Result Unit WriteFailed). Prints z was p is q h.text) e h.prints; rested = refl })
+pub line-served : (a b : DeviceState) (r : Result Unit WriteFailed) (u : Unit {0}) (was is : Output) (x : Result Event LineFault) (request : Request)
+    → r ≡ Ok u → Ok (event_of request) ≡ x → ServesAndPrints a (event_of request) b r was is → ServesLine x Serves a b (Ok tt) was is
+line-served a b r u was is x request e asked h =
+    subst (λ (z : Result Event LineFault). ServesLine z Serves a b (Ok tt) was is) asked
+    (record { text = h.text; serves_it = h.serves; prints = subst (λ (z : Result Unit WriteFailed). Prints z was is h.text) e h.prints })
 
-pub line-failed : (a b : DeviceState) (r : Result Unit WriteFailed) (f : WriteFailed) (was is : Option (List ℕ)) (p q : List ℕ) (x : Result Event LineFault) (request : Request)
-    → r ≡ Err f → Ok (event_of request) ≡ x → ServesAndPrints a (event_of request) b r was p is q → Takes x Serves a b (Err stop.Write) was p is q
-line-failed a b r f was is p q x request e asked h =
-    let printed = subst (λ (z : Result Unit WriteFailed). Prints z was p is q h.text) e h.prints in
-    subst (λ (z : Result Event LineFault). Takes z Serves a b (Err stop.Write) was p is q) asked
-    (record { text = h.text; rest = printed.0; serves_it = h.serves; emits = printed.1; rested = tt })
+pub line-failed : (a b : DeviceState) (r : Result Unit WriteFailed) (f : WriteFailed) (was is : Output) (x : Result Event LineFault) (request : Request)
+    → r ≡ Err f → Ok (event_of request) ≡ x → ServesAndPrints a (event_of request) b r was is → ServesLine x Serves a b (Err stop.Write) was is
+line-failed a b r f was is x request e asked h =
+    subst (λ (z : Result Event LineFault). ServesLine z Serves a b (Err stop.Write) was is) asked
+    (record { text = h.text; serves_it = h.serves; prints = subst (λ (z : Result Unit WriteFailed). Prints z was is h.text) e h.prints })
 
-pub line-refused : (a : DeviceState) (was : Option (List ℕ)) (p : List ℕ) (x : Result Event LineFault) (fault : LineFault)
-    → Err fault ≡ x → Takes x Serves a a (Err (stop.Line fault)) was p was p
-line-refused a was p x fault e =
-    subst (λ (z : Result Event LineFault). Takes z Serves a a (Err (stop.Line fault)) was p was p) e (refl, refl, refl, refl)
+pub line-refused : (a : DeviceState) (was : Output) (x : Result Event LineFault) (fault : LineFault)
+    → Err fault ≡ x → ServesLine x Serves a a (Err (stop.Line fault)) was was
+line-refused a was x fault e =
+    subst (λ (z : Result Event LineFault). ServesLine z Serves a a (Err (stop.Line fault)) was was) e (refl, refl, refl)
 
 -- ---- a run of events
 
@@ -114,17 +112,17 @@ runs-print w tree events a c (e ∷ more) text h at_a =
 
 -- ---- the whole
 
-whole : (w : ℕ) (tree : List Object) (events : List Event) (a b : DeviceState) (u v : Option (List ℕ)) (r : Result Unit ReplayFault) (given : List ℕ) (requests : List Event) (text : List ℕ)
-    → Represents w a tree events → Runs Serves a requests b text → Appends u v text → device_script given ≡ record { requests = requests; ending = r } → Whole w tree events b u v r given
+whole : (w : ℕ) (tree : List Object) (events : List Event) (a b : DeviceState) (u v : Output) (r : Result Unit ReplayFault) (given : List ℕ) (requests : List Event) (text : List ℕ)
+    → Represents w a tree events → Runs Serves a requests b text → WritesWhole u v text → device_script given ≡ record { requests = requests; ending = r } → Whole w tree events b u v r given
 whole w tree events a b u v r given requests text at_a runs appends e =
     let same : (device_script given).requests ≡ requests = ap (λ (s : Script Event). s.requests) e in
     record {
       ending = ap (λ (s : Script Event). s.ending) e;
-      writes = subst (λ (t : List ℕ). Appends u v t) (runs-print w tree events a b requests text runs at_a ∙ ap (λ (es : List Event). events_text w tree events es) (sym same)) appends;
+      writes = subst (λ (t : List ℕ). WritesWhole u v t) (runs-print w tree events a b requests text runs at_a ∙ ap (λ (es : List Event). events_text w tree events es) (sym same)) appends;
       represents = subst (λ (es : List Event). Represents w b tree (events_then events es)) (sym same) (runs-represent w tree events a b requests text runs at_a);
     }
 
-part : (w : ℕ) (tree : List Object) (events : List Event) (a b : DeviceState) (u v : Option (List ℕ)) (r : Result Unit ReplayFault) (given : List ℕ) (requests : List Event) (text : List ℕ)
+part : (w : ℕ) (tree : List Object) (events : List Event) (a b : DeviceState) (u v : Output) (r : Result Unit ReplayFault) (given : List ℕ) (requests : List Event) (text : List ℕ)
     → Represents w a tree events → Runs Serves a requests b text → Writes r u v text → BeginsWith requests (device_script given) → Part w tree events b u v r given
 part w tree events a b u v r given requests text at_a runs writes begins = record {
   first = requests;
@@ -133,7 +131,7 @@ part w tree events a b u v r given requests text at_a runs writes begins = recor
   represents = runs-represent w tree events a b requests text runs at_a;
 }
 
-replays : (w : ℕ) (tree : List Object) (events : List Event) (a b : DeviceState) (u v : Option (List ℕ)) (r : Result Unit ReplayFault) (given : List ℕ) → Represents w a tree events
+replays : (w : ℕ) (tree : List Object) (events : List Event) (a b : DeviceState) (u v : Output) (r : Result Unit ReplayFault) (given : List ℕ) → Represents w a tree events
     → ReplaysScript asked_event Serves a b u v r given → Replays w tree events b u v r given
 replays w tree events a b u v (Ok x) given at_a h = whole w tree events a b u v (Ok x) given h.requests h.text at_a h.runs h.writes h.ends
 replays w tree events a b u v (Err (Line n f)) given at_a h = whole w tree events a b u v (Err (Line n f)) given h.requests h.text at_a h.runs h.writes h.ends
@@ -141,11 +139,11 @@ replays w tree events a b u v (Err TooMuch) given at_a h = whole w tree events a
 replays w tree events a b u v (Err Read) given at_a h = part w tree events a b u v (Err Read) given h.requests h.text at_a h.runs h.writes h.ends
 replays w tree events a b u v (Err Write) given at_a h = part w tree events a b u v (Err Write) given h.requests h.text at_a h.runs h.writes h.ends
 
-pub outcome-of : (w : ℕ) (tree : List Object) (events : List Event) (a b : DeviceState) (u v had has : Option (List ℕ)) (r : Result Unit ReplayFault) → Represents w a tree events
+pub outcome-of : (w : ℕ) (tree : List Object) (events : List Event) (a b : DeviceState) (u v : Output) (had has : Input) (r : Result Unit ReplayFault) → Represents w a tree events
     → ScriptOutcome asked_event Serves a b u v had has r → Outcome w tree events b u v had has r
-outcome-of w tree events a b u v had has r at_a h = (h.0, h.1, replays w tree events a b u v r (h.0 ++ known_bytes has) at_a h.2)
+outcome-of w tree events a b u v had has r at_a h = (h.0, h.1, replays w tree events a b u v r (h.0 ++ known_bytes has.remaining) at_a h.2)
 
-pub known-of : (w : ℕ) (tree : List Object) (events : List Event) (a b : DeviceState) (u v had : Option (List ℕ)) (r : Result Unit ReplayFault) → Represents w a tree events
+pub known-of : (w : ℕ) (tree : List Object) (events : List Event) (a b : DeviceState) (u v : Output) (had : Option (List ℕ)) (r : Result Unit ReplayFault) → Represents w a tree events
     → IfSome had (λ given. ReplaysScript asked_event Serves a b u v r given) → IfSome had (λ given. Replays w tree events b u v r given)
 known-of w tree events a b u v None r at_a h = tt
 known-of w tree events a b u v (Some given) r at_a h = replays w tree events a b u v r given at_a h

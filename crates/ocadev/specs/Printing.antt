@@ -1,5 +1,5 @@
 -- What the device's program prints for an event (profile).
-use Rattle.std.specs.Prelude.{ℕ, List, [], ◌∷◌, ◌++◌, codes, decimal}
+use Rattle.std.specs.Prelude.{ℕ, ◌==◌, if◌then◌else◌, List, [], ◌∷◌, ◌++◌, codes, decimal}
 use Rattle.std.specs.List.{flat_map}
 use Rattle.oca_tree.specs.declared.object.Object.{Object}
 use Rattle.oca_pdu.specs.Faults.{fault_number}
@@ -9,10 +9,14 @@ use Rattle.oca_device.specs.Events.{Event, Datagram, Tick}
 use Rattle.oca_device.specs.Answers.{packets, verdict}
 use Rattle.oca_script.specs.Fields.{hex_text}
 
+-- how many commands asked something else under a kept handle, where there are any
+abbrev pub reused_text : ℕ → List ℕ
+reused_text reused = if reused == 0 then [] else codes " reused " ++ decimal reused
+
 -- the line of what became of a datagram
 abbrev pub verdict_text : Verdict → List ℕ
-verdict_text (verdicts.Served executed kept old) =
-    codes "served " ++ decimal executed ++ codes " " ++ decimal kept ++ codes " " ++ decimal old ++ codes "\n"
+verdict_text (verdicts.Served executed kept old reused) =
+    codes "served " ++ decimal executed ++ codes " " ++ decimal kept ++ codes " " ++ decimal old ++ reused_text reused ++ codes "\n"
 verdict_text (verdicts.Malformed fault) = codes "malformed " ++ decimal (fault_number fault.kind) ++ codes " at " ++ decimal fault.at ++ codes "\n"
 verdict_text verdicts.NoRoom = codes "no-room\n"
 

@@ -1,14 +1,10 @@
 -- What the lines of the device's scripts ask for (profile).
-use Rattle.std.specs.Prelude.{◌≡◌, ◌≤◌, ℕ, Bool, if◌then◌else◌, List, [], ◌∷◌, length, codes, Option, Some, None, Result, Ok, Err}
+use Rattle.std.specs.Prelude.{ℕ, Bool, if◌then◌else◌, List, [], ◌∷◌, codes, Option, Some, None, Result, Ok, Err}
 use Rattle.std.specs.Str.{bytes_eq}
 use Rattle.oca_script.specs.Fields.{moment_of, peer_of, hex_of}
 use Rattle.oca_script.specs.declared.fault.LineFault.{LineFault}
 use Rattle.oca_script.specs.declared.fault.LineFault.TheVariants.{Form, Moment, Peer, Hex}
 use Rattle.oca_device.specs.Events.{Event, Datagram, Tick}
-use Rattle.ocadev.specs.declared.request.Fields.{Fields}
-use Rattle.ocadev.specs.declared.request.Fields.TheVariants as fields
-use Rattle.ocadev.specs.declared.request.Request.{Request}
-use Rattle.ocadev.specs.declared.request.Request.TheVariants as request
 
 -- a value, or that fault
 abbrev pub needs : {A : Type 0} → LineFault → Option A → (A → Result Event LineFault) → Result Event LineFault
@@ -36,24 +32,3 @@ asked_event (moment ∷ []) = Err Form
 asked_event (moment ∷ second ∷ []) = if is_quiet second then tick_of moment else Err Form
 asked_event (moment ∷ second ∷ third ∷ []) = if is_quiet second then Err Form else datagram_of moment second third
 asked_event (moment ∷ second ∷ third ∷ fourth ∷ more) = Err Form
-
--- ---- what the program's own values say
-
-abbrev pub event_of : Request → Event
-event_of (request.Tick now) = Tick now
-event_of (request.Datagram now from bytes) = Datagram from bytes.now now
-
-abbrev pub event_asked : Result Request LineFault → Result Event LineFault
-event_asked (Ok r) = Ok (event_of r)
-event_asked (Err fault) = Err fault
-
--- the fields, where there are two or three; else they ask for nothing
-abbrev pub AreFields : Fields → List (List ℕ) → Type 0
-AreFields (fields.Two a b) fs = fs ≡ a.now ∷ b.now ∷ []
-AreFields (fields.Three a b c) fs = fs ≡ a.now ∷ b.now ∷ c.now ∷ []
-AreFields fields.Other fs = asked_event fs ≡ Err Form
-
-abbrev pub FieldsWithin : Fields → ℕ → Type 0
-FieldsWithin (fields.Two a b) n = (length a.now ≤ n) × (length b.now ≤ n)
-FieldsWithin (fields.Three a b c) n = (length a.now ≤ n) × (length b.now ≤ n) × (length c.now ≤ n)
-FieldsWithin fields.Other n = Unit {0}

@@ -1,10 +1,11 @@
 //! The device as a program: `ocadev replay` runs the bench device over the script on standard input, and `ocadev show`
-//! prints the objects of the bench device.
+//! prints the objects of the bench device; `ocadev serve` serves it at a UDP socket.
 #![tactic(auto)]
 
 mod answer;
 mod fault;
 mod replay;
+mod report;
 mod request;
 mod run;
 mod show;
@@ -35,6 +36,7 @@ fn main(rt: HostRuntime) -> ExitCode {
     };
     let status = run::run(
         rt.alloc(),
+        &rt,
         words.as_slice(),
         &mut rt.stdin(),
         &mut io::writer(&rt),

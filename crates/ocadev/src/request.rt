@@ -1,11 +1,12 @@
 //! What a line of a script asks the device for.
-ghost use Rattle.std.specs.Prelude.{◌≡◌, ◌≤◌, ◌*◌, length};
+ghost use Rattle.std.specs.Prelude.{◌≡◌, ◌≤◌, ◌*◌, IfSome, length};
 ghost use Rattle.std.specs.Option.{ok_or};
 ghost use Rattle.oca_script.specs.Fields.{fields, moment_of};
-ghost use Rattle.ocadev.specs.Requests.{AreFields, FieldsWithin, is_quiet as quiet_word, tick_of, datagram_of, asked_event, event_asked};
+ghost use Rattle.ocadev.specs.Requests.{is_quiet as quiet_word, tick_of, datagram_of, asked_event};
+ghost use Rattle.ocadev.specs.PrivateRequests.{AreFields, FieldsWithin, datagram_after, event_asked};
 
 use oca_script::LineFault;
-use oca_script::field::{first_field, hex_bytes, peer};
+use oca_script::field::{first_field, hex_bytes, number_before, peer, peer_before};
 use oca_types::Peer;
 
 /// Room for the bytes of a datagram in a script.
@@ -89,8 +90,53 @@ fn datagram<'a>(
     Ok(Request::Datagram { now, from, bytes })
 }
 
+/// The moment and the peer of a datagram's line, and what stands after them, read in one pass. `None` says only that they
+/// are not seen to be there.
+fn moment_and_peer(line: &[u8]) -> Option<(u64, Peer, &[u8])>
+    ensures value { IfSome result (λ p. asked_event (fields line.now) ≡ datagram_after p.0 p.1 (fields p.2.now)) }
+    ensures within { IfSome result (λ p. length p.2.now ≤ length line.now) }
+{
+    let (now, rest) = number_before(line, b' ', 20, u64::MAX)?;
+    let (from, rest) = peer_before(rest)?;
+    Some((now, from, rest))
+}
+
+/// The datagram of which the moment and the peer are read: its bytes are the one field that is left.
+fn bytes_after<'a>(
+    now: u64,
+    from: Peer,
+    rest: &[u8],
+    room: &'a mut [u8],
+) -> Result<Request<'a>, LineFault>
+    requires { length rest.now ≤ 2 * length room.old }
+    ensures { event_asked result ≡ datagram_after now from (fields rest.now) }
+{
+    let (text, more) = first_field(rest);
+    match more {
+        Some(_) => Err(LineFault::Form),
+        None => match hex_bytes(text, room) {
+            Some(bytes) => Ok(Request::Datagram { now, from, bytes }),
+            None => Err(LineFault::Hex),
+        },
+    }
+}
+
 /// What the fields of the line ask for. The bytes of a datagram are put into `room`.
 pub fn asked_by<'a>(line: &[u8], room: &'a mut [u8; MOST_BYTES]) -> Result<Request<'a>, LineFault>
+    requires { length line.now ≤ 4096 }
+    ensures { event_asked result ≡ asked_event (fields line.now) }
+{
+    match moment_and_peer(line) {
+        Some((now, from, rest)) => bytes_after(now, from, rest, room),
+        None => asked_by_fields(line, room),
+    }
+}
+
+/// The same field by field, for clock readings and for lines with a fault.
+fn asked_by_fields<'a>(
+    line: &[u8],
+    room: &'a mut [u8; MOST_BYTES],
+) -> Result<Request<'a>, LineFault>
     requires { length line.now ≤ 4096 }
     ensures { event_asked result ≡ asked_event (fields line.now) }
 {

@@ -1,25 +1,32 @@
 //! A run of the program.
 use super::fault::RunFault;
 use super::replay::replay;
+use super::report::{print_listening, print_report};
 use super::show::show;
-use super::words::{Asked, asked_for};
-use oca_device::{Device, Outbox};
-use oca_script::printing::write_bytes;
+use super::words::{Asked, Serving, asked_for};
+use oca_device::{Device, Outbox, serve};
+use oca_net::UdpEnd;
+use oca_script::{FromReader, Printer, Sink, ToWriter};
 use oca_tree::{Tree, bench};
+use oca_types::Window;
 use std::alloc::Global;
 use std::convert::AsStr;
 use std::io::{Read, Write};
+use std::net::Net;
+use std::rt::Clock;
 
 /// Runs the program on the words of its command line, its name first, and answers its exit status: 0, 2 where the words or
-/// a line are bad, and 1 where something could not be done. A fault is printed on `faults` as one line.
-pub fn run<S: AsStr, R: Read, W: Write, F: Write>(
+/// a line are bad, and 1 where something could not be done. A fault is printed on `faults` as one line, and so is where the
+/// device listens.
+pub fn run<N: Net + Clock, S: AsStr, R: Read, W: Write, F: Write>(
     alloc: Global,
+    system: &N,
     words: &[S],
     reader: &mut R,
     writer: &mut W,
     faults: &mut F,
 ) -> u8 {
-    match served(alloc, words, reader, writer) {
+    match served(alloc, system, words, reader, writer, faults) {
         Ok(()) => 0,
         Err(fault) => report(fault, faults),
     }
@@ -31,27 +38,54 @@ pub fn report<F: Write>(fault: RunFault, faults: &mut F) -> u8 {
     fault.status()
 }
 
-fn served<S: AsStr, R: Read, W: Write>(
+/// Does what the words ask for.
+fn served<N: Net + Clock, S: AsStr, R: Read, W: Write, F: Write>(
     alloc: Global,
+    system: &N,
     words: &[S],
     reader: &mut R,
     writer: &mut W,
+    faults: &mut F,
 ) -> Result<(), RunFault> {
+    let mut printer = Printer::new(ToWriter::new(writer));
     match asked_for(alloc, words)? {
-        Asked::Replay => {
-            let (mut device, mut outbox) = start(alloc)?;
-            replay(&mut device, &mut outbox, reader, writer)?;
+        Asked::Replay(window) => {
+            let (mut device, mut outbox) = start(alloc, window)?;
+            let mut source = FromReader::new(reader);
+            replay(&mut device, &mut outbox, &mut source, &mut printer)?;
         }
-        Asked::Show => show(&bench_tree(alloc)?, writer)?,
-        Asked::Help(text) => write_bytes(writer, text.as_bytes())?,
+        Asked::Serve(serving) => serve_socket(alloc, system, serving, &mut printer, faults)?,
+        Asked::Show => show(&bench_tree(alloc)?, &mut printer)?,
+        Asked::Help(text) => {
+            printer.print(text.as_bytes())?;
+            printer.flush()?;
+        }
     }
     Ok(())
 }
 
+/// Serves the bench device at a socket, and prints what was done. Where it listens is printed on `faults` at first; that
+/// this can't be written is no fault.
+fn serve_socket<N: Net + Clock, W: Sink, F: Write>(
+    alloc: Global,
+    system: &N,
+    serving: Serving,
+    printer: &mut Printer<W>,
+    faults: &mut F,
+) -> Result<(), RunFault> {
+    let (mut device, mut outbox) = start(alloc, serving.window)?;
+    let mut end = UdpEnd::bind(alloc, system, serving.ip, serving.port)?;
+    let mut notes = Printer::new(ToWriter::new(faults));
+    let _ = print_listening(end.local(), &mut notes);
+    let report = serve(&mut device, &mut end, &mut outbox, serving.turns);
+    print_report(&report, printer)?;
+    Ok(())
+}
+
 /// The bench device, and an outbox.
-fn start(alloc: Global) -> Result<(Device, Outbox), RunFault> {
+fn start(alloc: Global, window: Window) -> Result<(Device, Outbox), RunFault> {
     let tree = bench_tree(alloc)?;
-    let Ok(device) = Device::new(alloc, tree) else {
+    let Ok(device) = Device::new(alloc, tree, window) else {
         return Err(RunFault::NoMemory);
     };
     let Ok(outbox) = Outbox::new(alloc) else {
@@ -60,6 +94,7 @@ fn start(alloc: Global) -> Result<(Device, Outbox), RunFault> {
     Ok((device, outbox))
 }
 
+/// The objects of the bench device.
 fn bench_tree(alloc: Global) -> Result<Tree, RunFault> {
     bench(alloc).map_err(|_| RunFault::NoMemory)
 }

@@ -13,8 +13,10 @@ returns-then-holds_responses c = λ p e. by p e (c.if-holds_responses.ensures p 
   where
     old : List ℕ
     old = c.args.packet.now.items
+
     new : List ℕ
     new = c.extend_response.new.packet.items
+
     by : (p : Pdu) → old ≡ pdu_encoding p → true ≡ is_of_responses p → Joins c.is_ok.result p (response c.args.handle.0 c.args.reply.now) old new
     by (Responses rs) e is =
         subst (λ (b : Bool). Joins b (Responses rs) (response c.args.handle.0 c.args.reply.now) old new) (sym c.is_ok.ensures.value)

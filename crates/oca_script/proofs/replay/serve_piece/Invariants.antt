@@ -1,6 +1,6 @@
 use Rattle.std.proofs.Common.{◌≤◌, ◌+◌, ◌++◌, ℕ, List, length, Ok}
 use Rattle.oca_script.specs.PrivateSteps.{Step}
-use Rattle.oca_script.specs.Script.{script_from}
+use Rattle.oca_script.specs.PrivateScript.{script_from}
 use Rattle.oca_script.proofs.replay.serve_piece.Given as goal
 
 abbrev pub invariant-loop-end : goal.invariant-loop-end

@@ -1,0 +1,150 @@
+//! The loop over an end in memory.
+use super::*;
+use crate::{Report, serve};
+use oca_net::{MemoryEnd, Scripted};
+
+/// GetState from A at 0, a failure, silence at 10, and GetState from A again.
+fn script(alloc: Global) -> Result<Vec<Scripted>, Fail> {
+    let mut script = Vec::new(alloc);
+    script.push(Scripted::Datagram {
+        from: peer(A),
+        bytes: GET.to_vec(alloc)?,
+        now: 0,
+    })?;
+    script.push(Scripted::Failed)?;
+    script.push(Scripted::Quiet { now: 10 })?;
+    script.push(Scripted::Datagram {
+        from: peer(A),
+        bytes: GET.to_vec(alloc)?,
+        now: 20,
+    })?;
+    Ok(script)
+}
+
+/// What a run over the first three entries of the script reports.
+const THREE_TURNS: Report = Report {
+    turns: 3,
+    executed: 1,
+    kept: 0,
+    old: 0,
+    reused: 0,
+    malformed: 0,
+    no_room: 0,
+    oversize: 0,
+    quiet: 1,
+    failed_receives: 1,
+    failed_sends: 0,
+};
+
+/// Over an end with the first three entries, the fourth receive answers Closed, and there is no other.
+#[test]
+fn ends_at_closed(rt: HostRuntime) -> Result<(), Fail> {
+    let mut bench = Bench::new(rt.alloc())?;
+    let mut entries = script(rt.alloc())?;
+    let _ = entries.pop();
+    let mut end = MemoryEnd::new(rt.alloc(), entries, 4, None).map_err(|_| "no memory")?;
+    assert_eq!(rt;
+        serve(&mut bench.device, &mut end, &mut bench.outbox, 9),
+        THREE_TURNS
+    );
+    assert_eq!(rt; end.taken().len(), 1);
+    Ok(())
+}
+
+#[test]
+fn serves_an_end(rt: HostRuntime) -> Result<(), Fail> {
+    let mut bench = Bench::new(rt.alloc())?;
+    let mut end = MemoryEnd::new(rt.alloc(), script(rt.alloc())?, 4, None).map_err(
+        |_| "no memory",
+    )?;
+    assert_eq!(rt;
+        serve(&mut bench.device, &mut end, &mut bench.outbox, 3),
+        THREE_TURNS
+    );
+    assert_eq!(rt; end.taken().len(), 1);
+    if let Some((to, packet)) = end.taken().first() {
+        assert_eq!(rt; *to, peer(A));
+        assert_eq!(rt; packet.as_slice(), MUTED.as_slice());
+    }
+    assert_eq!(rt;
+        serve(&mut bench.device, &mut end, &mut bench.outbox, 9).turns,
+        1
+    );
+    assert_eq!(rt; end.taken().len(), 2);
+    assert_eq!(rt; end.failures(), 1);
+    Ok(())
+}
+
+#[test]
+fn goes_on_after_a_failed_send(rt: HostRuntime) -> Result<(), Fail> {
+    let mut bench = Bench::new(rt.alloc())?;
+    let mut end = MemoryEnd::new(rt.alloc(), script(rt.alloc())?, 4, Some(0)).map_err(
+        |_| "no memory",
+    )?;
+    let report = serve(&mut bench.device, &mut end, &mut bench.outbox, 3);
+    assert_eq!(rt;
+        report,
+        Report {
+            failed_sends: 1,
+            ..THREE_TURNS
+        }
+    );
+    assert_eq!(rt; end.taken().len(), 0);
+    assert_eq!(rt;
+        serve(&mut bench.device, &mut end, &mut bench.outbox, 3).kept,
+        1
+    );
+    assert_eq!(rt; end.taken().len(), 1);
+    if let Some((_, packet)) = end.taken().first() {
+        assert_eq!(rt; packet.as_slice(), MUTED.as_slice());
+    }
+    Ok(())
+}
+
+/// A datagram of a peer at 0.
+fn from(alloc: Global, port: u16, bytes: &[u8]) -> Result<Scripted, Fail> {
+    Ok(Scripted::Datagram {
+        from: peer(port),
+        bytes: bytes.to_vec(alloc)?,
+        now: 0,
+    })
+}
+
+/// With windows of one command: two commands of A, the first again, another under the second's handle, no bytes, too many
+/// bytes, silence, 15 other peers, and one more.
+#[test]
+fn counts_all_that_comes(rt: HostRuntime) -> Result<(), Fail> {
+    let alloc = rt.alloc();
+    let mut bench = Bench::with_window(alloc, 1)?;
+    let mut entries = Vec::new(alloc);
+    entries.push(from(alloc, A, get_state(5).as_slice())?)?;
+    entries.push(from(alloc, A, get_state(6).as_slice())?)?;
+    entries.push(from(alloc, A, get_state(5).as_slice())?)?;
+    entries.push(from(alloc, A, set_state(6, 2).as_slice())?)?;
+    entries.push(from(alloc, A, &[])?)?;
+    entries.push(from(alloc, A, &[0; 1473])?)?;
+    entries.push(Scripted::Quiet { now: 0 })?;
+    for port in 9002..9017u16 {
+        entries.push(from(alloc, port, &GET)?)?;
+    }
+    entries.push(from(alloc, 9017, &GET)?)?;
+    let mut end = MemoryEnd::new(alloc, entries, 32, None).map_err(|_| "no memory")?;
+    assert_eq!(rt;
+        serve(&mut bench.device, &mut end, &mut bench.outbox, 100),
+        Report {
+            turns: 23,
+            executed: 17,
+            kept: 0,
+            old: 1,
+            reused: 1,
+            malformed: 1,
+            no_room: 1,
+            oversize: 1,
+            quiet: 1,
+            failed_receives: 0,
+            failed_sends: 0,
+        }
+    );
+    assert_eq!(rt; end.taken().len(), 17);
+    Ok(())
+}

@@ -1,0 +1,179 @@
+//! Sessions, reply windows, locks and silence.
+use super::*;
+
+#[test]
+fn keeps_the_last_replies(rt: HostRuntime) -> Result<(), Fail> {
+    let mut bench = Bench::new(rt.alloc())?;
+    for handle in 1..34u32 {
+        bench.takes(
+            &rt,
+            A,
+            0,
+            get_state(handle),
+            EXECUTED,
+            Some(state(handle, 1)),
+        );
+    }
+    bench.takes(&rt, A, 0, get_state(1), OLD, None);
+    bench.takes(&rt, A, 0, get_state(2), KEPT, Some(state(2, 1)));
+    bench.takes(&rt, A, 0, get_state(0), OLD, None);
+
+    let mut bench = Bench::new(rt.alloc())?;
+    for handle in 6..39u32 {
+        bench.takes(
+            &rt,
+            A,
+            0,
+            get_state(handle),
+            EXECUTED,
+            Some(state(handle, 1)),
+        );
+    }
+    bench.takes(&rt, A, 0, set_state(5, 2), OLD, None);
+    bench.takes(&rt, A, 0, get_state(39), EXECUTED, Some(state(39, 1)));
+    Ok(())
+}
+
+#[test]
+fn keeps_as_many_as_was_chosen(rt: HostRuntime) -> Result<(), Fail> {
+    let mut one = Bench::with_window(rt.alloc(), 1)?;
+    for (handle, verdict) in [
+        (5u32, EXECUTED),
+        (6, EXECUTED),
+        (6, KEPT),
+        (5, OLD),
+        (4, OLD),
+        (7, EXECUTED),
+    ] {
+        let reply = if verdict == OLD {
+            None
+        } else {
+            Some(state(handle, 1))
+        };
+        one.takes(&rt, A, 0, get_state(handle), verdict, reply);
+    }
+    let mut most = Bench::with_window(rt.alloc(), 64)?;
+    for handle in 1..66u32 {
+        most.takes(
+            &rt,
+            A,
+            0,
+            get_state(handle),
+            EXECUTED,
+            Some(state(handle, 1)),
+        );
+    }
+    most.takes(&rt, A, 0, get_state(1), OLD, None);
+    most.takes(&rt, A, 0, get_state(2), KEPT, Some(state(2, 1)));
+    Ok(())
+}
+
+/// Another command under the handle of a retained one is not executed and gets nothing, and the retained one stays.
+#[test]
+fn ignores_another_command_under_a_kept_handle(rt: HostRuntime) -> Result<(), Fail> {
+    let mut bench = Bench::new(rt.alloc())?;
+    bench.takes(&rt, A, 0, pack(&GET), EXECUTED, Some(pack(&MUTED)));
+    bench.takes(&rt, A, 0, set_state(1, 2), REUSED, None);
+    bench.takes(&rt, A, 0, pack(&GET), KEPT, Some(pack(&MUTED)));
+    bench.takes(&rt, A, 0, command(0, 1, 4097, (4, 1), &[]), KEPT, None);
+    for handle in 2..34u32 {
+        bench.takes(
+            &rt,
+            A,
+            0,
+            get_state(handle),
+            EXECUTED,
+            Some(state(handle, 1)),
+        );
+    }
+    bench.takes(&rt, A, 0, set_state(1, 2), OLD, None);
+    Ok(())
+}
+
+#[test]
+fn releases_locks_and_keeps_replies(rt: HostRuntime) -> Result<(), Fail> {
+    let mut bench = Bench::new(rt.alloc())?;
+    bench.takes(
+        &rt,
+        A,
+        0,
+        pack(&ONE_SECOND),
+        NOTHING,
+        Some(pack(&ONE_SECOND)),
+    );
+    bench.takes(
+        &rt,
+        A,
+        0,
+        command(1, 1, 4097, (1, 3), &[]),
+        EXECUTED,
+        Some(done(1)),
+    );
+    bench.takes(
+        &rt,
+        B,
+        3000,
+        command(1, 1, 4097, (1, 5), &[]),
+        EXECUTED,
+        Some(response(1, 3, 0, &[])),
+    );
+    let role = response(2, 0, 1, &[0, 4, b'm', b'u', b't', b'e']);
+    bench.takes(
+        &rt,
+        B,
+        3001,
+        command(1, 2, 4097, (1, 5), &[]),
+        EXECUTED,
+        Some(role),
+    );
+    bench.takes(
+        &rt,
+        A,
+        3002,
+        command(1, 1, 4097, (1, 3), &[]),
+        KEPT,
+        Some(done(1)),
+    );
+    bench.takes(&rt, B, 3003, get_state(3), EXECUTED, Some(state(3, 1)));
+    Ok(())
+}
+
+#[test]
+fn forgets_silent_sessions(rt: HostRuntime) -> Result<(), Fail> {
+    let mut bench = Bench::new(rt.alloc())?;
+    bench.takes(&rt, A, 0, set_state(1, 2), EXECUTED, Some(done(1)));
+    bench.takes(&rt, A, 120_000, set_state(1, 2), KEPT, Some(done(1)));
+    bench.device.tick(240_000);
+    assert_eq!(rt; bench.device.sessions(), 1);
+    bench.device.tick(240_001);
+    assert_eq!(rt; bench.device.sessions(), 0);
+    bench.takes(&rt, A, 240_001, set_state(1, 2), EXECUTED, Some(done(1)));
+    Ok(())
+}
+
+#[test]
+fn has_room_for_16_sessions(rt: HostRuntime) -> Result<(), Fail> {
+    let mut bench = Bench::new(rt.alloc())?;
+    for port in 9001..9017u16 {
+        bench.takes(&rt, port, 0, pack(&GET), EXECUTED, Some(pack(&MUTED)));
+    }
+    bench.takes(&rt, 9017, 1, pack(&GET), Verdict::NoRoom, None);
+    for port in 9002..9017u16 {
+        bench.takes(&rt, port, 60_000, pack(&GET), KEPT, Some(pack(&MUTED)));
+    }
+    assert_eq!(rt; bench.device.sessions(), 16);
+    bench.takes(&rt, 9017, 120_001, pack(&GET), EXECUTED, Some(pack(&MUTED)));
+    assert_eq!(rt; bench.device.sessions(), 16);
+    bench.takes(&rt, A, 120_001, pack(&GET), Verdict::NoRoom, None);
+    Ok(())
+}
+
+#[test]
+fn retains_replies_that_were_not_sent(rt: HostRuntime) -> Result<(), Fail> {
+    let mut bench = Bench::new(rt.alloc())?;
+    bench.takes(&rt, A, 0, command(0, 1, 4097, (4, 2), &[2]), EXECUTED, None);
+    bench.takes(&rt, A, 0, command(0, 1, 4097, (4, 2), &[2]), KEPT, None);
+    bench.takes(&rt, A, 0, set_state(1, 2), KEPT, Some(done(1)));
+    bench.takes(&rt, A, 0, get_state(2), EXECUTED, Some(state(2, 2)));
+    Ok(())
+}
