@@ -1,10 +1,10 @@
 -- What is known of the content of bytes.
-use Rattle.std.proofs.Common.{◌≡◌, ℕ, ◌+◌, ◌≤◌, List, [], ◌∷◌, ◌++◌, length, map, refl, sym, ap, ◌∙◌, arith, subst, Option, Some, None, Result, Ok, Err, Bool, length-append}
-use Rattle.std.specs.List.{flat_map, AllByRecursion}
+use Rattle.std.proofs.Common.{◌≡◌, ℕ, ◌+◌, ◌≤◌, List, [], ◌∷◌, length, map, refl, sym, ap, ◌∙◌, arith, subst, Option, Some, None, Result, Ok, Err, Bool, length-append}
+use Rattle.std.specs.List.{flat_map}
 use Rattle.std.proofs.lemmas.List.Concat.{flat_map-cons}
 use Rattle.oca_types.specs.Peers.{CommandFields}
 use Rattle.oca_pdu.specs.declared.fault.PduFault.{PduFault}
-use Rattle.oca_pdu.specs.Messages.{Msg, Command, Response, KeepAlive, Pdu, Commands, Responses, OneKeepAlive, ResponseFields, messages_of}
+use Rattle.oca_pdu.specs.Messages.{Msg, Command, Response, Pdu, Commands, Responses, OneKeepAlive, ResponseFields, messages_of}
 use Rattle.oca_pdu.specs.Encoding.{IsDatagram, pdu_encoding, response_encoding}
 use Rattle.oca_pdu.specs.Reading.{read_datagram}
 use Rattle.oca_pdu.proofs.Codec.{IsBytes}
@@ -43,7 +43,7 @@ responses_short : (rs : List ResponseFields) → 10 + length (flat_map response_
 responses_short [] fits = tt
 responses_short (r ∷ rs) fits =
     let len : length (flat_map response_encoding (r ∷ rs)) ≡ 10 + length r.params + length (flat_map response_encoding rs) =
-        omega (arith, ap length (flat_map-cons response_encoding r rs), length-append (response_encoding r) (flat_map response_encoding rs)) in
+    omega (arith, ap length (flat_map-cons response_encoding r rs), length-append (response_encoding r) (flat_map response_encoding rs)) in
     let here : length r.params ≤ 1452 = omega arith in
     (here, responses_short rs (omega arith))
 
@@ -56,7 +56,7 @@ pdus_short : (ps : List Pdu) → length (flat_map pdu_encoding ps) ≤ 1472 → 
 pdus_short [] fits = tt
 pdus_short (p ∷ ps) fits =
     let len : length (flat_map pdu_encoding (p ∷ ps)) ≡ length (pdu_encoding p) + length (flat_map pdu_encoding ps) =
-        ap length (flat_map-cons pdu_encoding p ps) ∙ length-append (pdu_encoding p) (flat_map pdu_encoding ps) in
+    ap length (flat_map-cons pdu_encoding p ps) ∙ length-append (pdu_encoding p) (flat_map pdu_encoding ps) in
     let first : AreShort (messages_of p) = pdu_short p (omega arith) in
     let others : AreShort (flat_map messages_of ps) = pdus_short ps (omega arith) in
     subst AreShort (sym (flat_map-cons messages_of p ps)) (each-append IsShort (messages_of p) (flat_map messages_of ps) first others)

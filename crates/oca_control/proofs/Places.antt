@@ -1,14 +1,13 @@
 -- What a write to one slot does to the untaken commands.
-use Rattle.std.proofs.Common.{◌≡◌, ℕ, zero, suc, ◌+◌, ◌-◌, ◌*◌, ◌%◌, ◌/◌, ◌<◌, ◌≤◌, ◌≢◌, Bool, true, false, cond, List, [], ◌∷◌, ◌++◌, length, map, get_or, set, refl, sym, ap, ◌∙◌, arith, subst, Option, Some, None, append_assoc, append-nil, ◌⊎◌, inl, inr}
-use Rattle.std.specs.Prelude.{nat_lt, nat_eq, not, is_some, is_none, filter, ◌&&◌, ◌||◌}
-use Rattle.std.specs.List.{list_any, list_all}
-use Rattle.std.proofs.lemmas.List.{get_or-set_same, get_or-set_other, get_or_default, map-append, length-set}
+use Rattle.std.proofs.Common.{◌≡◌, ℕ, zero, suc, ◌+◌, ◌-◌, ◌%◌, ◌<◌, ◌≤◌, ◌≢◌, Bool, true, false, cond, List, [], ◌∷◌, ◌++◌, length, map, get_or, set, refl, sym, ap, ◌∙◌, arith, subst, Option, Some, None, append_assoc, append-nil, ◌⊎◌, inl, inr}
+use Rattle.std.specs.Prelude.{nat_lt, nat_eq, not, is_some, is_none, ◌&&◌, ◌||◌}
+use Rattle.std.specs.List.{list_any}
+use Rattle.std.proofs.lemmas.List.{get_or-set_same, get_or-set_other, get_or_default, map-append}
 use Rattle.std.proofs.lemmas.List.Elements.{filter-append}
 use Rattle.std.proofs.lemmas.List.Folds.{list_any-append, list_all-append}
 use Rattle.std.proofs.lemmas.Bool.Decides.{nat_tests}
-use Rattle.oca_control.specs.Answers.{AnswerFields}
-use Rattle.oca_control.specs.Untaken.{Untaken, is_due, first_due, waits, answered, answer_under, without_handle, given_out, has_room}
-use Rattle.oca_control.specs.PrivateSlots.{Kept, kept_at, kept_is_due, kept_waits, kept_answer, kept_given, kept_answered, untaken_at, untaken_from}
+use Rattle.oca_control.specs.Untaken.{Untaken, first_due, waits, answer_under, without_handle, has_room}
+use Rattle.oca_control.specs.PrivateSlots.{Kept, kept_at, kept_is_due, kept_waits, kept_answer, untaken_at, untaken_from}
 
 -- handles less than 32 apart have slots of their own
 pub apart : (h k : ℕ) → h < k → k < h + 32 → k % 32 ≢ h % 32
@@ -32,6 +31,7 @@ split lo zero n slots = ap (λ i. untaken_from lo i slots) (zero_plus n) ∙ ap 
   where
     zero_plus : (n : ℕ) → 0 + n ≡ n
     zero_plus n = omega arith
+
     plus_zero : (n : ℕ) → n + 0 ≡ n
     plus_zero n = omega arith
 split lo (suc m) n slots =
@@ -41,6 +41,7 @@ split lo (suc m) n slots =
   where
     suc_plus : (m n : ℕ) → suc m + n ≡ suc (m + n)
     suc_plus m n = omega arith
+
     one_on : (lo m : ℕ) → lo + 1 + m ≡ lo + suc m
     one_on lo m = omega arith
 
@@ -63,11 +64,11 @@ pub written : (lo m n : ℕ) (slots : List (Option Kept)) (x : Option Kept) → 
 written lo m n slots x few all =
     parts lo m n (set slots ((lo + m) % 32) x)
     ∙ ap (λ us. us ++ (untaken_at (lo + m) (kept_at (lo + m) (set slots ((lo + m) % 32) x)) ++ untaken_from (lo + m + 1) n (set slots ((lo + m) % 32) x)))
-        (others (lo + m) lo m slots x (λ k l u. apart_below (lo + m) k (omega arith) (omega arith)))
+    (others (lo + m) lo m slots x (λ k l u. apart_below (lo + m) k (omega arith) (omega arith)))
     ∙ ap (λ us. untaken_from lo m slots ++ (untaken_at (lo + m) (kept_at (lo + m) (set slots ((lo + m) % 32) x)) ++ us))
-        (others (lo + m) (lo + m + 1) n slots x (λ k l u. apart (lo + m) k (omega arith) (omega arith)))
+    (others (lo + m) (lo + m + 1) n slots x (λ k l u. apart (lo + m) k (omega arith) (omega arith)))
     ∙ ap (λ o. untaken_from lo m slots ++ (untaken_at (lo + m) o ++ untaken_from (lo + m + 1) n slots))
-        (get_or-set_same slots ((lo + m) % 32) x None (within (lo + m)))
+    (get_or-set_same slots ((lo + m) % 32) x None (within (lo + m)))
   where
     within : (a : ℕ) → a % 32 < length slots
     within a = omega arith
@@ -90,10 +91,10 @@ map_parts : (f : Untaken → Untaken) (front mid back mid' : List Untaken) → m
     front ++ (mid' ++ back) ≡ map f (front ++ (mid ++ back))
 map_parts f front mid back mid' same_front same_back here =
     sym (map-append f front (mid ++ back)
-      ∙ ap (λ us. map f front ++ us) (map-append f mid back)
-      ∙ ap (λ us. us ++ (map f mid ++ map f back)) same_front
-      ∙ ap (λ us. front ++ (map f mid ++ us)) same_back
-      ∙ ap (λ us. front ++ (us ++ back)) (sym here))
+    ∙ ap (λ us. map f front ++ us) (map-append f mid back)
+    ∙ ap (λ us. us ++ (map f mid ++ map f back)) same_front
+    ∙ ap (λ us. front ++ (map f mid ++ us)) same_back
+    ∙ ap (λ us. front ++ (us ++ back)) (sym here))
 
 -- the command of h changes as its slot does
 pub changed : (f : Untaken → Untaken) (lo m n : ℕ) (slots : List (Option Kept)) (x : Option Kept) → m + (n + 1) ≤ 32 → length slots ≡ 32 →
@@ -102,9 +103,9 @@ pub changed : (f : Untaken → Untaken) (lo m n : ℕ) (slots : List (Option Kep
 changed f lo m n slots x few all same here =
     written lo m n slots x few all
     ∙ map_parts f (untaken_from lo m slots) (untaken_at (lo + m) (kept_at (lo + m) slots)) (untaken_from (lo + m + 1) n slots) (untaken_at (lo + m) x)
-      (unchanged f (lo + m) lo m slots same (λ k l u e. omega arith))
-      (unchanged f (lo + m) (lo + m + 1) n slots same (λ k l u e. omega arith))
-      here
+    (unchanged f (lo + m) lo m slots same (λ k l u e. omega arith))
+    (unchanged f (lo + m) (lo + m + 1) n slots same (λ k l u e. omega arith))
+    here
     ∙ ap (map f) (sym (parts lo m n slots))
 
 -- the same, by handles: those from lo on and below hi
@@ -116,9 +117,9 @@ changed_at f lo hi h slots x above below near all same here = by (h - lo) (hi - 
     by : (m n : ℕ) → lo + m ≡ h → m + (n + 1) ≡ hi - lo → untaken_from lo (hi - lo) (set slots (h % 32) x) ≡ map f (untaken_from lo (hi - lo) slots)
     by m n e1 e2 =
         subst (λ (w : ℕ). untaken_from lo w (set slots (h % 32) x) ≡ map f (untaken_from lo w slots)) e2
-          (subst (λ (k : ℕ). ((u : Untaken) → u.command.handle ≢ k → f u ≡ u) → untaken_at k x ≡ map f (untaken_at k (kept_at k slots)) →
-              untaken_from lo (m + (n + 1)) (set slots (k % 32) x) ≡ map f (untaken_from lo (m + (n + 1)) slots)) e1
-            (λ s t. changed f lo m n slots x (omega arith) all s t) same here)
+        (subst (λ (k : ℕ). ((u : Untaken) → u.command.handle ≢ k → f u ≡ u) → untaken_at k x ≡ map f (untaken_at k (kept_at k slots)) →
+        untaken_from lo (m + (n + 1)) (set slots (k % 32) x) ≡ map f (untaken_from lo (m + (n + 1)) slots)) e1
+        (λ s t. changed f lo m n slots x (omega arith) all s t) same here)
 
 -- Commands of other handles stay.
 other_handles : (h lo n : ℕ) (slots : List (Option Kept)) → ((k : ℕ) → lo ≤ k → k < lo + n → k ≢ h) →
@@ -132,6 +133,7 @@ other_handles h lo (suc n) slots far =
   where
     differs : (a b : ℕ) → a ≢ b → nat_eq a b ≡ false
     differs a b n = grind (arith, nat_tests)
+
     one : (o : Option Kept) → without_handle h (untaken_at lo o) ≡ untaken_at lo o
     one None = refl
     one (Some k) = ap (λ b. cond (not b) (untaken_at lo (Some k)) []) (differs lo h (far lo (omega arith) (omega arith)))
@@ -141,10 +143,10 @@ without_parts : (h : ℕ) (front mid back : List Untaken) → without_handle h f
 without_parts h front mid back same_front same_back here =
     let p : Untaken → Bool = λ u. not (nat_eq u.command.handle h) in
     sym (filter-append p front (mid ++ back)
-      ∙ ap (λ us. without_handle h front ++ us) (filter-append p mid back)
-      ∙ ap (λ us. us ++ (without_handle h mid ++ without_handle h back)) same_front
-      ∙ ap (λ us. front ++ (without_handle h mid ++ us)) same_back
-      ∙ ap (λ us. front ++ (us ++ back)) here)
+    ∙ ap (λ us. without_handle h front ++ us) (filter-append p mid back)
+    ∙ ap (λ us. us ++ (without_handle h mid ++ without_handle h back)) same_front
+    ∙ ap (λ us. front ++ (without_handle h mid ++ us)) same_back
+    ∙ ap (λ us. front ++ (us ++ back)) here)
 
 -- The command of h goes as its slot is emptied.
 pub removed_at : (lo hi h : ℕ) (slots : List (Option Kept)) → lo ≤ h → h < hi → hi ≤ lo + 32 → length slots ≡ 32 →
@@ -153,19 +155,21 @@ removed_at lo hi h slots above below near all = by (h - lo) (hi - (h + 1)) (omeg
   where
     same : (a : ℕ) → nat_eq a a ≡ true
     same a = grind (arith, nat_tests)
+
     gone : (a : ℕ) (o : Option Kept) → without_handle a (untaken_at a o) ≡ []
     gone a None = refl
     gone a (Some k) = ap (λ b. cond (not b) (untaken_at a (Some k)) []) (same a)
+
     by : (m n : ℕ) → lo + m ≡ h → m + (n + 1) ≡ hi - lo → untaken_from lo (hi - lo) (set slots (h % 32) None) ≡ without_handle h (untaken_from lo (hi - lo) slots)
     by m n e1 e2 =
         subst (λ (w : ℕ). untaken_from lo w (set slots (h % 32) None) ≡ without_handle h (untaken_from lo w slots)) e2
-          (subst (λ (k : ℕ). untaken_from lo (m + (n + 1)) (set slots (k % 32) None) ≡ without_handle k (untaken_from lo (m + (n + 1)) slots)) e1
-            (written lo m n slots None (omega arith) all
-              ∙ without_parts (lo + m) (untaken_from lo m slots) (untaken_at (lo + m) (kept_at (lo + m) slots)) (untaken_from (lo + m + 1) n slots)
-                (other_handles (lo + m) lo m slots (λ k l u e. omega arith))
-                (other_handles (lo + m) (lo + m + 1) n slots (λ k l u e. omega arith))
-                (gone (lo + m) (kept_at (lo + m) slots))
-              ∙ ap (without_handle (lo + m)) (sym (parts lo m n slots))))
+        (subst (λ (k : ℕ). untaken_from lo (m + (n + 1)) (set slots (k % 32) None) ≡ without_handle k (untaken_from lo (m + (n + 1)) slots)) e1
+        (written lo m n slots None (omega arith) all
+        ∙ without_parts (lo + m) (untaken_from lo m slots) (untaken_at (lo + m) (kept_at (lo + m) slots)) (untaken_from (lo + m + 1) n slots)
+        (other_handles (lo + m) lo m slots (λ k l u e. omega arith))
+        (other_handles (lo + m) (lo + m + 1) n slots (λ k l u e. omega arith))
+        (gone (lo + m) (kept_at (lo + m) slots))
+        ∙ ap (without_handle (lo + m)) (sym (parts lo m n slots))))
 
 nothing_behind : (a : ℕ) (slots : List (Option Kept)) (us vs : List Untaken) → us ++ (vs ++ untaken_from a 0 slots) ≡ us ++ vs
 unfolding untaken_from
@@ -179,10 +183,10 @@ put_at lo hi slots x above near all = by (hi - lo) (omega arith) (omega arith)
     by : (m : ℕ) → lo + m ≡ hi → m + (0 + 1) ≡ hi + 1 - lo → untaken_from lo (hi + 1 - lo) (set slots (hi % 32) x) ≡ untaken_from lo (hi - lo) slots ++ untaken_at hi x
     by m e1 e2 =
         subst (λ (w : ℕ). untaken_from lo w (set slots (hi % 32) x) ≡ untaken_from lo (hi - lo) slots ++ untaken_at hi x) e2
-          (subst (λ (k : ℕ). untaken_from lo (m + (0 + 1)) (set slots (k % 32) x) ≡ untaken_from lo (k - lo) slots ++ untaken_at k x) e1
-            (written lo m 0 slots x (omega arith) all
-              ∙ nothing_behind (lo + m + 1) slots (untaken_from lo m slots) (untaken_at (lo + m) x)
-              ∙ ap (λ w. untaken_from lo w slots ++ untaken_at (lo + m) x) (back_off lo m)))
+        (subst (λ (k : ℕ). untaken_from lo (m + (0 + 1)) (set slots (k % 32) x) ≡ untaken_from lo (k - lo) slots ++ untaken_at k x) e1
+        (written lo m 0 slots x (omega arith) all
+        ∙ nothing_behind (lo + m + 1) slots (untaken_from lo m slots) (untaken_at (lo + m) x)
+        ∙ ap (λ w. untaken_from lo w slots ++ untaken_at (lo + m) x) (back_off lo m)))
       where
         back_off : (a m : ℕ) → m ≡ a + m - a
         back_off a m = omega arith
@@ -212,6 +216,7 @@ waits_none h lo (suc n) slots far =
   where
     differs : (a b : ℕ) → a ≢ b → nat_eq a b ≡ false
     differs a b n = grind (arith, nat_tests)
+
     one : (o : Option Kept) → list_any (waits h) (untaken_at lo o) ≡ false
     one None = refl
     one (Some k) = ap (λ b. (b && is_none k.answer) || false) (differs lo h (far lo (omega arith) (omega arith)))
@@ -223,6 +228,7 @@ answer_none h lo (suc n) slots far = one (kept_at lo slots) (answer_none h (lo +
   where
     differs : (a b : ℕ) → a ≢ b → nat_eq a b ≡ false
     differs a b n = grind (arith, nat_tests)
+
     one : (o : Option Kept) → answer_under h (untaken_from (lo + 1) n slots) ≡ None → answer_under h (untaken_at lo o ++ untaken_from (lo + 1) n slots) ≡ None
     one None rest = rest
     one (Some k) rest = ap (λ b. cond b k.answer (answer_under h (untaken_from (lo + 1) n slots))) (differs lo h (far lo (omega arith) (omega arith))) ∙ rest
@@ -233,23 +239,26 @@ waits_at lo hi h slots above below = by (h - lo) (hi - (h + 1)) (omega arith) (o
   where
     same : (a : ℕ) → nat_eq a a ≡ true
     same a = grind (arith, nat_tests)
+
     or_false : (b : Bool) → (b || false) ≡ b
     or_false true = refl
     or_false false = refl
+
     one : (a : ℕ) (o : Option Kept) → list_any (waits a) (untaken_at a o) ≡ kept_waits o
     one a None = refl
     one a (Some k) = ap (λ b. (b && is_none k.answer) || false) (same a) ∙ or_false (is_none k.answer)
+
     by : (m n : ℕ) → lo + m ≡ h → m + (n + 1) ≡ hi - lo → list_any (waits h) (untaken_from lo (hi - lo) slots) ≡ kept_waits (kept_at h slots)
     by m n e1 e2 =
         subst (λ (w : ℕ). list_any (waits h) (untaken_from lo w slots) ≡ kept_waits (kept_at h slots)) e2
-          (subst (λ (k : ℕ). list_any (waits k) (untaken_from lo (m + (n + 1)) slots) ≡ kept_waits (kept_at k slots)) e1
-            (ap (list_any (waits (lo + m))) (parts lo m n slots)
-              ∙ list_any-append (waits (lo + m)) (untaken_from lo m slots) (untaken_at (lo + m) (kept_at (lo + m) slots) ++ untaken_from (lo + m + 1) n slots)
-              ∙ ap (λ b. b || list_any (waits (lo + m)) (untaken_at (lo + m) (kept_at (lo + m) slots) ++ untaken_from (lo + m + 1) n slots)) (waits_none (lo + m) lo m slots (λ k l u e. omega arith))
-              ∙ list_any-append (waits (lo + m)) (untaken_at (lo + m) (kept_at (lo + m) slots)) (untaken_from (lo + m + 1) n slots)
-              ∙ ap (λ b. list_any (waits (lo + m)) (untaken_at (lo + m) (kept_at (lo + m) slots)) || b) (waits_none (lo + m) (lo + m + 1) n slots (λ k l u e. omega arith))
-              ∙ or_false (list_any (waits (lo + m)) (untaken_at (lo + m) (kept_at (lo + m) slots)))
-              ∙ one (lo + m) (kept_at (lo + m) slots)))
+        (subst (λ (k : ℕ). list_any (waits k) (untaken_from lo (m + (n + 1)) slots) ≡ kept_waits (kept_at k slots)) e1
+        (ap (list_any (waits (lo + m))) (parts lo m n slots)
+        ∙ list_any-append (waits (lo + m)) (untaken_from lo m slots) (untaken_at (lo + m) (kept_at (lo + m) slots) ++ untaken_from (lo + m + 1) n slots)
+        ∙ ap (λ b. b || list_any (waits (lo + m)) (untaken_at (lo + m) (kept_at (lo + m) slots) ++ untaken_from (lo + m + 1) n slots)) (waits_none (lo + m) lo m slots (λ k l u e. omega arith))
+        ∙ list_any-append (waits (lo + m)) (untaken_at (lo + m) (kept_at (lo + m) slots)) (untaken_from (lo + m + 1) n slots)
+        ∙ ap (λ b. list_any (waits (lo + m)) (untaken_at (lo + m) (kept_at (lo + m) slots)) || b) (waits_none (lo + m) (lo + m + 1) n slots (λ k l u e. omega arith))
+        ∙ or_false (list_any (waits (lo + m)) (untaken_at (lo + m) (kept_at (lo + m) slots)))
+        ∙ one (lo + m) (kept_at (lo + m) slots)))
 
 answer_behind : (h : ℕ) (us vs : List Untaken) → answer_under h us ≡ None → list_any (λ u. nat_eq u.command.handle h) us ≡ false → answer_under h (us ++ vs) ≡ answer_under h vs
 answer_behind h [] vs none other = refl
@@ -271,6 +280,7 @@ no_handle h lo (suc n) slots far =
   where
     differs : (a b : ℕ) → a ≢ b → nat_eq a b ≡ false
     differs a b n = grind (arith, nat_tests)
+
     one : (o : Option Kept) → list_any (λ (u : Untaken). nat_eq u.command.handle h) (untaken_at lo o) ≡ false
     one None = refl
     one (Some k) = ap (λ b. b || false) (differs lo h (far lo (omega arith) (omega arith)))
@@ -280,17 +290,19 @@ answer_at lo hi h slots above below = by (h - lo) (hi - (h + 1)) (omega arith) (
   where
     same : (a : ℕ) → nat_eq a a ≡ true
     same a = grind (arith, nat_tests)
+
     one : (a : ℕ) (o : Option Kept) (vs : List Untaken) → answer_under a vs ≡ None → answer_under a (untaken_at a o ++ vs) ≡ kept_answer o
     one a None vs none = none
     one a (Some k) vs none = ap (λ b. cond b k.answer (answer_under a vs)) (same a)
+
     by : (m n : ℕ) → lo + m ≡ h → m + (n + 1) ≡ hi - lo → answer_under h (untaken_from lo (hi - lo) slots) ≡ kept_answer (kept_at h slots)
     by m n e1 e2 =
         subst (λ (w : ℕ). answer_under h (untaken_from lo w slots) ≡ kept_answer (kept_at h slots)) e2
-          (subst (λ (k : ℕ). answer_under k (untaken_from lo (m + (n + 1)) slots) ≡ kept_answer (kept_at k slots)) e1
-            (ap (answer_under (lo + m)) (parts lo m n slots)
-              ∙ answer_behind (lo + m) (untaken_from lo m slots) (untaken_at (lo + m) (kept_at (lo + m) slots) ++ untaken_from (lo + m + 1) n slots)
-                (answer_none (lo + m) lo m slots (λ k l u e. omega arith)) (no_handle (lo + m) lo m slots (λ k l u e. omega arith))
-              ∙ one (lo + m) (kept_at (lo + m) slots) (untaken_from (lo + m + 1) n slots) (answer_none (lo + m) (lo + m + 1) n slots (λ k l u e. omega arith))))
+        (subst (λ (k : ℕ). answer_under k (untaken_from lo (m + (n + 1)) slots) ≡ kept_answer (kept_at k slots)) e1
+        (ap (answer_under (lo + m)) (parts lo m n slots)
+        ∙ answer_behind (lo + m) (untaken_from lo m slots) (untaken_at (lo + m) (kept_at (lo + m) slots) ++ untaken_from (lo + m + 1) n slots)
+        (answer_none (lo + m) lo m slots (λ k l u e. omega arith)) (no_handle (lo + m) lo m slots (λ k l u e. omega arith))
+        ∙ one (lo + m) (kept_at (lo + m) slots) (untaken_from (lo + m + 1) n slots) (answer_none (lo + m) (lo + m + 1) n slots (λ k l u e. omega arith))))
 
 -- All handles from lo on are below the span where lo is.
 all_near : (s h lo n : ℕ) (slots : List (Option Kept)) → h < lo + s → has_room s h (untaken_from lo n slots) ≡ true
@@ -303,10 +315,10 @@ all_near s h lo (suc n) slots near =
   where
     lower : (a b : ℕ) → a < b → nat_lt a b ≡ true
     lower a b p = grind (arith, nat_tests)
+
     one : (o : Option Kept) → has_room s h (untaken_at lo o) ≡ true
     one None = refl
     one (Some k) = ap (λ b. b && true) (lower h (lo + s) near)
-
 
 -- The lowest decides whether there is room.
 pub room_by_lowest : (s h lo hi : ℕ) (slots : List (Option Kept)) → lo ≤ hi → (lo < hi → kept_at lo slots ≡ None → ⊥) →
@@ -318,15 +330,20 @@ room_by_lowest s h lo hi slots ordered held = elim (cases lo hi ordered) [
   where
     cases : (a b : ℕ) → a ≤ b → (a ≡ b) ⊎ (a < b)
     cases a b p = grind arith
+
     equal : (a b : ℕ) → a ≡ b → nat_eq a b ≡ true
     equal a b p = grind (arith, nat_tests)
+
     unequal : (a b : ℕ) → a < b → nat_eq a b ≡ false
     unequal a b p = grind (arith, nat_tests)
+
     lower : (a b : ℕ) → nat_lt a b ≡ true → a < b
     lower a b p = grind (arith, nat_tests)
+
     by_test : (b : Bool) → nat_lt h (lo + s) ≡ b → (b && has_room s h (untaken_from (lo + 1) (hi - (lo + 1)) slots)) ≡ b
     by_test true p = all_near s h (lo + 1) (hi - (lo + 1)) slots (let q : h < lo + s = lower h (lo + s) p in omega arith)
     by_test false p = refl
+
     by_slot : (o : Option Kept) → (o ≡ None → ⊥) → has_room s h (untaken_at lo o ++ untaken_from (lo + 1) (hi - (lo + 1)) slots) ≡ nat_lt h (lo + s)
     by_slot None some = absurd (some refl)
     by_slot (Some k) some = by_test (nat_lt h (lo + s)) refl

@@ -1,10 +1,10 @@
 -- Taking messages in, and what a link answers.
-use Rattle.std.proofs.Common.{◌≡◌, ℕ, ◌+◌, ◌<◌, ◌≤◌, Bool, true, false, cond, List, [], ◌∷◌, ◌++◌, length, refl, sym, ap, ◌∙◌, arith, subst, Option, Some, None}
-use Rattle.std.specs.Prelude.{nat_lt, nat_eq, ◌&&◌}
+use Rattle.std.proofs.Common.{◌≡◌, ℕ, ◌+◌, ◌<◌, ◌≤◌, Bool, true, false, List, [], ◌∷◌, length, refl, sym, ap, ◌∙◌, arith, subst}
+use Rattle.std.specs.Prelude.{nat_lt, ◌&&◌}
 use Rattle.std.proofs.lemmas.Bool.Decides.{nat_tests}
 use Rattle.oca_pdu.specs.Messages.{Msg}
 use Rattle.oca_control.specs.Untaken.{Untaken, has_room, hears, hears_all, answers_by, answers_by_all}
-use Rattle.oca_control.specs.PrivateSlots.{TableState, AreShort, IsShort}
+use Rattle.oca_control.specs.PrivateSlots.{AreShort, IsShort}
 
 pub record HearsOn (rest : List Msg) (us : List Untaken) (hi n : ℕ) (all : List Msg) (first : List Untaken) (start : ℕ) : Type 0 where
   pub few : n + length rest ≤ 146
@@ -43,8 +43,10 @@ room_in_all s h (u ∷ us) small room = by (nat_lt h (u.command.handle + s)) ref
       where
         lower : (a b : ℕ) → nat_lt a b ≡ true → a < b
         lower a b p = grind (arith, nat_tests)
+
         upper : (a b : ℕ) → a < b → nat_lt a b ≡ true
         upper a b p = grind (arith, nat_tests)
+
     by : (b : Bool) → nat_lt h (u.command.handle + s) ≡ b → (b && has_room s h us) ≡ true → (has_room s h us ≡ true → has_room 32 h us ≡ true) →
         (nat_lt h (u.command.handle + 32) && has_room 32 h us) ≡ true
     by true p room more = ap (λ b. b && has_room 32 h us) (wider u.command.handle p) ∙ more room

@@ -1,11 +1,11 @@
 -- The invariant of the table of commands.
-use Rattle.std.proofs.Common.{◌≡◌, ℕ, ◌+◌, ◌-◌, ◌%◌, ◌<◌, ◌≤◌, ◌≢◌, Bool, true, false, cond, List, [], ◌∷◌, ◌++◌, length, map, get_or, set, refl, sym, ap, ◌∙◌, arith, subst, Option, Some, None, ◌⊎◌, inl, inr}
-use Rattle.std.specs.Prelude.{nat_lt, nat_eq, is_some, ◌||◌}
+use Rattle.std.proofs.Common.{◌≡◌, ℕ, ◌+◌, ◌-◌, ◌%◌, ◌<◌, ◌≤◌, Bool, true, false, List, [], ◌∷◌, ◌++◌, length, set, refl, sym, ap, ◌∙◌, arith, Option, Some, None, ◌⊎◌, inl, inr}
+use Rattle.std.specs.Prelude.{nat_lt, nat_eq, ◌||◌}
 use Rattle.std.proofs.lemmas.List.{get_or-set_same, get_or-set_other, length-set}
 use Rattle.std.proofs.lemmas.Bool.Decides.{nat_tests}
-use Rattle.oca_control.specs.Untaken.{Untaken, has_room, new_untaken}
+use Rattle.oca_control.specs.Untaken.{has_room, new_untaken}
 use Rattle.oca_control.specs.Links.{Request, command_under}
-use Rattle.oca_control.specs.PrivateSlots.{Kept, kept_at, new_kept, untaken_at, untaken_from, IsTable, TableState}
+use Rattle.oca_control.specs.PrivateSlots.{Kept, kept_at, new_kept, untaken_from, IsTable}
 use Rattle.oca_control.proofs.Places.{apart, room_by_lowest, put_at}
 
 within : (a : ℕ) (slots : List (Option Kept)) → length slots ≡ 32 → a % 32 < length slots
@@ -24,8 +24,10 @@ room_near lo hi slots t room = by (nat_eq lo hi) (nat_lt hi (lo + 32)) refl refl
   where
     equal : (a b : ℕ) → nat_eq a b ≡ true → a ≡ b
     equal a b p = grind (arith, nat_tests)
+
     lower : (a b : ℕ) → nat_lt a b ≡ true → a < b
     lower a b p = grind (arith, nat_tests)
+
     by : (a b : Bool) → nat_eq lo hi ≡ a → nat_lt hi (lo + 32) ≡ b → (a || b) ≡ true → hi < lo + 32
     by true b p q e = let same : lo ≡ hi = equal lo hi p in omega arith
     by false true p q e = lower hi (lo + 32) q
@@ -46,6 +48,7 @@ table_put lo hi slots k t left near = record {
   where
     cases : (a b : ℕ) → a ≤ b → (a ≡ b) ⊎ (a < b)
     cases a b p = grind arith
+
     is_put : (h : ℕ) → kept_at h (set slots (h % 32) (Some k)) ≡ None → ⊥
     is_put h none = let e = sym (kept_same h slots (Some k) t.all) ∙ none in cc
 

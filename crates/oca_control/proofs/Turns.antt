@@ -1,8 +1,8 @@
 -- What the parts of a turn, and the turns, add up to.
-use Rattle.std.proofs.Common.{◌≡◌, ℕ, zero, suc, ◌+◌, ◌-◌, ◌*◌, ◌<◌, ◌≤◌, Bool, true, false, cond, List, [], ◌∷◌, ◌++◌, length, refl, sym, ap, ◌∙◌, subst, arith, length-append}
-use Rattle.std.specs.Prelude.{IsTrue, ◌||◌, ◌&&◌, not, nat_lt, count_by}
+use Rattle.std.proofs.Common.{◌≡◌, ℕ, suc, ◌+◌, ◌-◌, ◌<◌, ◌≤◌, Bool, true, false, cond, List, [], ◌∷◌, ◌++◌, length, refl, sym, ap, ◌∙◌, subst, arith, length-append}
+use Rattle.std.specs.Prelude.{IsTrue, ◌&&◌, not, nat_lt, count_by}
 use Rattle.std.proofs.lemmas.Bool.Decides.{nat_tests}
-use Rattle.std.specs.List.{list_any, flat_map}
+use Rattle.std.specs.List.{list_any}
 use Rattle.std.proofs.lemmas.List.{append_assoc, append-nil}
 use Rattle.std.proofs.lemmas.Grind.{flat_map-append}
 use Rattle.std.proofs.lemmas.List.Sums.{sum_by-append}
@@ -16,7 +16,7 @@ use Rattle.oca_control.specs.declared.due.Due.{Due}
 use Rattle.oca_control.specs.declared.due.Due.TheVariants as dues
 use Rattle.oca_control.specs.declared.report.DriveReport.{DriveReport}
 use Rattle.oca_control.specs.Links.{LinkState, Decision, GivesCommand, GivesKeepAlive, GivesNothing, IsLost, decision, gone_on, due_answer, due_bytes, after_due}
-use Rattle.oca_control.specs.Driving.{answered_by, HearsDatagram, is_command, is_keep_alive, is_lost, goes_on, decisions_from, link_from, given_to, all_given_to, Drives, NoTurn, OneMore, DrivesTurn, is_failed_delivery, report_of, Lacks, none, kept, missing, TakesGiven, DrivesTelling, DrivesAny, receives_of}
+use Rattle.oca_control.specs.Driving.{answered_by, HearsDatagram, is_command, is_keep_alive, is_lost, goes_on, decisions_from, link_from, given_to, all_given_to, NoTurn, OneMore, is_failed_delivery, report_of, Lacks, none, kept, missing, TakesGiven, DrivesTelling, DrivesAny, receives_of}
 use Rattle.oca_control.specs.PrivateDriving.{added, IsWithin, given_report, TurnTelling, TurnAny, IsUnchanged}
 
 -- ---- what an end took
@@ -91,10 +91,11 @@ takes_as k t t' xs ys e took = subst (TakesGiven k t t') e took
 pub added_reports : (xs ys : List Delivery) (ds es : List Decision) (n k a b : ℕ) → added (report_of xs ds n a) (report_of ys es k b) ≡ report_of (xs ++ ys) (ds ++ es) (n + k) (a + b)
 added_reports xs ys ds es n k a b =
     made (length xs + length ys) (length (xs ++ ys)) _ _ _ _ _ _ _ _ (n + k) (a + b)
-      (sym (length-append xs ys)) (sym (counts is_command)) (sym (counts is_keep_alive)) (sym (sum_by-append (λ d. cond (is_failed_delivery d) 1 0) xs ys)) (sym (list_any-append is_lost ds es))
+    (sym (length-append xs ys)) (sym (counts is_command)) (sym (counts is_keep_alive)) (sym (sum_by-append (λ d. cond (is_failed_delivery d) 1 0) xs ys)) (sym (list_any-append is_lost ds es))
   where
     counts : (p : Decision → Bool) → count_by p (ds ++ es) ≡ count_by p ds + count_by p es
     counts p = sum_by-append (λ d. cond (p d) 1 0) ds es
+
     made : (t t' s s' q q' f f' : ℕ) (l l' : Bool) (m x : ℕ) → t ≡ t' → s ≡ s' → q ≡ q' → f ≡ f' → l ≡ l' →
         (let r : DriveReport = record { turns = t; sent = s; keep_alives = q; answered = m; failed_receives = f; failed_sends = x; lost = l } in r)
         ≡ (let r : DriveReport = record { turns = t'; sent = s'; keep_alives = q'; answered = m; failed_receives = f'; failed_sends = x; lost = l' } in r)
@@ -152,8 +153,8 @@ module _ (now left : ℕ) (start : LinkState) (i : ℕ) (l l' : LinkState) (r gi
       TakesGiven given.failed_sends t1 t' (given_to l.device d) → TakesGiven r'.failed_sends t t' (all_given_to start.device (ds ++ d ∷ []))
   one_took ds d g same a b =
       subst (λ (k : ℕ). TakesGiven k t t' (all_given_to start.device (ds ++ d ∷ []))) (sym (ap (λ (q : DriveReport). q.failed_sends) g))
-        (subst (λ (xs : List Sent). TakesGiven (r.failed_sends + given.failed_sends) t t' xs) (sym (one_given start.device ds d))
-          (takes_more r.failed_sends given.failed_sends t t1 t' _ _ a (subst (λ (p : Peer). TakesGiven given.failed_sends t1 t' (given_to p d)) same b)))
+      (subst (λ (xs : List Sent). TakesGiven (r.failed_sends + given.failed_sends) t t' xs) (sym (one_given start.device ds d))
+      (takes_more r.failed_sends given.failed_sends t t1 t' _ _ a (subst (λ (p : Peer). TakesGiven given.failed_sends t1 t' (given_to p d)) same b)))
 
   next_decisions : (m : ℕ) → decisions_from now (suc m) l ≡ decision now l ∷ cond (goes_on (decision now l)) (decisions_from now m (gone_on now l)) []
   unfolding decisions_from
@@ -169,7 +170,7 @@ module _ (now left : ℕ) (start : LinkState) (i : ℕ) (l l' : LinkState) (r gi
     decisions = f.decisions ++ decision now l ∷ [];
     all = f.all ∙ ap (λ n. f.decisions ++ decisions_from now n l) (one_less left i below)
         ∙ ap (λ xs. f.decisions ++ xs) (next_decisions (left - (i + 1)) ∙ ap (λ b. decision now l ∷ cond b (decisions_from now (left - (i + 1)) (gone_on now l)) []) (sym g.goes ∙ so)
-            ∙ ap (λ x. decision now l ∷ decisions_from now (left - (i + 1)) x) (sym g.link))
+        ∙ ap (λ x. decision now l ∷ decisions_from now (left - (i + 1)) x) (sym g.link))
         ∙ sym (append_assoc f.decisions (decision now l ∷ []) (decisions_from now (left - (i + 1)) l'));
     link = f.link ∙ ap (λ n. link_from now n l) (one_less left i below) ∙ next_link (left - (i + 1))
         ∙ ap (λ b. cond b (link_from now (left - (i + 1)) (gone_on now l)) (gone_on now l)) (sym g.goes ∙ so) ∙ ap (link_from now (left - (i + 1))) (sym g.link);
@@ -193,6 +194,7 @@ module _ (now left : ℕ) (start : LinkState) (i : ℕ) (l l' : LinkState) (r gi
     where
       one_less : (n i : ℕ) → i < n → n - i ≡ suc (n - (i + 1))
       one_less n i p = omega arith
+
       all : decisions_from now left start ≡ f.decisions ++ decision now l ∷ []
       all = f.all ∙ ap (λ n. f.decisions ++ decisions_from now n l) (one_less left i below)
           ∙ ap (λ xs. f.decisions ++ xs) (next_decisions (left - (i + 1)) ∙ ap (λ b. decision now l ∷ cond b (decisions_from now (left - (i + 1)) (gone_on now l)) []) (sym g.goes ∙ not_so))
@@ -208,6 +210,7 @@ gave_all now left start i l r tells t t' f over = record {
   where
     nothing_left : (n i : ℕ) → n ≤ i → n - i ≡ 0
     nothing_left n i p = omega arith
+
     all : decisions_from now left start ≡ f.decisions
     all = f.all ∙ ap (λ n. f.decisions ++ decisions_from now n l) (nothing_left left i over) ∙ append-nil f.decisions
 
@@ -250,7 +253,7 @@ telling_more a b c d1 d2 d3 t1 t2 t3 r turn r' f g going same sum = record {
   reported = turn_reported r turn r' f.deliveries g.delivery f.decisions g.decisions f.answered g.answered f.reported g.reported sum;
   took = subst (λ (k : ℕ). TakesGiven k t1 t3 (all_given_to a.device (f.decisions ++ g.decisions))) (sym (ap (λ (q : DriveReport). q.failed_sends) sum))
       (subst (λ (xs : List Sent). TakesGiven (r.failed_sends + turn.failed_sends) t1 t3 xs) (sym (flat_map-append (given_to a.device) f.decisions g.decisions))
-        (takes_more r.failed_sends turn.failed_sends t1 t2 t3 _ _ f.took (subst (λ (p : Peer). TakesGiven turn.failed_sends t2 t3 (all_given_to p g.decisions)) same g.took)));
+      (takes_more r.failed_sends turn.failed_sends t1 t2 t3 _ _ f.took (subst (λ (p : Peer). TakesGiven turn.failed_sends t2 t3 (all_given_to p g.decisions)) same g.took)));
 }
 
 pub any_more : (a b c : LinkState) (r turn r' : DriveReport) → DrivesAny a b r → TurnAny b c turn → r.lost ≡ false → r' ≡ added r turn → DrivesAny a c r'
@@ -418,8 +421,8 @@ failed_any l given e = record {
 pub telling_closed : (a b c : LinkState) (d1 d2 d3 : List Delivery) (t1 t2 t3 : List Sent) (r : DriveReport) → DrivesTelling a b d1 d2 t1 t2 r → IsUnchanged b c d2 d3 t2 t3 → DrivesTelling a c d1 d3 t1 t3 r
 telling_closed a b c d1 d2 d3 t1 t2 t3 r f u =
     subst (λ (l : LinkState). DrivesTelling a l d1 d3 t1 t3 r) (sym u.link)
-      (subst (λ (d : List Delivery). DrivesTelling a b d1 d t1 t3 r) (sym u.delivered_is)
-        (subst (λ (t : List Sent). DrivesTelling a b d1 d2 t1 t r) (sym u.taken_is) f))
+    (subst (λ (d : List Delivery). DrivesTelling a b d1 d t1 t3 r) (sym u.delivered_is)
+    (subst (λ (t : List Sent). DrivesTelling a b d1 d2 t1 t r) (sym u.taken_is) f))
 
 pub any_closed : (a b c : LinkState) (r : DriveReport) → DrivesAny a b r → c ≡ b → DrivesAny a c r
 any_closed a b c r f e = subst (λ (l : LinkState). DrivesAny a l r) (sym e) f
@@ -453,5 +456,6 @@ receives_all r turns over = ap (λ b. r.turns + cond (b && not r.lost) 1 0) (upp
   where
     none_more : (n : ℕ) → n + 0 ≡ n
     none_more n = omega arith
+
     upper : (a b : ℕ) → b ≤ a → nat_lt a b ≡ false
     upper a b p = grind (arith, nat_tests)

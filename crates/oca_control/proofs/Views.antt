@@ -1,17 +1,16 @@
 -- What a call makes of the table of commands.
-use Rattle.std.proofs.Common.{◌≡◌, ℕ, ◌+◌, ◌-◌, ◌%◌, ◌<◌, ◌≤◌, ◌≢◌, Bool, true, false, cond, List, [], ◌∷◌, ◌++◌, length, map, get_or, set, refl, sym, ap, ◌∙◌, arith, subst, Option, Some, None, ◌⊎◌, inl, inr}
+use Rattle.std.proofs.Common.{◌≡◌, ℕ, ◌+◌, ◌-◌, ◌%◌, ◌<◌, ◌≤◌, ◌≢◌, Bool, true, false, cond, List, [], ◌∷◌, ◌++◌, length, map, get_or, set, refl, sym, ap, ◌∙◌, arith, subst, Option, Some, None}
 use Rattle.std.specs.Prelude.{nat_lt, nat_eq, is_some, is_none, ◌||◌, ◌&&◌, IfSome}
 use Rattle.std.specs.List.{list_any}
 use Rattle.std.specs.Option.{option_map}
 use Rattle.std.proofs.lemmas.List.{set-get_or}
 use Rattle.std.proofs.lemmas.Bool.Decides.{nat_tests}
 use Rattle.oca_control.specs.Answers.{AnswerFields}
-use Rattle.oca_control.specs.Untaken.{Untaken, has_room, new_untaken, first_due, waits, answered, answer_under, without_handle, given_out}
+use Rattle.oca_control.specs.Untaken.{Untaken, new_untaken, first_due, waits, answered, answer_under, without_handle, given_out}
 use Rattle.oca_pdu.specs.Messages.{Commands}
 use Rattle.oca_pdu.specs.Encoding.{pdu_encoding}
-use Rattle.oca_control.specs.declared.due.Due.{Due}
 use Rattle.oca_control.specs.declared.due.Due.TheVariants as dues
-use Rattle.oca_control.specs.Links.{Request, command_under, Decision, GivesCommand, IsLost, due_answer}
+use Rattle.oca_control.specs.Links.{Request, command_under, GivesCommand, IsLost, due_answer}
 use Rattle.oca_control.specs.PrivateSlots.{Kept, kept_at, kept_is_due, kept_waits, kept_answer, kept_given, kept_answered, new_kept, untaken_at, untaken_from, IsTable, TableState, IsLowestDue, decided, first_decided, after_decision, bytes_decided}
 use Rattle.oca_control.proofs.Places.{slot_read, changed_at, removed_at, waits_at, waits_none, answer_at, answer_none}
 use Rattle.oca_control.proofs.Tables.{submitted_is}
@@ -70,6 +69,7 @@ view_answered lo hi h p slots d x a t at wait is =
   where
     read : kept_at h slots ≡ get_or slots p d
     read = slot_read h p slots d t.all at.2
+
     by : (o : Option Kept) → kept_waits o ≡ true → untaken_at h (option_map (kept_answered a) o) ≡ map (answered h a) (untaken_at h o)
     by None w = refl
     by (Some k) w = sym (ap (λ b. (let v : Untaken = record { command = command_under h k.request; times = k.times; last = k.last; answer = cond (b && is_none k.answer) (Some a) k.answer } in v) ∷ []) (same_nat h)
@@ -103,6 +103,7 @@ first_is now lo hi h p slots d k t at place is = record {
   where
     kept : kept_at h slots ≡ Some k
     kept = slot_read h p slots d t.all place ∙ is
+
     here : kept_is_due now (Some k) ≡ true → first_due now (untaken_at h (Some k)) ≡ Some (record { command = command_under h k.request; times = k.times; last = k.last; answer = k.answer })
     here due = ap (λ b. cond b (Some (let v : Untaken = record { command = command_under h k.request; times = k.times; last = k.last; answer = k.answer } in v)) None) due
 
@@ -170,10 +171,11 @@ pub view_taken : (lo hi h p lo' : ℕ) (slots : List (Option Kept)) (d x : Optio
     view lo' hi (set slots p x) ≡ table hi (let us = untaken_from lo (hi - lo) slots in cond (is_some (answer_under h us)) (without_handle h us) us)
 view_taken lo hi h p lo' slots d x t at inside is same =
     ap (table hi) (same ∙ by (is_some (kept_answer (get_or slots p d))) refl
-      ∙ ap (λ b. cond b (without_handle h us) us) (ap is_some (answer_in_slot lo hi h p slots d t at)))
+    ∙ ap (λ b. cond b (without_handle h us) us) (ap is_some (answer_in_slot lo hi h p slots d t at)))
   where
     us : List Untaken
     us = untaken_from lo (hi - lo) slots
+
     by : (b : Bool) → is_some (kept_answer (get_or slots p d)) ≡ b →
         untaken_from lo (hi - lo) (set slots p x) ≡ cond b (without_handle h (untaken_from lo (hi - lo) slots)) (untaken_from lo (hi - lo) slots)
     by true e =

@@ -147,21 +147,30 @@ fn give_one<E: End>(
 {
     let device = link.device();
     match link.due(now, packet) {
-        Due::Send(_) => (true, DriveReport {
-            sent: 1,
-            failed_sends: send(end, device, packet),
-            ..nothing()
-        }),
-        Due::KeepAlive => (true, DriveReport {
-            keep_alives: 1,
-            failed_sends: send(end, device, packet),
-            ..nothing()
-        }),
+        Due::Send(_) => (
+            true,
+            DriveReport {
+                sent: 1,
+                failed_sends: send(end, device, packet),
+                ..nothing()
+            },
+        ),
+        Due::KeepAlive => (
+            true,
+            DriveReport {
+                keep_alives: 1,
+                failed_sends: send(end, device, packet),
+                ..nothing()
+            },
+        ),
         Due::Nothing => (false, nothing()),
-        Due::Lost => (false, DriveReport {
-            lost: true,
-            ..nothing()
-        }),
+        Due::Lost => (
+            false,
+            DriveReport {
+                lost: true,
+                ..nothing()
+            },
+        ),
     }
 }
 
@@ -175,7 +184,11 @@ fn send<E: End>(end: &mut E, to: Peer, packet: &Packet) -> u64
     ensures failures { E.failures end.new < last_u64 → E.failures end.new ≡ E.failures end.old + result }
     ensures few { result ≤ 1 }
 {
-    if end.send(to, packet.as_slice()) { 0 } else { 1 }
+    if end.send(to, packet.as_slice()) {
+        0
+    } else {
+        1
+    }
 }
 
 /// What both did.

@@ -1,4 +1,8 @@
-//! The controller's link to a device, over the datagrams of OCP.1.
+//! The controller's link to a device: commands with their handles, their repeats and their answers, and keep-alives, over
+//! the datagrams of OCP.1 (AES70-3).
+//!
+//! Begin with [`Link`], which opens no socket and reads no clock: it is given datagrams and moments, and gives out datagrams.
+//! [`drive`] runs it over an end of a network. Nothing here takes memory.
 #![tactic(auto)]
 
 mod answer;
@@ -10,6 +14,8 @@ mod reception;
 mod report;
 mod slot;
 mod table;
+#[cfg(test)]
+mod tests;
 
 pub use answer::Answer;
 pub use driving::drive;

@@ -74,9 +74,7 @@ impl Slot {
     pub fn is_due(&self, now: u64) -> bool
         ensures { result ≡ kept_is_due now self.now }
     {
-        self.held
-            && !self.answered
-            && (self.times == 0 || now.saturating_sub(self.last) >= 250)
+        self.held && !self.answered && (self.times == 0 || now.saturating_sub(self.last) >= 250)
     }
 
     /// Whether a command is held and has no answer.

@@ -66,8 +66,8 @@ impl Table {
         requires room { has_room 32 self.old.next self.old.untaken ≡ true }
         requires short { length params.now ≤ 1445 }
         ensures { self.new ≡ record {
-            next = self.old.next + 1;
-            untaken = self.old.untaken ++ new_untaken (command_under self.old.next (record { target = target.0; level = method.level; index = method.index; count = count; params = params.now })) ∷ [];
+          next = self.old.next + 1;
+          untaken = self.old.untaken ++ new_untaken (command_under self.old.next (record { target = target.0; level = method.level; index = method.index; count = count; params = params.now })) ∷ [];
         } }
     {
         self.slots[place(self.next)].put(target, method, count, params);

@@ -1,4 +1,4 @@
-use Rattle.std.proofs.Common.{◌≡◌, ◌+◌, ◌*◌, ℕ, ap, ◌∙◌, sym, refl, arith, ◌<◌, ◌≤◌}
+use Rattle.std.proofs.Common.{◌≡◌, ◌+◌, ◌*◌, ℕ, ap, ◌∙◌, sym, refl, arith}
 use Rattle.oca_control.specs.declared.report.DriveReport.{DriveReport}
 use Rattle.oca_control.proofs.Turns.{no_telling, no_any, telling_more, any_more, telling_closed, any_closed, none_within, more_within, wider, failures_so_far, receives_more, receives_lost, receives_closed, receives_all}
 use Rattle.oca_control.proofs.driving.drive.Goals as goal
@@ -22,6 +22,7 @@ loop-turn-init g c = record {
   where
     plus_zero : (n : ℕ) → n + 0 ≡ n
     plus_zero n = omega arith
+
     plus_nothing : (n : ℕ) → n + (0 + 0) ≡ n
     plus_nothing n = omega arith
 
@@ -50,7 +51,7 @@ returns-then-report-clause-telling g c =
     let inv = c.loop-turn.invariant in
     let one = c.in-Some.ensures in
     λ h. telling_more c.args.link.now c.loop-turn.link c.take_turn.new.link _ _ _ _ _ _ c.loop-turn.report c.in-Some.turn c.sum-report.result
-          (inv.told h) (one.turn (inv.telling ∙ h)) inv.going inv.device c.sum-report.ensures
+    (inv.told h) (one.turn (inv.telling ∙ h)) inv.going inv.device c.sum-report.ensures
 
 pub returns-then-report-clause-any_end : goal.returns-then-report-clause-any_end
 returns-then-report-clause-any_end g c =
@@ -69,9 +70,9 @@ returns-then-report-clause-failures g c =
     let inv = c.loop-turn.invariant in
     let one = c.in-Some.ensures in
     λ below.
-          failures_so_far (g.E.End.failures c.args.end.now) (g.E.End.failures c.loop-turn.end) (g.E.End.failures c.take_turn.new.end)
-          c.loop-turn.report.failed_receives c.loop-turn.report.failed_sends c.in-Some.turn.failed_receives c.in-Some.turn.failed_sends inv.failures one.failed below
-          ∙ sym (ap (λ (r : DriveReport). g.E.End.failures c.args.end.now + (r.failed_receives + r.failed_sends)) c.sum-report.ensures)
+    failures_so_far (g.E.End.failures c.args.end.now) (g.E.End.failures c.loop-turn.end) (g.E.End.failures c.take_turn.new.end)
+    c.loop-turn.report.failed_receives c.loop-turn.report.failed_sends c.in-Some.turn.failed_receives c.in-Some.turn.failed_sends inv.failures one.failed below
+    ∙ sym (ap (λ (r : DriveReport). g.E.End.failures c.args.end.now + (r.failed_receives + r.failed_sends)) c.sum-report.ensures)
 
 pub returns-in-None-clause-telling : goal.returns-in-None-clause-telling
 returns-in-None-clause-telling g c =
@@ -85,8 +86,8 @@ pub returns-in-None-clause-receives : goal.returns-in-None-clause-receives
 returns-in-None-clause-receives g c =
     let inv = c.loop-turn.invariant in
     λ below.
-        receives_more (g.E.End.receives c.args.end.now) (g.E.End.receives c.loop-turn.end) (g.E.End.receives c.take_turn.new.end) c.loop-turn.report.turns (c.loop-turn.report.turns + 1) inv.receives c.in-None.ensures.receives refl below
-        ∙ ap (λ n. g.E.End.receives c.args.end.now + n) (sym (receives_closed c.loop-turn.report c.args.turns inv.going (let t = inv.turns in let i = c.loop-turn-test.true in omega arith)))
+    receives_more (g.E.End.receives c.args.end.now) (g.E.End.receives c.loop-turn.end) (g.E.End.receives c.take_turn.new.end) c.loop-turn.report.turns (c.loop-turn.report.turns + 1) inv.receives c.in-None.ensures.receives refl below
+    ∙ ap (λ n. g.E.End.receives c.args.end.now + n) (sym (receives_closed c.loop-turn.report c.args.turns inv.going (let t = inv.turns in let i = c.loop-turn-test.true in omega arith)))
 
 pub returns-clause-receives : goal.returns-clause-receives
 returns-clause-receives g c =

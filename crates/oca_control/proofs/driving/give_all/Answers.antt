@@ -59,9 +59,9 @@ returns-then-not-goes_on-clause-link g c =
     } in
     let left : c.from-most.result + 1 ≡ c.args.link.now.span + 1 = ap (λ n. n + 1) (c.from-most.ensures ∙ c.span.ensures.span) in
     let gave : GaveAll c.args.now (c.args.link.now.span + 1) c.args.link.now c.give_one-goes_on.new.link c.sum-report.result (g.E.End.tells c.args.end.now) (g.E.End.taken c.args.end.now) (g.E.End.taken c.give_one-goes_on.new.end) =
-        subst (λ (n : ℕ). GaveAll c.args.now n c.args.link.now c.give_one-goes_on.new.link c.sum-report.result (g.E.End.tells c.args.end.now) (g.E.End.taken c.args.end.now) (g.E.End.taken c.give_one-goes_on.new.end)) left
-          (gives_last c.args.now (c.from-most.result + 1) c.args.link.now c.loop-call._call c.loop-call.link c.give_one-goes_on.new.link c.loop-call.report c.give_one-goes_on.result.1 c.sum-report.result (g.E.End.tells c.args.end.now)
-            (g.E.End.taken c.args.end.now) (g.E.End.taken c.loop-call.end) (g.E.End.taken c.give_one-goes_on.new.end) c.give_one-goes_on.result.0 inv.gives given c.if-not-goes_on.true c.loop-call-test.true c.sum-report.ensures) in
+    subst (λ (n : ℕ). GaveAll c.args.now n c.args.link.now c.give_one-goes_on.new.link c.sum-report.result (g.E.End.tells c.args.end.now) (g.E.End.taken c.args.end.now) (g.E.End.taken c.give_one-goes_on.new.end)) left
+    (gives_last c.args.now (c.from-most.result + 1) c.args.link.now c.loop-call._call c.loop-call.link c.give_one-goes_on.new.link c.loop-call.report c.give_one-goes_on.result.1 c.sum-report.result (g.E.End.tells c.args.end.now)
+    (g.E.End.taken c.args.end.now) (g.E.End.taken c.loop-call.end) (g.E.End.taken c.give_one-goes_on.new.end) c.give_one-goes_on.result.0 inv.gives given c.if-not-goes_on.true c.loop-call-test.true c.sum-report.ensures) in
     gave.link
 
 pub returns-then-not-goes_on-clause-device : goal.returns-then-not-goes_on-clause-device
@@ -77,9 +77,9 @@ returns-then-not-goes_on-clause-device g c =
     } in
     let left : c.from-most.result + 1 ≡ c.args.link.now.span + 1 = ap (λ n. n + 1) (c.from-most.ensures ∙ c.span.ensures.span) in
     let gave : GaveAll c.args.now (c.args.link.now.span + 1) c.args.link.now c.give_one-goes_on.new.link c.sum-report.result (g.E.End.tells c.args.end.now) (g.E.End.taken c.args.end.now) (g.E.End.taken c.give_one-goes_on.new.end) =
-        subst (λ (n : ℕ). GaveAll c.args.now n c.args.link.now c.give_one-goes_on.new.link c.sum-report.result (g.E.End.tells c.args.end.now) (g.E.End.taken c.args.end.now) (g.E.End.taken c.give_one-goes_on.new.end)) left
-          (gives_last c.args.now (c.from-most.result + 1) c.args.link.now c.loop-call._call c.loop-call.link c.give_one-goes_on.new.link c.loop-call.report c.give_one-goes_on.result.1 c.sum-report.result (g.E.End.tells c.args.end.now)
-            (g.E.End.taken c.args.end.now) (g.E.End.taken c.loop-call.end) (g.E.End.taken c.give_one-goes_on.new.end) c.give_one-goes_on.result.0 inv.gives given c.if-not-goes_on.true c.loop-call-test.true c.sum-report.ensures) in
+    subst (λ (n : ℕ). GaveAll c.args.now n c.args.link.now c.give_one-goes_on.new.link c.sum-report.result (g.E.End.tells c.args.end.now) (g.E.End.taken c.args.end.now) (g.E.End.taken c.give_one-goes_on.new.end)) left
+    (gives_last c.args.now (c.from-most.result + 1) c.args.link.now c.loop-call._call c.loop-call.link c.give_one-goes_on.new.link c.loop-call.report c.give_one-goes_on.result.1 c.sum-report.result (g.E.End.tells c.args.end.now)
+    (g.E.End.taken c.args.end.now) (g.E.End.taken c.loop-call.end) (g.E.End.taken c.give_one-goes_on.new.end) c.give_one-goes_on.result.0 inv.gives given c.if-not-goes_on.true c.loop-call-test.true c.sum-report.ensures) in
     gave.device
 
 pub returns-then-not-goes_on-clause-report : goal.returns-then-not-goes_on-clause-report
@@ -95,9 +95,9 @@ returns-then-not-goes_on-clause-report g c =
     } in
     let left : c.from-most.result + 1 ≡ c.args.link.now.span + 1 = ap (λ n. n + 1) (c.from-most.ensures ∙ c.span.ensures.span) in
     let gave : GaveAll c.args.now (c.args.link.now.span + 1) c.args.link.now c.give_one-goes_on.new.link c.sum-report.result (g.E.End.tells c.args.end.now) (g.E.End.taken c.args.end.now) (g.E.End.taken c.give_one-goes_on.new.end) =
-        subst (λ (n : ℕ). GaveAll c.args.now n c.args.link.now c.give_one-goes_on.new.link c.sum-report.result (g.E.End.tells c.args.end.now) (g.E.End.taken c.args.end.now) (g.E.End.taken c.give_one-goes_on.new.end)) left
-          (gives_last c.args.now (c.from-most.result + 1) c.args.link.now c.loop-call._call c.loop-call.link c.give_one-goes_on.new.link c.loop-call.report c.give_one-goes_on.result.1 c.sum-report.result (g.E.End.tells c.args.end.now)
-            (g.E.End.taken c.args.end.now) (g.E.End.taken c.loop-call.end) (g.E.End.taken c.give_one-goes_on.new.end) c.give_one-goes_on.result.0 inv.gives given c.if-not-goes_on.true c.loop-call-test.true c.sum-report.ensures) in
+    subst (λ (n : ℕ). GaveAll c.args.now n c.args.link.now c.give_one-goes_on.new.link c.sum-report.result (g.E.End.tells c.args.end.now) (g.E.End.taken c.args.end.now) (g.E.End.taken c.give_one-goes_on.new.end)) left
+    (gives_last c.args.now (c.from-most.result + 1) c.args.link.now c.loop-call._call c.loop-call.link c.give_one-goes_on.new.link c.loop-call.report c.give_one-goes_on.result.1 c.sum-report.result (g.E.End.tells c.args.end.now)
+    (g.E.End.taken c.args.end.now) (g.E.End.taken c.loop-call.end) (g.E.End.taken c.give_one-goes_on.new.end) c.give_one-goes_on.result.0 inv.gives given c.if-not-goes_on.true c.loop-call-test.true c.sum-report.ensures) in
     gave.reported
 
 pub returns-then-not-goes_on-clause-taken : goal.returns-then-not-goes_on-clause-taken
@@ -113,34 +113,34 @@ returns-then-not-goes_on-clause-taken g c =
     } in
     let left : c.from-most.result + 1 ≡ c.args.link.now.span + 1 = ap (λ n. n + 1) (c.from-most.ensures ∙ c.span.ensures.span) in
     let gave : GaveAll c.args.now (c.args.link.now.span + 1) c.args.link.now c.give_one-goes_on.new.link c.sum-report.result (g.E.End.tells c.args.end.now) (g.E.End.taken c.args.end.now) (g.E.End.taken c.give_one-goes_on.new.end) =
-        subst (λ (n : ℕ). GaveAll c.args.now n c.args.link.now c.give_one-goes_on.new.link c.sum-report.result (g.E.End.tells c.args.end.now) (g.E.End.taken c.args.end.now) (g.E.End.taken c.give_one-goes_on.new.end)) left
-          (gives_last c.args.now (c.from-most.result + 1) c.args.link.now c.loop-call._call c.loop-call.link c.give_one-goes_on.new.link c.loop-call.report c.give_one-goes_on.result.1 c.sum-report.result (g.E.End.tells c.args.end.now)
-            (g.E.End.taken c.args.end.now) (g.E.End.taken c.loop-call.end) (g.E.End.taken c.give_one-goes_on.new.end) c.give_one-goes_on.result.0 inv.gives given c.if-not-goes_on.true c.loop-call-test.true c.sum-report.ensures) in
+    subst (λ (n : ℕ). GaveAll c.args.now n c.args.link.now c.give_one-goes_on.new.link c.sum-report.result (g.E.End.tells c.args.end.now) (g.E.End.taken c.args.end.now) (g.E.End.taken c.give_one-goes_on.new.end)) left
+    (gives_last c.args.now (c.from-most.result + 1) c.args.link.now c.loop-call._call c.loop-call.link c.give_one-goes_on.new.link c.loop-call.report c.give_one-goes_on.result.1 c.sum-report.result (g.E.End.tells c.args.end.now)
+    (g.E.End.taken c.args.end.now) (g.E.End.taken c.loop-call.end) (g.E.End.taken c.give_one-goes_on.new.end) c.give_one-goes_on.result.0 inv.gives given c.if-not-goes_on.true c.loop-call-test.true c.sum-report.ensures) in
     gave.took
 
 pub returns-clause-link : goal.returns-clause-link
 returns-clause-link g c =
     let left : c.from-most.result + 1 ≡ c.args.link.now.span + 1 = ap (λ n. n + 1) (c.from-most.ensures ∙ c.span.ensures.span) in
     let gave : GaveAll c.args.now (c.args.link.now.span + 1) c.args.link.now c.loop-call.link c.loop-call.report (g.E.End.tells c.args.end.now) (g.E.End.taken c.args.end.now) (g.E.End.taken c.loop-call.end) =
-        subst (λ (n : ℕ). GaveAll c.args.now n c.args.link.now c.loop-call.link c.loop-call.report (g.E.End.tells c.args.end.now) (g.E.End.taken c.args.end.now) (g.E.End.taken c.loop-call.end)) left
-          (gave_all c.args.now (c.from-most.result + 1) c.args.link.now c.loop-call._call c.loop-call.link c.loop-call.report (g.E.End.tells c.args.end.now) (g.E.End.taken c.args.end.now) (g.E.End.taken c.loop-call.end)
-            c.loop-call.invariant.gives c.loop-call-test.false) in
+    subst (λ (n : ℕ). GaveAll c.args.now n c.args.link.now c.loop-call.link c.loop-call.report (g.E.End.tells c.args.end.now) (g.E.End.taken c.args.end.now) (g.E.End.taken c.loop-call.end)) left
+    (gave_all c.args.now (c.from-most.result + 1) c.args.link.now c.loop-call._call c.loop-call.link c.loop-call.report (g.E.End.tells c.args.end.now) (g.E.End.taken c.args.end.now) (g.E.End.taken c.loop-call.end)
+    c.loop-call.invariant.gives c.loop-call-test.false) in
     gave.link
 
 pub returns-clause-report : goal.returns-clause-report
 returns-clause-report g c =
     let left : c.from-most.result + 1 ≡ c.args.link.now.span + 1 = ap (λ n. n + 1) (c.from-most.ensures ∙ c.span.ensures.span) in
     let gave : GaveAll c.args.now (c.args.link.now.span + 1) c.args.link.now c.loop-call.link c.loop-call.report (g.E.End.tells c.args.end.now) (g.E.End.taken c.args.end.now) (g.E.End.taken c.loop-call.end) =
-        subst (λ (n : ℕ). GaveAll c.args.now n c.args.link.now c.loop-call.link c.loop-call.report (g.E.End.tells c.args.end.now) (g.E.End.taken c.args.end.now) (g.E.End.taken c.loop-call.end)) left
-          (gave_all c.args.now (c.from-most.result + 1) c.args.link.now c.loop-call._call c.loop-call.link c.loop-call.report (g.E.End.tells c.args.end.now) (g.E.End.taken c.args.end.now) (g.E.End.taken c.loop-call.end)
-            c.loop-call.invariant.gives c.loop-call-test.false) in
+    subst (λ (n : ℕ). GaveAll c.args.now n c.args.link.now c.loop-call.link c.loop-call.report (g.E.End.tells c.args.end.now) (g.E.End.taken c.args.end.now) (g.E.End.taken c.loop-call.end)) left
+    (gave_all c.args.now (c.from-most.result + 1) c.args.link.now c.loop-call._call c.loop-call.link c.loop-call.report (g.E.End.tells c.args.end.now) (g.E.End.taken c.args.end.now) (g.E.End.taken c.loop-call.end)
+    c.loop-call.invariant.gives c.loop-call-test.false) in
     gave.reported
 
 pub returns-clause-taken : goal.returns-clause-taken
 returns-clause-taken g c =
     let left : c.from-most.result + 1 ≡ c.args.link.now.span + 1 = ap (λ n. n + 1) (c.from-most.ensures ∙ c.span.ensures.span) in
     let gave : GaveAll c.args.now (c.args.link.now.span + 1) c.args.link.now c.loop-call.link c.loop-call.report (g.E.End.tells c.args.end.now) (g.E.End.taken c.args.end.now) (g.E.End.taken c.loop-call.end) =
-        subst (λ (n : ℕ). GaveAll c.args.now n c.args.link.now c.loop-call.link c.loop-call.report (g.E.End.tells c.args.end.now) (g.E.End.taken c.args.end.now) (g.E.End.taken c.loop-call.end)) left
-          (gave_all c.args.now (c.from-most.result + 1) c.args.link.now c.loop-call._call c.loop-call.link c.loop-call.report (g.E.End.tells c.args.end.now) (g.E.End.taken c.args.end.now) (g.E.End.taken c.loop-call.end)
-            c.loop-call.invariant.gives c.loop-call-test.false) in
+    subst (λ (n : ℕ). GaveAll c.args.now n c.args.link.now c.loop-call.link c.loop-call.report (g.E.End.tells c.args.end.now) (g.E.End.taken c.args.end.now) (g.E.End.taken c.loop-call.end)) left
+    (gave_all c.args.now (c.from-most.result + 1) c.args.link.now c.loop-call._call c.loop-call.link c.loop-call.report (g.E.End.tells c.args.end.now) (g.E.End.taken c.args.end.now) (g.E.End.taken c.loop-call.end)
+    c.loop-call.invariant.gives c.loop-call-test.false) in
     gave.took

@@ -1,4 +1,4 @@
-use Rattle.std.proofs.Common.{◌≡◌, ◌+◌, ◌<◌, ◌≤◌}
+use Rattle.std.proofs.Common.{◌≡◌, ◌+◌, ◌<◌}
 use Rattle.std.specs.Prelude.{IsTrue}
 use Rattle.oca_net.specs.Ends.{last_u64}
 use Rattle.oca_control.specs.PrivateDriving.{IsWithin}

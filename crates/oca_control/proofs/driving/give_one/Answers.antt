@@ -1,7 +1,7 @@
-use Rattle.std.proofs.Common.{◌≡◌, ℕ, ap, ◌∙◌, sym, refl, subst, List, []}
+use Rattle.std.proofs.Common.{◌≡◌, ℕ, ap, sym, refl, subst, List, []}
 use Rattle.oca_net.specs.Deliveries.{Sent}
-use Rattle.oca_control.specs.Links.{decision, LinkState}
-use Rattle.oca_control.specs.Driving.{TakesGiven, given_to}
+use Rattle.oca_control.specs.Links.{decision}
+use Rattle.oca_control.specs.Driving.{TakesGiven}
 use Rattle.oca_control.specs.declared.report.DriveReport.{DriveReport}
 use Rattle.oca_control.proofs.Turns.{takes_none, takes_as, gives_nothing, gives_lost}
 use Rattle.oca_control.proofs.driving.give_one.Goals as goal

@@ -1,4 +1,3 @@
-use Rattle.std.proofs.Common.{ap, ◌∙◌, sym}
 use Rattle.oca_control.proofs.Turns.{takes_sent, takes_missed}
 use Rattle.oca_control.proofs.driving.send.Goals as goal
 

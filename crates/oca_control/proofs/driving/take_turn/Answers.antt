@@ -1,4 +1,4 @@
-use Rattle.std.proofs.Common.{◌≡◌, ℕ, ◌++◌, ◌∷◌, [], List, ap, ◌∙◌, sym, refl, arith}
+use Rattle.std.proofs.Common.{ℕ, ◌++◌, ◌∷◌, [], List, ap, ◌∙◌, sym}
 use Rattle.oca_net.specs.Deliveries.{Datagram}
 use Rattle.oca_control.proofs.Turns.{datagram_any, datagram_telling, quiet_any, quiet_telling, oversize_telling, failed_telling, failed_any, same_device}
 use Rattle.oca_control.proofs.driving.take_turn.Goals as goal
@@ -14,7 +14,7 @@ returns-in-Datagram-clause-turn g c = λ tells.
     let all = c.give_all-given.ensures in
     let still = c.in-Datagram.ensures.telling ∙ tells in
     let grew = all.delivered still ∙ c.in-Datagram.ensures.delivered tells
-        ∙ ap (λ (xs : List ℕ). g.E.End.delivered c.args.end.now ++ Datagram c.in-Datagram.from xs c.in-Datagram.now ∷ []) (sym c.as_slice.ensures.value) in
+    ∙ ap (λ (xs : List ℕ). g.E.End.delivered c.args.end.now ++ Datagram c.in-Datagram.from xs c.in-Datagram.now ∷ []) (sym c.as_slice.ensures.value) in
     datagram_telling c.args.link.now c.datagram.new.self c.give_all-given.new.link c.in-Datagram.now c.give_all-given.result all.link all.report c.in-Datagram.from c.as_slice.result.now c.datagram.result
     c.count_of-answered.result _ _ _ _ _ c.as_slice.ensures.fits c.datagram.ensures.receives c.count_of-answered.ensures.count grew (c.in-Datagram.ensures.taken tells) (all.taken still)
 

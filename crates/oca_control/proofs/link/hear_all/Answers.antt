@@ -1,8 +1,8 @@
-use Rattle.std.proofs.Common.{◌≡◌, ◌+◌, ◌≤◌, ap, ◌∙◌, sym, arith}
+use Rattle.std.proofs.Common.{◌≡◌, ◌+◌, ap, arith}
 use Rattle.oca_pdu.specs.Messages.{msg_of}
 use Rattle.oca_control.specs.Untaken.{answers_by}
 use Rattle.oca_control.specs.PrivateSlots.{TableState}
-use Rattle.oca_control.proofs.Receiving.{HearsOn, hears_first, hears_further}
+use Rattle.oca_control.proofs.Receiving.{hears_first, hears_further}
 use Rattle.oca_control.proofs.link.hear_all.Goals as goal
 
 pub hear-requires : goal.hear-requires

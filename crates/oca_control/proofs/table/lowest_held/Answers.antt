@@ -1,4 +1,4 @@
-use Rattle.std.proofs.Common.{◌≡◌, ◌∙◌, ap, sym, arith, true, false, None}
+use Rattle.std.proofs.Common.{◌≡◌, ◌∙◌, ap, sym, arith, true, false}
 use Rattle.std.specs.Prelude.{is_some}
 use Rattle.oca_control.specs.PrivateSlots.{kept_at}
 use Rattle.oca_control.proofs.Places.{slot_read, not_held, done}

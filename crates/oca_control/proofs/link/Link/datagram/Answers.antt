@@ -1,7 +1,7 @@
-use Rattle.std.proofs.Common.{rules, arith, Some, ◌≡◌, ap, ◌∙◌, sym}
+use Rattle.std.proofs.Common.{rules, arith, Some, ◌∙◌, sym}
 use Rattle.oca_pdu.specs.Reading.{read_datagram}
 use Rattle.oca_pdu.specs.Datagrams.{datagram_messages}
-use Rattle.oca_control.proofs.Messages.{content_read, has_content, one_content, datagram_short}
+use Rattle.oca_control.proofs.Messages.{content_read, has_content, datagram_short}
 use Rattle.oca_control.proofs.link.Link.datagram.Goals as goal
 
 pub returns-then-ne-clause-receives : goal.returns-then-ne-clause-receives

@@ -1,5 +1,4 @@
-use Rattle.std.proofs.Common.{◌≡◌, ◌≤◌, ap, ◌∙◌, sym, true, arith}
-use Rattle.oca_types.specs.Sizes.{span_size}
+use Rattle.std.proofs.Common.{◌∙◌, sym}
 use Rattle.oca_control.proofs.Receiving.{room_in_all}
 use Rattle.oca_control.proofs.link.Link.submit.Goals as goal
 

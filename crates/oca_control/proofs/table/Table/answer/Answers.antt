@@ -1,6 +1,5 @@
-use Rattle.std.proofs.Common.{◌≡◌, ap, ◌∙◌, sym, List}
+use Rattle.std.proofs.Common.{ap, ◌∙◌, sym}
 use Rattle.std.proofs.lemmas.List.{set-get_or}
-use Rattle.oca_control.specs.PrivateSlots.{TableState}
 use Rattle.oca_control.proofs.Views.{waits_out, waits_in, none_answered, view_answered, table, view}
 use Rattle.oca_control.proofs.table.Table.answer.Goals as goal
 
@@ -33,4 +32,4 @@ pub returns-then-not-waits-clause-state : goal.returns-then-not-waits-clause-sta
 returns-then-not-waits-clause-state c =
     let a = c.self.inside in
     rw (← c.self.view_is) (ap (view a.low a.next) (set-get_or a.slots c.in-Some.at c.index-self-at.result)
-      ∙ ap (table a.next) (sym (none_answered c.args.handle.0 _ _ (sym (waits_in a.low a.next c.args.handle.0 _ a.slots c.index-self-at.result _ c.self.invariant c.in-Some.ensures (sym c.if-not-waits.true ∙ c.waits.ensures))))))
+    ∙ ap (table a.next) (sym (none_answered c.args.handle.0 _ _ (sym (waits_in a.low a.next c.args.handle.0 _ a.slots c.index-self-at.result _ c.self.invariant c.in-Some.ensures (sym c.if-not-waits.true ∙ c.waits.ensures))))))

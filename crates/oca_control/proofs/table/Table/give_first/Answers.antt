@@ -1,8 +1,4 @@
-use Rattle.std.proofs.Common.{◌≡◌, ap, ◌∙◌, sym, List}
-use Rattle.std.specs.Option.{option_map}
-use Rattle.oca_control.specs.Links.{due_answer}
-use Rattle.oca_control.specs.PrivateSlots.{bytes_decided, after_decision}
-use Rattle.oca_control.proofs.Views.{spent, gives, gives_answer, gives_packet, gives_state, view_given, table, none_decided}
+use Rattle.oca_control.proofs.Views.{gives, gives_answer, gives_packet, gives_state, view_given}
 use Rattle.oca_control.proofs.table.Table.give_first.Goals as goal
 
 pub returns-clause-answer : goal.returns-clause-answer
@@ -22,4 +18,4 @@ returns-clause-state c =
     let a = c.self.inside in
     let g = gives c.args.now a.low a.next c.in-Some.at c.place.result a.slots c.index-self-place.result c.may_repeat.result c.self.invariant c.in-Some.ensures c.place.ensures.value c.may_repeat.ensures c.if-not-may_repeat.false in
     rw (← c.self.view_is) (gives_state c.args.now a.next c.in-Some.at _ _ _ g
-      (view_given c.args.now a.low a.next c.in-Some.at c.place.result a.slots c.index-self-place.result c.give_out.new.self c.self.invariant c.in-Some.ensures c.place.ensures.value c.give_out.ensures.slot))
+    (view_given c.args.now a.low a.next c.in-Some.at c.place.result a.slots c.index-self-place.result c.give_out.new.self c.self.invariant c.in-Some.ensures c.place.ensures.value c.give_out.ensures.slot))

@@ -1,4 +1,4 @@
-use Rattle.std.proofs.Common.{◌≡◌, ◌-◌, ℕ, ap, ◌∙◌, sym, List, [], Option, arith}
+use Rattle.std.proofs.Common.{◌≡◌, ◌-◌, ℕ, ap, ◌∙◌, List, [], Option, arith}
 use Rattle.oca_control.specs.PrivateSlots.{TableState, Kept, untaken_from}
 use Rattle.oca_control.proofs.Places.{done}
 use Rattle.oca_control.proofs.table.Table.new.Goals as goal

@@ -1,6 +1,6 @@
-use Rattle.std.proofs.Common.{◌≡◌, ◌<◌, ◌+◌, ◌-◌, true, ap, ◌∙◌, sym, List}
-use Rattle.oca_control.specs.Untaken.{Untaken, has_room}
-use Rattle.oca_control.specs.PrivateSlots.{TableState, IsTable, untaken_from}
+use Rattle.std.proofs.Common.{◌≡◌, ◌<◌, ◌-◌, true, ap, ◌∙◌}
+use Rattle.oca_control.specs.Untaken.{has_room}
+use Rattle.oca_control.specs.PrivateSlots.{TableState, untaken_from}
 use Rattle.oca_control.proofs.Tables.{room_near, table_put}
 use Rattle.oca_control.proofs.Views.{view_put}
 use Rattle.oca_control.proofs.table.Table.submit.Goals as goal

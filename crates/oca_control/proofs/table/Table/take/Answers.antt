@@ -1,4 +1,4 @@
-use Rattle.std.proofs.Common.{◌≡◌, ap, ◌∙◌, sym, List, arith, ◌<◌, length}
+use Rattle.std.proofs.Common.{◌∙◌, sym, arith, ◌<◌, length}
 use Rattle.oca_control.proofs.Tables.{table_taken}
 use Rattle.oca_control.proofs.Views.{answer_in_slot, answer_out, view_taken, not_taken}
 use Rattle.oca_control.proofs.table.Table.take.Goals as goal
@@ -21,7 +21,7 @@ returns-clause-state c =
     let at = c.in-Some.ensures in
     let inside : c.in-Some.at < length a.slots = let all = c.self.invariant.all in let place = at.2 in omega arith in
     rw (← c.self.view_is) (view_taken a.low a.next c.args.handle.0 c.in-Some.at c.lowest_held-self-inside.result a.slots c.index-self-at.result c.take-answer.new.self c.self.invariant at inside
-      c.take-answer.ensures.slot c.lowest_held-self-inside.ensures.same)
+    c.take-answer.ensures.slot c.lowest_held-self-inside.ensures.same)
 
 pub returns-in_default-clause-answer : goal.returns-in_default-clause-answer
 returns-in_default-clause-answer c =
