@@ -1,13 +1,15 @@
 //! Calls that take memory, one at a time, for a run in which memory is refused.
 use oca_device::{Device, Outbox};
-use oca_net::{MemoryEnd, Scripted};
+use oca_net::{BindFault, MemoryEnd, Scripted, UdpEnd};
 use oca_session::Sessions;
 use oca_tree::{AddFault, Kind, MuteState, Spec, TreeBuilder, bench};
 use oca_types::{Ono, Peer, Window};
 use std::alloc::Global;
+use std::net::Net;
+use std::rt::Clock;
 
 /// The names of the calls.
-pub const NAMES: [&str; 7] = [
+pub const NAMES: [&str; 8] = [
     "tree-builder-new",
     "tree-builder-add",
     "bench",
@@ -15,6 +17,7 @@ pub const NAMES: [&str; 7] = [
     "device-new",
     "outbox-new",
     "memory-end-new",
+    "udp-end-bind",
 ];
 
 /// What a call answered.
@@ -29,7 +32,7 @@ pub enum Answered {
 }
 
 /// Makes the call of this name.
-pub fn call(alloc: Global, name: &str) -> Answered {
+pub fn call<R: Net + Clock>(alloc: Global, rt: &R, name: &str) -> Answered {
     match name {
         "nothing" => Answered::Done,
         "tree-builder-new" => said(TreeBuilder::new(alloc).is_ok()),
@@ -39,6 +42,7 @@ pub fn call(alloc: Global, name: &str) -> Answered {
         "device-new" => device_new(alloc),
         "outbox-new" => said(Outbox::new(alloc).is_ok()),
         "memory-end-new" => memory_end_new(alloc),
+        "udp-end-bind" => udp_end_bind(alloc, rt),
         _ => Answered::Unknown,
     }
 }
@@ -96,4 +100,13 @@ fn memory_end_new(alloc: Global) -> Answered {
         return Answered::NoMemory;
     };
     said(MemoryEnd::new(alloc, script, 4, None).is_ok())
+}
+
+/// An end at 127.0.0.1 and a port of the system's choice.
+fn udp_end_bind<R: Net + Clock>(alloc: Global, rt: &R) -> Answered {
+    match UdpEnd::bind(alloc, rt, 0x7f00_0001, 0) {
+        Ok(_) => Answered::Done,
+        Err(BindFault::NoMemory) => Answered::NoMemory,
+        Err(BindFault::Io) => Answered::Wrong,
+    }
 }

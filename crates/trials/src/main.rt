@@ -62,11 +62,13 @@ fn damaged<R: Runtime + AllocGlobal>(rt: &R) -> ExitCode {
     };
     let _ = println!(rt;
         "failing ends: {} runs with a failed receive, {} with a failed send, {} wrong",
-        ends.receives,
-        ends.sends,
-        ends.wrong
+        ends.receives, ends.sends, ends.wrong
     );
-    ExitCode::from(if tally.wrong == 0 && ends.wrong == 0 { 0 } else { 1 })
+    ExitCode::from(if tally.wrong == 0 && ends.wrong == 0 {
+        0
+    } else {
+        1
+    })
 }
 
 /// A bare loop at a socket.
@@ -87,8 +89,8 @@ fn names<R: Runtime + AllocGlobal>(rt: &R) -> ExitCode {
     ExitCode::SUCCESS
 }
 
-fn one_call<R: Runtime + AllocGlobal>(rt: &R, name: &str) -> ExitCode {
-    match call(rt.alloc(), name) {
+fn one_call<R: Runtime + AllocGlobal + Net>(rt: &R, name: &str) -> ExitCode {
+    match call(rt.alloc(), rt, name) {
         Answered::Done => said(rt, "done", 0),
         Answered::NoMemory => said(rt, "no memory", 1),
         Answered::Wrong => said(rt, "wrong", 3),
