@@ -1,33 +1,46 @@
 #!/usr/bin/env python3
 """Runs `ocadev replay` on each script of this folder, and compares what it prints with the expected output beside it.
 
-Usage: run.py [PROGRAM]. Without a program each run is built by `rt try`, which proves nothing; the runs go side by side.
-The last line is 'N passed, M failed', and the exit status 1 where any failed."""
+Usage: run.py [PROGRAM]. Without a program it is built by `rt try`, which proves nothing. The last line is 'N passed, M failed',
+and the exit status 1 where any failed."""
+import re
+import shutil
 import subprocess
 import sys
-from concurrent.futures import ThreadPoolExecutor
+import tempfile
 from pathlib import Path
 
 HERE = Path(__file__).resolve().parent
 NAMES = sorted(path.stem for path in HERE.glob("*.script"))
 
 
-def replay(program, name):
-    """The status and the output of a replay of the script of that name."""
-    command = [program, "replay"] if program else ["rt", "try", "--", "replay"]
-    with open(HERE / f"{name}.script") as script:
+def by_program(program):
+    """The status and the output of a replay of each script, by a program that is built."""
+    for name in NAMES:
+        with open(HERE / f"{name}.script") as script:
+            run = subprocess.run([program, "replay"], stdin=script, capture_output=True, text=True)
+        yield name, run.returncode, run.stdout, run.stderr
+
+
+def by_try():
+    """The same, by a program that `rt try` builds once and runs on each script."""
+    with tempfile.TemporaryDirectory() as cases:
+        for name in NAMES:
+            shutil.copy(HERE / f"{name}.script", f"{cases}/{name}")
         run = subprocess.run(
-            command, cwd=None if program else HERE.parent / "crates" / "ocadev",
-            stdin=script, stdout=subprocess.PIPE, stderr=subprocess.PIPE, text=True)
-    return run.returncode, run.stdout, run.stderr
+            ["rt", "try", "--cases", cases, "--", "replay"], cwd=HERE.parent / "crates" / "ocadev",
+            stdin=subprocess.DEVNULL, stdout=subprocess.PIPE, stderr=subprocess.STDOUT, text=True)
+    for name in NAMES:
+        case = re.search(rf"^== {name}\n(.*?)^case={name} run=\w+ status=(\d+)", run.stdout, re.MULTILINE | re.DOTALL)
+        if case:
+            yield name, int(case[2]), case[1], ""
+        else:
+            yield name, run.returncode, "", run.stdout
 
 
 def main():
-    program = str(Path(sys.argv[1]).resolve()) if len(sys.argv) > 1 else None
-    with ThreadPoolExecutor(max_workers=4) as pool:
-        runs = list(pool.map(lambda name: replay(program, name), NAMES))
     failed = 0
-    for name, (status, output, faults) in zip(NAMES, runs):
+    for name, status, output, faults in by_program(sys.argv[1]) if len(sys.argv) > 1 else by_try():
         expected = (HERE / f"{name}.expected").read_text()
         if status == 0 and output == expected:
             print(f"examples/{name}.script: as expected")
