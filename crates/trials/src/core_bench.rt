@@ -1,7 +1,8 @@
 //! The device core without its scripts: datagrams made in memory, for counting instructions a command.
+use crate::vectors::vector;
 use oca_device::{Device, Outbox};
 use oca_pdu::write_command;
-use oca_tree::bench;
+use oca_tree::{Kind as ObjectKind, MuteState, Spec, Tree, TreeBuilder, bench};
 use oca_types::{Command, Handle, MethodId, NoMemory, Ono, Packet, Peer, Window};
 use std::alloc::Global;
 
@@ -77,13 +78,59 @@ fn set_handle(packet: &mut Packet, number: u32, handle: u32) {
     }
 }
 
-/// Makes so many datagrams, and hands each to a bench device where `served` says so. Answers how many packets came back.
-pub fn run(alloc: Global, kind: Kind, datagrams: u32, served: bool) -> Result<u64, NoMemory> {
-    let Ok(tree) = bench(alloc) else {
+/// The device that is measured: of how many objects, and with how many sessions.
+#[derive(Clone, Copy, Debug, PartialEq, Eq)]
+pub struct Size {
+    /// 8 for the bench device; any other number up to 128 for so many objects, mutes but for the root.
+    pub objects: u32,
+    /// The sessions, from 1 to 16.
+    pub sessions: u16,
+}
+
+/// The tree of that many objects.
+fn tree_of(alloc: Global, objects: u32) -> Result<Tree, NoMemory> {
+    if objects == 8 {
+        return bench(alloc).map_err(|_| NoMemory);
+    }
+    let Ok(mut builder) = TreeBuilder::new(alloc) else {
         return Err(NoMemory);
     };
+    let spec = Spec {
+        role: "mute",
+        lockable: true,
+        kind: ObjectKind::Mute(MuteState::Muted),
+    };
+    for number in 1..objects {
+        let _ = builder.add(Ono(100), Ono(4096u32.saturating_add(number)), &spec);
+    }
+    Ok(builder.finish())
+}
+
+/// Other peers say a keep-alive each, so that there are that many sessions with the one that is measured.
+fn open_sessions(device: &mut Device, outbox: &mut Outbox, sessions: u16) {
+    for number in 1..sessions {
+        outbox.clear();
+        let other = Peer {
+            ip: SENDER.ip,
+            port: 9001u16.saturating_add(number),
+        };
+        let _ = device.datagram(other, vector(12), 0, outbox);
+    }
+}
+
+/// Makes so many datagrams, and hands each to a device of this size where `served` says so. Answers how many packets came
+/// back.
+pub fn run(
+    alloc: Global,
+    kind: Kind,
+    size: Size,
+    datagrams: u32,
+    served: bool,
+) -> Result<u64, NoMemory> {
+    let tree = tree_of(alloc, size.objects)?;
     let mut device = Device::new(alloc, tree, Window::default())?;
     let mut outbox = Outbox::new(alloc)?;
+    open_sessions(&mut device, &mut outbox, size.sessions);
     let mut packet = datagram(commands_in(kind));
     let mut handle = 0u32;
     let mut packets = 0u64;

@@ -1,7 +1,7 @@
 //! Trials over the built code that would be too long for proved tests, and measurements.
 //!
 //! `trials`: damaged datagrams against a bench device. `trials calls`: the names of the calls that take memory, and `trials
-//! call NAME`: one of them. `trials bench KIND COUNT served|made`: datagrams in memory, handed to a device or only made.
+//! call NAME`: one of them. `trials bench KIND OBJECTS SESSIONS COUNT served|made`: datagrams in memory, handed to a device or only made.
 //! `trials echo COUNT`: so many datagrams answered by a bare loop at a socket.
 #![tactic(auto)]
 
@@ -13,7 +13,7 @@ mod hostile;
 mod vectors;
 
 use calls::{Answered, NAMES, call};
-use core_bench::Kind;
+use core_bench::{Kind, Size};
 use std::net::Net;
 use std::process::ExitCode;
 use std::rt::Runtime;
@@ -31,8 +31,11 @@ fn main(rt: HostRuntime) -> ExitCode {
         [_, word] if word.as_str() == "calls" => names(&rt),
         [_, word, name] if word.as_str() == "call" => one_call(&rt, name.as_str()),
         [_, word, count] if word.as_str() == "echo" => echoed(&rt, count.as_str()),
-        [_, word, kind, count, way] if word.as_str() == "bench" => {
-            measured(&rt, kind.as_str(), count.as_str(), way.as_str())
+        [_, word, kind, objects, sessions, count, way] if word.as_str() == "bench" => {
+            match size_of(objects.as_str(), sessions.as_str()) {
+                Some(size) => measured(&rt, kind.as_str(), size, count.as_str(), way.as_str()),
+                None => said(&rt, "bad words", 2),
+            }
         }
         _ => said(&rt, "bad words", 2),
     }
@@ -98,8 +101,22 @@ fn one_call<R: Runtime + AllocGlobal + Net>(rt: &R, name: &str) -> ExitCode {
     }
 }
 
+/// The size that two words name.
+fn size_of(objects: &str, sessions: &str) -> Option<Size> {
+    match (objects.parse::<u32>(), sessions.parse::<u16>()) {
+        (Ok(objects), Ok(sessions)) => Some(Size { objects, sessions }),
+        _ => None,
+    }
+}
+
 /// Datagrams in memory.
-fn measured<R: Runtime + AllocGlobal>(rt: &R, kind: &str, count: &str, way: &str) -> ExitCode {
+fn measured<R: Runtime + AllocGlobal>(
+    rt: &R,
+    kind: &str,
+    size: Size,
+    count: &str,
+    way: &str,
+) -> ExitCode {
     let kind = match kind {
         "single" => Kind::Single,
         "packed" => Kind::Packed,
@@ -109,7 +126,7 @@ fn measured<R: Runtime + AllocGlobal>(rt: &R, kind: &str, count: &str, way: &str
     let (Ok(count), true) = (count.parse::<u32>(), way == "served" || way == "made") else {
         return said(rt, "bad words", 2);
     };
-    match core_bench::run(rt.alloc(), kind, count, way == "served") {
+    match core_bench::run(rt.alloc(), kind, size, count, way == "served") {
         Ok(packets) => {
             let _ = println!(rt; "{packets} packets");
             ExitCode::SUCCESS
