@@ -1,5 +1,5 @@
 -- What a link's history says of the link.
-use Rattle.std.proofs.Common.{◌≡◌, ℕ, ◌+◌, ◌-◌, ◌<◌, ◌≤◌, Bool, true, false, cond, not, ◌&&◌, ◌||◌, max, List, [], ◌∷◌, ◌++◌, length, map, Option, Some, None, Result, Ok, Err, is_some, is_none, refl, sym, ap, ◌∙◌, arith, subst, suc, append_assoc, append-nil}
+use Rattle.std.proofs.Common.{◌≡◌, ℕ, ◌+◌, ◌-◌, ◌<◌, ◌≤◌, Bool, true, false, cond, not, ◌&&◌, ◌||◌, max, List, [], ◌∷◌, ◌++◌, length, map, Option, Some, None, Result, Ok, Err, is_some, is_none, refl, sym, ap, ◌∙◌, arith, subst, suc, append_assoc, append-nil, inl, inr}
 use Rattle.std.specs.Prelude.{nat_eq, nat_lt, nat_le}
 use Rattle.std.specs.List.{AllByRecursion}
 use Rattle.std.proofs.Math.Dec.{eqb}
@@ -10,12 +10,14 @@ use Rattle.oca_types.specs.declared.words.Handle.{Handle}
 use Rattle.oca_types.specs.Peers.{CommandFields, same_peer}
 use Rattle.oca_pdu.specs.Messages.{Msg, Command, Response, KeepAlive, Commands}
 use Rattle.oca_pdu.specs.Encoding.{pdu_encoding}
+use Rattle.oca_pdu.specs.Laws.{OneListOfMessages}
 use Rattle.oca_control.specs.declared.fault.ControlFault.{ControlFault}
 use Rattle.oca_control.specs.declared.fault.ControlFault.TheVariants as faults
 use Rattle.oca_control.specs.Answers.{AnswerFields, answer_in}
+use Rattle.oca_control.specs.Contents.{IsContent}
 use Rattle.oca_control.specs.Untaken.{Untaken, new_untaken, has_room, is_due, first_due, given_out, answered, hears_all, answer_under, without_handle, holds}
 use Rattle.oca_control.specs.Links.{LinkState, Request, new_link, present, command_under, most_params, submission, submission_under, after_submission, handle_after, Decision, GivesCommand, GivesKeepAlive, GivesNothing, IsLost, decision, decision_among, due_answer, due_bytes, after_due, hears_content, received, taken}
-use Rattle.oca_control.specs.Histories.{Call, Submits, GivesOut, Receives, Takes, IsCall, IsHistory, clock, commands, command_of, Sending, sendings, answers_in, answers_of, answers_to, first_of, is_untaken, RiseFrom, IsCopy, AreApart, TakesTheFirst, IsLawful}
+use Rattle.oca_control.specs.Histories.{Call, Submits, GivesOut, Receives, Takes, IsCall, IsHistory, clock, commands, command_of, Sending, sendings, answers_in, answers_of, answers_to, first_of, is_untaken, has_rested, last_given, is_lost, RiseFrom, IsCopy, AreApart, TakesTheFirst, IsLowestDue, NoneIsDue, IsDueAnswer, GivesWhatIsDue, IsLawful}
 
 -- ---- numbers, tests and lists
 
@@ -547,6 +549,122 @@ takes device first s t accepted sent came open_at l h g = record {
   apart = g.apart;
 }
 
+-- ---- what is due
+
+abbrev pub Rises : List Untaken → Type 0
+Rises [] = Unit {0}
+Rises (u ∷ us) = AllByRecursion (λ v. u.command.handle ≤ v.command.handle) us × Rises us
+
+pub record Rests (last : ℕ) (lost : Bool) (l : LinkState) : Type 0 where
+  pub lost_is : l.lost ≡ lost
+  pub sent_is : l.sent ≡ last
+  pub rises : Rises l.untaken
+
+rises_more : (us : List Untaken) (u : Untaken) → AllByRecursion (λ v. v.command.handle ≤ u.command.handle) us → Rises us → Rises (us ++ u ∷ [])
+rises_more [] u a r = (tt, tt)
+rises_more (v ∷ us) u a r = (each_append _ us (u ∷ []) r.0 (a.0, tt), rises_more us u a.1 r.1)
+
+kept_given_out : (t h k : ℕ) (us : List Untaken) → AllByRecursion (λ v. k ≤ v.command.handle) us → AllByRecursion (λ v. k ≤ v.command.handle) (map (given_out t h) us)
+kept_given_out t h k [] a = tt
+kept_given_out t h k (u ∷ us) a = (a.0, kept_given_out t h k us a.1)
+
+rises_given_out : (t h : ℕ) (us : List Untaken) → Rises us → Rises (map (given_out t h) us)
+rises_given_out t h [] r = tt
+rises_given_out t h (u ∷ us) r = (kept_given_out t h u.command.handle us r.0, rises_given_out t h us r.1)
+
+rises_answered : (h : ℕ) (a : AnswerFields) (us : List Untaken) → Rises us → Rises (map (answered h a) us)
+rises_answered h a [] r = tt
+rises_answered h a (u ∷ us) r = (kept_answered h a (λ c times last. u.command.handle ≤ c.handle) us r.0, rises_answered h a us r.1)
+
+rises_heard : (ms : List Msg) (us : List Untaken) → Rises us → Rises (hears_all ms us)
+rises_heard [] us r = r
+rises_heard (Response x ∷ ms) us r = rises_heard ms (map (answered x.handle (answer_in x)) us) (rises_answered x.handle (answer_in x) us r)
+rises_heard (KeepAlive form ∷ ms) us r = rises_heard ms us r
+rises_heard (Command respond c ∷ ms) us r = rises_heard ms us r
+
+rises_received : (b : Bool) (content : Option (List Msg)) (us : List Untaken) → Rises us → Rises (cond b (hears_content content us) us)
+rises_received true None us r = r
+rises_received true (Some ms) us r = rises_heard ms us r
+rises_received false content us r = r
+
+rises_without : (h : ℕ) (us : List Untaken) → Rises us → Rises (without_handle h us)
+rises_without h [] r = tt
+rises_without h (u ∷ us) r = by_test (eqb u.command.handle h) (rises_without h us r.1)
+  where
+    by_test : (b : Bool) → Rises (without_handle h us) → Rises (cond (not b) (u ∷ without_handle h us) (without_handle h us))
+    by_test true rest = rest
+    by_test false rest = (each_without h (λ v. u.command.handle ≤ v.command.handle) us r.0, rest)
+
+-- what holds of all that are held holds of each handle that is
+each_held : (Q : ℕ → Type 0) (x : ℕ) (us : List Untaken) → AllByRecursion (λ v. Q v.command.handle) us → holds x us ≡ true → Q x
+each_held Q x [] a e = cc
+each_held Q x (u ∷ us) a e = by_test (eqb u.command.handle x) refl e (each_held Q x us a.1)
+  where
+    by_test : (b : Bool) → eqb u.command.handle x ≡ b → (b || holds x us) ≡ true → (holds x us ≡ true → Q x) → Q x
+    by_test true q e rest = subst Q (equal_is u.command.handle x q) a.0
+    by_test false q e rest = rest e
+
+-- due, by what came and what was sent
+abbrev pub due_by : ℕ → (ℕ → List Sending) → (ℕ → List AnswerFields) → ℕ → Bool
+due_by t sent came h = is_none (first_of (came h)) && has_rested t (sent h)
+
+due_same : (t s n : ℕ) (accepted : List CommandFields) (sent : ℕ → List Sending) (came : ℕ → List AnswerFields) (us : List Untaken) →
+    AreSent s n accepted sent us → AreAnswered came us → AllByRecursion (λ u. is_due t u ≡ due_by t sent came u.command.handle) us
+due_same t s n accepted sent came us a b = each_both (λ u p q. one u p q) us a b
+  where
+    never : (k : ℕ) → nat_eq (suc k) 0 ≡ false
+    never k = grind (arith, nat_tests)
+
+    rests : (times last : ℕ) (xs : List Sending) → times ≡ length xs → IsLast last xs → (nat_eq times 0 || nat_le 250 (t - last)) ≡ has_rested t xs
+    rests times last [] e p = ap (λ k. nat_eq k 0 || nat_le 250 (t - last)) e
+    rests times last (x ∷ xs) e p = ap (λ k. nat_eq k 0 || nat_le 250 (t - last)) e ∙ ap (λ b. b || nat_le 250 (t - last)) (never (length xs)) ∙ ap (λ k. nat_le 250 (t - k)) (sym p)
+
+    one : (u : Untaken) → IsSent s n accepted sent u.command u.times u.last → u.answer ≡ first_of (came u.command.handle) → is_due t u ≡ due_by t sent came u.command.handle
+    one u p q = ap (λ o. is_none o && (nat_eq u.times 0 || nat_le 250 (t - u.last))) q
+        ∙ ap (λ b. is_none (first_of (came u.command.handle)) && b) (rests u.times u.last (sent u.command.handle) p.count p.last_is)
+
+first_held : (t : ℕ) (us : List Untaken) (u : Untaken) → first_due t us ≡ Some u → holds u.command.handle us ≡ true
+first_held t [] u e = cc
+first_held t (v ∷ us) u e = by_test (is_due t v) e (first_held t us u)
+  where
+    or_true : (b : Bool) → (b || true) ≡ true
+    or_true true = refl
+    or_true false = refl
+
+    by_test : (b : Bool) → cond b (Some v) (first_due t us) ≡ Some u → (first_due t us ≡ Some u → holds u.command.handle us ≡ true) → (eqb v.command.handle u.command.handle || holds u.command.handle us) ≡ true
+    by_test true e rest = let same : v ≡ u = cc in
+        ap (λ b. b || holds u.command.handle us) (ap (λ (w : Untaken). eqb w.command.handle u.command.handle) same ∙ equal_self u.command.handle)
+    by_test false e rest = ap (λ b. eqb v.command.handle u.command.handle || b) (rest e) ∙ or_true (eqb v.command.handle u.command.handle)
+
+first_lowest : (t : ℕ) (us : List Untaken) (u : Untaken) → Rises us → first_due t us ≡ Some u → AllByRecursion (λ v. is_due t v ≡ true → u.command.handle ≤ v.command.handle) us
+first_lowest t [] u r e = tt
+first_lowest t (v ∷ us) u r e = by_test (is_due t v) refl e (first_lowest t us u r.1)
+  where
+    least : (a b : ℕ) → b ≡ a → a ≤ b
+    least a b e = omega arith
+
+    by_test : (b : Bool) → is_due t v ≡ b → cond b (Some v) (first_due t us) ≡ Some u →
+        (first_due t us ≡ Some u → AllByRecursion (λ w. is_due t w ≡ true → u.command.handle ≤ w.command.handle) us) →
+        (is_due t v ≡ true → u.command.handle ≤ v.command.handle) × AllByRecursion (λ w. is_due t w ≡ true → u.command.handle ≤ w.command.handle) us
+    by_test true q e rest =
+        let same : v ≡ u = cc in (
+          (λ d. least u.command.handle v.command.handle (ap (λ (w : Untaken). w.command.handle) same)),
+          each_map (λ w p d. subst (λ (z : Untaken). z.command.handle ≤ w.command.handle) same p) us r.0,
+        )
+    by_test false q e rest = ((λ d. absurd (differs (sym q ∙ d))), rest e)
+      where
+        differs : false ≡ true → ⊥
+        differs e = cc
+
+none_first : (t : ℕ) (us : List Untaken) → first_due t us ≡ None → AllByRecursion (λ v. is_due t v ≡ false) us
+none_first t [] e = tt
+none_first t (v ∷ us) e = by_test (is_due t v) refl e (none_first t us)
+  where
+    by_test : (b : Bool) → is_due t v ≡ b → cond b (Some v) (first_due t us) ≡ None → (first_due t us ≡ None → AllByRecursion (λ w. is_due t w ≡ false) us) →
+        (is_due t v ≡ false) × AllByRecursion (λ w. is_due t w ≡ false) us
+    by_test true q e rest = cc
+    by_test false q e rest = (q, rest e)
+
 -- ---- whole histories
 
 abbrev pub Now : Peer → ℕ → ℕ → ℕ → List Call → LinkState → Type 0
@@ -579,31 +697,167 @@ take_step device first opened s before l after h (Some a) e f g =
     (sym (f ∙ ap (λ (o : Option AnswerFields). let m : LinkState = record l { untaken = cond (is_some o) (without_handle h l.untaken) l.untaken } in m) (sym e)))
     (takes device first s (clock opened before) (commands before) (λ x. sendings opened x before) (λ x. answers_to device x before) (λ x. is_untaken x before) l h g)
 
-abbrev pub Stands : Peer → ℕ → ℕ → ℕ → List Call → LinkState → Type 0
-Stands device first opened s calls l = Now device first opened s calls l × TakesTheFirst device calls
+-- the answer of `due`
+due_right : (device : Peer) (first opened s t : ℕ) (before : List Call) (l : LinkState) (d : Decision) → Now device first opened s before l → Rises l.untaken →
+    cond (is_lost before) IsLost (decision_among t (last_given opened before) (first_due t l.untaken)) ≡ d →
+    IsDueAnswer device opened t (due_bytes d) before (due_answer d)
+due_right device first opened s t before l d g r e = by_lost (is_lost before) refl e
+  where
+    same : AllByRecursion (λ u. is_due t u ≡ due_by t (λ x. sendings opened x before) (λ x. answers_to device x before) u.command.handle) l.untaken
+    same = due_same t s (first + length (commands before)) (commands before) (λ x. sendings opened x before) (λ x. answers_to device x before) l.untaken g.are_sent g.are_answered
+
+    none_due : first_due t l.untaken ≡ None → NoneIsDue device opened t before
+    none_due q x = by_open (is_untaken x before) refl
+      where
+        by_open : (b : Bool) → is_untaken x before ≡ b → (b && due_by t (λ x. sendings opened x before) (λ x. answers_to device x before) x) ≡ false
+        by_open true p = each_held (λ y. due_by t (λ x. sendings opened x before) (λ x. answers_to device x before) y ≡ false) x l.untaken
+            (each_both (λ v (a : is_due t v ≡ due_by t (λ x. sendings opened x before) (λ x. answers_to device x before) v.command.handle) (b : is_due t v ≡ false). sym a ∙ b) l.untaken same (none_first t l.untaken q))
+            (g.held x ∙ p)
+        by_open false p = refl
+
+    all_lowest : (u : Untaken) → first_due t l.untaken ≡ Some u →
+        AllByRecursion (λ v. due_by t (λ x. sendings opened x before) (λ x. answers_to device x before) v.command.handle ≡ true → u.command.handle ≤ v.command.handle) l.untaken
+    all_lowest u q = each_both {R = λ (v : Untaken). due_by t (λ x. sendings opened x before) (λ x. answers_to device x before) v.command.handle ≡ true → u.command.handle ≤ v.command.handle} (λ v (a : is_due t v ≡ due_by t (λ x. sendings opened x before) (λ x. answers_to device x before) v.command.handle) (b : is_due t v ≡ true → u.command.handle ≤ v.command.handle) c. b (a ∙ c)) l.untaken same (first_lowest t l.untaken u r q)
+
+    lowest_due : (u : Untaken) → first_due t l.untaken ≡ Some u → IsLowestDue device opened t u.command.handle before
+    lowest_due u q = record {
+      due = both_are (is_untaken u.command.handle before) (due_by t (λ x. sendings opened x before) (λ x. answers_to device x before) u.command.handle)
+          (sym (g.held u.command.handle) ∙ first_held t l.untaken u q)
+          (let f = each_first (λ v. is_due t v ≡ due_by t (λ x. sendings opened x before) (λ x. answers_to device x before) v.command.handle) t l.untaken u same q in sym f.0 ∙ f.1);
+      lowest = λ x p. let b = both_true (is_untaken x before) (due_by t (λ x. sendings opened x before) (λ x. answers_to device x before) x) p in
+          each_held (λ y. due_by t (λ x. sendings opened x before) (λ x. answers_to device x before) y ≡ true → u.command.handle ≤ y) x l.untaken (all_lowest u q)
+          (g.held x ∙ b.0) b.1;
+    }
+      where
+        both_are : (a b : Bool) → a ≡ true → b ≡ true → (a && b) ≡ true
+        both_are a b p q = cc
+
+    count : (u : Untaken) → first_due t l.untaken ≡ Some u → u.times ≡ length (sendings opened u.command.handle before)
+    count u q = (each_first (λ v. IsSent s (first + length (commands before)) (commands before) (λ x. sendings opened x before) v.command v.times v.last) t l.untaken u g.are_sent q).0.count
+
+    by_times : (u : Untaken) → is_lost before ≡ false → first_due t l.untaken ≡ Some u → (b : Bool) → nat_lt u.times 20 ≡ b → cond b (GivesCommand u.command) IsLost ≡ d →
+        IsDueAnswer device opened t (due_bytes d) before (due_answer d)
+    by_times u lost q true p e = subst (λ x. IsDueAnswer device opened t (due_bytes x) before (due_answer x)) e
+        (lost, lowest_due u q, fewer u.times (length (sendings opened u.command.handle before)) (count u q) (is_below u.times 20 p))
+      where
+        fewer : (a b : ℕ) → a ≡ b → a < 20 → b < 20
+        fewer a b e p = omega arith
+    by_times u lost q false p e = subst (λ x. IsDueAnswer device opened t (due_bytes x) before (due_answer x)) e
+        (inr (u.command.handle, lowest_due u q, twenty u.times (length (sendings opened u.command.handle before)) (count u q) p (g.at_most_20 u.command.handle)), refl)
+      where
+        twenty : (a b : ℕ) → a ≡ b → nat_lt a 20 ≡ false → b ≤ 20 → b ≡ 20
+        twenty a b e p q = grind (arith, nat_tests)
+
+    by_silence : is_lost before ≡ false → first_due t l.untaken ≡ None → (b : Bool) → nat_le 2500 (t - last_given opened before) ≡ b → cond b GivesKeepAlive GivesNothing ≡ d →
+        IsDueAnswer device opened t (due_bytes d) before (due_answer d)
+    by_silence lost q true p e = subst (λ x. IsDueAnswer device opened t (due_bytes x) before (due_answer x)) e (lost, none_due q, long (last_given opened before) p, refl)
+      where
+        long : (k : ℕ) → nat_le 2500 (t - k) ≡ true → k + 2500 ≤ t
+        long k p = let q : 2500 ≤ t - k = is_at_most 2500 (t - k) p in omega arith
+    by_silence lost q false p e = subst (λ x. IsDueAnswer device opened t (due_bytes x) before (due_answer x)) e (lost, none_due q, short (last_given opened before) p, refl)
+      where
+        short : (k : ℕ) → nat_le 2500 (t - k) ≡ false → t < k + 2500
+        short k p = grind (arith, nat_tests)
+
+    by_first : is_lost before ≡ false → (o : Option Untaken) → first_due t l.untaken ≡ o → decision_among t (last_given opened before) o ≡ d → IsDueAnswer device opened t (due_bytes d) before (due_answer d)
+    by_first lost None q e = by_silence lost q (nat_le 2500 (t - last_given opened before)) refl e
+    by_first lost (Some u) q e = by_times u lost q (nat_lt u.times 20) refl e
+
+    by_lost : (b : Bool) → is_lost before ≡ b → cond b IsLost (decision_among t (last_given opened before) (first_due t l.untaken)) ≡ d → IsDueAnswer device opened t (due_bytes d) before (due_answer d)
+    by_lost true q e = subst (λ x. IsDueAnswer device opened t (due_bytes x) before (due_answer x)) e (inl q, refl)
+    by_lost false q e = by_first q (first_due t l.untaken) refl e
+
+pub record Stands (device : Peer) (first opened s : ℕ) (calls : List Call) (l : LinkState) : Type 0 where
+  pub now : Now device first opened s calls l
+  pub rests : Rests (last_given opened calls) (is_lost calls) l
+  pub dues_are : GivesWhatIsDue device opened calls
+  pub takes_are : TakesTheFirst device calls
+
+submit_rests : (device : Peer) (first opened s : ℕ) (before : List Call) (l after : LinkState) (r : Request) (now : ℕ) (a : Result Handle ControlFault) →
+    a ≡ submission r l → after ≡ after_submission (submission r l) r now l → Now device first opened s before l → Rests (last_given opened before) (is_lost before) l →
+    Rests (last_given opened before) (is_lost before) after
+submit_rests device first opened s before l after r now (Err fault) e f g q = subst (λ m. Rests (last_given opened before) (is_lost before) m) (sym (f ∙ ap (λ a. after_submission a r now l) (sym e))) q
+submit_rests device first opened s before l after r now (Ok h) e f g q =
+    subst (λ m. Rests (last_given opened before) (is_lost before) m) (sym (f ∙ ap (λ a. after_submission a r now l) (sym e)))
+    (record {
+      lost_is = q.lost_is;
+      sent_is = q.sent_is;
+      rises = rises_more l.untaken (new_untaken (command_under h.0 r)) (each_map (λ u p. older u.command u.times u.last p) l.untaken g.are_sent) q.rises;
+    })
+  where
+    older : (c : CommandFields) (times last : ℕ) → IsSent s (first + length (commands before)) (commands before) (λ x. sendings opened x before) c times last → c.handle ≤ h.0
+    older c times last p =
+        let b : c.handle < first + length (commands before) = p.below in
+        let n : end_of l.next ≡ h.0 = ap end_of (is_accepted r h l (sym e)).next in
+        let m : end_of l.next ≡ first + length (commands before) = g.next_is in
+        omega arith
+
+due_rests : (opened : ℕ) (before : List Call) (l : LinkState) (now : ℕ) (d : Decision) → present now l ≡ max (clock opened before) now → Rests (last_given opened before) (is_lost before) l →
+    Rests (last_given opened (GivesOut now (due_answer d) (due_bytes d) ∷ before)) (is_lost (GivesOut now (due_answer d) (due_bytes d) ∷ before)) (after_due d (present now l) l)
+due_rests opened before l now (GivesCommand c) e q = record { lost_is = q.lost_is; sent_is = e; rises = rises_given_out (present now l) c.handle l.untaken q.rises }
+due_rests opened before l now GivesKeepAlive e q = record { lost_is = q.lost_is; sent_is = e; rises = q.rises }
+due_rests opened before l now GivesNothing e q = record { lost_is = q.lost_is; sent_is = q.sent_is; rises = q.rises }
+due_rests opened before l now IsLost e q = record { lost_is = refl; sent_is = q.sent_is; rises = q.rises }
+
+take_rests : (last h : ℕ) (lost : Bool) (l : LinkState) → Rests last lost l → Rests last lost (taken h l)
+take_rests last h lost l q = record { lost_is = q.lost_is; sent_is = q.sent_is; rises = by_test (is_some (answer_under h l.untaken)) }
+  where
+    by_test : (b : Bool) → Rises (cond b (without_handle h l.untaken) l.untaken)
+    by_test true = rises_without h l.untaken q.rises
+    by_test false = q.rises
+
+due_stands : (device : Peer) (first opened s : ℕ) (before : List Call) (l : LinkState) (now : ℕ) → Stands device first opened s before l →
+    Stands device first opened s (GivesOut now (due_answer (decision now l)) (due_bytes (decision now l)) ∷ before) (after_due (decision now l) (present now l) l)
+due_stands device first opened s before l now g = record {
+  now = due_step device first opened s before l now (decision now l) refl g.now;
+  rests = due_rests opened before l now (decision now l) now_is g.rests;
+  dues_are = (
+    due_right device first opened s (max (clock opened before) now) before l (decision now l) g.now g.rests.rises
+        (sym (ap (λ b. cond b IsLost (decision_among (present now l) l.sent (first_due (present now l) l.untaken))) g.rests.lost_is
+        ∙ ap (λ k. cond (is_lost before) IsLost (decision_among (present now l) k (first_due (present now l) l.untaken))) g.rests.sent_is
+        ∙ ap (λ k. cond (is_lost before) IsLost (decision_among k (last_given opened before) (first_due k l.untaken))) now_is)),
+    g.dues_are,
+  );
+  takes_are = g.takes_are;
+}
+  where
+    now_is : present now l ≡ max (clock opened before) now
+    now_is = ap (λ m. max m now) g.now.moment_is
 
 step : (device : Peer) (first opened s : ℕ) (before : List Call) (l after : LinkState) (call : Call) → 0 < s → Stands device first opened s before l → IsCall l call after →
     Stands device first opened s (call ∷ before) after
-step device first opened s before l after (Submits r now a) some g c = (submit_step device first opened s before l after r now a some c.0 c.1 g.0, g.1)
-step device first opened s before l after (GivesOut now a bytes) some g c = (
-  rw (c.0, c.1, c.2) (due_step device first opened s before l now (decision now l) refl g.0),
-  g.1,
-)
-step device first opened s before l after (Receives from bytes content now a) some g c = (
-  subst (λ m. Now device first opened s (Receives from bytes content now a ∷ before) m) (sym c.2)
-      (receives device first s (clock opened before) now (commands before) (λ x. sendings opened x before) (λ x. answers_to device x before) (λ x. is_untaken x before) l from content g.0),
-  g.1,
-)
-step device first opened s before l after (Takes h a) some g c = (
-  take_step device first opened s before l after h a c.0 c.1 g.0,
-  (
-    c.0 ∙ answer_is h (λ x. answers_to device x before) l.untaken g.0.are_answered ∙ ap (λ b. cond b (first_of (answers_to device h before)) None) (g.0.held h),
-    g.1,
-  ),
-)
+step device first opened s before l after (Submits r now a) some g c = record {
+  now = submit_step device first opened s before l after r now a some c.0 c.1 g.now;
+  rests = submit_rests device first opened s before l after r now a c.0 c.1 g.now g.rests;
+  dues_are = g.dues_are;
+  takes_are = g.takes_are;
+}
+step device first opened s before l after (GivesOut now a bytes) some g c = rw (c.0, c.1, c.2) (due_stands device first opened s before l now g)
+step device first opened s before l after (Receives from bytes content now a) some g c = record {
+  now = subst (λ m. Now device first opened s (Receives from bytes content now a ∷ before) m) (sym c.2)
+      (receives device first s (clock opened before) now (commands before) (λ x. sendings opened x before) (λ x. answers_to device x before) (λ x. is_untaken x before) l from content g.now);
+  rests = subst (λ m. Rests (last_given opened before) (is_lost before) m) (sym c.2)
+      (record { lost_is = g.rests.lost_is; sent_is = g.rests.sent_is; rises = rises_received (same_peer from l.device) content l.untaken g.rests.rises });
+  dues_are = g.dues_are;
+  takes_are = g.takes_are;
+}
+step device first opened s before l after (Takes h a) some g c = record {
+  now = take_step device first opened s before l after h a c.0 c.1 g.now;
+  rests = subst (λ m. Rests (last_given opened before) (is_lost before) m) (sym c.1) (take_rests (last_given opened before) h (is_lost before) l g.rests);
+  dues_are = g.dues_are;
+  takes_are = (
+    c.0 ∙ answer_is h (λ x. answers_to device x before) l.untaken g.now.are_answered ∙ ap (λ b. cond b (first_of (answers_to device h before)) None) (g.now.held h),
+    g.takes_are,
+  );
+}
 
 stands : (device : Peer) (first opened s : ℕ) (calls : List Call) (after : LinkState) → 0 < s → IsHistory device first opened s calls after → Stands device first opened s calls after
-stands device first opened s [] after some h = (subst (λ m. Now device first opened s [] m) (sym h) (opens device first opened s), tt)
+stands device first opened s [] after some h = subst (λ m. Stands device first opened s [] m) (sym h) (record {
+  now = opens device first opened s;
+  rests = record { lost_is = refl; sent_is = refl; rises = tt };
+  dues_are = tt;
+  takes_are = tt;
+})
 stands device first opened s (call ∷ before) after some h = step device first opened s before h.0 after call some (stands device first opened s before h.0 some h.1) h.2
 
 -- a held handle lies near the next one
@@ -623,10 +877,19 @@ pub lawful : (device : Peer) (first opened span : ℕ) (calls : List Call) (afte
 lawful device first opened span calls after some h =
     let g = stands device first opened span calls after some h in
     record {
-      handles = g.0.handles;
-      copies = g.0.copies;
-      at_most_20 = g.0.at_most_20;
-      apart = g.0.apart;
-      answers = g.1;
-      within_span = λ x e. near_held span (first + length (commands calls)) x (commands calls) (λ y. sendings opened y calls) after.untaken g.0.are_sent (g.0.held x ∙ e);
+      handles = g.now.handles;
+      copies = g.now.copies;
+      at_most_20 = g.now.at_most_20;
+      apart = g.now.apart;
+      dues_are = g.dues_are;
+      answers = g.takes_are;
+      within_span = λ x e. near_held span (first + length (commands calls)) x (commands calls) (λ y. sendings opened y calls) after.untaken g.now.are_sent (g.now.held x ∙ e);
     }
+
+-- ---- what bytes hold
+
+pub one_content : OneListOfMessages → (bytes : List ℕ) (one other : Option (List Msg)) → IsContent one bytes → IsContent other bytes → one ≡ other
+one_content law bytes None None a b = refl
+one_content law bytes None (Some ms) a b = absurd (a b.0 b.1)
+one_content law bytes (Some ms) None a b = absurd (b a.0 a.1)
+one_content law bytes (Some ms) (Some ns) a b = ap Some (sym a.2 ∙ law bytes a.0 b.0 a.1 b.1 ∙ b.2)

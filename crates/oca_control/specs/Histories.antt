@@ -1,16 +1,17 @@
 -- THE LAW OF A LINK over whole histories of its calls (profile). Of calls and sendings the LATEST STANDS FIRST, so that what
 -- stands after a member (`before`) came before it. Messages and answers stand in order, the first one first. Moments are in
 -- milliseconds.
-use Rattle.std.specs.Prelude.{◌≡◌, ℕ, ◌+◌, ◌==◌, ◌<◌, ◌≤◌, max, Bool, true, false, not, ◌&&◌, ◌||◌, ⊤, if◌then◌else◌, List, [], ◌∷◌, ◌++◌, length, Option, Some, None, Result, Ok, Err}
+use Rattle.std.specs.Prelude.{◌≡◌, ◌⊎◌, ℕ, ◌+◌, ◌-◌, ◌==◌, ◌<◌, ◌≤◌, nat_le, max, Bool, true, false, not, ◌&&◌, ◌||◌, ⊤, if◌then◌else◌, List, [], ◌∷◌, ◌++◌, length, Option, Some, None, is_none, Result, Ok, Err}
 use Rattle.std.specs.List.{AllByRecursion}
 use Rattle.oca_types.specs.declared.words.Peer.{Peer}
 use Rattle.oca_types.specs.declared.words.Handle.{Handle}
 use Rattle.oca_types.specs.Peers.{CommandFields, same_peer}
-use Rattle.oca_pdu.specs.Messages.{Msg, Command, Response, KeepAlive, Commands}
+use Rattle.oca_pdu.specs.declared.message.Form.TheVariants.{Seconds}
+use Rattle.oca_pdu.specs.Messages.{Msg, Command, Response, KeepAlive, Commands, OneKeepAlive}
 use Rattle.oca_pdu.specs.Encoding.{pdu_encoding}
 use Rattle.oca_control.specs.declared.fault.ControlFault.{ControlFault}
 use Rattle.oca_control.specs.declared.due.Due.{Due}
-use Rattle.oca_control.specs.declared.due.Due.TheVariants.{Send}
+use Rattle.oca_control.specs.declared.due.Due.TheVariants as dues
 use Rattle.oca_control.specs.declared.reception.Reception.{Reception}
 use Rattle.oca_control.specs.Answers.{AnswerFields, answer_in}
 use Rattle.oca_control.specs.Contents.{IsContent}
@@ -70,7 +71,7 @@ pub record Sending : Type 0 where
 
 -- it is one of the handle h, where the link answered so
 abbrev pub sending_of : ℕ → Due → Sending → List Sending → List Sending
-sending_of h (Send handle) s before = if h == handle.0 then s ∷ before else before
+sending_of h (dues.Send handle) s before = if h == handle.0 then s ∷ before else before
 sending_of h other s before = before
 
 -- THE SENDINGS of the command under a handle, the latest first.
@@ -118,6 +119,45 @@ is_untaken h (Receives from bytes content now answer ∷ before) = is_untaken h 
 is_untaken h (Takes x (Some answer) ∷ before) = not (x == h) && is_untaken h before
 is_untaken h (Takes x None ∷ before) = is_untaken h before
 
+-- a command has rested where it was never given out, or last 250 ms before t or earlier
+abbrev pub has_rested : ℕ → List Sending → Bool
+has_rested t [] = true
+has_rested t (s ∷ before) = nat_le 250 (t - s.at)
+
+-- A handle is DUE at t while it is untaken, no answer came to it, and its command has rested.
+abbrev pub is_due_at : Peer → ℕ → ℕ → ℕ → List Call → Bool
+is_due_at device opened t h before =
+    is_untaken h before && (is_none (first_of (answers_to device h before)) && has_rested t (sendings opened h before))
+
+-- a command or a keep-alive was given out at t, or nothing was since the last time
+abbrev pub given_at : ℕ → Due → ℕ → ℕ
+given_at t (dues.Send h) last = t
+given_at t dues.KeepAlive last = t
+given_at t dues.Nothing last = last
+given_at t dues.Lost last = last
+
+-- THE LAST MOMENT when a command or a keep-alive was given out, and at first that of the opening.
+abbrev pub last_given : ℕ → List Call → ℕ
+last_given opened [] = opened
+last_given opened (GivesOut now answer bytes ∷ before) = given_at (max (clock opened before) now) answer (last_given opened before)
+last_given opened (Submits request now answer ∷ before) = last_given opened before
+last_given opened (Receives from bytes content now answer ∷ before) = last_given opened before
+last_given opened (Takes h answer ∷ before) = last_given opened before
+
+abbrev pub says_lost : Due → Bool
+says_lost (dues.Send h) = false
+says_lost dues.KeepAlive = false
+says_lost dues.Nothing = false
+says_lost dues.Lost = true
+
+-- A link is LOST once it answered so.
+abbrev pub is_lost : List Call → Bool
+is_lost [] = false
+is_lost (GivesOut now answer bytes ∷ before) = says_lost answer || is_lost before
+is_lost (Submits request now answer ∷ before) = is_lost before
+is_lost (Receives from bytes content now answer ∷ before) = is_lost before
+is_lost (Takes h answer ∷ before) = is_lost before
+
 -- ---- THE LAW
 
 -- HANDLES are given once and rise by one: each is the first handle plus the number of the commands before it.
@@ -146,12 +186,45 @@ TakesTheFirst device (Submits request now answer ∷ before) = TakesTheFirst dev
 TakesTheFirst device (GivesOut now answer bytes ∷ before) = TakesTheFirst device before
 TakesTheFirst device (Receives from bytes content now answer ∷ before) = TakesTheFirst device before
 
+-- the lowest handle that is due at t
+pub record IsLowestDue (device : Peer) (opened t h : ℕ) (before : List Call) : Type 0 where
+  pub due : is_due_at device opened t h before ≡ true
+  pub lowest : (x : ℕ) → is_due_at device opened t x before ≡ true → h ≤ x
+
+abbrev pub NoneIsDue : Peer → ℕ → ℕ → List Call → Type 0
+NoneIsDue device opened t before = (x : ℕ) → is_due_at device opened t x before ≡ false
+
+-- the lowest due command was given out 20 times
+abbrev pub IsLostNow : Peer → ℕ → ℕ → List Call → Type 0
+IsLostNow device opened t before = (h : ℕ) × IsLowestDue device opened t h before × (length (sendings opened h before) ≡ 20)
+
+-- What `due` answers at t. A command: the lowest due one, which was given out less than 20 times. A keep-alive of 5 seconds: none is
+-- due, and nothing was given out for 2,500 ms. Nothing: none is due. Lost: the link is lost now, or it was.
+abbrev pub IsDueAnswer : Peer → ℕ → ℕ → List ℕ → List Call → Due → Type 0
+IsDueAnswer device opened t bytes before (dues.Send h) =
+    (is_lost before ≡ false) × IsLowestDue device opened t h.0 before × (length (sendings opened h.0 before) < 20)
+IsDueAnswer device opened t bytes before dues.KeepAlive =
+    (is_lost before ≡ false) × NoneIsDue device opened t before × (last_given opened before + 2500 ≤ t) × (bytes ≡ pdu_encoding (OneKeepAlive (Seconds 5)))
+IsDueAnswer device opened t bytes before dues.Nothing =
+    (is_lost before ≡ false) × NoneIsDue device opened t before × (t < last_given opened before + 2500) × (bytes ≡ [])
+IsDueAnswer device opened t bytes before dues.Lost = ((is_lost before ≡ true) ⊎ IsLostNow device opened t before) × (bytes ≡ [])
+
+-- EACH DUE gives that, at the clock.
+abbrev pub GivesWhatIsDue : Peer → ℕ → List Call → Type 0
+GivesWhatIsDue device opened [] = ⊤
+GivesWhatIsDue device opened (GivesOut now answer bytes ∷ before) =
+    IsDueAnswer device opened (max (clock opened before) now) bytes before answer × GivesWhatIsDue device opened before
+GivesWhatIsDue device opened (Submits request now answer ∷ before) = GivesWhatIsDue device opened before
+GivesWhatIsDue device opened (Receives from bytes content now answer ∷ before) = GivesWhatIsDue device opened before
+GivesWhatIsDue device opened (Takes h answer ∷ before) = GivesWhatIsDue device opened before
+
 -- THE CALLS of a link to a device that was opened at a moment, with a first handle and a span.
 pub record IsLawful (device : Peer) (first opened span : ℕ) (calls : List Call) : Type 0 where
   pub handles : RiseFrom first (commands calls)
   pub copies : (h : ℕ) → AllByRecursion (λ s. IsCopy h (commands calls) s.bytes) (sendings opened h calls)
   pub at_most_20 : (h : ℕ) → length (sendings opened h calls) ≤ 20
   pub apart : (h : ℕ) → AreApart (sendings opened h calls)
+  pub dues_are : GivesWhatIsDue device opened calls
   pub answers : TakesTheFirst device calls
   -- the next handle, which is the first one plus the number of accepted commands, lies within the span above each untaken one
   pub within_span : (h : ℕ) → is_untaken h calls ≡ true → first + length (commands calls) ≤ h + span
@@ -161,3 +234,7 @@ abbrev pub EveryHistoryIsLawful : Type 0
 EveryHistoryIsLawful =
     (device : Peer) (first opened span : ℕ) (calls : List Call) (after : LinkState) → 0 < span → IsHistory device first opened span calls after →
     IsLawful device first opened span calls
+
+-- Bytes have one content: a history says what was received by the bytes alone.
+abbrev pub BytesHaveOneContent : Type 0
+BytesHaveOneContent = (bytes : List ℕ) (one other : Option (List Msg)) → IsContent one bytes → IsContent other bytes → one ≡ other

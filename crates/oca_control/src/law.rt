@@ -1,11 +1,18 @@
-//! The law of a link, over whole histories. Nothing here runs: the contract is the law.
-ghost use Rattle.oca_control.specs.Histories.{EveryHistoryIsLawful};
+//! The law of a link, over whole histories. Nothing here runs: the contracts are the law.
+ghost use Rattle.oca_control.specs.Histories.{EveryHistoryIsLawful, BytesHaveOneContent};
+
+use oca_pdu::law_one_list_of_messages;
 
 /// Over every list of calls of a link: each accepted command gets a handle of its own, and they rise by one from the first. What is
 /// given out for a handle is the same bytes each time, a PDU of type 1 with its command alone; at most 20 times, and at least 250 ms
-/// apart by the greatest moment so far. A take of an untaken handle gives the first answer that came to it in a well-formed datagram
-/// of the device since its submit, and nothing where none came. The next handle is at most an untaken one plus the span. With the
-/// clauses of [`Link`](crate::Link) this is a promise of every run of a link.
+/// apart by the clock, which is the greatest moment so far. `due` gives the lowest handle that is untaken and unanswered and has
+/// rested for 250 ms, or a keep-alive after 2,500 ms, or nothing; and the link is lost exactly where that handle was given out 20
+/// times. A take of an untaken handle gives the first answer that came to it in a well-formed datagram of the device since its
+/// submit, and nothing where none came. The next handle is at most an untaken one plus the span. With the clauses of
+/// [`Link`](crate::Link) this is a promise of every run of a link. And bytes have one content alone.
 pub fn law_of_histories()
-    ensures { EveryHistoryIsLawful }
-{}
+    ensures law { EveryHistoryIsLawful }
+    ensures content { BytesHaveOneContent }
+{
+    law_one_list_of_messages();
+}
