@@ -17,7 +17,7 @@ use Rattle.oca_control.specs.Answers.{AnswerFields, answer_in}
 use Rattle.oca_control.specs.Contents.{IsContent}
 use Rattle.oca_control.specs.Untaken.{Untaken, new_untaken, has_room, is_due, first_due, given_out, answered, hears_all, answer_under, without_handle, holds}
 use Rattle.oca_control.specs.Links.{LinkState, Request, new_link, present, command_under, most_params, submission, submission_under, after_submission, handle_after, Decision, GivesCommand, GivesKeepAlive, GivesNothing, IsLost, decision, decision_among, due_answer, due_bytes, after_due, hears_content, received, taken}
-use Rattle.oca_control.specs.Histories.{Call, Submits, GivesOut, Receives, Takes, IsCall, IsHistory, clock, commands, command_of, Sending, sendings, answers_in, answers_of, answers_to, first_of, is_untaken, has_rested, last_given, is_lost, RiseFrom, IsCopy, AreApart, TakesTheFirst, IsLowestDue, NoneIsDue, IsDueAnswer, GivesWhatIsDue, IsLawful}
+use Rattle.oca_control.specs.Histories.{Call, Submits, GivesOut, Receives, Takes, IsCall, IsHistory, clock, commands, command_of, Sending, sendings, answers_in, answers_of, answers_to, first_of, is_untaken, has_rested, last_given, is_lost, RiseFrom, IsCopy, AreApart, TakesTheFirst, IsLowestDue, NoneIsDue, HasRoom, IsFull, IsSubmitAnswer, AnswersSubmits, IsDueAnswer, GivesWhatIsDue, IsLawful}
 
 -- ---- numbers, tests and lists
 
@@ -860,6 +860,124 @@ stands device first opened s [] after some h = subst (λ m. Stands device first 
 })
 stands device first opened s (call ∷ before) after some h = step device first opened s before h.0 after call some (stands device first opened s before h.0 some h.1) h.2
 
+-- ---- what a submit answers
+
+abbrev pub Fits32 : Option ℕ → Type 0
+Fits32 None = Unit {0}
+Fits32 (Some n) = n ≤ 4294967295
+
+fits_after : (h : ℕ) → h ≤ 4294967295 → Fits32 (handle_after h)
+fits_after h p = by_test (nat_eq h 4294967295) refl
+  where
+    further : nat_eq h 4294967295 ≡ false → h + 1 ≤ 4294967295
+    further q = grind (arith, nat_tests)
+
+    by_test : (b : Bool) → nat_eq h 4294967295 ≡ b → Fits32 (cond b None (Some (h + 1)))
+    by_test true q = tt
+    by_test false q = further q
+
+-- room, or one without
+no_room : (s n : ℕ) (us : List Untaken) → has_room s n us ≡ false → (x : ℕ) × (holds x us ≡ true) × (x + s ≤ n)
+no_room s n [] e = cc
+no_room s n (u ∷ us) e = by_test (nat_lt n (u.command.handle + s)) refl e (no_room s n us)
+  where
+    far : (a : ℕ) → nat_lt n (a + s) ≡ false → a + s ≤ n
+    far a q = grind (arith, nat_tests)
+
+    or_true : (b : Bool) → (b || true) ≡ true
+    or_true true = refl
+    or_true false = refl
+
+    by_test : (b : Bool) → nat_lt n (u.command.handle + s) ≡ b → (b && has_room s n us) ≡ false → (has_room s n us ≡ false → (x : ℕ) × (holds x us ≡ true) × (x + s ≤ n)) →
+        (x : ℕ) × ((eqb u.command.handle x || holds x us) ≡ true) × (x + s ≤ n)
+    by_test true q e rest = let r = rest e in (r.0, ap (λ b. eqb u.command.handle r.0 || b) r.1 ∙ or_true (eqb u.command.handle r.0), r.2)
+    by_test false q e rest = (u.command.handle, ap (λ b. b || holds u.command.handle us) (equal_self u.command.handle), far u.command.handle q)
+
+submit_right : (device : Peer) (first opened s : ℕ) (before : List Call) (l : LinkState) (r : Request) (a : Result Handle ControlFault) → Now device first opened s before l →
+    l.lost ≡ is_lost before → Fits32 l.next → submission r l ≡ a → IsSubmitAnswer s (first + length (commands before)) (length r.params) before a
+submit_right device first opened s before l r a g lost fits e = by_lost l.lost lost e
+  where
+    room_of : (k : ℕ) → k ≡ first + length (commands before) → has_room l.span k l.untaken ≡ true → HasRoom s (first + length (commands before)) before
+    room_of k n q x p = each_held (λ y. first + length (commands before) < y + s) x l.untaken
+        (each_map (λ u (w : k < u.command.handle + l.span). nearer u.command.handle (first + length (commands before)) l.span w n g.span_is) l.untaken (room_each l.span k l.untaken q))
+        (g.held x ∙ p)
+      where
+        nearer : (y m sp : ℕ) → k < y + sp → k ≡ m → sp ≡ s → m < y + s
+        nearer y m sp w n e = omega arith
+
+    full_of : (k : ℕ) → k ≡ first + length (commands before) → has_room l.span k l.untaken ≡ false → IsFull s (first + length (commands before)) before
+    full_of k n q = let f = no_room l.span k l.untaken q in (f.0, sym (g.held f.0) ∙ f.1, further f.0 l.span (first + length (commands before)) f.2 n g.span_is)
+      where
+        further : (y sp m : ℕ) → y + sp ≤ k → k ≡ m → sp ≡ s → y + s ≤ m
+        further y sp m w n e = omega arith
+
+    low : (k m : ℕ) → k ≤ 4294967295 → k ≡ m → m ≤ 4294967295
+    low k m p q = omega arith
+
+    by_length : is_lost before ≡ false → (k : ℕ) → k ≡ first + length (commands before) → k ≤ 4294967295 → has_room l.span k l.untaken ≡ true →
+        (b : Bool) → nat_lt most_params (length r.params) ≡ b → cond b (Err faults.TooLong) (Ok (let h : Handle = record { 0 = k } in h)) ≡ a →
+        IsSubmitAnswer s (first + length (commands before)) (length r.params) before a
+    by_length q k n f room true p e = subst (λ x. IsSubmitAnswer s (first + length (commands before)) (length r.params) before x) e
+        (q, low k (first + length (commands before)) f n, room_of k n room, is_below 1445 (length r.params) p)
+    by_length q k n f room false p e = subst (λ x. IsSubmitAnswer s (first + length (commands before)) (length r.params) before x) e
+        (q, n, low k (first + length (commands before)) f n, room_of k n room, short (length r.params) p)
+      where
+        short : (m : ℕ) → nat_lt 1445 m ≡ false → m ≤ 1445
+        short m p = grind (arith, nat_tests)
+
+    by_room : is_lost before ≡ false → (k : ℕ) → k ≡ first + length (commands before) → k ≤ 4294967295 → (b : Bool) → has_room l.span k l.untaken ≡ b →
+        cond b (cond (nat_lt most_params (length r.params)) (Err faults.TooLong) (Ok (let h : Handle = record { 0 = k } in h))) (Err faults.SpanFull) ≡ a →
+        IsSubmitAnswer s (first + length (commands before)) (length r.params) before a
+    by_room q k n f true p e = by_length q k n f p (nat_lt most_params (length r.params)) refl e
+    by_room q k n f false p e = subst (λ x. IsSubmitAnswer s (first + length (commands before)) (length r.params) before x) e
+        (q, low k (first + length (commands before)) f n, full_of k n p)
+
+    by_next : is_lost before ≡ false → (o : Option ℕ) → end_of o ≡ first + length (commands before) → Fits32 o → submission_under r o l ≡ a →
+        IsSubmitAnswer s (first + length (commands before)) (length r.params) before a
+    by_next q None n f e = subst (λ x. IsSubmitAnswer s (first + length (commands before)) (length r.params) before x) e (q, spent (first + length (commands before)) n)
+      where
+        spent : (m : ℕ) → 4294967296 ≡ m → 4294967295 < m
+        spent m n = omega arith
+    by_next q (Some k) n f e = by_room q k n f (has_room l.span k l.untaken) refl e
+
+    by_lost : (b : Bool) → b ≡ is_lost before → cond b (Err faults.Lost) (submission_under r l.next l) ≡ a → IsSubmitAnswer s (first + length (commands before)) (length r.params) before a
+    by_lost true q e = subst (λ x. IsSubmitAnswer s (first + length (commands before)) (length r.params) before x) e (sym q)
+    by_lost false q e = by_next (sym q) l.next g.next_is fits e
+
+-- the next handle has 32 bits, and so each submit answers what it must
+pub record Fit (first s : ℕ) (calls : List Call) (l : LinkState) : Type 0 where
+  pub next : Fits32 l.next
+  pub submits_are : AnswersSubmits first s calls
+
+fit_submit : (r : Request) (now : ℕ) (l : LinkState) (a : Result Handle ControlFault) → submission r l ≡ a → Fits32 l.next → Fits32 (after_submission a r now l).next
+fit_submit r now l (Err fault) e f = f
+fit_submit r now l (Ok h) e f = fits_after h.0 (subst Fits32 (is_accepted r h l e).next f)
+
+fit_due : (d : Decision) (t : ℕ) (l : LinkState) → Fits32 l.next → Fits32 (after_due d t l).next
+fit_due (GivesCommand c) t l f = f
+fit_due GivesKeepAlive t l f = f
+fit_due GivesNothing t l f = f
+fit_due IsLost t l f = f
+
+fit : (device : Peer) (first opened s : ℕ) (calls : List Call) (after : LinkState) → 0 < s → first ≤ 4294967295 → IsHistory device first opened s calls after → Fit first s calls after
+fit device first opened s [] after some low h = record { next = subst (λ (m : LinkState). Fits32 m.next) (sym h) low; submits_are = tt }
+fit device first opened s (Submits r now a ∷ before) after some low h =
+    let f = fit device first opened s before h.0 some low h.1 in
+    let g = stands device first opened s before h.0 some h.1 in
+    record {
+      next = subst (λ (m : LinkState). Fits32 m.next) (sym h.2.1) (fit_submit r now h.0 (submission r h.0) refl f.next);
+      submits_are = (submit_right device first opened s before h.0 r a g.now g.rests.lost_is f.next (sym h.2.0), f.submits_are);
+    }
+fit device first opened s (GivesOut now a bytes ∷ before) after some low h =
+    let f = fit device first opened s before h.0 some low h.1 in
+    record { next = subst (λ (m : LinkState). Fits32 m.next) (sym h.2.2) (fit_due (decision now h.0) (present now h.0) h.0 f.next); submits_are = f.submits_are }
+fit device first opened s (Receives from bytes content now a ∷ before) after some low h =
+    let f = fit device first opened s before h.0 some low h.1 in
+    record { next = subst (λ (m : LinkState). Fits32 m.next) (sym h.2.2) f.next; submits_are = f.submits_are }
+fit device first opened s (Takes x a ∷ before) after some low h =
+    let f = fit device first opened s before h.0 some low h.1 in
+    record { next = subst (λ (m : LinkState). Fits32 m.next) (sym h.2.1) f.next; submits_are = f.submits_are }
+
 -- a held handle lies near the next one
 near_held : (s n h : ℕ) (accepted : List CommandFields) (sent : ℕ → List Sending) (us : List Untaken) → AreSent s n accepted sent us → holds h us ≡ true → n ≤ h + s
 near_held s n h accepted sent [] p e = cc
@@ -878,6 +996,7 @@ lawful device first opened span calls after some h =
     let g = stands device first opened span calls after some h in
     record {
       handles = g.now.handles;
+      submits_are = λ low. (fit device first opened span calls after some low h).submits_are;
       copies = g.now.copies;
       at_most_20 = g.now.at_most_20;
       apart = g.now.apart;

@@ -10,6 +10,7 @@ use Rattle.oca_pdu.specs.declared.message.Form.TheVariants.{Seconds}
 use Rattle.oca_pdu.specs.Messages.{Msg, Command, Response, KeepAlive, Commands, OneKeepAlive}
 use Rattle.oca_pdu.specs.Encoding.{pdu_encoding}
 use Rattle.oca_control.specs.declared.fault.ControlFault.{ControlFault}
+use Rattle.oca_control.specs.declared.fault.ControlFault.TheVariants as faults
 use Rattle.oca_control.specs.declared.due.Due.{Due}
 use Rattle.oca_control.specs.declared.due.Due.TheVariants as dues
 use Rattle.oca_control.specs.declared.reception.Reception.{Reception}
@@ -165,6 +166,31 @@ abbrev pub RiseFrom : ℕ → List CommandFields → Type 0
 RiseFrom first [] = ⊤
 RiseFrom first (c ∷ before) = (c.handle ≡ first + length before) × RiseFrom first before
 
+-- the next handle lies below each untaken one plus the span; or not below one of them
+abbrev pub HasRoom : ℕ → ℕ → List Call → Type 0
+HasRoom span n before = (x : ℕ) → is_untaken x before ≡ true → n < x + span
+
+abbrev pub IsFull : ℕ → ℕ → List Call → Type 0
+IsFull span n before = (x : ℕ) × (is_untaken x before ≡ true) × (x + span ≤ n)
+
+-- What `submit` answers, n being the next handle and k the number of parameter bytes: the handle; or that the link is lost; or that no
+-- handle is left; or that the span is full; or that the parameters are too long.
+abbrev pub IsSubmitAnswer : ℕ → ℕ → ℕ → List Call → Result Handle ControlFault → Type 0
+IsSubmitAnswer span n k before (Ok h) = (is_lost before ≡ false) × (h.0 ≡ n) × (n ≤ 4294967295) × HasRoom span n before × (k ≤ 1445)
+IsSubmitAnswer span n k before (Err faults.Lost) = is_lost before ≡ true
+IsSubmitAnswer span n k before (Err faults.HandlesSpent) = (is_lost before ≡ false) × (4294967295 < n)
+IsSubmitAnswer span n k before (Err faults.SpanFull) = (is_lost before ≡ false) × (n ≤ 4294967295) × IsFull span n before
+IsSubmitAnswer span n k before (Err faults.TooLong) = (is_lost before ≡ false) × (n ≤ 4294967295) × HasRoom span n before × (1445 < k)
+
+-- EACH SUBMIT answers that.
+abbrev pub AnswersSubmits : ℕ → ℕ → List Call → Type 0
+AnswersSubmits first span [] = ⊤
+AnswersSubmits first span (Submits request now answer ∷ before) =
+    IsSubmitAnswer span (first + length (commands before)) (length request.params) before answer × AnswersSubmits first span before
+AnswersSubmits first span (GivesOut now answer bytes ∷ before) = AnswersSubmits first span before
+AnswersSubmits first span (Receives from bytes content now answer ∷ before) = AnswersSubmits first span before
+AnswersSubmits first span (Takes h answer ∷ before) = AnswersSubmits first span before
+
 -- A COPY: bytes that are a PDU of type 1 with the command of the handle alone (AES70-3). So all copies of a handle are the same.
 pub record IsCopy (h : ℕ) (accepted : List CommandFields) (bytes : List ℕ) : Type 0 where
   pub command : CommandFields
@@ -221,6 +247,7 @@ GivesWhatIsDue device opened (Takes h answer ∷ before) = GivesWhatIsDue device
 -- THE CALLS of a link to a device that was opened at a moment, with a first handle and a span.
 pub record IsLawful (device : Peer) (first opened span : ℕ) (calls : List Call) : Type 0 where
   pub handles : RiseFrom first (commands calls)
+  pub submits_are : first ≤ 4294967295 → AnswersSubmits first span calls
   pub copies : (h : ℕ) → AllByRecursion (λ s. IsCopy h (commands calls) s.bytes) (sendings opened h calls)
   pub at_most_20 : (h : ℕ) → length (sendings opened h calls) ≤ 20
   pub apart : (h : ℕ) → AreApart (sendings opened h calls)
