@@ -1,4 +1,4 @@
--- THE LAW OF A LINK over whole histories of its calls (profile). Of calls and sendings the LATEST STANDS FIRST, so that what
+-- THE LAW OF A LINK over whole histories of its calls (profile). Of calls, commands and sendings the LATEST STANDS FIRST, so that what
 -- stands after a member (`before`) came before it. Messages and answers stand in order, the first one first. Moments are in
 -- milliseconds.
 use Rattle.std.specs.Prelude.{◌≡◌, ◌⊎◌, ℕ, ◌+◌, ◌-◌, ◌==◌, ◌<◌, ◌≤◌, nat_le, max, Bool, true, false, not, ◌&&◌, ◌||◌, ⊤, if◌then◌else◌, List, [], ◌∷◌, ◌++◌, length, Option, Some, None, is_none, Result, Ok, Err}
@@ -247,6 +247,7 @@ GivesWhatIsDue device opened (Takes h answer ∷ before) = GivesWhatIsDue device
 -- THE CALLS of a link to a device that was opened at a moment, with a first handle and a span.
 pub record IsLawful (device : Peer) (first opened span : ℕ) (calls : List Call) : Type 0 where
   pub handles : RiseFrom first (commands calls)
+  -- each first handle has 32 bits
   pub submits_are : first ≤ 4294967295 → AnswersSubmits first span calls
   pub copies : (h : ℕ) → AllByRecursion (λ s. IsCopy h (commands calls) s.bytes) (sendings opened h calls)
   pub at_most_20 : (h : ℕ) → length (sendings opened h calls) ≤ 20
@@ -256,7 +257,7 @@ pub record IsLawful (device : Peer) (first opened span : ℕ) (calls : List Call
   -- the next handle, which is the first one plus the number of accepted commands, lies within the span above each untaken one
   pub within_span : (h : ℕ) → is_untaken h calls ≡ true → first + length (commands calls) ≤ h + span
 
--- THE LAW holds of every history of a link whose span is not 0.
+-- THE LAW holds of every history of a link whose span is not 0, as no span is.
 abbrev pub EveryHistoryIsLawful : Type 0
 EveryHistoryIsLawful =
     (device : Peer) (first opened span : ℕ) (calls : List Call) (after : LinkState) → 0 < span → IsHistory device first opened span calls after →
