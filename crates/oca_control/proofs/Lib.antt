@@ -1,3 +1,4 @@
+pub mod Histories
 pub mod Places
 pub mod Tables
 pub mod Views

@@ -6,6 +6,7 @@ pub mod Contents
 pub mod Untaken
 pub mod Links
 pub mod Steps
+pub mod Histories
 pub mod Driving
 pub mod PrivateSlots
 pub mod PrivateDriving
