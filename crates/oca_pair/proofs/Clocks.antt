@@ -1,8 +1,7 @@
 -- When datagrams of a peer came, and whether the device knows the peer.
-use Rattle.std.proofs.Common.{◌≡◌, ℕ, ◌+◌, ◌-◌, ◌<◌, ◌≤◌, ◌≢◌, Bool, true, false, cond, List, [], ◌∷◌, ◌++◌, length, Option, Some, None, refl, sym, ap, ◌∙◌, arith, append_assoc, ◌⊎◌, inl, inr}
-use Rattle.std.specs.Prelude.{nat_eq, nat_lt, nat_le, max, not, ◌&&◌, ◌||◌, map, filter, Result, Ok, Err}
-use Rattle.std.specs.List.{list_any, AllByRecursion}
-use Rattle.std.proofs.lemmas.Bool.Decides.{nat_tests}
+use Rattle.std.proofs.Common.{◌≡◌, ℕ, ◌+◌, Bool, true, false, cond, List, [], ◌∷◌, ◌++◌, refl, sym, ap, ◌∙◌, append_assoc}
+use Rattle.std.specs.Prelude.{max, Result, Ok, Err}
+use Rattle.std.specs.List.{AllByRecursion}
 use Rattle.oca_types.specs.declared.words.Peer.{Peer}
 use Rattle.oca_types.specs.Peers.{same_peer, CommandFields}
 use Rattle.oca_pdu.specs.declared.fault.PduFault.{PduFault}
@@ -11,11 +10,11 @@ use Rattle.oca_pdu.specs.Reading.{read_datagram}
 use Rattle.oca_tree.specs.declared.object.Object.{Object}
 use Rattle.oca_session.specs.Accepted.{Judgement, Fresh, Duplicate, Reused, Old}
 use Rattle.oca_device.specs.Events.{Event, Datagram, Tick, clock_after}
-use Rattle.oca_device.specs.Notes.{Noted, Admitted, Heartbeat, Executed, Note, notes_of, is_within, unbroken, run, is_known}
-use Rattle.oca_device.specs.States.{State, noted, moved_to, admits, judged_in, reply_of, after_command, after_message, after_messages, after_reading, after_event, state_after, time_of}
+use Rattle.oca_device.specs.Notes.{Noted, Admitted, Heartbeat, Executed, Note, notes_of, is_within}
+use Rattle.oca_device.specs.States.{State, noted, moved_to, admits, judged_in, reply_of, after_command, after_message, after_messages, after_reading, state_after, time_of}
 use Rattle.oca_pair.specs.Premises.{moments_of, is_soon_after, are_close, KeepsItsSession}
 use Rattle.oca_pair.proofs.Core.{each_append}
-use Rattle.oca_pair.proofs.Lists.{both_true, same_self, same_is, same_of, other_of, differs}
+use Rattle.oca_pair.proofs.Lists.{both_true, same_self}
 
 -- ---- the clock
 

@@ -1,38 +1,38 @@
 -- What holds of one link, when its own datagram comes to the device, and when the link does something.
-use Rattle.std.proofs.Common.{append-nil, ◌≡◌, ℕ, ◌+◌, ◌-◌, ◌^◌, ◌<◌, ◌≤◌, ◌≢◌, Bool, true, false, cond, List, [], ◌∷◌, ◌++◌, length, Option, Some, None, refl, sym, ap, ◌∙◌, arith, zero, suc, ◌⊎◌, inl, inr}
-use Rattle.std.specs.Prelude.{nat_eq, nat_lt, nat_le, max, not, ◌&&◌, ◌||◌, map, filter, is_some, is_none, Result, Ok, Err}
-use Rattle.std.specs.List.{list_any, list_all, AllByRecursion}
+use Rattle.std.proofs.Common.{append-nil, ◌≡◌, ℕ, ◌+◌, ◌-◌, ◌^◌, ◌<◌, ◌≤◌, Bool, true, false, cond, List, [], ◌∷◌, ◌++◌, length, Option, Some, None, refl, sym, ap, ◌∙◌, arith, inl, inr}
+use Rattle.std.specs.Prelude.{nat_eq, nat_lt, nat_le, max, not, ◌&&◌, map, is_some, is_none, Result, Ok, Err}
+use Rattle.std.specs.List.{AllByRecursion}
 use Rattle.std.proofs.lemmas.Bool.Decides.{nat_tests}
 use Rattle.oca_types.specs.declared.words.Peer.{Peer}
 use Rattle.oca_types.specs.declared.words.Handle.{Handle}
 use Rattle.oca_types.specs.declared.words.Reply.{Reply}
 use Rattle.oca_types.specs.Peers.{same_peer, CommandFields}
-use Rattle.oca_pdu.specs.declared.message.Form.TheVariants.{Seconds, Millis}
-use Rattle.oca_pdu.specs.Messages.{ResponseFields, Msg, Command, Response, KeepAlive, Commands, Responses, OneKeepAlive}
-use Rattle.oca_pdu.specs.Encoding.{pdu_encoding, ResponseFits, CommandFits}
+use Rattle.oca_pdu.specs.declared.message.Form.TheVariants.{Seconds}
+use Rattle.oca_pdu.specs.Messages.{ResponseFields, Msg, Command, Response, KeepAlive, Commands, OneKeepAlive}
+use Rattle.oca_pdu.specs.Encoding.{pdu_encoding, ResponseFits}
 use Rattle.oca_pdu.specs.Reading.{read_datagram}
 use Rattle.oca_pdu.specs.Laws.{WrittenIsReadBack}
 use Rattle.oca_tree.specs.declared.object.Object.{Object}
-use Rattle.oca_session.specs.Accepted.{Entry, window, entry_under, Judgement, Fresh, Duplicate, Reused, Old, judgement}
-use Rattle.oca_device.specs.Events.{Event, Datagram, Tick}
-use Rattle.oca_device.specs.Notes.{Noted, Admitted, Heartbeat, Executed, Note, notes_of, run, accepted}
-use Rattle.oca_device.specs.States.{State, noted, moved_to, admits, judged_in, reply_of, after_command, after_message, after_messages, after_reading, time_of}
+use Rattle.oca_session.specs.Accepted.{window, Judgement, Fresh, Duplicate, Reused, Old}
+use Rattle.oca_device.specs.Events.{Event, Datagram}
+use Rattle.oca_device.specs.Notes.{Admitted, Heartbeat, Executed, Note, run, accepted}
+use Rattle.oca_device.specs.States.{State, noted, moved_to, admits, judged_in, reply_of, after_command, after_message, after_reading, time_of}
 use Rattle.oca_device.specs.Answers.{response, answer_to_command, answers_to_messages, answers_to_reading, packets_of, packets}
 use Rattle.oca_control.specs.Answers.{AnswerFields, answer_in}
-use Rattle.oca_control.specs.Untaken.{Untaken, new_untaken, has_room, is_due, first_due, given_out, waits, answered, hears, answer_under, without_handle}
+use Rattle.oca_control.specs.Untaken.{Untaken, new_untaken, has_room, is_due, first_due, given_out, answered, answer_under, without_handle}
 use Rattle.oca_control.specs.declared.fault.ControlFault.{ControlFault}
 use Rattle.oca_control.specs.declared.fault.ControlFault.TheVariants as faults
-use Rattle.oca_control.specs.Links.{LinkState, Request, command_under, submission_under, submission, handle_after, after_submission, submitted, Decision, GivesCommand, GivesKeepAlive, GivesNothing, IsLost, decision_among, decision, due_bytes, after_due, gone_on, hears_content, received, taken, present}
+use Rattle.oca_control.specs.Links.{LinkState, Request, command_under, submission_under, submission, handle_after, after_submission, submitted, Decision, GivesCommand, GivesKeepAlive, GivesNothing, IsLost, decision_among, decision, after_due, gone_on, hears_content, received, taken, present}
 use Rattle.oca_pair.specs.Networks.{SentDatagram, SubmittedCommand, TakenAnswer, device_address}
-use Rattle.oca_pair.specs.Steps.{sendings, submitted_by, given_by, messages_read, content_of, taken_by}
+use Rattle.oca_pair.specs.Steps.{sendings, submitted_by, given_by, content_of, taken_by}
 use Rattle.oca_pair.specs.Premises.{RequestFits}
-use Rattle.oca_pair.specs.Laws.{IsIn, Execution, executed_in, executed_for, answer_of, response_to, WasSubmitted}
-use Rattle.oca_pair.proofs.Core.{each_map, each_append, has}
-use Rattle.oca_pair.proofs.Lists.{in_more, in_behind, in_parts, in_last, each_in, same_self, same_is, same_of, equal_is, both_true}
+use Rattle.oca_pair.specs.Laws.{IsIn, Execution, executed_for, answer_of, response_to, WasSubmitted}
+use Rattle.oca_pair.proofs.Core.{each_map, each_append}
+use Rattle.oca_pair.proofs.Lists.{in_parts, in_last, each_in, same_self, equal_is}
 use Rattle.oca_pair.proofs.Wire.{IsSendable, read_command, read_keep_alive, read_response}
 use Rattle.oca_pair.proofs.Fitting.{reply_fits}
-use Rattle.oca_pair.proofs.Truths.{Past, and_then, and_submitted, state_of, IsHonest, IsTrueAnswer, honest_then, true_then, IsOwn, IsExecuted, window_executed}
-use Rattle.oca_pair.proofs.Fair.{end_of, NextFits, IsOut, IsBack, IsHeld, IsFair, AreSendable, AreUnique, AreOwn, Fair, fair_more, fair_then, owns_then, judged_fresh, judged_duplicate}
+use Rattle.oca_pair.proofs.Truths.{Past, and_then, and_submitted, state_of, IsHonest, IsTrueAnswer, window_executed}
+use Rattle.oca_pair.proofs.Fair.{end_of, NextFits, IsOut, IsBack, IsHeld, IsFair, AreSendable, AreUnique, AreOwn, Fair, fair_more, fair_then, owns_then, judged_duplicate}
 
 -- ---- a datagram of the link itself
 

@@ -1,6 +1,5 @@
 -- A schedule with loss, repeats and overtaking, of which the laws speak: it meets all that they ask.
-use Rattle.std.proofs.Common.{◌≡◌, ℕ, ◌*◌, ◌+◌, ◌<◌, ◌≤◌, Bool, true, false, List, [], ◌∷◌, ◌++◌, length, Option, Some, None, refl, lit<, lit≤, inl, inr}
-use Rattle.std.specs.List.{slice_get}
+use Rattle.std.proofs.Common.{ℕ, ◌<◌, ◌≤◌, true, false, List, [], ◌∷◌, Some, None, refl, lit<, lit≤, inl, inr}
 use Rattle.oca_types.specs.declared.words.Peer.{Peer}
 use Rattle.oca_types.specs.Peers.{CommandFields}
 use Rattle.oca_pdu.specs.Messages.{Commands}
@@ -8,11 +7,11 @@ use Rattle.oca_pdu.specs.Encoding.{pdu_encoding}
 use Rattle.oca_pdu.specs.Laws.{WrittenIsReadBack}
 use Rattle.oca_tree.specs.declared.object.Object.{Object}
 use Rattle.oca_control.specs.Untaken.{Untaken}
-use Rattle.oca_control.specs.Links.{LinkState, Request, command_under}
+use Rattle.oca_control.specs.Links.{Request, command_under}
 use Rattle.oca_pair.specs.declared.start.Start.{Start}
 use Rattle.oca_pair.specs.Networks.{Network, PeerLink, SentDatagram, device_address, opening}
-use Rattle.oca_pair.specs.Steps.{Step, Submit, Due, ToDevice, after_step, after_steps}
-use Rattle.oca_pair.specs.Premises.{are_apart, RequestFits, Fit, KeepsItsSession, ComeFrom}
+use Rattle.oca_pair.specs.Steps.{Step, Submit, Due, ToDevice, after_steps}
+use Rattle.oca_pair.specs.Premises.{RequestFits, Fit}
 use Rattle.oca_pair.specs.Laws.{IsCopyOfUntaken, IsAnswered}
 use Rattle.oca_pair.proofs.Lawful.{never_old_law}
 

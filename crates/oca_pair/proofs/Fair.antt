@@ -1,35 +1,30 @@
 -- What holds of one link at any time: what it sent it had submitted, and each response that was sent to it carries the reply of an
 -- execution of its own command.
-use Rattle.std.proofs.Common.{append-nil, ◌≡◌, ℕ, ◌+◌, ◌-◌, ◌^◌, ◌<◌, ◌≤◌, ◌≢◌, Bool, true, false, cond, List, [], ◌∷◌, ◌++◌, length, drop, Option, Some, None, refl, sym, ap, ◌∙◌, arith, zero, suc, ◌⊎◌, inl, inr}
-use Rattle.std.specs.Prelude.{nat_eq, nat_lt, nat_le, max, not, ◌&&◌, ◌||◌, map, is_some, is_none, Result, Ok, Err}
-use Rattle.std.specs.List.{list_any, list_all, AllByRecursion}
-use Rattle.std.proofs.lemmas.Bool.Decides.{nat_tests}
+use Rattle.std.proofs.Common.{◌≡◌, ℕ, ◌+◌, ◌^◌, ◌<◌, ◌≢◌, Bool, true, false, cond, List, [], ◌∷◌, ◌++◌, Option, Some, None, refl, sym, ◌∙◌, ◌⊎◌, inl, inr}
+use Rattle.std.specs.Prelude.{max, not, ◌&&◌, Ok}
+use Rattle.std.specs.List.{list_all, AllByRecursion}
 use Rattle.oca_types.specs.declared.words.Peer.{Peer}
-use Rattle.oca_types.specs.declared.words.Handle.{Handle}
 use Rattle.oca_types.specs.declared.words.Reply.{Reply}
-use Rattle.oca_types.specs.Peers.{same_peer, CommandFields}
-use Rattle.oca_pdu.specs.declared.message.Form.TheVariants.{Seconds, Millis}
-use Rattle.oca_pdu.specs.Messages.{ResponseFields, Msg, Command, Response, KeepAlive, Commands, Responses, OneKeepAlive}
-use Rattle.oca_pdu.specs.Encoding.{pdu_encoding, ResponseFits}
+use Rattle.oca_types.specs.Peers.{CommandFields}
+use Rattle.oca_pdu.specs.declared.message.Form.TheVariants.{Seconds}
+use Rattle.oca_pdu.specs.Messages.{ResponseFields, Response, KeepAlive, Commands, OneKeepAlive}
+use Rattle.oca_pdu.specs.Encoding.{pdu_encoding}
 use Rattle.oca_pdu.specs.Reading.{read_datagram}
-use Rattle.oca_pdu.specs.Laws.{WrittenIsReadBack}
-use Rattle.oca_tree.specs.declared.object.Object.{Object}
-use Rattle.oca_session.specs.Accepted.{Entry, window, outside, is_below, accepts, entry_under, asks_the_same, Judgement, Fresh, Duplicate, Reused, Old, duplicate_or_reused, judge_unaccepted, judgement}
+use Rattle.oca_session.specs.Accepted.{Entry, window, outside, is_below, accepts, entry_under, asks_the_same, Fresh, Duplicate, Reused, judge_unaccepted, judgement}
 use Rattle.oca_device.specs.Events.{Event, Datagram, Tick}
-use Rattle.oca_device.specs.Notes.{Noted, Admitted, Heartbeat, Executed, Note, notes_of, run, accepted}
-use Rattle.oca_device.specs.States.{State, noted, moved_to, admits, judged_in, reply_of, after_command, after_message, after_reading, state_after, time_of}
-use Rattle.oca_device.specs.Answers.{response, answer_to_command, answers_to_reading, packets_of, packets}
+use Rattle.oca_device.specs.Notes.{Noted, Admitted, Heartbeat, Executed, Note}
+use Rattle.oca_device.specs.States.{State, moved_to, after_reading}
+use Rattle.oca_device.specs.Answers.{packets}
 use Rattle.oca_control.specs.Answers.{AnswerFields, answer_in}
-use Rattle.oca_control.specs.Untaken.{Untaken, new_untaken, is_due, first_due, given_out, waits, answered, hears, answer_under, without_handle}
+use Rattle.oca_control.specs.Untaken.{Untaken}
 use Rattle.oca_pair.specs.Networks.{SentDatagram, SubmittedCommand, TakenAnswer}
-use Rattle.oca_pair.specs.Steps.{sendings, taken_by}
-use Rattle.oca_pair.specs.Laws.{IsIn, Execution, executed_in, executed_for, answer_of, response_to, WasSubmitted}
+use Rattle.oca_pair.specs.Steps.{sendings}
+use Rattle.oca_pair.specs.Laws.{WasSubmitted}
 use Rattle.oca_pair.proofs.Core.{each_map, each_append, has}
-use Rattle.oca_pair.proofs.Lists.{in_more, in_behind, in_parts, in_last, each_in, same_self, same_is, same_of, equal_is, both_true}
-use Rattle.oca_pair.proofs.Wire.{IsSendable, read_command, read_keep_alive, read_response}
-use Rattle.oca_pair.proofs.Fitting.{reply_fits}
+use Rattle.oca_pair.proofs.Lists.{in_more}
+use Rattle.oca_pair.proofs.Wire.{IsSendable}
 use Rattle.oca_pair.proofs.Clocks.{Grows, grows_reading}
-use Rattle.oca_pair.proofs.Truths.{Past, and_then, and_submitted, state_of, IsHonest, IsTrueAnswer, honest_then, honest_submitted, true_then, true_submitted, executed_grown, IsOwn, IsExecuted, window_executed}
+use Rattle.oca_pair.proofs.Truths.{Past, and_then, and_submitted, state_of, IsTrueAnswer, honest_then, honest_submitted, true_then, true_submitted, IsOwn}
 
 -- the handle that follows all that were given
 abbrev pub end_of : Option ℕ → ℕ

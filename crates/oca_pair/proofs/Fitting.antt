@@ -1,9 +1,8 @@
 -- The reply of any execution fits a response.
-use Rattle.std.proofs.Common.{◌≡◌, ℕ, ◌+◌, ◌^◌, ◌<◌, ◌≤◌, Bool, true, false, cond, List, [], ◌∷◌, length, Option, Some, None, refl, sym, ap, ◌∙◌, arith, lit<, lit≤}
+use Rattle.std.proofs.Common.{◌≡◌, ℕ, ◌+◌, ◌^◌, ◌<◌, ◌≤◌, Bool, true, false, cond, List, length, Option, Some, None, refl, arith, lit<, lit≤}
 use Rattle.std.specs.Prelude.{nat_lt}
 use Rattle.std.proofs.lemmas.Bool.Decides.{nat_tests}
 use Rattle.oca_types.specs.declared.words.Peer.{Peer}
-use Rattle.oca_types.specs.declared.words.Reply.{Reply}
 use Rattle.oca_types.specs.declared.status.Status.{Status}
 use Rattle.oca_types.specs.declared.status.Status.TheVariants as status
 use Rattle.oca_types.specs.declared.class.MethodKind.{MethodKind}
@@ -19,7 +18,7 @@ use Rattle.oca_tree.specs.declared.request.SwitchRequest.TheVariants as switches
 use Rattle.oca_tree.specs.declared.request.Request.{Request}
 use Rattle.oca_tree.specs.declared.request.Request.TheVariants as requests
 use Rattle.oca_tree.specs.Objects.{object_of}
-use Rattle.oca_tree.specs.Execution.{Execution, parameters, answer, setting_parameters, position_parameters, switch_parameters, first_that_applies, status_lines, status_of, kind_at, request_at, refused, carried_out, by_status, execution}
+use Rattle.oca_tree.specs.Execution.{Execution, parameters, answer, setting_parameters, position_parameters, switch_parameters, first_that_applies, status_lines, status_of, kind_at, request_at, refused, by_status, execution}
 use Rattle.oca_device.specs.States.{reply_of}
 use Rattle.oca_pair.specs.Laws.{response_to}
 

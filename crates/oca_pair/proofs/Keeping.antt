@@ -1,7 +1,7 @@
 -- What holds of a peer whose session is never forgotten: its accepted commands are all that were ever executed for it, each once.
-use Rattle.std.proofs.Common.{append-nil, ◌≡◌, ℕ, ◌+◌, ◌-◌, ◌<◌, ◌≤◌, ◌≢◌, Bool, true, false, cond, List, [], ◌∷◌, ◌++◌, length, Option, Some, None, refl, sym, ap, ◌∙◌, arith, zero, suc, ◌⊎◌, inl, inr}
-use Rattle.std.specs.Prelude.{nat_eq, nat_lt, nat_le, max, not, ◌&&◌, ◌||◌, map, filter, Result, Ok, Err}
-use Rattle.std.specs.List.{list_any, list_all, AllByRecursion, IsDistinct}
+use Rattle.std.proofs.Common.{◌≡◌, ℕ, ◌+◌, ◌-◌, Bool, true, false, cond, List, [], ◌∷◌, ◌++◌, length, refl, sym, ap, ◌∙◌, arith, ◌⊎◌, inl, inr}
+use Rattle.std.specs.Prelude.{nat_lt, nat_le, max, ◌||◌, map, Ok}
+use Rattle.std.specs.List.{list_any, AllByRecursion, IsDistinct}
 use Rattle.std.proofs.Math.Dec.{eqb}
 use Rattle.std.proofs.lemmas.List.Folds.{list_any-append}
 use Rattle.std.proofs.lemmas.Bool.Decides.{nat_tests}
@@ -9,17 +9,16 @@ use Rattle.oca_types.specs.declared.words.Peer.{Peer}
 use Rattle.oca_types.specs.declared.words.Reply.{Reply}
 use Rattle.oca_types.specs.Peers.{same_peer, CommandFields}
 use Rattle.oca_pdu.specs.declared.message.Form.{Form}
-use Rattle.oca_pdu.specs.Messages.{Msg, Command, Response, KeepAlive}
+use Rattle.oca_pdu.specs.Messages.{Msg, Command, KeepAlive}
 use Rattle.oca_pdu.specs.Reading.{read_datagram}
-use Rattle.oca_tree.specs.declared.object.Object.{Object}
-use Rattle.oca_session.specs.Accepted.{Entry, has_handle, Judgement, Fresh, Duplicate, Reused, Old, judgement}
-use Rattle.oca_device.specs.Events.{Event, Datagram, Tick, clock_after}
-use Rattle.oca_device.specs.Notes.{Noted, Admitted, Heartbeat, Executed, Note, notes_of, is_within, unbroken, run, is_known, known, accepted, accepted_after}
-use Rattle.oca_device.specs.States.{State, noted, moved_to, admits, judged_in, reply_of, after_command, after_message, after_reading, state_after, time_of}
+use Rattle.oca_session.specs.Accepted.{Entry, has_handle, Judgement, Fresh, Duplicate, Reused, Old}
+use Rattle.oca_device.specs.Events.{Datagram, clock_after}
+use Rattle.oca_device.specs.Notes.{Noted, Admitted, Heartbeat, Executed, Note, notes_of, is_within, unbroken, run, known, accepted, accepted_after}
+use Rattle.oca_device.specs.States.{State, noted, admits, judged_in, reply_of, after_command, after_message, after_reading, time_of}
 use Rattle.oca_pair.specs.Premises.{moments_of, is_soon_after, KeepsItsSession}
 use Rattle.oca_pair.specs.Laws.{Execution, executed_in, executed_for, IsIn}
 use Rattle.oca_pair.proofs.Core.{each_map, has, none_passes}
-use Rattle.oca_pair.proofs.Lists.{same_self, other_of, equal_self, differs}
+use Rattle.oca_pair.proofs.Lists.{same_self, differs}
 use Rattle.oca_pair.proofs.Clocks.{clock_is, Grows, grows_reading, notes_of_grown, IsLatest, moments_other, moments_own, soon_now}
 use Rattle.oca_pair.proofs.Truths.{Past, and_then, state_of}
 use Rattle.oca_pair.proofs.Fair.{judged_fresh}

@@ -1,13 +1,13 @@
 -- The laws of networks.
-use Rattle.std.proofs.Common.{append-nil, ◌≡◌, ℕ, ◌+◌, ◌-◌, ◌*◌, ◌^◌, ◌<◌, ◌≤◌, ◌≢◌, Bool, true, false, cond, List, [], ◌∷◌, ◌++◌, length, Option, Some, None, refl, sym, ap, ◌∙◌, subst, arith, zero, suc, ◌⊎◌, inl, inr}
-use Rattle.std.specs.Prelude.{nat_eq, nat_lt, nat_le, max, not, ◌&&◌, ◌||◌, map, filter, is_some, Result, Ok, Err}
-use Rattle.std.specs.List.{list_any, list_all, AllByRecursion, slice_get, IsDistinct}
+use Rattle.std.proofs.Common.{◌≡◌, ℕ, ◌+◌, ◌*◌, ◌<◌, ◌≤◌, Bool, true, false, cond, List, [], ◌∷◌, ◌++◌, length, Option, Some, None, refl, sym, ap, ◌∙◌, subst, arith, ◌⊎◌, inl, inr}
+use Rattle.std.specs.Prelude.{map, Ok}
+use Rattle.std.specs.List.{AllByRecursion, slice_get, IsDistinct}
 use Rattle.std.proofs.Math.Dec.{eqb}
 use Rattle.std.proofs.lemmas.Bool.Decides.{nat_tests}
 use Rattle.oca_types.specs.declared.words.Peer.{Peer}
 use Rattle.oca_types.specs.declared.words.Reply.{Reply}
-use Rattle.oca_types.specs.Peers.{same_peer, CommandFields}
-use Rattle.oca_pdu.specs.Messages.{Msg, Command, Response, KeepAlive, Commands, Responses}
+use Rattle.oca_types.specs.Peers.{CommandFields}
+use Rattle.oca_pdu.specs.Messages.{Msg, Command, Commands}
 use Rattle.oca_pdu.specs.Encoding.{pdu_encoding}
 use Rattle.oca_pdu.specs.Reading.{read_datagram}
 use Rattle.oca_pdu.specs.Laws.{WrittenIsReadBack}
@@ -16,28 +16,28 @@ use Rattle.oca_session.specs.Accepted.{Entry, window, entry_under, Judgement, Fr
 use Rattle.oca_device.specs.declared.verdict.Verdict.{Verdict}
 use Rattle.oca_device.specs.declared.verdict.Verdict.TheVariants as verdicts
 use Rattle.oca_device.specs.Events.{Event, Datagram, Tick}
-use Rattle.oca_device.specs.Notes.{Noted, Admitted, Executed, Note, notes_of, run, accepted}
-use Rattle.oca_device.specs.States.{State, noted, admits, judged_in, reply_of, after_command, state_after}
-use Rattle.oca_device.specs.Answers.{response, answer_to_command, answers_to_reading, packets_of, packets, count_of_command, counts, plus, served, verdict_of_reading, verdict}
+use Rattle.oca_device.specs.Notes.{run, accepted}
+use Rattle.oca_device.specs.States.{State, admits, judged_in, reply_of, after_command}
+use Rattle.oca_device.specs.Answers.{response, answer_to_command, answers_to_reading, packets_of, count_of_command, counts, plus, served, verdict_of_reading, verdict}
 use Rattle.oca_control.specs.Answers.{AnswerFields}
-use Rattle.oca_control.specs.Untaken.{Untaken, answer_under}
+use Rattle.oca_control.specs.Untaken.{Untaken}
 use Rattle.oca_pair.specs.declared.outcome.Outcome.{Outcome}
 use Rattle.oca_pair.specs.declared.outcome.Outcome.TheVariants as outcomes
 use Rattle.oca_pair.specs.declared.start.Start.{Start}
 use Rattle.oca_pair.specs.Networks.{Network, PeerLink, SentDatagram, SubmittedCommand, TakenAnswer, opening}
 use Rattle.oca_pair.specs.Steps as steps
 use Rattle.oca_control.specs.Links.{Request}
-use Rattle.oca_pair.specs.Steps.{Step, Submit, Due, ToDevice, ToLink, Other, Take, has_link, sendings, after_submit, after_due_step, after_delivery, after_reception, after_take, after_step, after_steps, delivery_outcome, outcome_of}
-use Rattle.oca_pair.specs.Premises.{are_apart, Fit, KeepsItsSession, is_among, IsFrom, ComeFrom}
-use Rattle.oca_pair.specs.Laws.{IsIn, Execution, executed_for, executions_for, executions_under, answer_of, response_to, WasSubmitted, CameWithADatagram, IsAnswerOfItsCommand, WasHandedOn, AnswersItsCommands, IsCopyOfUntaken, IsAnswered, AnswersUntaken, ExecutesOnce}
+use Rattle.oca_pair.specs.Steps.{Step, Submit, Due, ToDevice, ToLink, Other, Take, has_link, sendings, after_submit, after_due_step, after_delivery, after_reception, after_take, after_step, after_steps}
+use Rattle.oca_pair.specs.Premises.{are_apart, Fit, KeepsItsSession, ComeFrom}
+use Rattle.oca_pair.specs.Laws.{IsIn, Execution, executed_for, executions_for, executions_under, WasSubmitted, IsAnswerOfItsCommand, AnswersItsCommands, IsCopyOfUntaken, IsAnswered, AnswersUntaken, ExecutesOnce}
 use Rattle.oca_pair.proofs.Core.{IsServed}
-use Rattle.oca_pair.proofs.Lists.{each_at, each_in, equal_is, equal_self, in_more}
+use Rattle.oca_pair.proofs.Lists.{each_at, each_in, equal_is}
 use Rattle.oca_pair.proofs.Clocks.{keeps_before}
 use Rattle.oca_pair.proofs.Wire.{IsSendable, read_command}
-use Rattle.oca_pair.proofs.Truths.{Past, past, and_then, state_of, IsTrueAnswer, IsOwn, IsExecuted, window_executed}
-use Rattle.oca_pair.proofs.Fair.{end_of, IsHeld, IsFair, AreOwn, Fair, owns_then, judged_fresh, judged_duplicate}
+use Rattle.oca_pair.proofs.Truths.{Past, past, and_then, state_of, IsTrueAnswer, window_executed}
+use Rattle.oca_pair.proofs.Fair.{end_of, IsFair, AreOwn, Fair, owns_then, judged_duplicate}
 use Rattle.oca_pair.proofs.Delivering.{looked_at, let_in, executed_now, after_read, answers_read, held_answer}
-use Rattle.oca_pair.proofs.Keeping.{handles_for, accepted_by, Kept, KeptState, accepted_let_in}
+use Rattle.oca_pair.proofs.Keeping.{accepted_by, Kept, accepted_let_in}
 use Rattle.oca_pair.proofs.Span.{Good, untaken_served}
 use Rattle.oca_pair.proofs.Room.{noted_among, room_for}
 use Rattle.oca_pair.proofs.Networks.{LinkSound, Sound, sound_after}

@@ -1,41 +1,38 @@
 -- What holds of each link of a network is kept by each step; and the laws.
-use Rattle.std.proofs.Common.{append-nil, ◌≡◌, ℕ, ◌+◌, ◌-◌, ◌*◌, ◌<◌, ◌≤◌, ◌≢◌, Bool, true, false, cond, List, [], ◌∷◌, ◌++◌, length, Option, Some, None, refl, sym, ap, ◌∙◌, subst, arith, zero, suc, ◌⊎◌, inl, inr}
-use Rattle.std.specs.Prelude.{nat_eq, nat_lt, nat_le, max, not, ◌&&◌, ◌||◌, map, filter, is_some, Result, Ok, Err}
-use Rattle.std.specs.List.{list_any, list_all, AllByRecursion, slice_get, slice_set, IsDistinct}
-use Rattle.std.proofs.Math.Dec.{eqb}
+use Rattle.std.proofs.Common.{append-nil, ◌≡◌, ℕ, ◌+◌, ◌-◌, ◌<◌, ◌≤◌, ◌≢◌, Bool, true, false, cond, List, [], ◌∷◌, ◌++◌, Option, Some, None, refl, sym, ap, ◌∙◌, subst, arith, zero, suc, inl, inr}
+use Rattle.std.specs.Prelude.{◌&&◌, map, is_some, Result, Ok, Err}
+use Rattle.std.specs.List.{list_all, AllByRecursion, slice_get, slice_set, IsDistinct}
 use Rattle.oca_types.specs.declared.words.Peer.{Peer}
 use Rattle.oca_types.specs.declared.words.Handle.{Handle}
 use Rattle.oca_types.specs.Peers.{same_peer, CommandFields}
-use Rattle.oca_pdu.specs.declared.message.Form.TheVariants.{Seconds, Millis}
-use Rattle.oca_pdu.specs.Messages.{ResponseFields, Msg, Command, Response, KeepAlive, Commands, Responses, OneKeepAlive}
-use Rattle.oca_pdu.specs.Encoding.{pdu_encoding}
+use Rattle.oca_pdu.specs.declared.message.Form.TheVariants.{Seconds}
+use Rattle.oca_pdu.specs.Messages.{Command, KeepAlive}
 use Rattle.oca_pdu.specs.Reading.{read_datagram}
 use Rattle.oca_pdu.specs.Laws.{WrittenIsReadBack}
 use Rattle.oca_tree.specs.declared.object.Object.{Object}
 use Rattle.oca_session.specs.Accepted.{Entry}
-use Rattle.oca_device.specs.Events.{Event, Datagram, Tick}
+use Rattle.oca_device.specs.Events.{Datagram, Tick}
 use Rattle.oca_device.specs.Events as event
-use Rattle.oca_device.specs.Notes.{Note}
 use Rattle.oca_device.specs.Answers.{packets}
 use Rattle.oca_control.specs.declared.fault.ControlFault.{ControlFault}
 use Rattle.oca_control.specs.Answers.{AnswerFields, answer_in}
 use Rattle.oca_control.specs.Untaken.{Untaken, answer_under, without_handle}
-use Rattle.oca_control.specs.Links.{LinkState, Request, new_link, command_under, submission, after_submission, submitted, Decision, GivesCommand, GivesKeepAlive, GivesNothing, IsLost, decision, after_due, gone_on, hears_content, received, taken, present}
+use Rattle.oca_control.specs.Links.{Request, submission, after_submission, submitted, Decision, GivesCommand, GivesKeepAlive, GivesNothing, IsLost, decision, after_due, gone_on, hears_content, received, taken, present}
 use Rattle.oca_pair.specs.declared.start.Start.{Start}
 use Rattle.oca_pair.specs.Networks.{Network, PeerLink, SentDatagram, SubmittedCommand, TakenAnswer, device_address, started, opening}
-use Rattle.oca_pair.specs.Steps.{Step, Submit, Due, ToDevice, ToLink, Other, Take, has_link, sendings, with_link, submitted_by, after_submit, given_by, after_due_step, after_delivery, content_of, hears_datagram, after_reception, taken_by, after_take, after_step, after_steps}
+use Rattle.oca_pair.specs.Steps.{Step, Submit, Due, ToDevice, ToLink, Other, Take, has_link, sendings, submitted_by, after_submit, given_by, after_due_step, after_delivery, content_of, hears_datagram, after_reception, after_take, after_step, after_steps}
 use Rattle.oca_pair.specs.Steps as steps
 use Rattle.oca_pair.specs.Premises.{is_of_another_peer, are_apart, RequestFits, StepFits, StartFits, Fit, KeepsItsSession}
-use Rattle.oca_pair.specs.Laws.{IsIn, WasSubmitted}
-use Rattle.oca_pair.proofs.Core.{each_map, each_append, none_passes, has}
-use Rattle.oca_pair.proofs.Lists.{both_true, not_true, same_is, same_of, same_turned, other_of, other_is, each_at, each_in, each_set}
+use Rattle.oca_pair.specs.Laws.{WasSubmitted}
+use Rattle.oca_pair.proofs.Core.{each_map, none_passes, has}
+use Rattle.oca_pair.proofs.Lists.{both_true, not_true, same_is, same_turned, other_of, each_at, each_in, each_set}
 use Rattle.oca_pair.proofs.Clocks.{keeps_before}
 use Rattle.oca_pair.proofs.Wire.{IsSendable, read_command, read_keep_alive}
-use Rattle.oca_pair.proofs.Truths.{Past, past, and_then, and_submitted, state_of, IsTrueAnswer}
-use Rattle.oca_pair.proofs.Fair.{end_of, NextFits, IsOut, IsBack, IsHeld, Fair, fair_other, fair_tick}
+use Rattle.oca_pair.proofs.Truths.{Past, past, and_then, state_of, IsTrueAnswer}
+use Rattle.oca_pair.proofs.Fair.{end_of, IsOut, IsBack, IsHeld, Fair, fair_other, fair_tick}
 use Rattle.oca_pair.proofs.Delivering.{granted, fair_command, fair_keep_alive, fair_submit, fair_submitted_by, fair_gone_on, fair_sent, fair_received, fair_taken, fair_taken_by, held_answer}
-use Rattle.oca_pair.proofs.Keeping.{Kept, KeptState, accepted_by, IsGrown, Delivers, delivers, kept_other, accepted_other, executed_has}
-use Rattle.oca_pair.proofs.Span.{Good, good_submit, good_submitted, good_same, good_given_out, good_answered, good_without, good_grown}
+use Rattle.oca_pair.proofs.Keeping.{Kept, accepted_by, IsGrown, delivers, kept_other, accepted_other, executed_has}
+use Rattle.oca_pair.proofs.Span.{Good, good_submit, good_submitted, good_given_out, good_answered, good_without, good_grown}
 
 -- No two links have one peer.
 abbrev pub Apart : List PeerLink → Type 0

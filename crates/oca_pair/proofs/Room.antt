@@ -1,16 +1,16 @@
 -- With datagrams of at most 16 peers there is room for each.
-use Rattle.std.proofs.Common.{◌≡◌, ℕ, ◌+◌, ◌-◌, ◌<◌, ◌≤◌, ◌≢◌, Bool, true, false, cond, List, [], ◌∷◌, ◌++◌, length, Option, Some, None, refl, sym, ap, ◌∙◌, arith, append_assoc, zero, suc, ◌⊎◌, inl, inr}
-use Rattle.std.specs.Prelude.{nat_eq, nat_lt, nat_le, max, not, ◌&&◌, ◌||◌, map, filter}
-use Rattle.std.specs.List.{list_any, AllByRecursion}
+use Rattle.std.proofs.Common.{◌≡◌, ℕ, ◌+◌, ◌<◌, ◌≤◌, Bool, true, false, cond, List, [], ◌∷◌, ◌++◌, length, refl, sym, ap, ◌∙◌, arith, suc}
+use Rattle.std.specs.Prelude.{nat_lt, max, not, ◌||◌, filter}
+use Rattle.std.specs.List.{AllByRecursion}
 use Rattle.std.proofs.lemmas.Bool.Decides.{nat_tests}
 use Rattle.oca_types.specs.declared.words.Peer.{Peer}
 use Rattle.oca_types.specs.Peers.{same_peer}
 use Rattle.oca_pdu.specs.Reading.{read_datagram}
 use Rattle.oca_tree.specs.declared.object.Object.{Object}
 use Rattle.oca_device.specs.Events.{Event, Datagram, Tick}
-use Rattle.oca_device.specs.Notes.{Note, is_within, is_known, peers_except, opened, known}
+use Rattle.oca_device.specs.Notes.{Note, is_known, peers_except, opened, known}
 use Rattle.oca_device.specs.States.{State, moved_to, admits, after_reading, state_after}
-use Rattle.oca_pair.specs.Premises.{is_among, IsFrom, ComeFrom}
+use Rattle.oca_pair.specs.Premises.{is_among, ComeFrom}
 use Rattle.oca_pair.proofs.Core.{each_map, each_append}
 use Rattle.oca_pair.proofs.Lists.{same_is, same_turned, not_true, differs}
 use Rattle.oca_pair.proofs.Clocks.{Grows, grows_reading}

@@ -1,22 +1,22 @@
 -- What holds of one link whose peer's session is never forgotten: what it holds lies within the span, and its commands were accepted in
 -- nearly rising order.
-use Rattle.std.proofs.Common.{append-nil, ◌≡◌, ℕ, ◌+◌, ◌-◌, ◌*◌, ◌<◌, ◌≤◌, ◌≢◌, Bool, true, false, cond, List, [], ◌∷◌, ◌++◌, length, take, drop, Option, Some, None, refl, sym, ap, ◌∙◌, arith, append_assoc, zero, suc, ◌⊎◌, inl, inr}
-use Rattle.std.specs.Prelude.{nat_eq, nat_lt, nat_le, max, not, ◌&&◌, ◌||◌, map, filter, is_some, is_none}
-use Rattle.std.specs.List.{list_any, list_all, AllByRecursion}
+use Rattle.std.proofs.Common.{append-nil, ◌≡◌, ℕ, ◌+◌, ◌-◌, ◌*◌, ◌<◌, ◌≤◌, ◌≢◌, Bool, true, false, cond, List, [], ◌∷◌, ◌++◌, Option, Some, refl, sym, ap, ◌∙◌, arith, append_assoc, ◌⊎◌, inl, inr}
+use Rattle.std.specs.Prelude.{nat_eq, nat_lt, not, ◌&&◌, ◌||◌, map}
+use Rattle.std.specs.List.{AllByRecursion}
 use Rattle.std.proofs.Math.Dec.{eqb}
 use Rattle.std.proofs.lemmas.List.Folds.{list_any-append}
 use Rattle.std.proofs.lemmas.Bool.Decides.{nat_tests}
 use Rattle.std.specs.Cmp.Lexicographic.{pointwise}
 use Rattle.oca_types.specs.declared.words.Peer.{Peer}
 use Rattle.oca_types.specs.Peers.{CommandFields}
-use Rattle.oca_session.specs.Accepted.{Entry, window, outside, has_handle, entry_under, asks_the_same, judgement}
+use Rattle.oca_session.specs.Accepted.{Entry, window, has_handle, entry_under, asks_the_same, judgement}
 use Rattle.oca_control.specs.Answers.{AnswerFields}
-use Rattle.oca_control.specs.Untaken.{Untaken, new_untaken, has_room, given_out, waits, answered, without_handle, holds}
+use Rattle.oca_control.specs.Untaken.{Untaken, new_untaken, has_room, given_out, answered, without_handle, holds}
 use Rattle.oca_control.specs.Links.{Request, command_under, handle_after}
 use Rattle.oca_pair.specs.Networks.{SubmittedCommand}
 use Rattle.oca_pair.specs.Laws.{IsIn}
 use Rattle.oca_pair.proofs.Core.{has, Ordered, each_map, each_both, each_append, either_false, below_all, never_old, IsServed}
-use Rattle.oca_pair.proofs.Lists.{neither, equal_is, equal_self}
+use Rattle.oca_pair.proofs.Lists.{neither, equal_self}
 use Rattle.oca_pair.proofs.Fair.{end_of}
 use Rattle.oca_pair.proofs.Delivering.{end_after}
 

@@ -1,23 +1,21 @@
 -- What is true of an answer stays true while more happens and more is submitted.
-use Rattle.std.proofs.Common.{append-nil, append_assoc, ◌≡◌, ℕ, ◌+◌, ◌-◌, ◌<◌, ◌≤◌, ◌≢◌, Bool, true, false, cond, List, [], ◌∷◌, ◌++◌, length, drop, Option, Some, None, refl, sym, ap, ◌∙◌, arith, zero, suc, ◌⊎◌, inl, inr}
-use Rattle.std.specs.Prelude.{nat_eq, nat_lt, nat_le, max, not, ◌&&◌, ◌||◌, map, Result, Ok, Err}
-use Rattle.std.specs.List.{list_any, AllByRecursion}
+use Rattle.std.proofs.Common.{◌≡◌, ℕ, ◌+◌, ◌-◌, Bool, true, false, cond, List, [], ◌∷◌, ◌++◌, length, drop, Some, refl, sym, ap, ◌∙◌, zero, suc, ◌⊎◌, inl, inr}
+use Rattle.std.specs.Prelude.{nat_eq, max}
+use Rattle.std.specs.List.{AllByRecursion}
 use Rattle.oca_types.specs.declared.words.Peer.{Peer}
-use Rattle.oca_types.specs.declared.words.Reply.{Reply}
-use Rattle.oca_types.specs.Peers.{same_peer, CommandFields}
-use Rattle.oca_pdu.specs.Messages.{Msg, Command, Response, KeepAlive, Commands}
+use Rattle.oca_types.specs.Peers.{same_peer}
+use Rattle.oca_pdu.specs.Messages.{Commands}
 use Rattle.oca_pdu.specs.Encoding.{pdu_encoding}
 use Rattle.oca_pdu.specs.Reading.{read_datagram}
 use Rattle.oca_tree.specs.declared.object.Object.{Object}
 use Rattle.oca_session.specs.Accepted.{Entry, window, has_handle, entry_under}
 use Rattle.oca_device.specs.Events.{Event, Datagram, Tick}
 use Rattle.oca_device.specs.Notes.{Noted, Admitted, Heartbeat, Executed, Note, notes_of, is_within, unbroken, run, accepted, accepted_after}
-use Rattle.oca_device.specs.States.{State, noted, moved_to, reply_of, after_reading, after_event, state_after}
+use Rattle.oca_device.specs.States.{State, moved_to, reply_of, after_reading, state_after}
 use Rattle.oca_control.specs.Answers.{AnswerFields}
 use Rattle.oca_pair.specs.Networks.{Network, SubmittedCommand}
 use Rattle.oca_pair.specs.Laws.{IsIn, Execution, executed_in, executed_for, answer_of, WasSubmitted}
-use Rattle.oca_pair.proofs.Core.{each_map, each_append}
-use Rattle.oca_pair.proofs.Lists.{in_more, in_behind, in_parts, same_is, same_of}
+use Rattle.oca_pair.proofs.Lists.{in_more, in_behind, in_parts, same_is}
 use Rattle.oca_pair.proofs.Clocks.{Grows, grows_reading}
 
 -- what happened and was submitted

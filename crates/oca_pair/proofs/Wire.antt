@@ -1,13 +1,10 @@
 -- What is read of the datagrams that a link and a device send.
-use Rattle.std.proofs.Common.{append-nil, ◌≡◌, ℕ, ◌+◌, ◌*◌, ◌^◌, ◌<◌, ◌≤◌, Bool, true, false, List, [], ◌∷◌, ◌++◌, length, refl, sym, ap, ◌∙◌, arith, length-append, lit<, lit≤}
-use Rattle.std.specs.Prelude.{Result, Ok, Err, map}
-use Rattle.std.specs.List.{flat_map, AllByRecursion}
-use Rattle.std.specs.Int.{w16, w32, to_be_bytes}
-use Rattle.oca_types.specs.Numbers.{unsigned_encoding}
+use Rattle.std.proofs.Common.{append-nil, ◌≡◌, ◌<◌, ◌≤◌, true, [], ◌∷◌, length, sym, arith, length-append, lit<, lit≤}
+use Rattle.std.specs.Prelude.{Ok}
 use Rattle.oca_types.specs.Peers.{CommandFields}
-use Rattle.oca_pdu.specs.declared.message.Form.TheVariants.{Seconds, Millis}
-use Rattle.oca_pdu.specs.Messages.{ResponseFields, Msg, Command, Response, KeepAlive, Pdu, Commands, Responses, OneKeepAlive, messages_of}
-use Rattle.oca_pdu.specs.Encoding.{command_encoding, response_encoding, pdu_frame, pdu_encoding, CommandFits, ResponseFits, PduFits, IsDatagram}
+use Rattle.oca_pdu.specs.declared.message.Form.TheVariants.{Seconds}
+use Rattle.oca_pdu.specs.Messages.{ResponseFields, Command, Response, KeepAlive, Pdu, Commands, Responses, OneKeepAlive, messages_of}
+use Rattle.oca_pdu.specs.Encoding.{pdu_encoding, CommandFits, ResponseFits, PduFits}
 use Rattle.oca_pdu.specs.Reading.{read_datagram}
 use Rattle.oca_pdu.specs.Laws.{WrittenIsReadBack}
 

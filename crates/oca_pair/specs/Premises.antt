@@ -1,5 +1,5 @@
 -- WHAT THE LAWS ASK of a schedule (profile), said by the steps and by the datagrams that came to the device.
-use Rattle.std.specs.Prelude.{◌≡◌, ℕ, ◌-◌, ◌<◌, ◌^◌, nat_le, Bool, true, false, not, ◌&&◌, if◌then◌else◌, List, [], ◌∷◌}
+use Rattle.std.specs.Prelude.{◌≡◌, ℕ, ◌-◌, ◌<◌, ◌^◌, nat_le, Bool, true, not, ◌&&◌, if◌then◌else◌, List, [], ◌∷◌}
 use Rattle.std.specs.List.{list_any, list_all, AllByRecursion}
 use Rattle.oca_types.specs.declared.words.Peer.{Peer}
 use Rattle.oca_types.specs.Peers.{same_peer}
@@ -7,7 +7,7 @@ use Rattle.oca_device.specs.Events.{Event, Datagram, Tick, clock_after}
 use Rattle.oca_control.specs.Links.{Request}
 use Rattle.oca_pair.specs.declared.start.Start.{Start}
 use Rattle.oca_pair.specs.Networks.{device_address}
-use Rattle.oca_pair.specs.Steps.{Step, Submit, Due, ToDevice, ToLink, Other, Take}
+use Rattle.oca_pair.specs.Steps.{Step, Submit}
 use Rattle.oca_pair.specs.Steps as steps
 
 -- ---- of starts: no two have one peer, and none has the device's

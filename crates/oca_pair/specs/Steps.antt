@@ -3,11 +3,11 @@ use Rattle.std.specs.Prelude.{ℕ, ◌+◌, Bool, true, not, if◌then◌else◌
 use Rattle.std.specs.List.{list_any, slice_get, slice_set}
 use Rattle.oca_types.specs.declared.words.Peer.{Peer}
 use Rattle.oca_types.specs.declared.words.Handle.{Handle}
-use Rattle.oca_types.specs.Peers.{CommandFields, same_peer}
+use Rattle.oca_types.specs.Peers.{same_peer}
 use Rattle.oca_pdu.specs.declared.fault.PduFault.{PduFault}
 use Rattle.oca_pdu.specs.Messages.{Msg}
 use Rattle.oca_pdu.specs.Reading.{read_datagram}
-use Rattle.oca_device.specs.Events.{Event, Datagram}
+use Rattle.oca_device.specs.Events.{Datagram}
 use Rattle.oca_device.specs.Events as event
 use Rattle.oca_device.specs.Answers.{packets, verdict}
 use Rattle.oca_control.specs.declared.answer.Answer.{Answer}
