@@ -1,0 +1,326 @@
+//! A network as it runs: the device, the links, and what was sent.
+ghost use Rattle.std.specs.Prelude.{◌≡◌, ◌++◌, ℕ, IfOk, map, Option, Some, None};
+ghost use Rattle.oca_types.specs.Sizes.{window_size, span_size};
+ghost use Rattle.oca_control.specs.Links.{Request, submitted, submission, decision, gone_on, received, reception, taken};
+ghost use Rattle.oca_control.specs.Untaken.{answer_under};
+ghost use Rattle.oca_pair.specs.Networks.{Network, started, opening, device_address};
+ghost use Rattle.oca_pair.specs.Steps.{Submit, Due as DueStep, ToDevice, ToLink, Other, Take, sendings, submit_outcome, content_of, take_outcome};
+
+use crate::given::Given;
+use crate::outcome::Outcome;
+use crate::sent::Sent;
+use crate::start::Start;
+use crate::step::Step;
+use oca_control::{Due, Link, Reception};
+use oca_device::{Device, Outbox};
+use oca_tree::Tree;
+use oca_types::{Handle, MethodId, NoMemory, Ono, Packet, Peer, Span, Window};
+use std::alloc::Global;
+use std::marker::Model;
+
+/// Where the device is: 127.0.0.1:65000.
+pub(crate) const DEVICE: Peer = Peer {
+    ip: 0x7F00_0001,
+    port: 65000,
+};
+
+/// Why a step is not taken.
+#[derive(Clone, Copy, PartialEq, Eq)]
+pub(crate) enum StepFault {
+    /// Memory was refused.
+    NoMemory,
+    /// The step names what is not there.
+    Missing,
+}
+
+/// A link, and the peer whose it is.
+#[derive(Drop)]
+pub(crate) struct PeerLink {
+    peer: Peer,
+    link: Link,
+}
+
+impl Model for PeerLink {
+    ghost use Rattle.oca_pair.specs.Networks.{PeerLink as LinkOfPeer};
+
+    ghost Value = { LinkOfPeer };
+
+    ghost view = { λ l. record { peer = l.peer; link = l.link } };
+}
+
+impl PeerLink {
+    ghost use Rattle.oca_pair.specs.PrivateRunning.{GivesBy};
+
+    /// Submits a command to the link.
+    fn submit(
+        &mut self,
+        target: Ono,
+        method: MethodId,
+        count: u8,
+        params: &[u8],
+        now: u64,
+    ) -> Outcome
+        ensures answer { let request : Request = record { target = target.0; level = method.level; index = method.index; count = count; params = params.now } in
+            result ≡ submit_outcome (submission request self.old.link) }
+        ensures link { let request : Request = record { target = target.0; level = method.level; index = method.index; count = count; params = params.now } in
+            self.new ≡ record { peer = self.old.peer; link = submitted request now self.old.link } }
+    {
+        match self.link.submit(target, method, count, params, now) {
+            Ok(handle) => Outcome::Submitted(handle),
+            Err(fault) => Outcome::Refused(fault),
+        }
+    }
+
+    /// Gives out what is due of the link.
+    fn due(&mut self, now: u64) -> Given
+        ensures answer { GivesBy result (decision now self.old.link) }
+        ensures link { self.new ≡ record { peer = self.old.peer; link = gone_on now self.old.link } }
+    {
+        let mut packet = Packet::new();
+        match self.link.due(now, &mut packet) {
+            Due::Send(_) => Given::Datagram(packet),
+            Due::KeepAlive => Given::Datagram(packet),
+            Due::Nothing => Given::Nothing,
+            Due::Lost => Given::Lost,
+        }
+    }
+
+    /// Takes a datagram of the device in.
+    fn datagram(&mut self, bytes: &[u8], now: u64) -> Reception
+        ensures answer { result ≡ reception device_address (content_of bytes.now) self.old.link }
+        ensures link { self.new ≡ record { peer = self.old.peer; link = received device_address (content_of bytes.now) now self.old.link } }
+    {
+        self.link.datagram(DEVICE, bytes, now)
+    }
+
+    /// Takes the answer under the handle.
+    fn take(&mut self, handle: Handle) -> Outcome
+        ensures answer { result ≡ take_outcome (answer_under handle.0 self.old.link.untaken) }
+        ensures link { self.new ≡ record { peer = self.old.peer; link = taken handle.0 self.old.link } }
+    {
+        match self.link.take(handle) {
+            Some(answer) => Outcome::Answer(answer),
+            None => Outcome::NoAnswer,
+        }
+    }
+
+    /// The peer whose it is.
+    fn peer(&self) -> Peer
+        ensures { result ≡ self.now.peer }
+    {
+        self.peer
+    }
+}
+
+/// The device with room for its answers, the links, and the datagrams that were sent to the device and to links.
+#[derive(Drop)]
+pub(crate) struct Running {
+    pub(crate) device: Device,
+    outbox: Outbox,
+    links: Vec<PeerLink>,
+    pub(crate) to_device: Vec<Sent>,
+    pub(crate) to_links: Vec<Sent>,
+}
+
+impl Running {
+    ghost use Rattle.oca_pair.specs.Transcripts.{step_of};
+    ghost use Rattle.oca_pair.specs.PrivateRunning.{Shows, Took};
+
+    /// A device of these objects to which nothing happened, and a new link for each start.
+    pub(crate) fn new(
+        alloc: Global,
+        tree: Tree,
+        window: Window,
+        span: Span,
+        starts: &[Start],
+    ) -> Result<Running, NoMemory>
+        ensures { IfOk result (λ r. Shows r (opening (window_size window) (span_size span) tree starts.now)) }
+    {
+        let device = Device::new(alloc, tree, window)?;
+        let outbox = Outbox::new(alloc)?;
+        let links = links_of(alloc, span, starts)?;
+        Ok(Running {
+            device,
+            outbox,
+            links,
+            to_device: Vec::new(alloc),
+            to_links: Vec::new(alloc),
+        })
+    }
+
+    /// Takes a step, and answers what it led to. `Missing` where it names what is not there.
+    pub(crate) fn take_step(&mut self, step: &Step<'_>) -> Result<Outcome, StepFault>
+        ensures { (n : Network) → Shows self.old n → Took result (step_of step.now) n self.new }
+    {
+        match *step {
+            Step::Submit {
+                link,
+                target,
+                method,
+                count,
+                params,
+                now,
+            } => self.submit(link, target, method, count, params, now),
+            Step::Due { link, now } => self.due(link, now),
+            Step::ToDevice { k, now } => self.deliver_to_device(k, now),
+            Step::ToLink { k, now } => self.deliver_to_link(k, now),
+            Step::Other { from, bytes, now } => self.deliver_other(from, bytes, now),
+            Step::Tick { now } => {
+                self.device.tick(now);
+                Ok(Outcome::Ticked)
+            }
+            Step::Take { link, handle } => self.take(link, handle),
+        }
+    }
+
+    /// Submits a command to a link.
+    fn submit(
+        &mut self,
+        link: usize,
+        target: Ono,
+        method: MethodId,
+        count: u8,
+        params: &[u8],
+        now: u64,
+    ) -> Result<Outcome, StepFault>
+        ensures { (n : Network) → Shows self.old n →
+            Took result (Submit link (record { target = target.0; level = method.level; index = method.index; count = count; params = params.now }) now) n self.new }
+    {
+        if link >= self.links.len() {
+            return Err(StepFault::Missing);
+        }
+        let place = &mut self.links[link];
+        Ok(place.submit(target, method, count, params, now))
+    }
+
+    /// Sends to the device what is due of a link.
+    fn due(&mut self, link: usize, now: u64) -> Result<Outcome, StepFault>
+        ensures { (n : Network) → Shows self.old n → Took result (DueStep link now) n self.new }
+    {
+        if link >= self.links.len() {
+            return Err(StepFault::Missing);
+        }
+        let place = &mut self.links[link];
+        let peer = place.peer();
+        match place.due(now) {
+            Given::Datagram(packet) => {
+                let number = self.to_device.len();
+                match self.to_device.push(Sent {
+                    peer,
+                    bytes: packet,
+                }) {
+                    Ok(()) => Ok(Outcome::Sent(number)),
+                    Err(_) => Err(StepFault::NoMemory),
+                }
+            }
+            Given::Nothing => Ok(Outcome::Nothing),
+            Given::Lost => Ok(Outcome::Lost),
+        }
+    }
+
+    /// Delivers a datagram to the device, and sends its answers to the link.
+    fn deliver_to_device(&mut self, k: usize, now: u64) -> Result<Outcome, StepFault>
+        ensures { (n : Network) → Shows self.old n → Took result (ToDevice k now) n self.new }
+    {
+        if k >= self.to_device.len() {
+            return Err(StepFault::Missing);
+        }
+        let sent = &self.to_device[k];
+        let peer = sent.peer();
+        self.outbox.clear();
+        let verdict = self
+            .device
+            .datagram(peer, sent.bytes(), now, &mut self.outbox);
+        match send_back(&self.outbox, peer, &mut self.to_links) {
+            Ok(()) => Ok(Outcome::Device(verdict)),
+            Err(NoMemory) => Err(StepFault::NoMemory),
+        }
+    }
+
+    /// Delivers a datagram to the link that it was sent to.
+    fn deliver_to_link(&mut self, k: usize, now: u64) -> Result<Outcome, StepFault>
+        ensures { (n : Network) → Shows self.old n → Took result (ToLink k now) n self.new }
+    {
+        if k >= self.to_links.len() {
+            return Err(StepFault::Missing);
+        }
+        let sent = &self.to_links[k];
+        match hear(&mut self.links, sent.peer(), sent.bytes(), now) {
+            Some(reception) => Ok(Outcome::Link(reception)),
+            None => Err(StepFault::Missing),
+        }
+    }
+
+    /// Delivers bytes of a peer that is no link's to the device, whose answers go nowhere.
+    fn deliver_other(&mut self, from: Peer, bytes: &[u8], now: u64) -> Result<Outcome, StepFault>
+        ensures { (n : Network) → Shows self.old n → Took result (Other from bytes.now now) n self.new }
+    {
+        if has_link(self.links.as_slice(), from) {
+            return Err(StepFault::Missing);
+        }
+        self.outbox.clear();
+        Ok(Outcome::Device(self.device.datagram(from, bytes, now, &mut self.outbox)))
+    }
+
+    /// Takes an answer from a link.
+    fn take(&mut self, link: usize, handle: Handle) -> Result<Outcome, StepFault>
+        ensures { (n : Network) → Shows self.old n → Took result (Take link handle.0) n self.new }
+    {
+        if link >= self.links.len() {
+            return Err(StepFault::Missing);
+        }
+        let place = &mut self.links[link];
+        Ok(place.take(handle))
+    }
+}
+
+/// A new link for each start.
+fn links_of(alloc: Global, span: Span, starts: &[Start]) -> Result<Vec<PeerLink>, NoMemory>
+    ensures { IfOk result (λ v. v.items ≡ map (started (span_size span)) starts.now) }
+{
+    let mut links = Vec::new(alloc);
+    for start in starts {
+        let link = PeerLink {
+            peer: start.peer,
+            link: Link::new(DEVICE, start.first_handle, 0, span),
+        };
+        if links.push(link).is_err() {
+            return Err(NoMemory);
+        }
+    }
+    Ok(links)
+}
+
+/// Whether a link is of this peer.
+fn has_link(links: &[PeerLink], peer: Peer) -> bool
+    ensures { result ≡ Rattle.oca_pair.specs.Steps.has_link peer links.now }
+{
+    links.iter().any(|place| place.peer() == peer)
+}
+
+/// Each link of the peer hears the datagram, and the first one's answer is told.
+fn hear(links: &mut Vec<PeerLink>, peer: Peer, bytes: &[u8], now: u64) -> Option<Reception> {
+    let mut answer = None;
+    for i in 0..links.len() {
+        let place = &mut links[i];
+        if place.peer() == peer {
+            let reception = place.datagram(bytes, now);
+            answer = answer.or(Some(reception));
+        }
+    }
+    answer
+}
+
+/// Sends all packets of the outbox to the link of a peer.
+fn send_back(outbox: &Outbox, peer: Peer, to_links: &mut Vec<Sent>) -> Result<(), NoMemory>
+    ensures { IfOk result (λ u. to_links.new.items ≡ to_links.old.items ++ sendings peer outbox.now) }
+{
+    for i in 0..outbox.len() {
+        if let Some(packet) = outbox.get(i) {
+            if to_links.push(Sent::new(peer, packet.as_slice())).is_err() {
+                return Err(NoMemory);
+            }
+        }
+    }
+    Ok(())
+}
