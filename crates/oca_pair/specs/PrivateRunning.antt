@@ -1,17 +1,21 @@
 -- What a network that runs shows of the network that a schedule speaks of.
-use Rattle.std.specs.Prelude.{◌≡◌, ℕ, true, false, List, [], ◌∷◌, Option, Some, None, Result, Ok, Err}
+use Rattle.std.specs.Prelude.{◌≡◌, ℕ, ◌+◌, if◌then◌else◌, Bool, true, false, List, [], ◌∷◌, ◌++◌, Option, Some, None, Result, Ok, Err}
 use Rattle.std.specs.List.{AllByRecursion}
+use Rattle.std.specs.Option.{option_or}
 use Rattle.oca_types.specs.declared.words.Peer.{Peer}
+use Rattle.oca_types.specs.Peers.{same_peer}
 use Rattle.oca_device.specs.Devices.{Represents}
 use Rattle.oca_pair.specs.declared.outcome.Outcome.{Outcome}
-use Rattle.oca_control.specs.Links.{Decision, GivesNothing, IsLost}
+use Rattle.oca_control.specs.declared.reception.Reception.{Reception}
+use Rattle.oca_control.specs.Links.{Decision, GivesNothing, IsLost, reception}
+use Rattle.oca_pair.specs.declared.start.Start.{Start}
 use Rattle.oca_pair.specs.declared.given.Given.{Given}
 use Rattle.oca_pair.specs.declared.given.Given.TheVariants as gives
 use Rattle.oca_pair.specs.declared.running.Running.{Running}
 use Rattle.oca_pair.specs.declared.running.StepFault.{StepFault}
 use Rattle.oca_pair.specs.declared.running.StepFault.TheVariants as faults
-use Rattle.oca_pair.specs.Networks.{Network, PeerLink, SentDatagram}
-use Rattle.oca_pair.specs.Steps.{Step, has_link, is_there, after_step, outcome_of, given_by}
+use Rattle.oca_pair.specs.Networks.{Network, PeerLink, SentDatagram, device_address}
+use Rattle.oca_pair.specs.Steps.{Step, has_link, is_there, after_step, after_steps, outcome_of, outcomes_of, first_missing, given_by, content_of}
 
 -- each datagram is of the peer of a link
 abbrev pub AreOfLinks : List PeerLink → List SentDatagram → Type 0
@@ -37,3 +41,29 @@ abbrev pub GivesBy : Given → Decision → Type 0
 GivesBy (gives.Datagram packet) d = given_by d ≡ packet.items ∷ []
 GivesBy gives.Nothing d = d ≡ GivesNothing
 GivesBy gives.Lost d = d ≡ IsLost
+
+-- the start is of this peer
+abbrev pub is_of_peer : Peer → Start → Bool
+is_of_peer p x = same_peer x.peer p
+
+-- what a link answers to a datagram, where it is for the link's peer
+abbrev pub heard : SentDatagram → PeerLink → Option Reception
+heard d l = if same_peer l.peer d.peer then Some (reception device_address (content_of d.bytes) l.link) else None
+
+-- the answer of the first link of the datagram's peer
+abbrev pub first_heard : SentDatagram → List PeerLink → Option Reception
+first_heard d [] = None
+first_heard d (l ∷ links) = option_or (heard d l) (first_heard d links)
+
+-- a number of the steps from k on, as a number of all steps
+abbrev pub counted_from : ℕ → Option ℕ → Option ℕ
+counted_from k (Some j) = Some (k + j)
+counted_from k None = None
+
+-- With these outcomes and these steps left, the network that runs is one from which the rest leads to what all steps lead to.
+pub record IsHalfway (r : Running) (log : List Outcome) (k : ℕ) (rest all : List Step) (from : Network) : Type 0 where
+  pub network : Network
+  pub shows : Shows r network
+  pub last : after_steps rest network ≡ after_steps all from
+  pub outcomes : log ++ outcomes_of rest network ≡ outcomes_of all from
+  pub missing : counted_from k (first_missing rest network) ≡ first_missing all from

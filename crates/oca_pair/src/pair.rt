@@ -1,5 +1,11 @@
 //! A schedule, run on a device and links.
+ghost use Rattle.std.specs.Prelude.{◌≡◌, ◌&&◌, not, ◌++◌, ◌∷◌, [], IfOk};
+ghost use Rattle.std.specs.List.{list_any, list_all};
+ghost use Rattle.oca_types.specs.Peers.{same_peer};
 ghost use Rattle.oca_types.specs.Sizes.{window_size, span_size};
+ghost use Rattle.oca_pair.specs.Networks.{device_address};
+ghost use Rattle.oca_pair.specs.Premises.{is_of_another_peer};
+ghost use Rattle.oca_pair.specs.PrivateRunning.{is_of_peer};
 ghost use Rattle.oca_pair.specs.Transcripts.{RunsSchedule};
 
 use crate::fault::PairFault;
@@ -49,13 +55,12 @@ pub fn run_pair(
         return Err(PairFault::NoMemory);
     };
     let mut log = Vec::new(alloc);
-    for (number, step) in steps.iter().enumerate() {
-        match running.take_step(step) {
-            Ok(outcome) => {
-                if log.push(outcome).is_err() {
-                    return Err(PairFault::NoMemory);
-                }
-            }
+    for number in 0..steps.len() {
+        match running.take_step(&steps[number]) {
+            Ok(outcome) => match add(&mut log, outcome) {
+                Ok(()) => {}
+                Err(NoMemory) => return Err(PairFault::NoMemory),
+            },
             Err(StepFault::NoMemory) => return Err(PairFault::NoMemory),
             Err(StepFault::Missing) => return Err(PairFault::BadStep(number)),
         }
@@ -74,17 +79,48 @@ pub fn run_pair(
     })
 }
 
+/// Adds an outcome as the last one.
+fn add(log: &mut Vec<Outcome>, outcome: Outcome) -> Result<(), NoMemory>
+    ensures { IfOk result (λ u. log.new.items ≡ log.old.items ++ outcome ∷ []) }
+{
+    match log.push(outcome) {
+        Ok(()) => Ok(()),
+        Err(_) => Err(NoMemory),
+    }
+}
+
 /// Whether no two starts have one peer, and none has the device's.
-fn are_apart(starts: &[Start]) -> bool {
-    for (i, start) in starts.iter().enumerate() {
-        if start.peer == DEVICE || has_peer(&starts[i + 1..], start.peer) {
+fn are_apart(starts: &[Start]) -> bool
+    ensures { result ≡ Rattle.oca_pair.specs.Premises.are_apart starts.now }
+{
+    for i in 0..starts.len() {
+        if !is_apart(starts[i].peer, &starts[i + 1..]) {
             return false;
         }
     }
     true
 }
 
+/// Whether a peer is not the device's, nor that of a later start.
+fn is_apart(peer: Peer, later: &[Start]) -> bool
+    ensures { result ≡ (not (same_peer peer device_address) && list_all (is_of_another_peer peer) later.now) }
+{
+    if is_device(peer) {
+        return false;
+    }
+    !has_peer(later, peer)
+}
+
+/// Whether the peer is the device's.
+fn is_device(peer: Peer) -> bool
+    ensures { result ≡ same_peer peer device_address }
+{
+    peer == DEVICE
+}
+
 /// Whether a start has this peer.
-fn has_peer(starts: &[Start], peer: Peer) -> bool {
+fn has_peer(starts: &[Start], peer: Peer) -> bool
+    ensures { result ≡ list_any (is_of_peer peer) starts.now }
+{
     starts.iter().any(|start| start.peer == peer)
 }

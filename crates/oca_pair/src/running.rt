@@ -1,10 +1,11 @@
 //! A network as it runs: the device, the links, and what was sent.
-ghost use Rattle.std.specs.Prelude.{◌≡◌, ◌++◌, ℕ, IfOk, map, Option, Some, None};
+ghost use Rattle.std.specs.Prelude.{◌≡◌, ◌++◌, ◌∷◌, [], ℕ, IfOk, Ok, map, Option, Some, None};
 ghost use Rattle.oca_types.specs.Sizes.{window_size, span_size};
 ghost use Rattle.oca_control.specs.Links.{Request, submitted, submission, decision, gone_on, received, reception, taken};
 ghost use Rattle.oca_control.specs.Untaken.{answer_under};
-ghost use Rattle.oca_pair.specs.Networks.{Network, started, opening, device_address};
-ghost use Rattle.oca_pair.specs.Steps.{Submit, Due as DueStep, ToDevice, ToLink, Other, Take, sendings, submit_outcome, content_of, take_outcome};
+ghost use Rattle.oca_pair.specs.Networks.{Network, SentDatagram, started, opening, device_address};
+ghost use Rattle.oca_pair.specs.Steps.{Submit, Due as DueStep, ToDevice, ToLink, Other, Tick as TickStep, Take, sendings, hears_datagram, submit_outcome, content_of, take_outcome};
+ghost use Rattle.oca_pair.specs.PrivateRunning.{first_heard};
 
 use crate::given::Given;
 use crate::outcome::Outcome;
@@ -49,7 +50,8 @@ impl Model for PeerLink {
 }
 
 impl PeerLink {
-    ghost use Rattle.oca_pair.specs.PrivateRunning.{GivesBy};
+    ghost use Rattle.oca_pair.specs.Steps.{hears_datagram};
+    ghost use Rattle.oca_pair.specs.PrivateRunning.{GivesBy, heard};
 
     /// Submits a command to the link.
     fn submit(
@@ -91,6 +93,17 @@ impl PeerLink {
         ensures link { self.new ≡ record { peer = self.old.peer; link = received device_address (content_of bytes.now) now self.old.link } }
     {
         self.link.datagram(DEVICE, bytes, now)
+    }
+
+    /// Takes a datagram of the device in where it is for this peer.
+    fn hear(&mut self, peer: Peer, bytes: &[u8], now: u64) -> Option<Reception>
+        ensures answer { result ≡ heard (record { peer = peer; bytes = bytes.now }) self.old }
+        ensures link { self.new ≡ hears_datagram (record { peer = peer; bytes = bytes.now }) now self.old }
+    {
+        if self.peer() == peer {
+            return Some(self.datagram(bytes, now));
+        }
+        None
     }
 
     /// Takes the answer under the handle.
@@ -165,10 +178,7 @@ impl Running {
             Step::ToDevice { k, now } => self.deliver_to_device(k, now),
             Step::ToLink { k, now } => self.deliver_to_link(k, now),
             Step::Other { from, bytes, now } => self.deliver_other(from, bytes, now),
-            Step::Tick { now } => {
-                self.device.tick(now);
-                Ok(Outcome::Ticked)
-            }
+            Step::Tick { now } => Ok(self.tick(now)),
             Step::Take { link, handle } => self.take(link, handle),
         }
     }
@@ -205,12 +215,9 @@ impl Running {
         match place.due(now) {
             Given::Datagram(packet) => {
                 let number = self.to_device.len();
-                match self.to_device.push(Sent {
-                    peer,
-                    bytes: packet,
-                }) {
+                match add(&mut self.to_device, Sent { peer, bytes: packet }) {
                     Ok(()) => Ok(Outcome::Sent(number)),
-                    Err(_) => Err(StepFault::NoMemory),
+                    Err(NoMemory) => Err(StepFault::NoMemory),
                 }
             }
             Given::Nothing => Ok(Outcome::Nothing),
@@ -262,6 +269,14 @@ impl Running {
         Ok(Outcome::Device(self.device.datagram(from, bytes, now, &mut self.outbox)))
     }
 
+    /// Reads the device's clock.
+    fn tick(&mut self, now: u64) -> Outcome
+        ensures { (n : Network) → Shows self.old n → Took (Ok result) (TickStep now) n self.new }
+    {
+        self.device.tick(now);
+        Outcome::Ticked
+    }
+
     /// Takes an answer from a link.
     fn take(&mut self, link: usize, handle: Handle) -> Result<Outcome, StepFault>
         ensures { (n : Network) → Shows self.old n → Took result (Take link handle.0) n self.new }
@@ -284,9 +299,7 @@ fn links_of(alloc: Global, span: Span, starts: &[Start]) -> Result<Vec<PeerLink>
             peer: start.peer,
             link: Link::new(DEVICE, start.first_handle, 0, span),
         };
-        if links.push(link).is_err() {
-            return Err(NoMemory);
-        }
+        add_link(&mut links, link)?;
     }
     Ok(links)
 }
@@ -298,15 +311,35 @@ fn has_link(links: &[PeerLink], peer: Peer) -> bool
     links.iter().any(|place| place.peer() == peer)
 }
 
+/// Adds a link as the last one.
+fn add_link(links: &mut Vec<PeerLink>, link: PeerLink) -> Result<(), NoMemory>
+    ensures { IfOk result (λ u. links.new.items ≡ links.old.items ++ link ∷ []) }
+{
+    match links.push(link) {
+        Ok(()) => Ok(()),
+        Err(_) => Err(NoMemory),
+    }
+}
+
+/// Adds a datagram as the last one.
+fn add(list: &mut Vec<Sent>, sent: Sent) -> Result<(), NoMemory>
+    ensures { IfOk result (λ u. list.new.items ≡ list.old.items ++ sent ∷ []) }
+{
+    match list.push(sent) {
+        Ok(()) => Ok(()),
+        Err(_) => Err(NoMemory),
+    }
+}
+
 /// Each link of the peer hears the datagram, and the first one's answer is told.
-fn hear(links: &mut Vec<PeerLink>, peer: Peer, bytes: &[u8], now: u64) -> Option<Reception> {
+fn hear(links: &mut Vec<PeerLink>, peer: Peer, bytes: &[u8], now: u64) -> Option<Reception>
+    ensures links { let d : SentDatagram = record { peer = peer; bytes = bytes.now } in links.new.items ≡ map (hears_datagram d now) links.old.items }
+    ensures answer { let d : SentDatagram = record { peer = peer; bytes = bytes.now } in result ≡ first_heard d links.old.items }
+{
     let mut answer = None;
     for i in 0..links.len() {
-        let place = &mut links[i];
-        if place.peer() == peer {
-            let reception = place.datagram(bytes, now);
-            answer = answer.or(Some(reception));
-        }
+        let heard = links[i].hear(peer, bytes, now);
+        answer = answer.or(heard);
     }
     answer
 }
@@ -316,10 +349,9 @@ fn send_back(outbox: &Outbox, peer: Peer, to_links: &mut Vec<Sent>) -> Result<()
     ensures { IfOk result (λ u. to_links.new.items ≡ to_links.old.items ++ sendings peer outbox.now) }
 {
     for i in 0..outbox.len() {
-        if let Some(packet) = outbox.get(i) {
-            if to_links.push(Sent::new(peer, packet.as_slice())).is_err() {
-                return Err(NoMemory);
-            }
+        match outbox.get(i) {
+            Some(packet) => add(to_links, Sent::new(peer, packet.as_slice()))?,
+            None => {}
         }
     }
     Ok(())
