@@ -1,10 +1,10 @@
 -- What each step of a network that runs leads to.
 use Rattle.std.proofs.Common.{◌≡◌, ℕ, ◌+◌, ◌<◌, ◌≤◌, Bool, true, false, List, [], ◌∷◌, ◌++◌, length, take, drop, get_or, Option, Some, None, Result, Ok, Err, refl, sym, ap, ◌∙◌, subst, arith, zero, suc, append-nil, append_assoc, take_all}
 use Rattle.std.specs.Prelude.{map, not, ◌&&◌, ◌||◌, is_some, if◌then◌else◌}
-use Rattle.std.specs.List.{AllByRecursion, slice_get, slice_set, list_any, list_all, flat_map}
-use Rattle.std.specs.Option.{option_or, option_map}
-use Rattle.std.proofs.lemmas.List.{get_or_at, set_at, drop_more, drop_all, map_more, take_more, length-map, length-take-le, map-append}
-use Rattle.std.proofs.lemmas.Option.{slice_get_read, slice_get_past, slice_get-get_or}
+use Rattle.std.specs.List.{slice_get, slice_set, list_any, list_all}
+use Rattle.std.specs.Option.{option_or}
+use Rattle.std.proofs.lemmas.List.{get_or_at, set_at, drop_more, drop_all, map_more, length-map, length-take-le}
+use Rattle.std.proofs.lemmas.Option.{slice_get-get_or}
 use Rattle.oca_types.specs.declared.words.Peer.{Peer}
 use Rattle.oca_types.specs.Peers.{same_peer}
 use Rattle.oca_pdu.specs.declared.fault.PduFault.{PduFault}
@@ -16,12 +16,9 @@ use Rattle.oca_tree.specs.declared.object.Object.{Object}
 use Rattle.oca_device.specs.declared.verdict.Verdict.{Verdict}
 use Rattle.oca_device.specs.Devices.{Represents}
 use Rattle.oca_device.specs.Events.{Event, Datagram}
-use Rattle.oca_device.specs.Events as event
 use Rattle.oca_device.specs.Answers.{packets, verdict}
-use Rattle.oca_control.specs.declared.answer.Answer.{Answer}
 use Rattle.oca_control.specs.declared.reception.Reception.{Reception}
 use Rattle.oca_control.specs.Contents.{IsContent}
-use Rattle.oca_control.specs.Answers.{answer_fields}
 use Rattle.oca_control.specs.Untaken.{answer_under}
 use Rattle.oca_control.specs.Links.{LinkState, Request, submission, submitted, Decision, GivesCommand, GivesKeepAlive, GivesNothing, IsLost, decision, gone_on, reception, received, taken}
 use Rattle.oca_pair.specs.declared.outcome.Outcome.{Outcome}
@@ -33,7 +30,7 @@ use Rattle.oca_pair.specs.declared.pair.Transcript.{Transcript}
 use Rattle.oca_pair.specs.declared.start.Start.{Start}
 use Rattle.oca_pair.specs.Networks.{Network, PeerLink, SentDatagram, device_address}
 use Rattle.oca_pair.specs.Premises.{is_of_another_peer, are_apart}
-use Rattle.oca_pair.specs.Steps.{Step, Submit, Due, ToDevice, ToLink, Other, Tick, Take, has_link, is_there, sendings, with_link, submit_outcome, after_submit, given_by, due_outcome, after_due_step, after_delivery, delivery_outcome, content_of, messages_read, hears_datagram, after_reception, reception_outcomes, reception_outcome, take_outcome, after_take, after_step, after_steps, on_link, outcome_of, outcomes_of, one_later, first_missing}
+use Rattle.oca_pair.specs.Steps.{Step, Submit, Due, ToDevice, ToLink, Take, has_link, sendings, with_link, submit_outcome, after_submit, given_by, due_outcome, after_due_step, after_delivery, delivery_outcome, content_of, messages_read, hears_datagram, after_reception, reception_outcomes, reception_outcome, take_outcome, after_take, after_step, on_link, outcomes_of, one_later, first_missing}
 use Rattle.oca_pair.proofs.Lists.{same_self}
 use Rattle.oca_pair.specs.Transcripts.{IsTranscript}
 use Rattle.oca_pair.specs.PrivateRunning.{AreOfLinks, Shows, Took, is_of_peer, heard, first_heard, counted_from, IsHalfway}
@@ -180,8 +177,7 @@ pub took_submit : (old new : Running) (n : Network) (i : ℕ) (r : Request) (now
     o ≡ submit_outcome (submission r l.link) → new.links.items ≡ slice_set old.links.items i (record { peer = l.peer; link = submitted r now l.link }) → Took (Ok o) (Submit i r now) n new
 took_submit old new n i r now l o h at same is set =
     let at' : slice_get n.links i ≡ Some l = there old n i l h at in
-    let s = linked old new n i l (submitted r now l.link) h at' same set in
-    (
+    let s = linked old new n i l (submitted r now l.link) h at' same set in (
       ap (λ (x : Option PeerLink). is_some x) at',
       ap (λ (x : Option PeerLink). on_link (λ y. submit_outcome (submission r y.link)) x) at' ∙ ap (λ (x : Outcome). x ∷ []) (sym is),
       subst (λ (x : Option PeerLink). Shows new (after_submit i r now x n)) (sym at')
@@ -192,8 +188,7 @@ pub took_take : (old new : Running) (n : Network) (i k : ℕ) (l : PeerLink) (o 
     o ≡ take_outcome (answer_under k l.link.untaken) → new.links.items ≡ slice_set old.links.items i (record { peer = l.peer; link = taken k l.link }) → Took (Ok o) (Take i k) n new
 took_take old new n i k l o h at same is set =
     let at' : slice_get n.links i ≡ Some l = there old n i l h at in
-    let s = linked old new n i l (taken k l.link) h at' same set in
-    (
+    let s = linked old new n i l (taken k l.link) h at' same set in (
       ap (λ (x : Option PeerLink). is_some x) at',
       ap (λ (x : Option PeerLink). on_link (λ y. take_outcome (answer_under k y.link.untaken)) x) at' ∙ ap (λ (x : Outcome). x ∷ []) (sym is),
       subst (λ (x : Option PeerLink). Shows new (after_take i k x n)) (sym at')
@@ -225,11 +220,10 @@ pub took_due : (old new : Running) (n : Network) (i now : ℕ) (l : PeerLink) (o
 took_due old new n i now l o h at is device to_links to_device set =
     let at' : slice_get n.links i ≡ Some l = there old n i l h at in
     let kept : (p : Peer) → has_link p (with_link i l (gone_on now l.link) n.links) ≡ has_link p n.links = λ p. same_links i l (gone_on now l.link) n.links p at' in
-    let given = given_by (decision now l.link) in
-    (
+    let given = given_by (decision now l.link) in (
       ap (λ (x : Option PeerLink). is_some x) at',
       ap (λ (x : Option PeerLink). on_link (λ y. due_outcome (length n.to_device) (decision now y.link)) x) at'
-      ∙ ap (λ (xs : List SentDatagram). due_outcome (length xs) (decision now l.link) ∷ []) (sym h.to_device) ∙ ap (λ (x : Outcome). x ∷ []) is,
+          ∙ ap (λ (xs : List SentDatagram). due_outcome (length xs) (decision now l.link) ∷ []) (sym h.to_device) ∙ ap (λ (x : Outcome). x ∷ []) is,
       subst (λ (x : Option PeerLink). Shows new (after_due_step i now x n)) (sym at') (record {
         device = subst (λ d. Represents n.window d n.tree n.events) (sym device) h.device;
         links = set ∙ ap (λ (xs : List PeerLink). with_link i l (gone_on now l.link) xs) h.links;
@@ -276,8 +270,7 @@ took_to_device old new n k now d p bytes v answers h at owner content represents
     let at' : slice_get n.to_device k ≡ Some x =
     ap (λ (xs : List SentDatagram). slice_get xs k) (sym h.to_device) ∙ at ∙ ap (λ (y : SentDatagram). Some y) (datagram_is d p bytes owner content) in
     let all = packets n.window n.tree n.events (Datagram p bytes now) in
-    let are : answers ≡ all = answered n.window n.tree n.events h.device in
-    (
+    let are : answers ≡ all = answered n.window n.tree n.events h.device in (
       ap (λ (o : Option SentDatagram). is_some o) at',
       ap (λ (o : Option SentDatagram). delivery_outcome now o n) at' ∙ ap (λ (o : Verdict). outcomes.Device o ∷ []) (sym (told n.window n.tree n.events h.device)),
       subst (λ (o : Option SentDatagram). Shows new (after_delivery now o n)) (sym at') (record {
@@ -296,8 +289,7 @@ pub took_to_link : (old new : Running) (n : Network) (k now : ℕ) (d : SentData
 took_to_link old new n k now d p bytes r h at owner content hearing same =
     let x : SentDatagram = record { peer = p; bytes = bytes } in
     let at' : slice_get n.to_links k ≡ Some x =
-    ap (λ (xs : List SentDatagram). slice_get xs k) (sym h.to_links) ∙ at ∙ ap (λ (y : SentDatagram). Some y) (datagram_is d p bytes owner content) in
-    (
+    ap (λ (xs : List SentDatagram). slice_get xs k) (sym h.to_links) ∙ at ∙ ap (λ (y : SentDatagram). Some y) (datagram_is d p bytes owner content) in (
       ap (λ (o : Option SentDatagram). is_some o) at',
       ap (λ (o : Option SentDatagram). reception_outcome o n) at' ∙ one_answers x n.links r (sym (hearing.0 ∙ ap (λ (xs : List PeerLink). first_heard x xs) h.links)),
       subst (λ (o : Option SentDatagram). Shows new (after_reception now o n)) (sym at')

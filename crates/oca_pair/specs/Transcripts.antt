@@ -2,7 +2,6 @@
 use Rattle.std.specs.Prelude.{◌≡◌, ℕ, true, false, List, map, Result, Ok, Err, Some, None}
 use Rattle.oca_tree.specs.declared.object.Object.{Object}
 use Rattle.oca_device.specs.Devices.{Represents}
-use Rattle.oca_control.specs.Links.{Request}
 use Rattle.oca_pair.specs.declared.fault.PairFault.{PairFault}
 use Rattle.oca_pair.specs.declared.fault.PairFault.TheVariants as faults
 use Rattle.oca_pair.specs.declared.pair.Transcript.{Transcript}

@@ -215,7 +215,13 @@ impl Running {
         match place.due(now) {
             Given::Datagram(packet) => {
                 let number = self.to_device.len();
-                match add(&mut self.to_device, Sent { peer, bytes: packet }) {
+                match add(
+                    &mut self.to_device,
+                    Sent {
+                        peer,
+                        bytes: packet,
+                    },
+                ) {
                     Ok(()) => Ok(Outcome::Sent(number)),
                     Err(NoMemory) => Err(StepFault::NoMemory),
                 }

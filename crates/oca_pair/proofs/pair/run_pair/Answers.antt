@@ -1,10 +1,8 @@
-use Rattle.std.proofs.Common.{◌≡◌, ◌<◌, ◌≤◌, true, length, refl, sym, ◌∙◌, ap, arith}
+use Rattle.std.proofs.Common.{◌<◌, ◌≤◌, length, refl, sym, ◌∙◌, arith}
 use Rattle.std.specs.Prelude.{map}
 use Rattle.oca_types.specs.Sizes.{window_size, span_size}
 use Rattle.oca_pair.specs.Networks.{Network, opening}
-use Rattle.oca_pair.specs.Premises.{are_apart}
 use Rattle.oca_pair.specs.Transcripts.{step_of}
-use Rattle.oca_pair.specs.PrivateRunning.{IsHalfway}
 use Rattle.oca_pair.proofs.Runs.{begun_at, goes_on_at, stops_at, ended_at, all_there, all_done}
 use Rattle.oca_pair.proofs.pair.run_pair.Goals as goal
 

@@ -1,5 +1,5 @@
-use Rattle.std.proofs.Common.{◌≡◌, ◌<◌, ◌≤◌, length, get_or, refl, ◌∙◌, arith}
-use Rattle.oca_pair.specs.Networks.{PeerLink, SentDatagram}
+use Rattle.std.proofs.Common.{◌≡◌, ◌<◌, ◌≤◌, length, get_or, arith}
+use Rattle.oca_pair.specs.Networks.{SentDatagram}
 use Rattle.oca_pair.specs.Steps.{hears_datagram}
 use Rattle.oca_pair.proofs.Runs.{unchanged_at, changed_next, changed_all, heard_next, heard_all}
 use Rattle.oca_pair.proofs.running.hear.Goals as goal
