@@ -63,4 +63,4 @@ pdus_short (p ∷ ps) fits =
 
 pub datagram_short : (ps : List Pdu) (bytes : List ℕ) (ms : List Msg) → IsDatagram ps bytes → ms ≡ flat_map messages_of ps → AreShort ms
 datagram_short ps bytes ms are same =
-    subst AreShort (sym same) (pdus_short ps (let short = are.short in let whole = ap length are.bytes_are in omega arith))
+    subst AreShort (sym same) (pdus_short ps (let short = are.within_limit in let whole = ap length are.bytes_are in omega arith))
