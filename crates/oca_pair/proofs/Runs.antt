@@ -30,10 +30,10 @@ use Rattle.oca_pair.specs.declared.pair.Transcript.{Transcript}
 use Rattle.oca_pair.specs.declared.start.Start.{Start}
 use Rattle.oca_pair.specs.Networks.{Network, PeerLink, SentDatagram, device_address}
 use Rattle.oca_pair.specs.Premises.{is_of_another_peer, are_apart}
-use Rattle.oca_pair.specs.Steps.{Step, Submit, Due, ToDevice, ToLink, Take, has_link, sendings, with_link, submit_outcome, after_submit, given_by, due_outcome, after_due_step, after_delivery, delivery_outcome, content_of, messages_read, hears_datagram, after_reception, reception_outcomes, reception_outcome, take_outcome, after_take, after_step, on_link, outcomes_of, one_later, first_missing}
+use Rattle.oca_pair.specs.Steps.{Step, Submit, Due, ToDevice, ToLink, Take, has_link, sendings, with_link, submit_outcome, after_submit, given_by, due_outcome, after_due_step, after_delivery, delivery_outcome, content_of, messages_read, hears_datagram, after_reception, reception_outcomes, reception_outcome, take_outcome, after_take, after_step, after_steps, on_link, outcomes_of, one_later, first_missing}
 use Rattle.oca_pair.proofs.Lists.{same_self}
 use Rattle.oca_pair.specs.Transcripts.{IsTranscript}
-use Rattle.oca_pair.specs.PrivateRunning.{AreOfLinks, Shows, Took, is_of_peer, heard, first_heard, counted_from, IsHalfway}
+use Rattle.oca_pair.specs.PrivateRunning.{AreOfLinks, Shows, Took, is_of_peer, heard, first_heard}
 
 -- ---- bytes
 
@@ -347,6 +347,19 @@ apart_so_far starts i x b h at is =
     ∙ ap (λ (c : Bool). c && are_apart (drop (i + 1) starts)) (sym is)
 
 -- ---- schedules
+
+-- a number of the steps from k on, as a number of all steps
+abbrev pub counted_from : ℕ → Option ℕ → Option ℕ
+counted_from k (Some j) = Some (k + j)
+counted_from k None = None
+
+-- With these outcomes and these steps left, the network that runs is one from which the rest leads to what all steps lead to.
+pub record IsHalfway (r : Running) (log : List Outcome) (k : ℕ) (rest all : List Step) (from : Network) : Type 0 where
+  pub network : Network
+  pub shows : Shows r network
+  pub last : after_steps rest network ≡ after_steps all from
+  pub outcomes : log ++ outcomes_of rest network ≡ outcomes_of all from
+  pub missing : counted_from k (first_missing rest network) ≡ first_missing all from
 
 pub begun : (r : Running) (all : List Step) (from : Network) → Shows r from → IsHalfway r [] 0 all all from
 begun r all from h = record { network = from; shows = h; last = refl; outcomes = refl; missing = from_zero (first_missing all from) }

@@ -1,5 +1,5 @@
 -- What a network that runs shows of the network that a schedule speaks of.
-use Rattle.std.specs.Prelude.{◌≡◌, ℕ, ◌+◌, if◌then◌else◌, Bool, true, false, List, [], ◌∷◌, ◌++◌, Option, Some, None, Result, Ok, Err}
+use Rattle.std.specs.Prelude.{◌≡◌, if◌then◌else◌, Bool, true, false, List, [], ◌∷◌, Option, Some, None, Result, Ok, Err}
 use Rattle.std.specs.List.{AllByRecursion}
 use Rattle.std.specs.Option.{option_or}
 use Rattle.oca_types.specs.declared.words.Peer.{Peer}
@@ -15,7 +15,7 @@ use Rattle.oca_pair.specs.declared.running.Running.{Running}
 use Rattle.oca_pair.specs.declared.running.StepFault.{StepFault}
 use Rattle.oca_pair.specs.declared.running.StepFault.TheVariants as faults
 use Rattle.oca_pair.specs.Networks.{Network, PeerLink, SentDatagram, device_address}
-use Rattle.oca_pair.specs.Steps.{Step, has_link, is_there, after_step, after_steps, outcome_of, outcomes_of, first_missing, given_by, content_of}
+use Rattle.oca_pair.specs.Steps.{Step, has_link, is_there, after_step, outcome_of, given_by, content_of}
 
 -- each datagram is of the peer of a link
 abbrev pub AreOfLinks : List PeerLink → List SentDatagram → Type 0
@@ -54,16 +54,3 @@ heard d l = if same_peer l.peer d.peer then Some (reception device_address (cont
 abbrev pub first_heard : SentDatagram → List PeerLink → Option Reception
 first_heard d [] = None
 first_heard d (l ∷ links) = option_or (heard d l) (first_heard d links)
-
--- a number of the steps from k on, as a number of all steps
-abbrev pub counted_from : ℕ → Option ℕ → Option ℕ
-counted_from k (Some j) = Some (k + j)
-counted_from k None = None
-
--- With these outcomes and these steps left, the network that runs is one from which the rest leads to what all steps lead to.
-pub record IsHalfway (r : Running) (log : List Outcome) (k : ℕ) (rest all : List Step) (from : Network) : Type 0 where
-  pub network : Network
-  pub shows : Shows r network
-  pub last : after_steps rest network ≡ after_steps all from
-  pub outcomes : log ++ outcomes_of rest network ≡ outcomes_of all from
-  pub missing : counted_from k (first_missing rest network) ≡ first_missing all from

@@ -3,7 +3,7 @@ use Rattle.std.specs.Prelude.{map}
 use Rattle.oca_types.specs.Sizes.{window_size, span_size}
 use Rattle.oca_pair.specs.Networks.{opening}
 use Rattle.oca_pair.specs.Transcripts.{step_of}
-use Rattle.oca_pair.specs.PrivateRunning.{IsHalfway}
+use Rattle.oca_pair.proofs.Runs.{IsHalfway}
 use Rattle.oca_pair.proofs.pair.run_pair.Given as goal
 
 abbrev pub invariant-loop-number : goal.invariant-loop-number
