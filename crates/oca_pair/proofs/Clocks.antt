@@ -1,5 +1,5 @@
 -- When datagrams of a peer came, and whether the device knows the peer.
-use Rattle.std.proofs.Common.{◌≡◌, ℕ, ◌+◌, Bool, true, false, cond, List, [], ◌∷◌, ◌++◌, refl, sym, ap, ◌∙◌, append_assoc}
+use Rattle.std.proofs.Common.{◌≡◌, ℕ, Bool, true, false, cond, List, [], ◌∷◌, ◌++◌, refl, sym, ap, ◌∙◌, append_assoc}
 use Rattle.std.specs.Prelude.{max, Result, Ok, Err}
 use Rattle.std.specs.List.{AllByRecursion}
 use Rattle.oca_types.specs.declared.words.Peer.{Peer}

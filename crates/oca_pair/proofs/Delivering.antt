@@ -13,7 +13,7 @@ use Rattle.oca_pdu.specs.Encoding.{pdu_encoding, ResponseFits}
 use Rattle.oca_pdu.specs.Reading.{read_datagram}
 use Rattle.oca_pdu.specs.Laws.{WrittenIsReadBack}
 use Rattle.oca_tree.specs.declared.object.Object.{Object}
-use Rattle.oca_session.specs.Accepted.{window, Judgement, Fresh, Duplicate, Reused, Old}
+use Rattle.oca_session.specs.Accepted.{Judgement, Fresh, Duplicate, Reused, Old}
 use Rattle.oca_device.specs.Events.{Event, Datagram}
 use Rattle.oca_device.specs.Notes.{Admitted, Heartbeat, Executed, Note, run, accepted}
 use Rattle.oca_device.specs.States.{State, noted, moved_to, admits, judged_in, reply_of, after_command, after_message, after_reading, time_of}

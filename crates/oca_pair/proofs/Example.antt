@@ -1,5 +1,5 @@
 -- A schedule with loss, repeats and overtaking, of which the laws speak: it meets all that they ask.
-use Rattle.std.proofs.Common.{ℕ, ◌<◌, ◌≤◌, true, false, List, [], ◌∷◌, Some, None, refl, lit<, lit≤, inl, inr}
+use Rattle.std.proofs.Common.{ℕ, true, false, List, [], ◌∷◌, Some, None, refl, lit<, lit≤, inl, inr}
 use Rattle.oca_types.specs.declared.words.Peer.{Peer}
 use Rattle.oca_types.specs.Peers.{CommandFields}
 use Rattle.oca_pdu.specs.Messages.{Commands}

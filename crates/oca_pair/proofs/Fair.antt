@@ -1,6 +1,6 @@
 -- What holds of one link at any time: what it sent it had submitted, and each response that was sent to it carries the reply of an
 -- execution of its own command.
-use Rattle.std.proofs.Common.{◌≡◌, ℕ, ◌+◌, ◌^◌, ◌<◌, ◌≢◌, Bool, true, false, cond, List, [], ◌∷◌, ◌++◌, Option, Some, None, refl, sym, ◌∙◌, ◌⊎◌, inl, inr}
+use Rattle.std.proofs.Common.{◌≡◌, ℕ, ◌^◌, ◌<◌, ◌≢◌, Bool, true, false, cond, List, [], ◌∷◌, ◌++◌, Option, Some, None, refl, sym, ◌∙◌, ◌⊎◌, inl, inr}
 use Rattle.std.specs.Prelude.{max, not, ◌&&◌, Ok}
 use Rattle.std.specs.List.{list_all, AllByRecursion}
 use Rattle.oca_types.specs.declared.words.Peer.{Peer}

@@ -12,3 +12,4 @@ pub mod Room
 pub mod Networks
 pub mod Lawful
 pub mod Example
+pub mod Runs

@@ -1,5 +1,5 @@
 -- What is read of the datagrams that a link and a device send.
-use Rattle.std.proofs.Common.{append-nil, ◌≡◌, ◌<◌, ◌≤◌, true, [], ◌∷◌, length, sym, arith, length-append, lit<, lit≤}
+use Rattle.std.proofs.Common.{append-nil, ◌≡◌, ◌≤◌, true, [], ◌∷◌, length, sym, arith, length-append, lit<, lit≤}
 use Rattle.std.specs.Prelude.{Ok}
 use Rattle.oca_types.specs.Peers.{CommandFields}
 use Rattle.oca_pdu.specs.declared.message.Form.TheVariants.{Seconds}

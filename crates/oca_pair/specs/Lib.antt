@@ -2,3 +2,5 @@ pub mod Networks
 pub mod Steps
 pub mod Premises
 pub mod Laws
+pub mod Transcripts
+pub mod PrivateRunning

@@ -8,7 +8,6 @@ use Rattle.oca_control.specs.Links.{Request}
 use Rattle.oca_pair.specs.declared.start.Start.{Start}
 use Rattle.oca_pair.specs.Networks.{device_address}
 use Rattle.oca_pair.specs.Steps.{Step, Submit}
-use Rattle.oca_pair.specs.Steps as steps
 
 -- ---- of starts: no two have one peer, and none has the device's
 abbrev pub is_of_another_peer : Peer → Start → Bool

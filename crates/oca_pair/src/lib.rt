@@ -1,10 +1,23 @@
 //! Both ends of a control link over a network of lists.
 #![tactic(auto)]
 
+mod fault;
+mod given;
 mod law;
 mod outcome;
+mod pair;
+mod running;
+mod sent;
 mod start;
+mod step;
 
+pub use fault::PairFault;
 pub use law::{law_answers, law_never_old};
 pub use outcome::Outcome;
+pub use pair::{Transcript, run_pair};
+pub use sent::Sent;
 pub use start::Start;
+pub use step::Step;
+
+#[cfg(test)]
+mod tests;

@@ -1,0 +1,6 @@
+use Rattle.std.proofs.Common.{◌≡◌, drop}
+use Rattle.oca_pair.specs.Premises.{are_apart}
+use Rattle.oca_pair.proofs.pair.are_apart.Given as goal
+
+abbrev pub invariant-loop-i : goal.invariant-loop-i
+invariant-loop-i l = are_apart (drop l.i l.starts) ≡ are_apart l.starts

@@ -1,0 +1,47 @@
+-- WHAT RUNNING A SCHEDULE ANSWERS (profile).
+use Rattle.std.specs.Prelude.{◌≡◌, ℕ, true, false, List, map, Result, Ok, Err, Some, None}
+use Rattle.oca_tree.specs.declared.object.Object.{Object}
+use Rattle.oca_device.specs.Devices.{Represents}
+use Rattle.oca_pair.specs.declared.fault.PairFault.{PairFault}
+use Rattle.oca_pair.specs.declared.fault.PairFault.TheVariants as faults
+use Rattle.oca_pair.specs.declared.pair.Transcript.{Transcript}
+use Rattle.oca_pair.specs.declared.start.Start.{Start}
+use Rattle.oca_pair.specs.declared.step.Step as declared
+use Rattle.oca_pair.specs.declared.step.Step.TheVariants as given
+use Rattle.oca_pair.specs.Networks.{Network, opening}
+use Rattle.oca_pair.specs.Steps.{Step, Submit, Due, ToDevice, ToLink, Other, Tick, Take, after_steps, outcomes_of, first_missing}
+use Rattle.oca_pair.specs.Premises.{are_apart}
+
+-- a step without where its bytes lie in memory
+abbrev pub step_of : declared.Step → Step
+step_of (given.Submit link target method count params now) =
+    Submit link (record { target = target.0; level = method.level; index = method.index; count = count; params = params.now }) now
+step_of (given.Due link now) = Due link now
+step_of (given.ToDevice k now) = ToDevice k now
+step_of (given.ToLink k now) = ToLink k now
+step_of (given.Other from bytes now) = Other from bytes.now now
+step_of (given.Tick now) = Tick now
+step_of (given.Take link handle) = Take link handle.0
+
+-- The transcript of the steps from a network on: its lists, one outcome for each step, and a device that represents what came to it.
+pub record IsTranscript (t : Transcript) (steps : List Step) (n : Network) : Type 0 where
+  pub device : let last = after_steps steps n in Represents last.window t.device last.tree last.events
+  pub to_device : t.to_device.items ≡ (after_steps steps n).to_device
+  pub to_links : t.to_links.items ≡ (after_steps steps n).to_links
+  pub log : t.log.items ≡ outcomes_of steps n
+
+-- SamePeer comes exactly where starts are not apart, and BadStep is exactly the first step that names what is not there.
+abbrev pub IsRunOf : Result Transcript PairFault → List Start → List Step → Network → Type 0
+IsRunOf (Ok t) starts steps n = (are_apart starts ≡ true) × (first_missing steps n ≡ None) × IsTranscript t steps n
+IsRunOf (Err faults.NoMemory) starts steps n = are_apart starts ≡ true
+IsRunOf (Err (faults.BadStep k)) starts steps n = (are_apart starts ≡ true) × (first_missing steps n ≡ Some k)
+IsRunOf (Err faults.SamePeer) starts steps n = are_apart starts ≡ false
+
+abbrev pub RunsSchedule : Result Transcript PairFault → ℕ → ℕ → List Object → List Start → List declared.Step → Type 0
+RunsSchedule result window span tree starts steps = IsRunOf result starts (map step_of steps) (opening window span tree starts)
+
+-- the number of a fault
+abbrev pub fault_number : PairFault → ℕ
+fault_number faults.NoMemory = 1
+fault_number (faults.BadStep k) = 2
+fault_number faults.SamePeer = 3

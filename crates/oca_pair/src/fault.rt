@@ -1,0 +1,28 @@
+//! Why a schedule does not run.
+ghost use Rattle.std.specs.Prelude.{◌≡◌};
+ghost use Rattle.oca_pair.specs.Transcripts.{fault_number};
+
+/// Why a schedule does not run to its end. The numbers are promised (*profile*).
+#[derive(Clone, Copy, Debug, PartialEq, Eq)]
+pub enum PairFault {
+    /// Number 1: memory was refused.
+    NoMemory,
+    /// Number 2: the step of this number, from 0, is the first that names a link or a datagram that is not there, or is an `Other`
+    /// from the peer of a link.
+    BadStep(usize),
+    /// Number 3: two starts have one peer, or one has the device's.
+    SamePeer,
+}
+
+impl PairFault {
+    /// The number of the fault.
+    pub fn number(&self) -> u8
+        ensures { result ≡ fault_number self.now }
+    {
+        match self {
+            PairFault::NoMemory => 1,
+            PairFault::BadStep(_) => 2,
+            PairFault::SamePeer => 3,
+        }
+    }
+}

@@ -1,0 +1,126 @@
+//! A schedule, run on a device and links.
+ghost use Rattle.std.specs.Prelude.{◌≡◌, ◌&&◌, not, ◌++◌, ◌∷◌, [], IfOk};
+ghost use Rattle.std.specs.List.{list_any, list_all};
+ghost use Rattle.oca_types.specs.Peers.{same_peer};
+ghost use Rattle.oca_types.specs.Sizes.{window_size, span_size};
+ghost use Rattle.oca_pair.specs.Networks.{device_address};
+ghost use Rattle.oca_pair.specs.Premises.{is_of_another_peer};
+ghost use Rattle.oca_pair.specs.PrivateRunning.{is_of_peer};
+ghost use Rattle.oca_pair.specs.Transcripts.{RunsSchedule};
+
+use crate::fault::PairFault;
+use crate::outcome::Outcome;
+use crate::running::{DEVICE, Running, StepFault};
+use crate::sent::Sent;
+use crate::start::Start;
+use crate::step::Step;
+use oca_device::Device;
+use oca_tree::Tree;
+use oca_types::{NoMemory, Peer, Span, Window};
+use std::alloc::Global;
+
+/// What a schedule led to.
+#[derive(Drop)]
+pub struct Transcript {
+    /// The device at the end.
+    pub device: Device,
+    /// All datagrams that were sent to the device, the first one first.
+    pub to_device: Vec<Sent>,
+    /// All datagrams that were sent to links, the first one first.
+    pub to_links: Vec<Sent>,
+    /// What each step led to, in order.
+    pub log: Vec<Outcome>,
+}
+
+/// Runs a schedule over a device at 127.0.0.1:65000 with these objects and reply windows of this size, and a link of this span for
+/// each start, made at moment 0.
+///
+/// Refusals: `SamePeer`, where two starts have one peer or one has the device's, is looked for first, before memory is taken. Then
+/// the steps are taken in order: `BadStep` is the number of the first one that names a link or a datagram that is not there, or that
+/// is an `Other` from a link's peer; `NoMemory` comes where memory is refused.
+pub fn run_pair(
+    alloc: Global,
+    tree: Tree,
+    window: Window,
+    span: Span,
+    starts: &[Start],
+    steps: &[Step<'_>],
+) -> Result<Transcript, PairFault>
+    ensures { RunsSchedule result (window_size window) (span_size span) tree starts.now steps.now }
+{
+    if !are_apart(starts) {
+        return Err(PairFault::SamePeer);
+    }
+    let Ok(mut running) = Running::new(alloc, tree, window, span, starts) else {
+        return Err(PairFault::NoMemory);
+    };
+    let mut log = Vec::new(alloc);
+    for number in 0..steps.len() {
+        match running.take_step(&steps[number]) {
+            Ok(outcome) => match add(&mut log, outcome) {
+                Ok(()) => {}
+                Err(NoMemory) => return Err(PairFault::NoMemory),
+            },
+            Err(StepFault::NoMemory) => return Err(PairFault::NoMemory),
+            Err(StepFault::Missing) => return Err(PairFault::BadStep(number)),
+        }
+    }
+    let Running {
+        device,
+        to_device,
+        to_links,
+        ..
+    } = running;
+    Ok(Transcript {
+        device,
+        to_device,
+        to_links,
+        log,
+    })
+}
+
+/// Adds an outcome as the last one.
+fn add(log: &mut Vec<Outcome>, outcome: Outcome) -> Result<(), NoMemory>
+    ensures { IfOk result (λ u. log.new.items ≡ log.old.items ++ outcome ∷ []) }
+{
+    match log.push(outcome) {
+        Ok(()) => Ok(()),
+        Err(_) => Err(NoMemory),
+    }
+}
+
+/// Whether no two starts have one peer, and none has the device's.
+fn are_apart(starts: &[Start]) -> bool
+    ensures { result ≡ Rattle.oca_pair.specs.Premises.are_apart starts.now }
+{
+    for i in 0..starts.len() {
+        if !is_apart(starts[i].peer, &starts[i + 1..]) {
+            return false;
+        }
+    }
+    true
+}
+
+/// Whether a peer is not the device's, nor that of a later start.
+fn is_apart(peer: Peer, later: &[Start]) -> bool
+    ensures { result ≡ (not (same_peer peer device_address) && list_all (is_of_another_peer peer) later.now) }
+{
+    if is_device(peer) {
+        return false;
+    }
+    !has_peer(later, peer)
+}
+
+/// Whether the peer is the device's.
+fn is_device(peer: Peer) -> bool
+    ensures { result ≡ same_peer peer device_address }
+{
+    peer == DEVICE
+}
+
+/// Whether a start has this peer.
+fn has_peer(starts: &[Start], peer: Peer) -> bool
+    ensures { result ≡ list_any (is_of_peer peer) starts.now }
+{
+    starts.iter().any(|start| start.peer == peer)
+}

@@ -1,0 +1,364 @@
+//! A network as it runs: the device, the links, and what was sent.
+ghost use Rattle.std.specs.Prelude.{◌≡◌, ◌++◌, ◌∷◌, [], ℕ, IfOk, Ok, map, Option, Some, None};
+ghost use Rattle.oca_types.specs.Sizes.{window_size, span_size};
+ghost use Rattle.oca_control.specs.Links.{Request, submitted, submission, decision, gone_on, received, reception, taken};
+ghost use Rattle.oca_control.specs.Untaken.{answer_under};
+ghost use Rattle.oca_pair.specs.Networks.{Network, SentDatagram, started, opening, device_address};
+ghost use Rattle.oca_pair.specs.Steps.{Submit, Due as DueStep, ToDevice, ToLink, Other, Tick as TickStep, Take, sendings, hears_datagram, submit_outcome, content_of, take_outcome};
+ghost use Rattle.oca_pair.specs.PrivateRunning.{first_heard};
+
+use crate::given::Given;
+use crate::outcome::Outcome;
+use crate::sent::Sent;
+use crate::start::Start;
+use crate::step::Step;
+use oca_control::{Due, Link, Reception};
+use oca_device::{Device, Outbox};
+use oca_tree::Tree;
+use oca_types::{Handle, MethodId, NoMemory, Ono, Packet, Peer, Span, Window};
+use std::alloc::Global;
+use std::marker::Model;
+
+/// Where the device is: 127.0.0.1:65000.
+pub(crate) const DEVICE: Peer = Peer {
+    ip: 0x7F00_0001,
+    port: 65000,
+};
+
+/// Why a step is not taken.
+#[derive(Clone, Copy, PartialEq, Eq)]
+pub(crate) enum StepFault {
+    /// Memory was refused.
+    NoMemory,
+    /// The step names what is not there.
+    Missing,
+}
+
+/// A link, and the peer whose it is.
+#[derive(Drop)]
+pub(crate) struct PeerLink {
+    peer: Peer,
+    link: Link,
+}
+
+impl Model for PeerLink {
+    ghost use Rattle.oca_pair.specs.Networks.{PeerLink as LinkOfPeer};
+
+    ghost Value = { LinkOfPeer };
+
+    ghost view = { λ l. record { peer = l.peer; link = l.link } };
+}
+
+impl PeerLink {
+    ghost use Rattle.oca_pair.specs.Steps.{hears_datagram};
+    ghost use Rattle.oca_pair.specs.PrivateRunning.{GivesBy, heard};
+
+    /// Submits a command to the link.
+    fn submit(
+        &mut self,
+        target: Ono,
+        method: MethodId,
+        count: u8,
+        params: &[u8],
+        now: u64,
+    ) -> Outcome
+        ensures answer { let request : Request = record { target = target.0; level = method.level; index = method.index; count = count; params = params.now } in
+            result ≡ submit_outcome (submission request self.old.link) }
+        ensures link { let request : Request = record { target = target.0; level = method.level; index = method.index; count = count; params = params.now } in
+            self.new ≡ record { peer = self.old.peer; link = submitted request now self.old.link } }
+    {
+        match self.link.submit(target, method, count, params, now) {
+            Ok(handle) => Outcome::Submitted(handle),
+            Err(fault) => Outcome::Refused(fault),
+        }
+    }
+
+    /// Gives out what is due of the link.
+    fn due(&mut self, now: u64) -> Given
+        ensures answer { GivesBy result (decision now self.old.link) }
+        ensures link { self.new ≡ record { peer = self.old.peer; link = gone_on now self.old.link } }
+    {
+        let mut packet = Packet::new();
+        match self.link.due(now, &mut packet) {
+            Due::Send(_) => Given::Datagram(packet),
+            Due::KeepAlive => Given::Datagram(packet),
+            Due::Nothing => Given::Nothing,
+            Due::Lost => Given::Lost,
+        }
+    }
+
+    /// Takes a datagram of the device in.
+    fn datagram(&mut self, bytes: &[u8], now: u64) -> Reception
+        ensures answer { result ≡ reception device_address (content_of bytes.now) self.old.link }
+        ensures link { self.new ≡ record { peer = self.old.peer; link = received device_address (content_of bytes.now) now self.old.link } }
+    {
+        self.link.datagram(DEVICE, bytes, now)
+    }
+
+    /// Takes a datagram of the device in where it is for this peer.
+    fn hear(&mut self, peer: Peer, bytes: &[u8], now: u64) -> Option<Reception>
+        ensures answer { result ≡ heard (record { peer = peer; bytes = bytes.now }) self.old }
+        ensures link { self.new ≡ hears_datagram (record { peer = peer; bytes = bytes.now }) now self.old }
+    {
+        if self.peer() == peer {
+            return Some(self.datagram(bytes, now));
+        }
+        None
+    }
+
+    /// Takes the answer under the handle.
+    fn take(&mut self, handle: Handle) -> Outcome
+        ensures answer { result ≡ take_outcome (answer_under handle.0 self.old.link.untaken) }
+        ensures link { self.new ≡ record { peer = self.old.peer; link = taken handle.0 self.old.link } }
+    {
+        match self.link.take(handle) {
+            Some(answer) => Outcome::Answer(answer),
+            None => Outcome::NoAnswer,
+        }
+    }
+
+    /// The peer whose it is.
+    fn peer(&self) -> Peer
+        ensures { result ≡ self.now.peer }
+    {
+        self.peer
+    }
+}
+
+/// The device with room for its answers, the links, and the datagrams that were sent to the device and to links.
+#[derive(Drop)]
+pub(crate) struct Running {
+    pub(crate) device: Device,
+    outbox: Outbox,
+    links: Vec<PeerLink>,
+    pub(crate) to_device: Vec<Sent>,
+    pub(crate) to_links: Vec<Sent>,
+}
+
+impl Running {
+    ghost use Rattle.oca_pair.specs.Transcripts.{step_of};
+    ghost use Rattle.oca_pair.specs.PrivateRunning.{Shows, Took};
+
+    /// A device of these objects to which nothing happened, and a new link for each start.
+    pub(crate) fn new(
+        alloc: Global,
+        tree: Tree,
+        window: Window,
+        span: Span,
+        starts: &[Start],
+    ) -> Result<Running, NoMemory>
+        ensures { IfOk result (λ r. Shows r (opening (window_size window) (span_size span) tree starts.now)) }
+    {
+        let device = Device::new(alloc, tree, window)?;
+        let outbox = Outbox::new(alloc)?;
+        let links = links_of(alloc, span, starts)?;
+        Ok(Running {
+            device,
+            outbox,
+            links,
+            to_device: Vec::new(alloc),
+            to_links: Vec::new(alloc),
+        })
+    }
+
+    /// Takes a step, and answers what it led to. `Missing` where it names what is not there.
+    pub(crate) fn take_step(&mut self, step: &Step<'_>) -> Result<Outcome, StepFault>
+        ensures { (n : Network) → Shows self.old n → Took result (step_of step.now) n self.new }
+    {
+        match *step {
+            Step::Submit {
+                link,
+                target,
+                method,
+                count,
+                params,
+                now,
+            } => self.submit(link, target, method, count, params, now),
+            Step::Due { link, now } => self.due(link, now),
+            Step::ToDevice { k, now } => self.deliver_to_device(k, now),
+            Step::ToLink { k, now } => self.deliver_to_link(k, now),
+            Step::Other { from, bytes, now } => self.deliver_other(from, bytes, now),
+            Step::Tick { now } => Ok(self.tick(now)),
+            Step::Take { link, handle } => self.take(link, handle),
+        }
+    }
+
+    /// Submits a command to a link.
+    fn submit(
+        &mut self,
+        link: usize,
+        target: Ono,
+        method: MethodId,
+        count: u8,
+        params: &[u8],
+        now: u64,
+    ) -> Result<Outcome, StepFault>
+        ensures { (n : Network) → Shows self.old n →
+            Took result (Submit link (record { target = target.0; level = method.level; index = method.index; count = count; params = params.now }) now) n self.new }
+    {
+        if link >= self.links.len() {
+            return Err(StepFault::Missing);
+        }
+        let place = &mut self.links[link];
+        Ok(place.submit(target, method, count, params, now))
+    }
+
+    /// Sends to the device what is due of a link.
+    fn due(&mut self, link: usize, now: u64) -> Result<Outcome, StepFault>
+        ensures { (n : Network) → Shows self.old n → Took result (DueStep link now) n self.new }
+    {
+        if link >= self.links.len() {
+            return Err(StepFault::Missing);
+        }
+        let place = &mut self.links[link];
+        let peer = place.peer();
+        match place.due(now) {
+            Given::Datagram(packet) => {
+                let number = self.to_device.len();
+                match add(
+                    &mut self.to_device,
+                    Sent {
+                        peer,
+                        bytes: packet,
+                    },
+                ) {
+                    Ok(()) => Ok(Outcome::Sent(number)),
+                    Err(NoMemory) => Err(StepFault::NoMemory),
+                }
+            }
+            Given::Nothing => Ok(Outcome::Nothing),
+            Given::Lost => Ok(Outcome::Lost),
+        }
+    }
+
+    /// Delivers a datagram to the device, and sends its answers to the link.
+    fn deliver_to_device(&mut self, k: usize, now: u64) -> Result<Outcome, StepFault>
+        ensures { (n : Network) → Shows self.old n → Took result (ToDevice k now) n self.new }
+    {
+        if k >= self.to_device.len() {
+            return Err(StepFault::Missing);
+        }
+        let sent = &self.to_device[k];
+        let peer = sent.peer();
+        self.outbox.clear();
+        let verdict = self
+            .device
+            .datagram(peer, sent.bytes(), now, &mut self.outbox);
+        match send_back(&self.outbox, peer, &mut self.to_links) {
+            Ok(()) => Ok(Outcome::Device(verdict)),
+            Err(NoMemory) => Err(StepFault::NoMemory),
+        }
+    }
+
+    /// Delivers a datagram to the link that it was sent to.
+    fn deliver_to_link(&mut self, k: usize, now: u64) -> Result<Outcome, StepFault>
+        ensures { (n : Network) → Shows self.old n → Took result (ToLink k now) n self.new }
+    {
+        if k >= self.to_links.len() {
+            return Err(StepFault::Missing);
+        }
+        let sent = &self.to_links[k];
+        match hear(&mut self.links, sent.peer(), sent.bytes(), now) {
+            Some(reception) => Ok(Outcome::Link(reception)),
+            None => Err(StepFault::Missing),
+        }
+    }
+
+    /// Delivers bytes of a peer that is no link's to the device, whose answers go nowhere.
+    fn deliver_other(&mut self, from: Peer, bytes: &[u8], now: u64) -> Result<Outcome, StepFault>
+        ensures { (n : Network) → Shows self.old n → Took result (Other from bytes.now now) n self.new }
+    {
+        if has_link(self.links.as_slice(), from) {
+            return Err(StepFault::Missing);
+        }
+        self.outbox.clear();
+        Ok(Outcome::Device(self.device.datagram(from, bytes, now, &mut self.outbox)))
+    }
+
+    /// Reads the device's clock.
+    fn tick(&mut self, now: u64) -> Outcome
+        ensures { (n : Network) → Shows self.old n → Took (Ok result) (TickStep now) n self.new }
+    {
+        self.device.tick(now);
+        Outcome::Ticked
+    }
+
+    /// Takes an answer from a link.
+    fn take(&mut self, link: usize, handle: Handle) -> Result<Outcome, StepFault>
+        ensures { (n : Network) → Shows self.old n → Took result (Take link handle.0) n self.new }
+    {
+        if link >= self.links.len() {
+            return Err(StepFault::Missing);
+        }
+        let place = &mut self.links[link];
+        Ok(place.take(handle))
+    }
+}
+
+/// A new link for each start.
+fn links_of(alloc: Global, span: Span, starts: &[Start]) -> Result<Vec<PeerLink>, NoMemory>
+    ensures { IfOk result (λ v. v.items ≡ map (started (span_size span)) starts.now) }
+{
+    let mut links = Vec::new(alloc);
+    for start in starts {
+        let link = PeerLink {
+            peer: start.peer,
+            link: Link::new(DEVICE, start.first_handle, 0, span),
+        };
+        add_link(&mut links, link)?;
+    }
+    Ok(links)
+}
+
+/// Whether a link is of this peer.
+fn has_link(links: &[PeerLink], peer: Peer) -> bool
+    ensures { result ≡ Rattle.oca_pair.specs.Steps.has_link peer links.now }
+{
+    links.iter().any(|place| place.peer() == peer)
+}
+
+/// Adds a link as the last one.
+fn add_link(links: &mut Vec<PeerLink>, link: PeerLink) -> Result<(), NoMemory>
+    ensures { IfOk result (λ u. links.new.items ≡ links.old.items ++ link ∷ []) }
+{
+    match links.push(link) {
+        Ok(()) => Ok(()),
+        Err(_) => Err(NoMemory),
+    }
+}
+
+/// Adds a datagram as the last one.
+fn add(list: &mut Vec<Sent>, sent: Sent) -> Result<(), NoMemory>
+    ensures { IfOk result (λ u. list.new.items ≡ list.old.items ++ sent ∷ []) }
+{
+    match list.push(sent) {
+        Ok(()) => Ok(()),
+        Err(_) => Err(NoMemory),
+    }
+}
+
+/// Each link of the peer hears the datagram, and the first one's answer is told.
+fn hear(links: &mut Vec<PeerLink>, peer: Peer, bytes: &[u8], now: u64) -> Option<Reception>
+    ensures links { let d : SentDatagram = record { peer = peer; bytes = bytes.now } in links.new.items ≡ map (hears_datagram d now) links.old.items }
+    ensures answer { let d : SentDatagram = record { peer = peer; bytes = bytes.now } in result ≡ first_heard d links.old.items }
+{
+    let mut answer = None;
+    for i in 0..links.len() {
+        let heard = links[i].hear(peer, bytes, now);
+        answer = answer.or(heard);
+    }
+    answer
+}
+
+/// Sends all packets of the outbox to the link of a peer.
+fn send_back(outbox: &Outbox, peer: Peer, to_links: &mut Vec<Sent>) -> Result<(), NoMemory>
+    ensures { IfOk result (λ u. to_links.new.items ≡ to_links.old.items ++ sendings peer outbox.now) }
+{
+    for i in 0..outbox.len() {
+        match outbox.get(i) {
+            Some(packet) => add(to_links, Sent::new(peer, packet.as_slice()))?,
+            None => {}
+        }
+    }
+    Ok(())
+}

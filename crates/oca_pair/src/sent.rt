@@ -1,0 +1,51 @@
+//! Datagrams on their way.
+use oca_types::{Packet, Peer};
+use std::marker::Model;
+
+/// A datagram that was sent, from a link to the device or from the device to a link.
+#[derive(Drop)]
+pub struct Sent {
+    /// The peer of the link.
+    pub peer: Peer,
+    /// Its bytes.
+    pub bytes: Packet,
+}
+
+impl Model for Sent {
+    ghost use Rattle.oca_pair.specs.Networks.{SentDatagram};
+
+    ghost Value = { SentDatagram };
+
+    ghost view = { λ s. record { peer = s.peer; bytes = s.bytes.items } };
+}
+
+impl Sent {
+    ghost use Rattle.std.specs.Prelude.{◌≡◌, length, ◌≤◌};
+
+    /// A datagram of these bytes, with the link of this peer at one end.
+    pub(crate) fn new(peer: Peer, bytes: &[u8]) -> Sent
+        requires { length bytes.now ≤ 1472 }
+        ensures { result ≡ record { peer = peer; bytes = bytes.now } }
+    {
+        let mut packet = Packet::new();
+        let _ = packet.try_extend_from_slice(bytes);
+        Sent {
+            peer,
+            bytes: packet,
+        }
+    }
+
+    /// The peer of the link.
+    pub(crate) fn peer(&self) -> Peer
+        ensures { result ≡ self.now.peer }
+    {
+        self.peer
+    }
+
+    /// Its bytes.
+    pub(crate) fn bytes(&self) -> &[u8]
+        ensures { result.now ≡ self.now.bytes }
+    {
+        self.bytes.as_slice()
+    }
+}

@@ -1,0 +1,47 @@
+//! The steps of a schedule.
+use oca_types::{Handle, MethodId, Ono, Peer};
+
+/// A step of a schedule. Links and datagrams are named by their number, from 0: links in the order of the starts, datagrams in the
+/// order in which they were sent, to the device and to links apart. Moments are in milliseconds.
+#[derive(Clone, Copy)]
+pub enum Step<'a> {
+    /// A command is submitted to a link. `count` is ParamCount, and `params` the bytes of the parameters (AES70-3).
+    Submit {
+        link: usize,
+        target: Ono,
+        method: MethodId,
+        count: u8,
+        params: &'a [u8],
+        now: u64,
+    },
+    /// A link is asked what is due, and that is sent to the device.
+    Due {
+        link: usize,
+        now: u64,
+    },
+    /// A datagram that was sent to the device is delivered to it, for the first time or again.
+    ToDevice {
+        k: usize,
+        now: u64,
+    },
+    /// A datagram that was sent to a link is delivered to it, for the first time or again.
+    ToLink {
+        k: usize,
+        now: u64,
+    },
+    /// Any bytes come to the device from a peer that is no link's. What it answers goes nowhere.
+    Other {
+        from: Peer,
+        bytes: &'a [u8],
+        now: u64,
+    },
+    /// The device's clock is read.
+    Tick {
+        now: u64,
+    },
+    /// A link is asked for the answer to a command.
+    Take {
+        link: usize,
+        handle: Handle,
+    },
+}
