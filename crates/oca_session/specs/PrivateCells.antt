@@ -32,6 +32,12 @@ entry_in x a =
 abbrev pub entries_of : List Handle → ℕ → List Cell → List Entry
 entries_of xs o cs = paired entry_in xs (turned o cs)
 
+-- a cell of this handle, with this accepted command, was added after the others (profile)
+pub record AddsCell (x : Handle) (e : Entry) (old new : List Cell) : Type 0 where
+  pub cell : Cell
+  pub holds : entry_in x cell ≡ e
+  pub added : new ≡ old ++ cell ∷ []
+
 -- no two handles are the same (profile)
 abbrev pub AreDistinct : List Handle → Type 0
 AreDistinct xs = AllPairs (λ x y. is_handle x.0 y ≡ false) xs

@@ -1,10 +1,10 @@
 //! The reply window of one session.
-ghost use Rattle.std.specs.Prelude.{◌≡◌, ℕ, ◌<◌, ◌≤◌, List, [], ◌∷◌, ◌++◌, length, slice_get, slice_index_or, option_map, IfOk, MatchOption, All, Some, true, false};
+ghost use Rattle.std.specs.Prelude.{◌≡◌, ℕ, ◌<◌, ◌≤◌, vec_len, vec_capacity, List, [], ◌∷◌, ◌++◌, length, slice_get, slice_index_or, option_map, IfOk, MatchOption, All, Some, true, false};
 ghost use Rattle.oca_types.specs.declared.words.Handle.{Handle};
 ghost use Rattle.oca_types.specs.Peers.{CommandFields, fields_of};
 ghost use Rattle.oca_session.specs.Accepted.{Entry, retained_of, Agrees, judgement, Fresh, higher_of, entry_under, duplicate_or_reused};
 ghost use Rattle.oca_session.specs.Judging.{as_judgement, judgement_by_window, retained_after};
-ghost use Rattle.oca_session.specs.PrivateCells.{is_handle, judge_cell};
+ghost use Rattle.oca_session.specs.PrivateCells.{is_handle, judge_cell, AddsCell};
 
 use crate::cell::Cell;
 use circular_buffer::HeapCircularBuffer;
@@ -154,7 +154,7 @@ impl ReplyWindow {
     {
         self.above = self.above.max(u64::from(command.handle.0) + 1);
         let Some(pushed_out) = self.handles.push_back(command.handle) else {
-            self.cells.push_reserved(Cell::new(command, reply));
+            push_cell(&mut self.cells, command, reply);
             return;
         };
         self.floor = Some(raised_floor(self.floor, pushed_out));
@@ -166,6 +166,18 @@ impl ReplyWindow {
             at + 1
         };
     }
+}
+
+/// Adds a cell with a command and its reply. It stands apart from `put`, since a local of a cell's size would be cleared at
+/// each call there.
+#[inline(never)]
+fn push_cell(cells: &mut Vec<Cell>, command: &Command<'_>, reply: &Reply)
+    requires params { length command.now.params.now ≤ 1445 }
+    requires room { vec_len cells.old < vec_capacity cells.old }
+    ensures capacity { vec_capacity cells.new ≡ vec_capacity cells.old }
+    ensures items { AddsCell command.now.handle (record { command = fields_of command.now; reply = reply.now }) cells.old.items cells.new.items }
+{
+    cells.push_reserved(Cell::new(command, reply));
 }
 
 /// What the command in a cell says of another under its handle.

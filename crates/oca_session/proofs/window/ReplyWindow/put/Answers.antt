@@ -27,14 +27,14 @@ invariant_of-self c =
     let room = pushed_room hs x a.handles.capacity (sym c.push_back.ensures.value ∙ c.in_default.is) in
     let long : length (drop (length (hs ++ x ∷ []) - a.handles.capacity) (hs ++ x ∷ [])) ≡ length hs + 1 =
     rw (length-drop, length-append) (omega (arith, room)) in
-    let more : length c.push_reserved.new.self.items ≡ length a.cells.items + 1 = rw (c.push_reserved.ensures.items, length-append) refl in
+    let more : length c.push_cell.new.cells.items ≡ length a.cells.items + 1 = rw (c.push_cell.ensures.items.added, length-append) refl in
     let le : a.above ≤ c.max-self-inside.result = omega arith in
     let lt : x.0 < c.max-self-inside.result = omega arith in
     rw c.push_back.ensures.items (
       omega (arith, more, long, c.self.invariant.0),
       omega (arith, long, room),
       c.self.invariant.2,
-      omega (arith, c.self.invariant.3, c.push_reserved.ensures.capacity),
+      omega (arith, c.self.invariant.3, c.push_cell.ensures.capacity),
       λ few. c.self.invariant.4 room,
       below_more a.above c.max-self-inside.result _ hs a.floor x c.self.invariant.5 le lt,
       distinct_more _ hs x c.self.invariant.6 (none c.self.inside c.args.self.now c.self.view_is c.args.command.now c.self.invariant.0 c.requires.fresh),
@@ -44,8 +44,8 @@ pub returns-in_default : goal.returns-in_default
 returns-in_default c =
     let a = c.self.inside in
     let room = pushed_room a.handles.items c.args.command.now.handle a.handles.capacity (sym c.push_back.ensures.value ∙ c.in_default.is) in
-    rw (← c.self.view_is, c.push_back.ensures.items, c.push_reserved.ensures.items)
-    (kept_more a.handles.items a.oldest a.cells.items c.self.invariant.0 a.handles.capacity a.floor c.args.command.now.handle c.new.result room (c.self.invariant.4 room) ∙ ap (retained_after _) c.new.ensures)
+    rw (← c.self.view_is, c.push_back.ensures.items, c.push_cell.ensures.items.added)
+    (kept_more a.handles.items a.oldest a.cells.items c.self.invariant.0 a.handles.capacity a.floor c.args.command.now.handle c.push_cell.ensures.items.cell room (c.self.invariant.4 room) ∙ ap (retained_after _) c.push_cell.ensures.items.holds)
 
 pub invariant_of-self-2 : goal.invariant_of-self-2
 invariant_of-self-2 c =
