@@ -1,4 +1,6 @@
 //! What the amplifier's electronics do, and the objects by which a controller sets it.
+ghost use Rattle.std.specs.Prelude.{◌<◌};
+
 use oca_tree::{AddFault, Kind, MuteState, Setting, Spec, Tree, TreeBuilder};
 use oca_types::Ono;
 use std::alloc::Global;

@@ -97,7 +97,7 @@ fn sends_1472_bytes_whole(rt: HostRuntime) -> Result<(), Fail> {
     let mut bytes = [0; LARGEST + 1];
     let (count, from) = plain.recv_from(&mut bytes)?;
     assert_eq!(rt; (count, from.port()), (LARGEST, end.local().port));
-    assert_eq!(rt; &bytes[..LARGEST], [3; LARGEST].as_slice());
+    assert!(rt; bytes.get(..LARGEST) == Some([3; LARGEST].as_slice()));
     Ok(())
 }
 
@@ -112,7 +112,7 @@ fn a_quiet_wait_takes_50_milliseconds(rt: HostRuntime) -> Result<(), Fail> {
             return Err("not quiet".into());
         };
         assert!(rt; packet.is_empty());
-        assert!(rt; now >= last + 49, "{last} {now}");
+        assert!(rt; now >= last.saturating_add(49), "{last} {now}");
         last = now;
     }
     let local = end.local();
