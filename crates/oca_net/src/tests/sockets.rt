@@ -106,7 +106,7 @@ fn a_quiet_wait_takes_50_milliseconds(rt: HostRuntime) -> Result<(), Fail> {
     let mut end = end_here(&rt)?;
     let mut packet = Packet::new();
     packet.try_extend_from_slice(&[1]).map_err(|_| "full")?;
-    let mut last = 0;
+    let mut last = 0u64;
     for _ in 0..3 {
         let Heard::Quiet { now } = end.receive(&mut packet) else {
             return Err("not quiet".into());
