@@ -67,7 +67,10 @@ fn an_answered_command(rt: HostRuntime) -> Result<(), Fail> {
     let mut get = [0u8; 27];
     hex::decode_to_slice(GET_1, &mut get).map_err(|_| "hex")?;
     assert_eq!(rt; end.taken().len(), 1);
-    assert_eq!(rt; end.taken()[0].1.as_slice(), get.as_slice());
+    let Some(sent) = end.taken().first() else {
+        return Err("nothing was taken".into());
+    };
+    assert_eq!(rt; sent.1.as_slice(), get.as_slice());
     Ok(())
 }
 
