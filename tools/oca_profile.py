@@ -1,5 +1,5 @@
 """A second, plain implementation of the profile in docs/PROTOCOL.md: a device, a controller and the texts of
-`ocadev replay` and `ocactl replay`. It is written from that document alone, to compare the programs with it.
+`ocadev replay` and `ocactl replay`. It is written from the rules of the profile and not from the programs' code, to compare them with it.
 It favours plain lists over speed. Python 3, standard library only."""
 
 U32, U64 = 2**32 - 1, 2**64 - 1
