@@ -2,6 +2,7 @@ pub mod FieldLemmas
 pub mod PartLemmas
 pub mod SearchLemmas
 pub mod TextLemmas
+pub mod HexLemmas
 pub mod PrintLemmas
 pub mod ScriptLemmas
 pub mod StepLemmas

@@ -2,12 +2,12 @@
 use Rattle.std.proofs.Common.{◌≡◌, ℕ, ◌<◌, ◌*◌, ◌/◌, ◌%◌, List, [], ◌∷◌, ◌++◌, length, refl, ap, sym, ◌∙◌, append_assoc, append-nil, length-append, take, drop, ◌+◌, arith}
 use Rattle.std.proofs.lemmas.List.{take-append-drop}
 use Rattle.std.specs.Prelude.{codes, slice_index}
-use Rattle.std.proofs.lemmas.Fmt.{length-decimal-le}
+use Rattle.std.proofs.lemmas.Fmt.{length-decimal-le, decimal_digit}
 use Rattle.hex.specs.Hex.{encode_lower, encode_with, lower_digits}
 use Rattle.hex.proofs.HexLemmas.{length-encode_with}
 use Rattle.oca_script.specs.Fields.{hex_text}
 
-pub ruleset digit_rules = (length-decimal-le)
+pub ruleset digit_rules = (length-decimal-le, decimal_digit)
 
 pub hex_text-some : (bs : List ℕ) → 0 < length bs → hex_text bs ≡ encode_lower bs
 hex_text-some [] h = absurd (omega arith)

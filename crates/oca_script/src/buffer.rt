@@ -1,5 +1,5 @@
 //! Bytes that are put behind one another, in room of a fixed size.
-ghost use Rattle.std.specs.Prelude.{◌≡◌, ◌==◌, ◌+◌, ◌*◌, ◌++◌, ◌≤◌, [], length};
+ghost use Rattle.std.specs.Prelude.{◌≡◌, ◌==◌, ◌+◌, ◌*◌, ◌++◌, ◌≤◌, [], ◌∷◌, length};
 ghost use Rattle.hex.specs.Hex.{encode_lower};
 
 use std::marker::Model;
@@ -72,6 +72,18 @@ impl<const CAP: usize> Buffer<CAP> {
         let room = &mut self.bytes[..];
         room[start..start + bytes.len()].copy_from_slice(bytes);
         self.len = start + bytes.len();
+    }
+
+    /// Appends a byte.
+    #[inline]
+    pub fn push(&mut self, byte: u8)
+        requires { length self.old + 1 ≤ CAP }
+        ensures { self.new ≡ self.old ++ byte ∷ [] }
+    {
+        let start = self.len;
+        let room = &mut self.bytes[..];
+        room[start] = byte;
+        self.len = start + 1;
     }
 
     /// Appends the bytes in lower case hexadecimal digits, two a byte.

@@ -1,5 +1,5 @@
 //! The fields of a line.
-ghost use Rattle.std.specs.Prelude.{◌≡◌, ◌+◌, ◌*◌, ◌≤◌, ◌<◌, ◌⊎◌, IfSome, ◌∷◌, length};
+ghost use Rattle.std.specs.Prelude.{◌≡◌, ◌+◌, ◌*◌, ◌≤◌, ◌<◌, ◌⊎◌, IfSome, OnSome, [], ◌∷◌, length};
 ghost use Rattle.std.specs.Option.{option_copied};
 ghost use Rattle.oca_script.specs.Fields.{number_of, moment_of, split_at, address_of, peer_of, fields, fields_after, hex_of, NumberBefore, PeerBefore};
 ghost use Rattle.oca_script.specs.PrivateSplitting.{split_view, given_bytes};
@@ -142,11 +142,12 @@ pub fn peer_before(text: &[u8]) -> Option<(Peer, &[u8])>
 }
 
 /// The bytes of a field: `-` for none, else an even number, two or more, of hexadecimal digits of
-/// either case. They are put into `room`.
-#[tactic(auto, unfolding(crate::specs::Fields::hex_of))]
+/// either case. They are put into `room`. Text that has bytes is one field.
+#[tactic(auto, unfolding(crate::specs::Fields::hex_of), using(crate::proofs::HexLemmas::hex_field_rules))]
 pub fn hex_bytes<'a>(text: &[u8], room: &'a mut [u8]) -> Option<&'a [u8]>
     requires { length text.now ≤ 2 * length room.old }
-    ensures { given_bytes result ≡ hex_of text.now }
+    ensures value { given_bytes result ≡ hex_of text.now }
+    ensures field { OnSome result (fields text.now ≡ text.now ∷ []) }
 {
     if text == b"-".as_slice() {
         return Some(&room[..0]);

@@ -164,6 +164,10 @@ fn put_decimal(held: &mut Buffer<CAPACITY>, n: u64)
     ensures value { held.new ≡ held.old ++ decimal n }
     ensures len { length held.new ≤ length held.old + 20 }
 {
+    if n < 10 {
+        held.push(b'0' + n as u8);
+        return;
+    }
     let mut digits = itoa::Buffer::new();
     held.put(digits.format(n).as_bytes());
 }

@@ -76,7 +76,7 @@ impl Cell {
     }
 }
 
-/// Writes bytes over others. Only the cells of others that were more are cleared.
+/// Writes bytes over others. Only the cells of others that were more are cleared, and bytes over as many are one copy.
 fn copy_bytes<const N: usize>(room: &mut ArrayVec<u8, N>, bytes: &[u8])
     requires { length bytes.now ≤ N }
     ensures { room.new.items ≡ bytes.now }
@@ -84,7 +84,14 @@ fn copy_bytes<const N: usize>(room: &mut ArrayVec<u8, N>, bytes: &[u8])
     if room.len() > bytes.len() {
         room.truncate(bytes.len());
     }
+    if bytes.is_empty() {
+        return;
+    }
     let (front, rest) = bytes.split_at(room.len());
-    room.as_mut_slice().copy_from_slice(front);
-    let _ = room.try_extend_from_slice(rest);
+    if !front.is_empty() {
+        room.as_mut_slice().copy_from_slice(front);
+    }
+    if !rest.is_empty() {
+        let _ = room.try_extend_from_slice(rest);
+    }
 }

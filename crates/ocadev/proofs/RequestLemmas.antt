@@ -3,10 +3,10 @@ use Rattle.std.proofs.Common.{◌≡◌, ◌⊎◌, ◌<◌, inl, arith, ℕ, Li
 use Rattle.std.specs.Prelude.{codes}
 use Rattle.std.proofs.lemmas.Slice.Eq.{bytes_eq-Decides}
 use Rattle.oca_types.specs.declared.words.Peer.{Peer}
-use Rattle.oca_script.specs.Fields.{fields, fields_after, onto_first, moment_of, peer_of, NumberBefore, PeerBefore}
-use Rattle.oca_script.proofs.FieldLemmas.{fields-more}
+use Rattle.oca_script.specs.Fields.{fields, fields_after, onto_first, split_at, hex_of, moment_of, peer_of, NumberBefore, PeerBefore}
+use Rattle.oca_script.proofs.FieldLemmas.{fields-one, fields-more}
 use Rattle.oca_script.proofs.PartLemmas.{free-after, number-free}
-use Rattle.oca_script.specs.declared.fault.LineFault.TheVariants.{Form}
+use Rattle.oca_script.specs.declared.fault.LineFault.TheVariants.{Form, Hex}
 use Rattle.ocadev.specs.Requests.{asked_event, is_quiet, datagram_of}
 use Rattle.ocadev.specs.PrivateRequests.{datagram_after}
 
@@ -75,8 +75,13 @@ line-datagram line rest after now peer h k =
     ∙ ap (datagram_after now peer) (sym third.are)
 
 -- more than one field is left
-pub bytes-more : (now : ℕ) (peer : Peer) (rest first : List ℕ) (o : Option (List ℕ)) (more : List ℕ) → fields rest ≡ first ∷ fields_after o → o ≡ Some more
-    → Err Form ≡ datagram_after now peer (fields rest)
-bytes-more now peer rest first o more e is =
+pub left-more : (now : ℕ) (peer : Peer) (rest first more : List ℕ) → split_at 32 rest ≡ Some (first, more) → datagram_after now peer (fields rest) ≡ Err Form
+left-more now peer rest first more e =
     let some = fields-some more in
-    sym (ap (datagram_after now peer) (e ∙ ap (λ p. first ∷ fields_after p) is ∙ ap (λ (fs : List (List ℕ)). first ∷ fs) some.are))
+    ap (datagram_after now peer) (fields-more rest first more e ∙ ap (λ (fs : List (List ℕ)). first ∷ fs) some.are)
+
+-- one field is left, and it writes no bytes
+pub left-one : (now : ℕ) (peer : Peer) (rest : List ℕ) → split_at 32 rest ≡ None → hex_of rest ≡ None → datagram_after now peer (fields rest) ≡ Err Hex
+left-one now peer rest e none = ap (datagram_after now peer) (fields-one rest e) ∙ rw none refl
+
+pub ruleset left_rules = (left-more, left-one)

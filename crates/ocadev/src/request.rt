@@ -1,12 +1,13 @@
 //! What a line of a script asks the device for.
-ghost use Rattle.std.specs.Prelude.{◌≡◌, ◌≤◌, ◌*◌, IfSome, length};
+ghost use Rattle.std.specs.Prelude.{◌≡◌, ℕ, ◌≤◌, ◌*◌, IfSome, length, None, Err};
 ghost use Rattle.std.specs.Option.{ok_or};
-ghost use Rattle.oca_script.specs.Fields.{fields, moment_of};
+ghost use Rattle.oca_types.specs.declared.words.Peer.{Peer as PeerFields};
+ghost use Rattle.oca_script.specs.Fields.{fields, moment_of, hex_of};
 ghost use Rattle.ocadev.specs.Requests.{is_quiet as quiet_word, tick_of, datagram_of, asked_event};
 ghost use Rattle.ocadev.specs.PrivateRequests.{AreFields, FieldsWithin, datagram_after, event_asked};
 
 use oca_script::LineFault;
-use oca_script::field::{first_field, hex_bytes, number_before, peer, peer_before};
+use oca_script::field::{first_field, hex_bytes, number_before, peer, peer_before, split_at_byte};
 use oca_types::Peer;
 
 /// Room for the bytes of a datagram in a script.
@@ -101,7 +102,8 @@ fn moment_and_peer(line: &[u8]) -> Option<(u64, Peer, &[u8])>
     Some((now, from, rest))
 }
 
-/// The datagram of which the moment and the peer are read: its bytes are the one field that is left.
+/// The datagram of which the moment and the peer are read: its bytes are the one field that is left. Bytes that can be read
+/// are one field, so only a line with a fault is searched for a space.
 fn bytes_after<'a>(
     now: u64,
     from: Peer,
@@ -111,13 +113,21 @@ fn bytes_after<'a>(
     requires { length rest.now ≤ 2 * length room.old }
     ensures { event_asked result ≡ datagram_after now from (fields rest.now) }
 {
-    let (text, more) = first_field(rest);
-    match more {
-        Some(_) => Err(LineFault::Form),
-        None => match hex_bytes(text, room) {
-            Some(bytes) => Ok(Request::Datagram { now, from, bytes }),
-            None => Err(LineFault::Hex),
-        },
+    match hex_bytes(rest, room) {
+        Some(bytes) => Ok(Request::Datagram { now, from, bytes }),
+        None => Err(fault_after_peer(rest)),
+    }
+}
+
+/// The fault of what follows the peer, where that is not one field of bytes.
+#[tactic(auto, using(crate::proofs::RequestLemmas::left_rules))]
+fn fault_after_peer(rest: &[u8]) -> LineFault
+    requires { hex_of rest.now ≡ None }
+    ensures { (now : ℕ) (from : PeerFields) → datagram_after now from (fields rest.now) ≡ Err result }
+{
+    match split_at_byte(rest, b' ') {
+        Some(_) => LineFault::Form,
+        None => LineFault::Hex,
     }
 }
 
