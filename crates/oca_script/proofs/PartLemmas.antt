@@ -88,6 +88,36 @@ number_before-found end most largest text i v within is some few small e =
       value = rw (len, counted, e, bounded) refl;
     }
 
+-- one, two and three digits at the front
+front-one : (text : List ℕ) → 0 < length text → 48 ≤ get_or text 0 0 → get_or text 0 0 ≤ 57 → value_after 0 (take 1 text) ≡ Some (get_or text 0 0 - 48)
+front-one text within low high = number_before-on text 0 0 within low high refl ∙ ap Some (omega arith)
+
+front-two : (text : List ℕ) → 1 < length text → 48 ≤ get_or text 0 0 → get_or text 0 0 ≤ 57 → 48 ≤ get_or text 1 0 → get_or text 1 0 ≤ 57
+    → value_after 0 (take 2 text) ≡ Some ((get_or text 0 0 - 48) * 10 + (get_or text 1 0 - 48))
+front-two text within low high low1 high1 =
+    number_before-on text 1 (get_or text 0 0 - 48) within low1 high1 (front-one text (omega arith) low high)
+
+pub octet-one : (end : ℕ) (text : List ℕ) → 4 ≤ length text → 48 ≤ get_or text 0 0 → get_or text 0 0 ≤ 57
+    → get_or text 1 0 ≡ end → NumberBefore end 3 255 text (get_or text 0 0 - 48) (drop 2 text)
+octet-one end text long low high is =
+    number_before-found end 3 255 text 1 (get_or text 0 0 - 48) (omega arith) is (omega arith) (omega arith) (omega arith) (front-one text (omega arith) low high)
+
+pub octet-two : (end : ℕ) (text : List ℕ) → 4 ≤ length text → 48 ≤ get_or text 0 0 → get_or text 0 0 ≤ 57
+    → 48 ≤ get_or text 1 0 → get_or text 1 0 ≤ 57
+    → get_or text 2 0 ≡ end → NumberBefore end 3 255 text ((get_or text 0 0 - 48) * 10 + (get_or text 1 0 - 48)) (drop 3 text)
+octet-two end text long low high low1 high1 is =
+    number_before-found end 3 255 text 2 ((get_or text 0 0 - 48) * 10 + (get_or text 1 0 - 48)) (omega arith) is (omega arith) (omega arith) (omega arith)
+    (front-two text (omega arith) low high low1 high1)
+
+pub octet-three : (end : ℕ) (text : List ℕ) → 4 ≤ length text → 48 ≤ get_or text 0 0 → get_or text 0 0 ≤ 57
+    → 48 ≤ get_or text 1 0 → get_or text 1 0 ≤ 57 → 48 ≤ get_or text 2 0 → get_or text 2 0 ≤ 57
+    → ((get_or text 0 0 - 48) * 10 + (get_or text 1 0 - 48)) * 10 + (get_or text 2 0 - 48) ≤ 255 → get_or text 3 0 ≡ end
+    → NumberBefore end 3 255 text (((get_or text 0 0 - 48) * 10 + (get_or text 1 0 - 48)) * 10 + (get_or text 2 0 - 48)) (drop 4 text)
+octet-three end text long low high low1 high1 low2 high2 small is =
+    number_before-found end 3 255 text 3 (((get_or text 0 0 - 48) * 10 + (get_or text 1 0 - 48)) * 10 + (get_or text 2 0 - 48))
+    (omega arith) is (omega arith) (omega arith) small
+    (number_before-on text 2 ((get_or text 0 0 - 48) * 10 + (get_or text 1 0 - 48)) (omega arith) low2 high2 (front-two text (omega arith) low high low1 high1))
+
 -- ---- peers
 
 -- one part more

@@ -57,6 +57,42 @@ pub fn number_before(text: &[u8], end: u8, most: usize, largest: u64) -> Option<
     None
 }
 
+/// The number that one to three digits at the front write, where the byte `end` follows them and the number is at most 255,
+/// and what stands after that byte.
+fn octet_before(text: &[u8], end: u8) -> Option<(u64, &[u8])>
+    requires { (end < 48) ⊎ (57 < end) }
+    ensures value { IfSome result (λ p. NumberBefore end 3 255 text.now p.0 p.1.now) }
+    ensures bound { IfSome result (λ p. p.0 ≤ 255) }
+    ensures within { IfSome result (λ p. length p.1.now ≤ length text.now) }
+{
+    if text.len() < 4 {
+        return number_before(text, end, 3, 255);
+    }
+    let (a, b, c) = (text[0], text[1], text[2]);
+    if a < b'0' || a > b'9' {
+        return None;
+    }
+    let one = (a - b'0') as u64;
+    if b == end {
+        return Some((one, &text[2..]));
+    }
+    if b < b'0' || b > b'9' {
+        return None;
+    }
+    let two = one * 10 + (b - b'0') as u64;
+    if c == end {
+        return Some((two, &text[3..]));
+    }
+    if c < b'0' || c > b'9' {
+        return None;
+    }
+    let three = two * 10 + (c - b'0') as u64;
+    if text[3] != end || three > 255 {
+        return None;
+    }
+    Some((three, &text[4..]))
+}
+
 /// A moment in milliseconds: one to twenty decimal digits, in 64 bits.
 pub fn moment(text: &[u8]) -> Option<u64>
     ensures { result ≡ moment_of text.now }
@@ -128,10 +164,10 @@ pub fn peer_before(text: &[u8]) -> Option<(Peer, &[u8])>
     ensures value { IfSome result (λ p. PeerBefore text.now p.0 p.1.now) }
     ensures within { IfSome result (λ p. length p.1.now ≤ length text.now) }
 {
-    let (a, rest) = number_before(text, b'.', 3, 255)?;
-    let (b, rest) = number_before(rest, b'.', 3, 255)?;
-    let (c, rest) = number_before(rest, b'.', 3, 255)?;
-    let (d, rest) = number_before(rest, b':', 3, 255)?;
+    let (a, rest) = octet_before(text, b'.')?;
+    let (b, rest) = octet_before(rest, b'.')?;
+    let (c, rest) = octet_before(rest, b'.')?;
+    let (d, rest) = octet_before(rest, b':')?;
     let (port, rest) = number_before(rest, b' ', 5, 65535)?;
     let ip = ((a * 256 + b) * 256 + c) * 256 + d;
     let peer = Peer {
