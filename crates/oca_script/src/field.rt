@@ -6,6 +6,9 @@ ghost use Rattle.oca_script.specs.PrivateSplitting.{split_view, given_bytes};
 
 use oca_types::Peer;
 
+/// Whatever digit follows a number of at most this, the result has 64 bits.
+const MOST_TENTH: u64 = (u64::MAX - 9) / 10;
+
 /// The number that one to `most` decimal digits write, where it is at most `largest`. Leading
 /// zeros count as digits.
 #[tactic(auto, unfolding(crate::specs::Fields::number_of, crate::specs::Fields::at_most), using(crate::proofs::FieldLemmas::number_rules))]
@@ -41,7 +44,7 @@ pub fn number_before(text: &[u8], end: u8, most: usize, largest: u64) -> Option<
     ensures within { IfSome result (λ p. length p.1.now ≤ length text.now) }
 {
     let mut value: u64 = 0;
-    for i in 0..text.len() {
+    for i in 0..text.len().min(most.saturating_add(1)) {
         let digit = text[i];
         if digit < b'0' || digit > b'9' {
             if digit != end || i == 0 || value > largest {
@@ -49,10 +52,10 @@ pub fn number_before(text: &[u8], end: u8, most: usize, largest: u64) -> Option<
             }
             return Some((value, &text[i + 1..]));
         }
-        if i >= most {
+        if value > MOST_TENTH {
             return None;
         }
-        value = value.checked_mul(10)?.checked_add((digit - b'0') as u64)?;
+        value = value * 10 + (digit - b'0') as u64;
     }
     None
 }

@@ -7,4 +7,4 @@ pub returns-then-digit-lt48-clause-value : goal.returns-then-digit-lt48-clause-v
 returns-then-digit-lt48-clause-value c =
     rw (take_rest c.args.text.now (c.loop-i.i + 1))
     (number_before-found c.args.end c.args.most c.args.largest c.args.text.now c.loop-i.i c.loop-i.value
-    (omega arith) (omega arith) (omega arith) (omega arith) (omega arith) c.loop-i.invariant.1)
+    (omega arith) (omega arith) (omega arith) (omega arith) (omega arith) c.loop-i.invariant)
