@@ -38,7 +38,7 @@ fuzz:
 	@python3 tools/fuzz.py bin $(SECONDS) $(SEED)
 
 bench: build
-	python3 bench/run.py bin/ocadev
+	python3 bench/run.py bin
 	python3 bench/core.py bin
 	python3 bench/sockets.py bin
 
