@@ -1,13 +1,14 @@
 -- A piece of the script, line by line.
-use Rattle.std.proofs.Common.{◌≡◌, ℕ, ◌+◌, ◌<◌, List, [], ◌++◌, length, Some, None, Result, Ok, Err, refl, sym, ap, ◌∙◌, subst}
-use Rattle.std.specs.Prelude.{OnOk, OnErr, IfErr}
+use Rattle.std.proofs.Common.{◌≡◌, ℕ, ◌+◌, ◌<◌, Bool, true, false, ◌&&◌, cond, List, [], ◌∷◌, ◌++◌, length, ◌==◌, Option, Some, None, Result, Ok, Err, refl, sym, ap, ◌∙◌, subst}
+use Rattle.std.specs.Prelude.{OnOk, OnErr, IfErr, nat_lt}
+use Rattle.std.specs.Option.{option_map}
 use Rattle.oca_script.specs.Fields.{split_at}
 use Rattle.oca_script.specs.declared.fault.LineFault.{LineFault}
 use Rattle.oca_script.specs.declared.fault.LineFault.TheVariants.{TooLong}
 use Rattle.oca_script.specs.declared.fault.ReplayFault.{ReplayFault}
 use Rattle.oca_script.specs.declared.fault.ReplayFault.TheVariants.{Line}
 use Rattle.oca_script.specs.PrivateScript.{script_from}
-use Rattle.oca_script.specs.Script.{Script, line_then, parsed}
+use Rattle.oca_script.specs.Script.{Script, line_then, parsed, is_ascii}
 use Rattle.oca_script.specs.PrivateSteps.{Step}
 use Rattle.oca_script.specs.Ends.{Output}
 use Rattle.oca_script.proofs.ScriptLemmas.{script_from-ended, script_from-kept, script_from-long}
@@ -62,3 +63,34 @@ module _ {S R : Type 0} (serves : S → R → S → List ℕ → Type 0) (asked 
       → Step serves a b u v (Ok tt) A (piece_then k line rest)
       → Step serves a b u v r A (λ m. script_from asked k' line' m.0 m.1)
   piece-kept = kept
+
+-- ---- bytes below 128
+
+both : (x y : Bool) → (x && y) ≡ true → (x ≡ true) × (y ≡ true)
+both true y e = (refl, e)
+both false y e = cc e
+
+joined : (x y : Bool) → x ≡ true → y ≡ true → (x && y) ≡ true
+joined x y e f = rw (e, f) refl
+
+abbrev parts_ascii : Option (List ℕ × List ℕ) → Bool
+parts_ascii None = true
+parts_ascii (Some p) = is_ascii p.0 && is_ascii p.1
+
+split_at-ascii : (separator : ℕ) (s : List ℕ) → is_ascii s ≡ true → parts_ascii (split_at separator s) ≡ true
+split_at-ascii separator [] all = refl
+split_at-ascii separator (b ∷ bs) all =
+    by_test (b == separator) (split_at separator bs) (split_at-ascii separator bs (both (nat_lt b 128) (is_ascii bs) all).1)
+  where
+    by_test : (v : Bool) (o : Option (List ℕ × List ℕ)) → parts_ascii o ≡ true
+        → parts_ascii (cond v (Some ([], bs)) (option_map (λ p. (b ∷ p.0, p.1)) o)) ≡ true
+    by_test true o so = (both (nat_lt b 128) (is_ascii bs) all).1
+    by_test false None so = refl
+    by_test false (Some p) so =
+        let h = both (is_ascii p.0) (is_ascii p.1) so in
+        joined (nat_lt b 128 && is_ascii p.0) (is_ascii p.1) (joined (nat_lt b 128) (is_ascii p.0) (both (nat_lt b 128) (is_ascii bs) all).0 h.0) h.1
+
+-- both parts of bytes below 128 are of such bytes
+pub ascii-parts : (separator : ℕ) (s front rest : List ℕ) → Some (front, rest) ≡ split_at separator s → is_ascii s ≡ true
+    → (is_ascii front ≡ true) × (is_ascii rest ≡ true)
+ascii-parts separator s front rest e all = both (is_ascii front) (is_ascii rest) (ap parts_ascii e ∙ split_at-ascii separator s all)

@@ -1,5 +1,5 @@
 //! The replay of a script.
-ghost use Rattle.std.specs.Prelude.{◌≡◌, ◌+◌, ◌<◌, ◌≤◌, ◌++◌, [], ℕ, List, length, OnOk, OnErr, IfOk, IfErr, IfSome};
+ghost use Rattle.std.specs.Prelude.{◌≡◌, ◌+◌, ◌<◌, ◌≤◌, ◌++◌, [], ℕ, List, length, IsTrue, OnOk, OnErr, IfOk, IfErr, IfSome};
 ghost use Rattle.std.specs.Prelude.{true, Ok as ok};
 ghost use Rattle.std.specs.Io.KnownBytes.{Consumes, Keeps, IsAtEnd};
 ghost use Rattle.oca_script.specs.Ends.{input, Remembers};
@@ -33,15 +33,17 @@ fn is_skipped(line: &[u8]) -> bool
 }
 
 /// Whether each byte is below 128.
-fn is_ascii(line: &[u8]) -> bool
-    ensures { result ≡ ascii_line line.now }
+fn is_ascii(bytes: &[u8]) -> bool
+    ensures { result ≡ ascii_line bytes.now }
 {
-    line.is_ascii()
+    bytes.is_ascii()
 }
 
-/// Whether the line asks for something, or its fault where that does not depend on its fields.
+/// Whether the line asks for something, or its fault where that does not depend on its fields. `ascii` tells that each byte is
+/// known to be below 128.
 #[tactic(auto, unfolding(crate::specs::Script::asks))]
-fn line_asks(line: &[u8]) -> Result<bool, LineFault>
+fn line_asks(line: &[u8], ascii: bool) -> Result<bool, LineFault>
+    requires { IsTrue ascii → ascii_line line.now ≡ true }
     ensures value { result ≡ asks line.now }
     ensures within { OnOk result (length line.now ≤ 4096) }
 {
@@ -51,7 +53,7 @@ fn line_asks(line: &[u8]) -> Result<bool, LineFault>
     if is_skipped(line) {
         return Ok(false);
     }
-    if is_ascii(line) {
+    if ascii || is_ascii(line) {
         Ok(true)
     } else {
         Err(LineFault::Form)
@@ -77,18 +79,20 @@ fn serve_asking<L: Language, W: Sink>(
     }
 }
 
-/// Serves a line.
+/// Serves a line. `ascii` tells that each of its bytes is known to be below 128.
 fn serve_line<L: Language, W: Sink>(
     state: &mut L::State,
     room: &mut L::Room,
     number: u64,
     line: &[u8],
+    ascii: bool,
     printer: &mut Printer<W>,
 ) -> Result<(), ReplayFault>
+    requires { IsTrue ascii → ascii_line line.now ≡ true }
     ensures { Step L.serves state.old state.new printer.old printer.new result
         (λ (s : Script L.Request). line_then number (parsed L.asked line.now) s) (λ s. s) }
 {
-    match line_asks(line) {
+    match line_asks(line, ascii) {
         Err(fault) => Err(ReplayFault::Line(number, fault)),
         Ok(false) => Ok(()),
         Ok(true) => serve_asking::<L, W>(state, room, number, line, printer),
@@ -109,24 +113,26 @@ fn keep(progress: &mut Progress, bytes: &[u8]) -> Result<(), ReplayFault>
     Ok(())
 }
 
-/// Serves the line whose last bytes these are.
+/// Serves the line whose last bytes these are. `ascii` tells that each of them is known to be below 128.
 fn serve_ended<L: Language, W: Sink>(
     state: &mut L::State,
     room: &mut L::Room,
     progress: &mut Progress,
     end: &[u8],
+    ascii: bool,
     printer: &mut Printer<W>,
 ) -> Result<(), ReplayFault>
+    requires { IsTrue ascii → ascii_line end.now ≡ true }
     ensures step { Step L.serves state.old state.new printer.old printer.new result
         (λ (s : Script L.Request). line_then progress.old.number (parsed L.asked (progress.old.line ++ end.now)) s) (λ s. s) }
     ensures number { progress.new.number ≡ progress.old.number }
 {
     if progress.line.is_empty() {
-        return serve_line::<L, W>(state, room, progress.number, end, printer);
+        return serve_line::<L, W>(state, room, progress.number, end, ascii, printer);
     }
     keep(progress, end)?;
     let line = progress.line.as_slice();
-    serve_line::<L, W>(state, room, progress.number, line, printer)
+    serve_line::<L, W>(state, room, progress.number, line, false, printer)
 }
 
 /// Serves the lines that end in a piece of the script, and keeps what stands behind the last.
@@ -143,9 +149,10 @@ fn serve_piece<L: Language, W: Sink>(
         (λ m. script_from L.asked progress.new.number progress.new.line m.0 m.1) }
     ensures number { progress.new.number ≤ progress.old.number + length piece.now }
 {
+    let ascii = is_ascii(piece);
     let mut rest = piece;
     while let Some((end, after)) = split_at_byte(rest, b'\n') {
-        serve_ended::<L, W>(state, room, progress, end, printer)?;
+        serve_ended::<L, W>(state, room, progress, end, ascii, printer)?;
         progress.line.clear();
         progress.number += 1;
         rest = after;
@@ -223,7 +230,7 @@ fn read_script<L: Language, R: Source, W: Sink>(
         let piece = read_piece(reader, &mut buffer, most)?;
         if piece.is_empty() {
             let line = progress.line.as_slice();
-            return serve_line::<L, W>(state, room, progress.number, line, printer);
+            return serve_line::<L, W>(state, room, progress.number, line, false, printer);
         }
         left -= piece.len() as u64;
         serve_piece::<L, W>(state, room, &mut progress, piece, printer)?;
@@ -236,7 +243,7 @@ fn read_script<L: Language, R: Source, W: Sink>(
     if !over.is_empty() {
         return Err(ReplayFault::TooMuch);
     }
-    serve_line::<L, W>(state, room, progress.number, last, printer)
+    serve_line::<L, W>(state, room, progress.number, last, false, printer)
 }
 
 /// The next bytes, and none only at the end.
