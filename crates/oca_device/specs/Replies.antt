@@ -39,22 +39,25 @@ pub record TakesReplies (failed : ℕ) (old new : List Sent) (all : List Sent) :
   pub grew : new ≡ old ++ sent
   pub part : Lacks failed sent all
 
--- A device served an end: what the end delivered grew by some deliveries, one a turn, and for each tree and events that the
--- device represented, it then represents these with the deliveries' events, the end took the replies to them but for those
--- whose send failed, and the report is that of the deliveries and of the failed sends.
-pub record ServesDeliveries (old new : DeviceState) (delivered delivered' : List Delivery) (taken taken' : List Sent) (report : Report) : Type 0 where
-  pub deliveries : List Delivery
-  pub grew : delivered' ≡ delivered ++ deliveries
+-- A DEVICE SERVED THESE DELIVERIES, one a turn: for each tree and events that it represented, it then represents these with the
+-- deliveries' events, and the report is that of the deliveries and of the sends that failed.
+pub record Serves (deliveries : List Delivery) (old new : DeviceState) (report : Report) : Type 0 where
   pub turns : report.turns ≡ length deliveries
   pub represents : (w : ℕ) (tree : List Object) (events : List Event) → Represents w old tree events →
       Represents w new tree (events_after_all deliveries events)
-  pub replied : (w : ℕ) (tree : List Object) (events : List Event) → Represents w old tree events →
-      TakesReplies report.failed_sends taken taken' (replies w tree events deliveries)
   pub reported : (w : ℕ) (tree : List Object) (events : List Event) → Represents w old tree events →
       report ≡ record (report_of w tree events deliveries) { failed_sends = report.failed_sends }
 
--- Whatever the end tells: there is a list `more` such that the device after the call represents what it represented before,
--- followed by `more`.
-pub record GoesOn (old new : DeviceState) : Type 0 where
-  pub more : List Event
-  pub represents : (w : ℕ) (tree : List Object) (events : List Event) → Represents w old tree events → Represents w new tree (more ++ events)
+-- Over an end that tells: what the end delivered grew by some deliveries, the device served these, and the end took the replies to
+-- them but for those whose send failed.
+pub record ServesTelling (old new : DeviceState) (delivered delivered' : List Delivery) (taken taken' : List Sent) (report : Report) : Type 0 where
+  pub deliveries : List Delivery
+  pub grew : delivered' ≡ delivered ++ deliveries
+  pub serves : Serves deliveries old new report
+  pub replied : (w : ℕ) (tree : List Object) (events : List Event) → Represents w old tree events →
+      TakesReplies report.failed_sends taken taken' (replies w tree events deliveries)
+
+-- Whatever the end tells: there are deliveries that the device served.
+pub record ServesAny (old new : DeviceState) (report : Report) : Type 0 where
+  pub deliveries : List Delivery
+  pub serves : Serves deliveries old new report
