@@ -19,7 +19,7 @@ use Rattle.oca_control.specs.Answers.{AnswerFields, answer_in}
 use Rattle.oca_control.specs.Untaken.{Untaken}
 use Rattle.oca_pair.specs.Networks.{SentDatagram, SubmittedCommand, TakenAnswer}
 use Rattle.oca_pair.specs.Steps.{sendings}
-use Rattle.oca_pair.specs.Laws.{WasSubmitted}
+use Rattle.oca_pair.specs.Laws.{WasSubmitted, handles_of, AreConsecutive}
 use Rattle.oca_pair.proofs.Core.{each_map, each_append, has}
 use Rattle.oca_pair.proofs.Lists.{in_more}
 use Rattle.oca_pair.proofs.Wire.{IsSendable}
@@ -59,6 +59,10 @@ AreSendable p next xs = AllByRecursion (λ x. x.peer ≡ p → IsSendable x.comm
 abbrev pub AreUnique : Peer → List SubmittedCommand → Type 0
 AreUnique p xs = (c d : CommandFields) → WasSubmitted p c xs → WasSubmitted p d xs → c.handle ≡ d.handle → c ≡ d
 
+-- its handles rise by one, up to the next one
+abbrev pub AreRising : Peer → Option ℕ → List SubmittedCommand → Type 0
+AreRising p next xs = AreConsecutive (handles_of p xs ++ end_of next ∷ [])
+
 abbrev pub AreOwn : Peer → Past → List Note → Type 0
 AreOwn p g ns = AllByRecursion (λ n. n.peer ≡ p → IsOwn p g n.what) ns
 
@@ -71,6 +75,7 @@ pub record Fair (p : Peer) (next : Option ℕ) (us : List Untaken) (g : Past) (o
   pub handed_on : AllByRecursion (λ t. t.peer ≡ p → IsTrueAnswer p t.handle t.answer g) handed
   pub sendable : AreSendable p next g.submitted
   pub unique : AreUnique p g.submitted
+  pub rising : AreRising p next g.submitted
 
 -- ---- more is submitted
 
@@ -92,10 +97,10 @@ own_more p g more (Heartbeat ms) h = tt
 own_more p g more (Executed objects c r) h = honest_submitted p (record { objects = objects; command = c; reply = r }) g more h
 
 pub fair_more : (p : Peer) (next next' : Option ℕ) (us us' : List Untaken) (g : Past) (out back : List SentDatagram) (handed : List TakenAnswer) (more : List SubmittedCommand) →
-    NextFits next' → AreSendable p next' (g.submitted ++ more) → AreUnique p (g.submitted ++ more) →
+    NextFits next' → AreSendable p next' (g.submitted ++ more) → AreUnique p (g.submitted ++ more) → AreRising p next' (g.submitted ++ more) →
     (AllByRecursion (IsFair p (and_submitted more g)) us → AllByRecursion (IsFair p (and_submitted more g)) us') →
     Fair p next us g out back handed → Fair p next' us' (and_submitted more g) out back handed
-fair_more p next next' us us' g out back handed more fits sendable unique grow f = record {
+fair_more p next next' us us' g out back handed more fits sendable unique rising grow f = record {
   fits = fits;
   own = each_map (λ n h e. own_more p g more n.what (h e)) (state_of g).notes f.own;
   outgoing = each_map (λ d h e. out_more p g.submitted more d.bytes (h e)) out f.outgoing;
@@ -104,6 +109,7 @@ fair_more p next next' us us' g out back handed more fits sendable unique grow f
   handed_on = each_map (λ t h e. true_submitted p t.handle t.answer g more (h e)) handed f.handed_on;
   sendable = sendable;
   unique = unique;
+  rising = rising;
 }
 
 -- ---- more happens
@@ -136,6 +142,7 @@ fair_then p next us g out back handed e more own new f = record {
   handed_on = each_map (λ t h same. true_then p t.handle t.answer g e (h same)) handed f.handed_on;
   sendable = f.sendable;
   unique = f.unique;
+  rising = f.rising;
 }
 
 -- the datagrams for another peer are not for this one
@@ -169,6 +176,7 @@ fair_tick p next us g out back handed now f = record {
   handed_on = each_map (λ t h same. true_then p t.handle t.answer g (Tick now) (h same)) handed f.handed_on;
   sendable = f.sendable;
   unique = f.unique;
+  rising = f.rising;
 }
 
 -- ---- what a judgement says

@@ -28,7 +28,7 @@ use Rattle.oca_pair.specs.Steps as steps
 use Rattle.oca_control.specs.Links.{Request}
 use Rattle.oca_pair.specs.Steps.{Step, Submit, Due, ToDevice, ToLink, Other, Take, has_link, sendings, after_submit, after_due_step, after_delivery, after_reception, after_take, after_step, after_steps}
 use Rattle.oca_pair.specs.Premises.{are_apart, Fit, KeepsItsSession, ComeFrom}
-use Rattle.oca_pair.specs.Laws.{IsIn, Execution, executed_for, executions_for, executions_under, WasSubmitted, IsAnswerOfItsCommand, AnswersItsCommands, IsCopyOfUntaken, IsAnswered, AnswersUntaken, ExecutesOnce}
+use Rattle.oca_pair.specs.Laws.{IsIn, Execution, executed_for, executions_for, executions_under, WasSubmitted, IsAnswerOfItsCommand, handles_of, AreConsecutive, AnswersItsCommands, IsCopyOfUntaken, IsAnswered, AnswersUntaken, ExecutesOnce}
 use Rattle.oca_pair.proofs.Core.{IsServed}
 use Rattle.oca_pair.proofs.Lists.{each_at, each_in, equal_is}
 use Rattle.oca_pair.proofs.Clocks.{keeps_before}
@@ -82,6 +82,12 @@ true_answer p h a n kept t = record {
   only = λ keeps. only_one h t.execution (executions_for p n) (kept keeps).once t.executed t.handle;
 }
 
+-- without the last
+before_last : (xs : List ℕ) (h : ℕ) → AreConsecutive (xs ++ h ∷ []) → AreConsecutive xs
+before_last [] h a = tt
+before_last (x ∷ []) h a = tt
+before_last (x ∷ y ∷ xs) h a = (a.0, before_last (y ∷ xs) h a.1)
+
 pub answers_law : WrittenIsReadBack → (w s : ℕ) (tree : List Object) (starts : List Start) (es : List Step) → are_apart starts ≡ true → Fit starts es →
     AnswersItsCommands (after_steps es (opening w s tree starts))
 answers_law law w s tree starts es apart fit =
@@ -94,9 +100,9 @@ answers_law law w s tree starts es apart fit =
       handed_on = λ i l h a own was.
           let of : LinkSound s n l = each_at (LinkSound s n) n.links i l sound.each own in
           true_answer l.peer h a n of.kept (each_in (λ (t : TakenAnswer). t.peer ≡ l.peer → IsTrueAnswer l.peer t.handle t.answer (past n)) _ n.taken of.fair.handed_on was refl);
-      handles = λ i l c d own a b e.
+      handles = λ i l own.
           let of : LinkSound s n l = each_at (LinkSound s n) n.links i l sound.each own in
-          of.fair.unique c d a b e;
+          before_last (handles_of l.peer n.submitted) (end_of l.link.next) of.fair.rising;
     }
 
 -- ---- each command is executed once

@@ -84,14 +84,24 @@ pub record IsAnswerOfItsCommand (p : Peer) (h : ℕ) (answer : AnswerFields) (n 
   pub answer_is : answer ≡ answer_of execution.reply
   pub only : KeepsItsSession p n.events → executions_under h (executions_for p n) ≡ execution ∷ []
 
--- Of each answer that a link holds, and of each that it handed on; and no two commands that it submitted have one handle.
+-- the handles of the commands that the link of this peer submitted, in order
+abbrev pub handles_of : Peer → List SubmittedCommand → List ℕ
+handles_of p submitted = map (λ x. x.command.handle) (filter (λ x. same_peer x.peer p) submitted)
+
+-- each is the one before it plus one, so that no two are equal
+abbrev pub AreConsecutive : List ℕ → Type 0
+AreConsecutive [] = Unit {0}
+AreConsecutive (h ∷ []) = Unit {0}
+AreConsecutive (h ∷ k ∷ more) = (k ≡ h + 1) × AreConsecutive (k ∷ more)
+
+-- Of each answer that a link holds, and of each that it handed on; and each command that it submitted has a handle of its own, the
+-- one before it plus one.
 pub record AnswersItsCommands (n : Network) : Type 0 where
   pub held : (i : ℕ) (l : PeerLink) (h : ℕ) (answer : AnswerFields) → slice_get n.links i ≡ Some l → answer_under h l.link.untaken ≡ Some answer →
       IsAnswerOfItsCommand l.peer h answer n
   pub handed_on : (i : ℕ) (l : PeerLink) (h : ℕ) (answer : AnswerFields) → slice_get n.links i ≡ Some l → WasHandedOn l.peer h answer n.taken →
       IsAnswerOfItsCommand l.peer h answer n
-  pub handles : (i : ℕ) (l : PeerLink) (c d : CommandFields) → slice_get n.links i ≡ Some l → WasSubmitted l.peer c n.submitted →
-      WasSubmitted l.peer d n.submitted → c.handle ≡ d.handle → c ≡ d
+  pub handles : (i : ℕ) (l : PeerLink) → slice_get n.links i ≡ Some l → AreConsecutive (handles_of l.peer n.submitted)
 
 -- Over every schedule, for all sizes:
 abbrev pub EveryScheduleAnswersItsCommands : Type 0
