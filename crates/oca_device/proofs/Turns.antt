@@ -5,7 +5,7 @@ use Rattle.std.proofs.lemmas.Bool.Decides.{nat_tests}
 use Rattle.std.proofs.lemmas.List.{append_assoc, append-nil, map-append, take_more}
 use Rattle.oca_types.specs.declared.words.Peer.{Peer}
 use Rattle.oca_net.specs.Deliveries.{Delivery, Datagram, Quiet, Failed, Sent}
-use Rattle.oca_net.specs.Ends.{taken_after, one_more, last_u64}
+use Rattle.oca_net.specs.Ends.{taken_after, one_more, last_u64, Lacks, none, kept, missing, TakesAllBut}
 use Rattle.oca_tree.specs.declared.object.Object.{Object}
 use Rattle.oca_device.specs.declared.report.Report.{Report}
 use Rattle.oca_device.specs.declared.verdict.Verdict.{Verdict}
@@ -15,7 +15,7 @@ use Rattle.oca_device.specs.Events as event
 use Rattle.oca_device.specs.Answers.{packets, verdict}
 use Rattle.oca_device.specs.Devices.{DeviceState, Represents}
 use Rattle.oca_device.specs.Reports.{no_turns, one_turn, verdict_turn, added, turn_report, events_after, events_after_all, report_of, receives_of}
-use Rattle.oca_device.specs.Replies.{Lacks, none, taken, missing, TakesReplies, Serves, ServesTelling, ServesAny, replies, replies_to, sent_to}
+use Rattle.oca_device.specs.Replies.{Serves, ServesTelling, ServesAny, replies, replies_to, sent_to}
 use Rattle.oca_device.specs.PrivateTotals.{IsWithin}
 
 -- ---- lists without some of their members
@@ -25,7 +25,7 @@ lacks_both k j xs ys us vs none b = subst (λ (n : ℕ). Lacks n us vs) (from_ze
   where
     from_zero : (n : ℕ) → n ≡ 0 + n
     from_zero n = omega arith
-lacks_both k j xs ys us vs (taken x a) b = taken x (lacks_both _ j _ _ us vs a b)
+lacks_both k j xs ys us vs (kept x a) b = kept x (lacks_both _ j _ _ us vs a b)
 lacks_both k j xs ys us vs (missing {k = i} y a) b = subst (λ (n : ℕ). Lacks n (xs ++ us) (ys ++ vs)) (one_later i j) (missing y (lacks_both i j xs _ us vs a b))
   where
     one_later : (i j : ℕ) → i + j + 1 ≡ i + 1 + j
@@ -138,14 +138,14 @@ no_deliveries d delivered took =
 
 one_delivery : (x : Delivery) (old new : DeviceState) (delivered delivered' : List Delivery) (took took' : List Sent) (r : Report) →
     delivered' ≡ delivered ++ x ∷ [] → Serves (x ∷ []) old new r →
-    ((w : ℕ) (tree : List Object) (events : List Event) → Represents w old tree events → TakesReplies r.failed_sends took took' (replies_to w tree events x)) →
+    ((w : ℕ) (tree : List Object) (events : List Event) → Represents w old tree events → TakesAllBut r.failed_sends took took' (replies_to w tree events x)) →
     ServesTelling old new delivered delivered' took took' r
 one_delivery x old new delivered delivered' took took' r grew serves replied =
     record {
       deliveries = x ∷ [];
       grew = grew;
       serves = serves;
-      replied = λ w tree events h. subst (λ (xs : List Sent). TakesReplies r.failed_sends took took' xs) (sym (append-nil (replies_to w tree events x))) (replied w tree events h);
+      replied = λ w tree events h. subst (λ (xs : List Sent). TakesAllBut r.failed_sends took took' xs) (sym (append-nil (replies_to w tree events x))) (replied w tree events h);
     }
 
 pub one_more_turn : (a b c : DeviceState) (d1 d2 d3 : List Delivery) (t1 t2 t3 : List Sent) (r s : Report) →
@@ -169,7 +169,7 @@ one_more_turn a b c d1 d2 d3 t1 t2 t3 r s f g =
 -- ---- the packets of one datagram are sent
 
 lacks_no_last : {X : Type 0} (k : ℕ) (xs ys : List X) (x : X) → Lacks k xs ys → Lacks k (xs ++ x ∷ []) (ys ++ x ∷ [])
-lacks_no_last k xs ys x a = subst (λ (n : ℕ). Lacks n (xs ++ x ∷ []) (ys ++ x ∷ [])) (to_zero k) (lacks_both k 0 xs ys (x ∷ []) (x ∷ []) a (taken x none))
+lacks_no_last k xs ys x a = subst (λ (n : ℕ). Lacks n (xs ++ x ∷ []) (ys ++ x ∷ [])) (to_zero k) (lacks_both k 0 xs ys (x ∷ []) (x ∷ []) a (kept x none))
   where
     to_zero : (n : ℕ) → n + 0 ≡ n
     to_zero n = omega arith
@@ -187,12 +187,12 @@ further p i packets h =
     ap (sent_to p) (take_more packets i [] h)
     ∙ map-append (λ (bytes : List ℕ). let x : Sent = record { to = p; bytes = bytes } in x) (take i packets) (slice_index_or packets i [] ∷ [])
 
-pub nothing_sent : (p : Peer) (packets : List (List ℕ)) (took : List Sent) → TakesReplies 0 took took (first_sent p 0 packets)
+pub nothing_sent : (p : Peer) (packets : List (List ℕ)) (took : List Sent) → TakesAllBut 0 took took (first_sent p 0 packets)
 nothing_sent p packets took = record { sent = []; grew = sym (append-nil took); part = none }
 
 pub sent_further : (p : Peer) (i k : ℕ) (packets : List (List ℕ)) (old took took' : List Sent) → i < length packets →
-    TakesReplies k old took (first_sent p i packets) → took' ≡ taken_after true p (slice_index_or packets i []) took →
-    TakesReplies k old took' (first_sent p (i + 1) packets)
+    TakesAllBut k old took (first_sent p i packets) → took' ≡ taken_after true p (slice_index_or packets i []) took →
+    TakesAllBut k old took' (first_sent p (i + 1) packets)
 sent_further p i k packets old took took' h t e =
     let x : Sent = record { to = p; bytes = slice_index_or packets i [] } in
     record {
@@ -202,8 +202,8 @@ sent_further p i k packets old took took' h t e =
     }
 
 pub failed_further : (p : Peer) (i k : ℕ) (packets : List (List ℕ)) (old took took' : List Sent) → i < length packets →
-    TakesReplies k old took (first_sent p i packets) → took' ≡ taken_after false p (slice_index_or packets i []) took →
-    TakesReplies (k + 1) old took' (first_sent p (i + 1) packets)
+    TakesAllBut k old took (first_sent p i packets) → took' ≡ taken_after false p (slice_index_or packets i []) took →
+    TakesAllBut (k + 1) old took' (first_sent p (i + 1) packets)
 failed_further p i k packets old took took' h t e =
     let x : Sent = record { to = p; bytes = slice_index_or packets i [] } in
     record {
@@ -226,7 +226,7 @@ beyond n h = grind (arith, nat_tests)
 
 -- a verdict is that of one turn
 verdict_one : (v : Verdict) → (verdict_turn v).turns ≡ 1
-verdict_one (verdicts.Served executed kept old reused) = refl
+verdict_one (verdicts.Served n k o r) = refl
 verdict_one (verdicts.Malformed fault) = refl
 verdict_one verdicts.NoRoom = refl
 
@@ -234,7 +234,7 @@ pub verdict_turns : (v : Verdict) (r : Report) → r ≡ verdict_turn v → r.tu
 verdict_turns v r e = ap (λ (q : Report). q.turns) e ∙ verdict_one v
 
 -- nothing is sent
-no_replies : (k : ℕ) (took took' all : List Sent) → k ≡ 0 → took' ≡ took → all ≡ [] → TakesReplies k took took' all
+no_replies : (k : ℕ) (took took' all : List Sent) → k ≡ 0 → took' ≡ took → all ≡ [] → TakesAllBut k took took' all
 no_replies k took took' all e same nothing =
     record {
       sent = [];
@@ -342,12 +342,12 @@ module _ (old new : DeviceState) (delivered delivered' : List Delivery) (took to
       ((w : ℕ) (tree : List Object) (events : List Event) → Represents w old tree events → Represents w new tree (event.Datagram from bytes now ∷ events)) →
       ((w : ℕ) (tree : List Object) (events : List Event) → Represents w old tree events → out ≡ packets w tree events (event.Datagram from bytes now)) →
       ((w : ℕ) (tree : List Object) (events : List Event) → Represents w old tree events → v ≡ verdict w tree events from bytes now) →
-      TakesReplies r.failed_sends took took' (sent_to from out) →
+      TakesAllBut r.failed_sends took took' (sent_to from out) →
       ServesTelling old new delivered delivered' took took' r
   datagram_turn from bytes now v out q short grew e f one represents packets_are verdict_is sent =
       let fits = within (length bytes) short in
       one_delivery (Datagram from bytes now) old new delivered delivered' took took' r grew (datagram_served old new r from bytes now v q short e f one represents verdict_is)
-      (λ w tree events rep. subst (λ (xs : List Sent). TakesReplies r.failed_sends took took' xs)
+      (λ w tree events rep. subst (λ (xs : List Sent). TakesAllBut r.failed_sends took took' xs)
       (ap (sent_to from) (packets_are w tree events rep) ∙ sym (ap (λ b. cond b (sent_to from (packets w tree events (event.Datagram from bytes now))) []) fits)) sent)
 
 -- ---- counts of failures, short of their last value

@@ -1,8 +1,8 @@
 -- What the loop sends: the packets of each datagram, to its sender (profile).
-use Rattle.std.specs.Prelude.{◌≡◌, ℕ, ◌+◌, nat_le, if◌then◌else◌, List, [], ◌∷◌, ◌++◌, map, length}
+use Rattle.std.specs.Prelude.{◌≡◌, ℕ, nat_le, if◌then◌else◌, List, [], ◌∷◌, ◌++◌, map, length}
 use Rattle.oca_types.specs.declared.words.Peer.{Peer}
 use Rattle.oca_net.specs.Deliveries.{Delivery, Datagram, Quiet, Failed, Sent}
-use Rattle.oca_net.specs.Ends.{largest_datagram}
+use Rattle.oca_net.specs.Ends.{largest_datagram, TakesAllBut}
 use Rattle.oca_tree.specs.declared.object.Object.{Object}
 use Rattle.oca_device.specs.declared.report.Report.{Report}
 use Rattle.oca_device.specs.Events.{Event}
@@ -27,18 +27,6 @@ abbrev pub replies : ℕ → List Object → List Event → List Delivery → Li
 replies w tree events [] = []
 replies w tree events (d ∷ deliveries) = replies_to w tree events d ++ replies w tree (events_after d events) deliveries
 
--- The first list is the second without k of its members.
-pub data Lacks {X : Type 0} : (k : ℕ) (xs ys : List X) → Type 0 where
-  none : Lacks 0 [] []
-  taken : {k : ℕ} {xs ys : List X} (x : X) → Lacks k xs ys → Lacks k (x ∷ xs) (x ∷ ys)
-  missing : {k : ℕ} {xs ys : List X} (y : X) → Lacks k xs ys → Lacks (k + 1) xs (y ∷ ys)
-
--- What an end took grew by the replies, but for those whose send failed.
-pub record TakesReplies (failed : ℕ) (old new : List Sent) (all : List Sent) : Type 0 where
-  pub sent : List Sent
-  pub grew : new ≡ old ++ sent
-  pub part : Lacks failed sent all
-
 -- A DEVICE SERVED THESE DELIVERIES, one a turn: for each tree and events that it represented, it then represents these with the
 -- deliveries' events, and the report is that of the deliveries and of the sends that failed.
 pub record Serves (deliveries : List Delivery) (old new : DeviceState) (report : Report) : Type 0 where
@@ -55,7 +43,7 @@ pub record ServesTelling (old new : DeviceState) (delivered delivered' : List De
   pub grew : delivered' ≡ delivered ++ deliveries
   pub serves : Serves deliveries old new report
   pub replied : (w : ℕ) (tree : List Object) (events : List Event) → Represents w old tree events →
-      TakesReplies report.failed_sends taken taken' (replies w tree events deliveries)
+      TakesAllBut report.failed_sends taken taken' (replies w tree events deliveries)
 
 -- Whatever the end tells: there are deliveries that the device served.
 pub record ServesAny (old new : DeviceState) (report : Report) : Type 0 where

@@ -2,8 +2,8 @@
 ghost use Rattle.std.specs.Prelude.{◌≡◌, ◌+◌, ◌<◌, ◌≤◌, ◌^◌, ℕ, List, [], ◌∷◌, ◌++◌, IsTrue, IfSome, IfNone, length, ◌-◌, slice_index_or};
 ghost use Rattle.oca_net.specs.Ends.{last_u64};
 ghost use Rattle.oca_device.specs.Reports.{added, no_turns, one_turn, verdict_turn, receives_of};
-ghost use Rattle.oca_device.specs.Replies.{ServesTelling, ServesAny, TakesReplies, sent_to};
-ghost use Rattle.oca_net.specs.Ends.{failures_sent, taken_after, one_more};
+ghost use Rattle.oca_device.specs.Replies.{ServesTelling, ServesAny, sent_to};
+ghost use Rattle.oca_net.specs.Ends.{failures_sent, taken_after, one_more, TakesAllBut};
 ghost use Rattle.oca_device.specs.PrivateTotals.{IsWithin, ServesTurn, ServesAnyTurn};
 
 use crate::device::Device;
@@ -100,7 +100,7 @@ fn take_turn<E: End>(
 fn send_all<E: End>(end: &mut E, to: Peer, outbox: &Outbox) -> u64
     ensures telling { E.tells end.new ≡ E.tells end.old }
     ensures delivered { IsTrue (E.tells end.old) → E.delivered end.new ≡ E.delivered end.old }
-    ensures taken { IsTrue (E.tells end.old) → TakesReplies result (E.taken end.old) (E.taken end.new) (sent_to to outbox.now) }
+    ensures taken { IsTrue (E.tells end.old) → TakesAllBut result (E.taken end.old) (E.taken end.new) (sent_to to outbox.now) }
     ensures closed { E.closed end.new ≡ E.closed end.old }
     ensures failures { E.failures end.new < last_u64 → E.failures end.new ≡ E.failures end.old + result }
     ensures receives { E.receives end.new ≡ E.receives end.old }

@@ -28,12 +28,12 @@ use Rattle.oca_control.specs.Links.{LinkState, Request, command_under, submissio
 use Rattle.oca_pair.specs.Networks.{SentDatagram, SubmittedCommand, TakenAnswer, device_address}
 use Rattle.oca_pair.specs.Steps.{sendings, submitted_by, given_by, content_of, taken_by}
 use Rattle.oca_pair.specs.Premises.{RequestFits}
-use Rattle.oca_pair.specs.Laws.{IsIn, Execution, executed_for, answer_of, response_to, WasSubmitted, handles_of, AreConsecutive}
+use Rattle.oca_pair.specs.Laws.{Execution, executed_for, answer_of, handles_of, AreConsecutive}
 use Rattle.oca_pair.proofs.Core.{each_map, each_append}
-use Rattle.oca_pair.proofs.Lists.{in_parts, in_last, each_in, same_self, same_of, other_is, equal_is}
+use Rattle.oca_pair.proofs.Lists.{IsIn, in_parts, in_last, each_in, same_self, same_of, other_is, equal_is}
 use Rattle.oca_pair.proofs.Wire.{IsSendable, read_command, read_keep_alive, read_response}
-use Rattle.oca_pair.proofs.Fitting.{reply_fits}
-use Rattle.oca_pair.proofs.Truths.{Past, and_then, and_submitted, state_of, IsHonest, IsTrueAnswer, window_executed}
+use Rattle.oca_pair.proofs.Fitting.{response_to, reply_fits}
+use Rattle.oca_pair.proofs.Truths.{Past, and_then, and_submitted, state_of, IsSubmitted, IsHonest, IsTrueAnswer, window_executed}
 use Rattle.oca_pair.proofs.Fair.{end_of, NextFits, IsOut, IsBack, IsHeld, IsFair, AreSendable, AreUnique, AreRising, AreOwn, Fair, fair_more, fair_then, owns_then, judged_duplicate}
 
 -- ---- a datagram of the link itself
@@ -97,7 +97,7 @@ answers_read w p m bytes now g room read admitted =
     ∙ ap (λ b. cond b (answers_to_messages w p (m ∷ []) (let_in p m now g)) []) admitted
 
 pub fair_command : (law : WrittenIsReadBack) (p : Peer) (next : Option ℕ) (us : List Untaken) (g : Past) (out back : List SentDatagram) (handed : List TakenAnswer) (c : CommandFields) (now : ℕ) →
-    IsSendable c → WasSubmitted p c g.submitted → Fair p next us g out back handed →
+    IsSendable c → IsSubmitted p c g.submitted → Fair p next us g out back handed →
     let e : Event = Datagram p (pdu_encoding (Commands true (c ∷ []))) now in
     Fair p next us (and_then e g) out (back ++ sendings p (packets g.window g.tree g.events e)) handed
 fair_command law p next us g out back handed c now sendable sub f = by_room (admits (looked_at now g) p) refl
@@ -318,7 +318,7 @@ fair_submit p r now l g out back handed fits f = by_answer (submission r l) refl
         room : (n : ℕ) → n ≤ 1445 → 17 + n < 2 ^ 32
         room n k = omega arith
 
-        below : (c : CommandFields) → WasSubmitted p c g.submitted → c.handle < end_of l.next
+        below : (c : CommandFields) → IsSubmitted p c g.submitted → c.handle < end_of l.next
         below c i = (each_in (λ (x : SubmittedCommand). x.peer ≡ p → IsSendable x.command × (x.command.handle < end_of l.next)) _ g.submitted f.sendable i refl).1
 
         never : {X : Type 0} (a b n : ℕ) → a < n → n ≡ b → a ≡ b → X
@@ -361,22 +361,22 @@ fair_submitted_by p q r a next us g out back handed other f =
     rising (Ok h) = rising_of_another p q next g.submitted (record { peer = q; command = command_under h.0 r }) other refl f.rising
     rising (Err fault) = rw append-nil f.rising
 
-    not_his : (c : CommandFields) (a : Result Handle ControlFault) → WasSubmitted p c (submitted_by q r a) → ⊥
+    not_his : (c : CommandFields) (a : Result Handle ControlFault) → IsSubmitted p c (submitted_by q r a) → ⊥
     not_his c (Ok h) i = elim i [ inl e ↦ other (ap (λ (x : SubmittedCommand). x.peer) e) | inr n ↦ n ]
     not_his c (Err fault) i = i
 
-    old : (c : CommandFields) (a : Result Handle ControlFault) → WasSubmitted p c (g.submitted ++ submitted_by q r a) → WasSubmitted p c g.submitted
+    old : (c : CommandFields) (a : Result Handle ControlFault) → IsSubmitted p c (g.submitted ++ submitted_by q r a) → IsSubmitted p c g.submitted
     old c a i = elim (in_parts _ g.submitted (submitted_by q r a) i) [ inl b ↦ b | inr n ↦ absurd (not_his c a n) ]
 
 fair_given_out : (p : Peer) (g : Past) (t h : ℕ) (us : List Untaken) → AllByRecursion (IsFair p g) us → AllByRecursion (IsFair p g) (map (given_out t h) us)
 fair_given_out p g t h [] a = tt
 fair_given_out p g t h (u ∷ us) a = ((a.0.0, a.0.1), fair_given_out p g t h us a.1)
 
-submitted_due : (p : Peer) (g : Past) (t : ℕ) (us : List Untaken) → AllByRecursion (IsFair p g) us → (u : Untaken) → first_due t us ≡ Some u → WasSubmitted p u.command g.submitted
+submitted_due : (p : Peer) (g : Past) (t : ℕ) (us : List Untaken) → AllByRecursion (IsFair p g) us → (u : Untaken) → first_due t us ≡ Some u → IsSubmitted p u.command g.submitted
 submitted_due p g t [] a u e = cc
 submitted_due p g t (x ∷ xs) a u e = by_test (submitted_due p g t xs a.1 u) (is_due t x) e
   where
-    by_test : (first_due t xs ≡ Some u → WasSubmitted p u.command g.submitted) → (b : Bool) → cond b (Some x) (first_due t xs) ≡ Some u → WasSubmitted p u.command g.submitted
+    by_test : (first_due t xs ≡ Some u → IsSubmitted p u.command g.submitted) → (b : Bool) → cond b (Some x) (first_due t xs) ≡ Some u → IsSubmitted p u.command g.submitted
     by_test rest true q = let same : x ≡ u = cc in rw same at a.0.0
     by_test rest false q = rest q
 
@@ -387,7 +387,7 @@ given_out_is : (p : Peer) (now : ℕ) (l : LinkState) (g : Past) → AllByRecurs
     AllByRecursion (λ (d : SentDatagram). d.peer ≡ p → IsOut p g.submitted d.bytes) (sendings p (given_by (decision now l)))
 given_out_is p now l g a = by_lost l.lost
   where
-    by_many : (u : Untaken) → WasSubmitted p u.command g.submitted → (b : Bool) → Outs p g (cond b (GivesCommand u.command) IsLost)
+    by_many : (u : Untaken) → IsSubmitted p u.command g.submitted → (b : Bool) → Outs p g (cond b (GivesCommand u.command) IsLost)
     by_many u q true = ((λ same. inl (u.command, q, refl)), tt)
     by_many u q false = tt
 

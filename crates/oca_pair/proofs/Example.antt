@@ -57,7 +57,7 @@ meets : Fit the_starts the_steps
 meets = ((lit< tt, tt), (fits, (fits, (fits, (tt, (tt, (tt, (tt, (tt, (tt, tt))))))))))
 
 is_copy : IsCopyOfUntaken sent_third the_link third
-is_copy = record { peer = refl; untaken = held 3; held = inr (inr (inl refl)); command = refl; bytes = refl }
+is_copy = record { peer = refl; untaken = held 3; held = (2, lit< tt, refl); command = refl; bytes = refl }
 
 -- so the third command, delivered once more, is answered
 pub repeated_is_answered : WrittenIsReadBack → (tree : List Object) → IsAnswered 2 400 (the_network tree) sent_third third

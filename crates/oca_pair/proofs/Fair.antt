@@ -19,12 +19,12 @@ use Rattle.oca_control.specs.Answers.{AnswerFields, answer_in}
 use Rattle.oca_control.specs.Untaken.{Untaken}
 use Rattle.oca_pair.specs.Networks.{SentDatagram, SubmittedCommand, TakenAnswer}
 use Rattle.oca_pair.specs.Steps.{sendings}
-use Rattle.oca_pair.specs.Laws.{WasSubmitted, handles_of, AreConsecutive}
+use Rattle.oca_pair.specs.Laws.{handles_of, AreConsecutive}
 use Rattle.oca_pair.proofs.Core.{each_map, each_append, has}
 use Rattle.oca_pair.proofs.Lists.{in_more}
 use Rattle.oca_pair.proofs.Wire.{IsSendable}
 use Rattle.oca_pair.proofs.Clocks.{Grows, grows_reading}
-use Rattle.oca_pair.proofs.Truths.{Past, and_then, and_submitted, state_of, IsTrueAnswer, honest_then, honest_submitted, true_then, true_submitted, IsOwn}
+use Rattle.oca_pair.proofs.Truths.{Past, and_then, and_submitted, state_of, IsSubmitted, IsTrueAnswer, honest_then, honest_submitted, true_then, true_submitted, IsOwn}
 
 -- the handle that follows all that were given
 abbrev pub end_of : Option ℕ → ℕ
@@ -38,7 +38,7 @@ NextFits (Some h) = h < 2 ^ 32
 -- what the link of a peer sends to the device: a submitted command, or a keep-alive
 abbrev pub IsOut : Peer → List SubmittedCommand → List ℕ → Type 0
 IsOut p submitted bytes =
-    ((c : CommandFields) × WasSubmitted p c submitted × (bytes ≡ pdu_encoding (Commands true (c ∷ [])))) ⊎ (bytes ≡ pdu_encoding (OneKeepAlive (Seconds 5)))
+    ((c : CommandFields) × IsSubmitted p c submitted × (bytes ≡ pdu_encoding (Commands true (c ∷ [])))) ⊎ (bytes ≡ pdu_encoding (OneKeepAlive (Seconds 5)))
 
 -- what the device sends to it: a true answer, or the keep-alive
 abbrev pub IsBack : Peer → Past → List ℕ → Type 0
@@ -50,14 +50,14 @@ IsHeld p g h None = Unit {0}
 IsHeld p g h (Some a) = IsTrueAnswer p h a g
 
 abbrev pub IsFair : Peer → Past → Untaken → Type 0
-IsFair p g u = WasSubmitted p u.command g.submitted × IsHeld p g u.command.handle u.answer
+IsFair p g u = IsSubmitted p u.command g.submitted × IsHeld p g u.command.handle u.answer
 
 -- each command that the link submitted can be sent, and has a handle below the next one
 abbrev pub AreSendable : Peer → Option ℕ → List SubmittedCommand → Type 0
 AreSendable p next xs = AllByRecursion (λ x. x.peer ≡ p → IsSendable x.command × (x.command.handle < end_of next)) xs
 
 abbrev pub AreUnique : Peer → List SubmittedCommand → Type 0
-AreUnique p xs = (c d : CommandFields) → WasSubmitted p c xs → WasSubmitted p d xs → c.handle ≡ d.handle → c ≡ d
+AreUnique p xs = (c d : CommandFields) → IsSubmitted p c xs → IsSubmitted p d xs → c.handle ≡ d.handle → c ≡ d
 
 -- its handles rise by one, up to the next one
 abbrev pub AreRising : Peer → Option ℕ → List SubmittedCommand → Type 0

@@ -28,12 +28,12 @@ use Rattle.oca_pair.specs.Steps as steps
 use Rattle.oca_control.specs.Links.{Request}
 use Rattle.oca_pair.specs.Steps.{Step, Submit, Due, ToDevice, ToLink, Other, Take, has_link, sendings, after_submit, after_due_step, after_delivery, after_reception, after_take, after_step, after_steps}
 use Rattle.oca_pair.specs.Premises.{are_apart, Fit, KeepsItsSession, ComeFrom}
-use Rattle.oca_pair.specs.Laws.{IsIn, Execution, executed_for, executions_for, executions_under, WasSubmitted, IsAnswerOfItsCommand, handles_of, AreConsecutive, AnswersItsCommands, IsCopyOfUntaken, IsAnswered, AnswersUntaken, ExecutesOnce}
+use Rattle.oca_pair.specs.Laws.{Execution, executed_for, executions_for, executions_under, IsAnswerOfItsCommand, handles_of, AreConsecutive, AnswersItsCommands, IsCopyOfUntaken, IsAnswered, AnswersUntaken, ExecutesOnce}
 use Rattle.oca_pair.proofs.Core.{IsServed}
-use Rattle.oca_pair.proofs.Lists.{each_at, each_in, equal_is}
+use Rattle.oca_pair.proofs.Lists.{IsIn, contains_in, in_contains, each_at, each_in, equal_is}
 use Rattle.oca_pair.proofs.Clocks.{keeps_before}
 use Rattle.oca_pair.proofs.Wire.{IsSendable, read_command}
-use Rattle.oca_pair.proofs.Truths.{Past, past, and_then, state_of, IsTrueAnswer, window_executed}
+use Rattle.oca_pair.proofs.Truths.{Past, past, and_then, state_of, IsSubmitted, IsTrueAnswer, window_executed}
 use Rattle.oca_pair.proofs.Fair.{end_of, IsFair, AreOwn, Fair, owns_then, judged_duplicate}
 use Rattle.oca_pair.proofs.Delivering.{looked_at, let_in, executed_now, after_read, answers_read, held_answer}
 use Rattle.oca_pair.proofs.Keeping.{accepted_by, Kept, accepted_let_in}
@@ -73,9 +73,9 @@ only_one h x (y ∷ ys) d (inr i) e =
 true_answer : (p : Peer) (h : ℕ) (a : AnswerFields) (n : Network) → (KeepsItsSession p n.events → Kept p (past n)) → IsTrueAnswer p h a (past n) → IsAnswerOfItsCommand p h a n
 true_answer p h a n kept t = record {
   execution = t.execution;
-  executed = t.executed;
+  executed = in_contains t.execution (executions_for p n) t.executed;
   came = record { later = t.honest.came.later; before = t.honest.came.before; now = t.honest.came.now; events = t.honest.came.events; objects = t.honest.came.objects };
-  submitted = t.honest.submitted;
+  submitted = in_contains _ n.submitted t.honest.submitted;
   handle = t.handle;
   reply = t.honest.reply;
   answer_is = t.answer_is;
@@ -99,7 +99,7 @@ answers_law law w s tree starts es apart fit =
           true_answer l.peer h a n of.kept (rw held at (held_answer l.peer (past n) h l.link.untaken of.fair.untaken));
       handed_on = λ i l h a own was.
           let of : LinkSound s n l = each_at (LinkSound s n) n.links i l sound.each own in
-          true_answer l.peer h a n of.kept (each_in (λ (t : TakenAnswer). t.peer ≡ l.peer → IsTrueAnswer l.peer t.handle t.answer (past n)) _ n.taken of.fair.handed_on was refl);
+          true_answer l.peer h a n of.kept (each_in (λ (t : TakenAnswer). t.peer ≡ l.peer → IsTrueAnswer l.peer t.handle t.answer (past n)) _ n.taken of.fair.handed_on (contains_in _ n.taken was) refl);
       handles = λ i l own.
           let of : LinkSound s n l = each_at (LinkSound s n) n.links i l sound.each own in
           before_last (handles_of l.peer n.submitted) (end_of l.link.next) of.fair.rising;
@@ -143,7 +143,7 @@ answered_now law w s f n k now d next us u c peers wide there fair kept good hel
     its : IsFair p g u
     its = each_in (IsFair p g) u us fair.untaken held
 
-    sub : WasSubmitted p c g.submitted
+    sub : IsSubmitted p c g.submitted
     sub = rw command at (each_in (IsFair p g) u us fair.untaken held).0
 
     sendable : IsSendable c
@@ -184,7 +184,7 @@ answered_now law w s f n k now d next us u c peers wide there fair kept good hel
         | inr q ↦ inr (ap (λ y. outcomes.Device y ∷ []) (verdict_is ∙ q))
       ]);
       execution = x;
-      executed = rw (there, state_is) i;
+      executed = rw (there, state_is) (in_contains x (executed_for p s'.notes) i);
       command = command;
       sent = rw there (ap (λ ps. n.to_links ++ sendings p ps) (ap packets_of answers_are ∙ ap (λ r. packets_of (response c.handle r ∷ [])) reply_is));
     }
@@ -226,7 +226,7 @@ delivered law w s n k now d l c peers some wide there of copy keeps small come =
     let good = of.good some before in
     let GoodAs : Peer → Type 0 = λ x. Good s good.0 x l.link.next l.link.untaken n.submitted (accepted_by x (past n)) in
     answered_now law w s good.0 n k now d l.link.next l.link.untaken copy.untaken c peers wide there
-    (subst FairAs copy.peer of.fair) (subst KeptAs copy.peer (of.kept before)) (subst GoodAs copy.peer good.1) copy.held copy.command copy.bytes keeps small come
+    (subst FairAs copy.peer of.fair) (subst KeptAs copy.peer (of.kept before)) (subst GoodAs copy.peer good.1) (contains_in copy.untaken l.link.untaken copy.held) copy.command copy.bytes keeps small come
 
 window_kept : (es : List Step) (n : Network) → (after_steps es n).window ≡ n.window
 window_kept [] n = refl

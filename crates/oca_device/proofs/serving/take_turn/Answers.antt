@@ -1,6 +1,7 @@
 use Rattle.std.proofs.Common.{ℕ, List, [], ◌∷◌, ◌++◌, ap, ◌∙◌, sym, refl, subst}
 use Rattle.oca_net.specs.Deliveries.{Datagram, Sent}
-use Rattle.oca_device.specs.Replies.{TakesReplies, sent_to}
+use Rattle.oca_net.specs.Ends.{TakesAllBut}
+use Rattle.oca_device.specs.Replies.{sent_to}
 use Rattle.oca_device.specs.declared.report.Report.{Report}
 use Rattle.oca_device.proofs.Turns.{quiet_turn, oversize_turn, failed_turn, datagram_turn, verdict_turns, any_quiet, any_oversize, any_failed, any_datagram}
 use Rattle.oca_device.proofs.serving.take_turn.Goals as goal
@@ -32,7 +33,7 @@ returns-in-Datagram-clause-turn g c = λ tells.
     let heard = g.E.End.delivered c.args.end.now in
     let heard' = c.in-Datagram.ensures.delivered tells ∙ ap (λ (xs : List ℕ). heard ++ Datagram p xs now ∷ []) (sym c.as_slice.ensures.value) in
     let still = c.in-Datagram.ensures.telling ∙ tells in
-    let took = subst (λ (xs : List Sent). TakesReplies c.send_all-failed_sends.result xs (g.E.End.taken c.send_all-failed_sends.new.end) (sent_to p c.datagram-verdict.new.outbox))
+    let took = subst (λ (xs : List Sent). TakesAllBut c.send_all-failed_sends.result xs (g.E.End.taken c.send_all-failed_sends.new.end) (sent_to p c.datagram-verdict.new.outbox))
     (c.in-Datagram.ensures.taken tells) (c.send_all-failed_sends.ensures.taken still) in
     datagram_turn c.args.device.now c.datagram-verdict.new.self heard _ _ _ _ p bytes now c.datagram-verdict.result c.datagram-verdict.new.outbox c.of_verdict.result
     c.as_slice.ensures.fits (c.send_all-failed_sends.ensures.delivered still ∙ heard') refl c.of_verdict.ensures (verdict_turns c.datagram-verdict.result c.of_verdict.result c.of_verdict.ensures)
