@@ -409,7 +409,7 @@ fair_gone_on p now l g out back handed f = by_decision (decision now l) (given_o
   where
     with_untaken : (us : List Untaken) (more : List SentDatagram) → AllByRecursion (IsFair p g) us → AllByRecursion (λ (d : SentDatagram). d.peer ≡ p → IsOut p g.submitted d.bytes) more →
         Fair p l.next us g (out ++ more) back handed
-    with_untaken us more a new = record { fits = f.fits; own = f.own; outgoing = each_append _ out more f.outgoing new; incoming = f.incoming; untaken = a; handed_on = f.handed_on; sendable = f.sendable; unique = f.unique; rising = f.rising }
+    with_untaken us more a new = record { fits = f.fits; own = f.own; outgoing = each_append _ out more f.outgoing new; incoming = f.incoming; untaken = a; was_taken = f.was_taken; sendable = f.sendable; unique = f.unique; rising = f.rising }
 
     by_decision : (d : Decision) → AllByRecursion (λ (x : SentDatagram). x.peer ≡ p → IsOut p g.submitted x.bytes) (sendings p (given_by d)) →
         Fair p (after_due d (present now l) l).next (after_due d (present now l) l).untaken g (out ++ sendings p (given_by d)) back handed
@@ -427,7 +427,7 @@ fair_sent p q next us g out back handed packets other f = record {
   outgoing = each_append _ out (sendings q packets) f.outgoing (none packets);
   incoming = f.incoming;
   untaken = f.untaken;
-  handed_on = f.handed_on;
+  was_taken = f.was_taken;
   sendable = f.sendable;
   unique = f.unique;
   rising = f.rising;
@@ -461,7 +461,7 @@ fair_untaken p next us vs g out back handed more a new f = record {
   outgoing = f.outgoing;
   incoming = f.incoming;
   untaken = a;
-  handed_on = each_append _ handed more f.handed_on new;
+  was_taken = each_append _ handed more f.was_taken new;
   sendable = f.sendable;
   unique = f.unique;
   rising = f.rising;
@@ -473,7 +473,7 @@ pub fair_received : (p : Peer) (bytes : List ℕ) (now : ℕ) (l : LinkState) (g
 fair_received p bytes now l g out back handed b f = by_from (same_peer device_address l.device)
   where
     with_us : (us : List Untaken) → AllByRecursion (IsFair p g) us → Fair p l.next us g out back handed
-    with_us us a = record { fits = f.fits; own = f.own; outgoing = f.outgoing; incoming = f.incoming; untaken = a; handed_on = f.handed_on; sendable = f.sendable; unique = f.unique; rising = f.rising }
+    with_us us a = record { fits = f.fits; own = f.own; outgoing = f.outgoing; incoming = f.incoming; untaken = a; was_taken = f.was_taken; sendable = f.sendable; unique = f.unique; rising = f.rising }
 
     by_from : (b : Bool) → Fair p l.next (cond b (hears_content (content_of bytes) l.untaken) l.untaken) g out back handed
     by_from true = with_us (hears_content (content_of bytes) l.untaken) (fair_hears p bytes g l.untaken b f.untaken)

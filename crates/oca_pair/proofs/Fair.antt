@@ -72,7 +72,7 @@ pub record Fair (p : Peer) (next : Option ℕ) (us : List Untaken) (g : Past) (o
   pub outgoing : AllByRecursion (λ d. d.peer ≡ p → IsOut p g.submitted d.bytes) out
   pub incoming : AllByRecursion (λ d. d.peer ≡ p → IsBack p g d.bytes) back
   pub untaken : AllByRecursion (IsFair p g) us
-  pub handed_on : AllByRecursion (λ t. t.peer ≡ p → IsTrueAnswer p t.handle t.answer g) handed
+  pub was_taken : AllByRecursion (λ t. t.peer ≡ p → IsTrueAnswer p t.handle t.answer g) handed
   pub sendable : AreSendable p next g.submitted
   pub unique : AreUnique p g.submitted
   pub rising : AreRising p next g.submitted
@@ -106,7 +106,7 @@ fair_more p next next' us us' g out back handed more fits sendable unique rising
   outgoing = each_map (λ d h e. out_more p g.submitted more d.bytes (h e)) out f.outgoing;
   incoming = each_map (λ d h e. back_more p g more d.bytes (h e)) back f.incoming;
   untaken = grow (each_map (λ u h. (in_more _ g.submitted more h.0, held_more p g more u.command.handle u.answer h.1)) us f.untaken);
-  handed_on = each_map (λ t h e. true_submitted p t.handle t.answer g more (h e)) handed f.handed_on;
+  was_taken = each_map (λ t h e. true_submitted p t.handle t.answer g more (h e)) handed f.was_taken;
   sendable = sendable;
   unique = unique;
   rising = rising;
@@ -139,7 +139,7 @@ fair_then p next us g out back handed e more own new f = record {
   outgoing = f.outgoing;
   incoming = each_append _ back more (each_map (λ d h same. back_then p g e d.bytes (h same)) back f.incoming) new;
   untaken = each_map (λ u h. (h.0, held_then p g e u.command.handle u.answer h.1)) us f.untaken;
-  handed_on = each_map (λ t h same. true_then p t.handle t.answer g e (h same)) handed f.handed_on;
+  was_taken = each_map (λ t h same. true_then p t.handle t.answer g e (h same)) handed f.was_taken;
   sendable = f.sendable;
   unique = f.unique;
   rising = f.rising;
@@ -173,7 +173,7 @@ fair_tick p next us g out back handed now f = record {
   outgoing = f.outgoing;
   incoming = each_map (λ d h same. back_then p g (Tick now) d.bytes (h same)) back f.incoming;
   untaken = each_map (λ u h. (h.0, held_then p g (Tick now) u.command.handle u.answer h.1)) us f.untaken;
-  handed_on = each_map (λ t h same. true_then p t.handle t.answer g (Tick now) (h same)) handed f.handed_on;
+  was_taken = each_map (λ t h same. true_then p t.handle t.answer g (Tick now) (h same)) handed f.was_taken;
   sendable = f.sendable;
   unique = f.unique;
   rising = f.rising;

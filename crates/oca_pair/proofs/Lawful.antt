@@ -28,7 +28,7 @@ use Rattle.oca_pair.specs.Steps as steps
 use Rattle.oca_control.specs.Links.{Request}
 use Rattle.oca_pair.specs.Steps.{Step, Submit, Due, ToDevice, ToLink, Other, Take, has_link, sendings, after_submit, after_due_step, after_delivery, after_reception, after_take, after_step, after_steps}
 use Rattle.oca_pair.specs.Premises.{are_apart, Fit, KeepsItsSession, ComeFrom}
-use Rattle.oca_pair.specs.Laws.{Execution, executed_for, executions_for, executions_under, IsAnswerOfItsCommand, handles_of, AreConsecutive, AnswersItsCommands, IsCopyOfUntaken, IsAnswered, AnswersUntaken, ExecutesOnce}
+use Rattle.oca_pair.specs.Laws.{Execution, executed_for, executions_for, executions_under, IsAnswerOfItsCommand, handles_of, AreConsecutive, AnswersItsCommands, CarriesUntaken, IsAnswered, AnswersUntaken, ExecutesOnce}
 use Rattle.oca_pair.proofs.Core.{IsServed}
 use Rattle.oca_pair.proofs.Lists.{IsIn, contains_in, in_contains, each_at, each_in, equal_is}
 use Rattle.oca_pair.proofs.Clocks.{keeps_before}
@@ -97,9 +97,9 @@ answers_law law w s tree starts es apart fit =
       held = λ i l h a own held.
           let of : LinkSound s n l = each_at (LinkSound s n) n.links i l sound.each own in
           true_answer l.peer h a n of.kept (rw held at (held_answer l.peer (past n) h l.link.untaken of.fair.untaken));
-      handed_on = λ i l h a own was.
+      was_taken = λ i l h a own was.
           let of : LinkSound s n l = each_at (LinkSound s n) n.links i l sound.each own in
-          true_answer l.peer h a n of.kept (each_in (λ (t : TakenAnswer). t.peer ≡ l.peer → IsTrueAnswer l.peer t.handle t.answer (past n)) _ n.taken of.fair.handed_on (contains_in _ n.taken was) refl);
+          true_answer l.peer h a n of.kept (each_in (λ (t : TakenAnswer). t.peer ≡ l.peer → IsTrueAnswer l.peer t.handle t.answer (past n)) _ n.taken of.fair.was_taken (contains_in _ n.taken was) refl);
       handles = λ i l own.
           let of : LinkSound s n l = each_at (LinkSound s n) n.links i l sound.each own in
           before_last (handles_of l.peer n.submitted) (end_of l.link.next) of.fair.rising;
@@ -216,17 +216,17 @@ answered_now law w s f n k now d next us u c peers wide there fair kept good hel
     by_judgement Old q t = absurd t
 
 delivered : WrittenIsReadBack → (w s : ℕ) (n : Network) (k now : ℕ) (d : SentDatagram) (l : PeerLink) (c : CommandFields) (peers : List Peer) → 0 < s → 2 * s ≤ n.window + 1 →
-    slice_get n.to_device k ≡ Some d → LinkSound s n l → IsCopyOfUntaken d l c →
+    slice_get n.to_device k ≡ Some d → LinkSound s n l → CarriesUntaken d l c →
     KeepsItsSession d.peer (Datagram d.peer d.bytes now ∷ n.events) → length peers ≤ 16 → ComeFrom peers (Datagram d.peer d.bytes now ∷ n.events) → IsAnswered k now n d c
-delivered law w s n k now d l c peers some wide there of copy keeps small come =
+delivered law w s n k now d l c peers some wide there of of_untaken keeps small come =
     let As : Peer → Type 0 = λ x. KeepsItsSession x n.events in
-    let before : KeepsItsSession l.peer n.events = subst As (sym copy.peer) (keeps_before d.peer (Datagram d.peer d.bytes now) n.events keeps) in
+    let before : KeepsItsSession l.peer n.events = subst As (sym of_untaken.peer) (keeps_before d.peer (Datagram d.peer d.bytes now) n.events keeps) in
     let FairAs : Peer → Type 0 = λ x. Fair x l.link.next l.link.untaken (past n) n.to_device n.to_links n.taken in
     let KeptAs : Peer → Type 0 = λ x. Kept x (past n) in
     let good = of.good some before in
     let GoodAs : Peer → Type 0 = λ x. Good s good.0 x l.link.next l.link.untaken n.submitted (accepted_by x (past n)) in
-    answered_now law w s good.0 n k now d l.link.next l.link.untaken copy.untaken c peers wide there
-    (subst FairAs copy.peer of.fair) (subst KeptAs copy.peer (of.kept before)) (subst GoodAs copy.peer good.1) (contains_in copy.untaken l.link.untaken copy.held) copy.command copy.bytes keeps small come
+    answered_now law w s good.0 n k now d l.link.next l.link.untaken of_untaken.untaken c peers wide there
+    (subst FairAs of_untaken.peer of.fair) (subst KeptAs of_untaken.peer (of.kept before)) (subst GoodAs of_untaken.peer good.1) (contains_in of_untaken.untaken l.link.untaken of_untaken.held) of_untaken.command of_untaken.bytes keeps small come
 
 window_kept : (es : List Step) (n : Network) → (after_steps es n).window ≡ n.window
 window_kept [] n = refl
@@ -267,9 +267,9 @@ window_kept (step ∷ es) n = window_kept es (after_step step n) ∙ one step
 
 pub never_old_law : WrittenIsReadBack → (w s : ℕ) (tree : List Object) (starts : List Start) (es : List Step) → 0 < s → 2 * s ≤ w + 1 → are_apart starts ≡ true → Fit starts es →
     AnswersUntaken (after_steps es (opening w s tree starts))
-never_old_law law w s tree starts es some wide apart fit k now i d l c peers there own copy keeps small come =
+never_old_law law w s tree starts es some wide apart fit k now i d l c peers there own of_untaken keeps small come =
     let n : Network = after_steps es (opening w s tree starts) in
     let sound : Sound s n = sound_after law w s tree starts es apart fit in
     let of : LinkSound s n l = each_at (LinkSound s n) n.links i l sound.each own in
     let sizes : n.window ≡ w = window_kept es (opening w s tree starts) in
-    delivered law w s n k now d l c peers some (rw sizes wide) there of copy (rw there at keeps) small (rw there at come)
+    delivered law w s n k now d l c peers some (rw sizes wide) there of of_untaken (rw there at keeps) small (rw there at come)

@@ -453,7 +453,7 @@ sound_opening w s tree starts a fits = record { apart = apart starts a; each = e
     each (x ∷ xs) f = (
       record {
         span = refl;
-        fair = record { fits = f.0; own = tt; outgoing = tt; incoming = tt; untaken = tt; handed_on = tt; sendable = tt; unique = λ c d i j e. absurd i; rising = tt };
+        fair = record { fits = f.0; own = tt; outgoing = tt; incoming = tt; untaken = tt; was_taken = tt; sendable = tt; unique = λ c d i j e. absurd i; rising = tt };
         kept = λ keeps. record { latest = tt; whole = refl; once = tt };
         good = λ some keeps. (x.first_handle.0, record { start = omega arith; untaken = tt; taken = λ y p q free. nothing x.first_handle.0 y p q; own = tt; order = tt; from = tt });
       },

@@ -57,9 +57,9 @@ answer_of reply = record { status = status_number reply.status; count = reply.co
 abbrev pub WasSubmitted : Peer → CommandFields → List SubmittedCommand → Type 0
 WasSubmitted p c submitted = let it : SubmittedCommand = record { peer = p; command = c } in Contains submitted it
 
--- the link of this peer handed this answer on, under the handle
-abbrev pub WasHandedOn : Peer → ℕ → AnswerFields → List TakenAnswer → Type 0
-WasHandedOn p h answer taken = let it : TakenAnswer = record { peer = p; handle = h; answer = answer } in Contains taken it
+-- this answer was taken from the link of this peer, under the handle
+abbrev pub WasTaken : Peer → ℕ → AnswerFields → List TakenAnswer → Type 0
+WasTaken p h answer taken = let it : TakenAnswer = record { peer = p; handle = h; answer = answer } in Contains taken it
 
 -- The execution was of a datagram of the peer that held its command alone, on the objects as the clock left them when it came.
 pub record CameWithADatagram (p : Peer) (x : Execution) (n : Network) : Type 0 where
@@ -91,12 +91,12 @@ AreConsecutive [] = Unit {0}
 AreConsecutive (h ∷ []) = Unit {0}
 AreConsecutive (h ∷ k ∷ more) = (k ≡ h + 1) × AreConsecutive (k ∷ more)
 
--- Of each answer that a link holds, and of each that it handed on; and each command that it submitted has a handle of its own, the
+-- Of each answer that a link holds, and of each that was taken from it; and each command that it submitted has a handle of its own, the
 -- one before it plus one.
 pub record AnswersItsCommands (n : Network) : Type 0 where
   pub held : (i : ℕ) (l : PeerLink) (h : ℕ) (answer : AnswerFields) → slice_get n.links i ≡ Some l → answer_under h l.link.untaken ≡ Some answer →
       IsAnswerOfItsCommand l.peer h answer n
-  pub handed_on : (i : ℕ) (l : PeerLink) (h : ℕ) (answer : AnswerFields) → slice_get n.links i ≡ Some l → WasHandedOn l.peer h answer n.taken →
+  pub was_taken : (i : ℕ) (l : PeerLink) (h : ℕ) (answer : AnswerFields) → slice_get n.links i ≡ Some l → WasTaken l.peer h answer n.taken →
       IsAnswerOfItsCommand l.peer h answer n
   pub handles : (i : ℕ) (l : PeerLink) → slice_get n.links i ≡ Some l → AreConsecutive (handles_of l.peer n.submitted)
 
@@ -106,11 +106,11 @@ EveryScheduleAnswersItsCommands =
     (w s : ℕ) (tree : List Object) (starts : List Start) (steps : List Step) → are_apart starts ≡ true → Fit starts steps →
     AnswersItsCommands (after_steps steps (opening w s tree starts))
 
--- ---- THE LAW OF COMMANDS IN HAND
+-- ---- THE LAW OF UNTAKEN COMMANDS
 
--- A datagram of the link of this peer is a copy of a command that the link holds untaken: its bytes are those that the link gives
--- out for it.
-pub record IsCopyOfUntaken (d : SentDatagram) (l : PeerLink) (c : CommandFields) : Type 0 where
+-- A datagram of the link of this peer carries a command that the link holds untaken: its bytes are those that the link gives out
+-- for it, whether for the first time or again.
+pub record CarriesUntaken (d : SentDatagram) (l : PeerLink) (c : CommandFields) : Type 0 where
   pub peer : l.peer ≡ d.peer
   pub untaken : Untaken
   pub held : Contains l.link.untaken untaken
@@ -128,11 +128,11 @@ pub record IsAnswered (k now : ℕ) (n : Network) (d : SentDatagram) (c : Comman
   pub sent : (after_step (ToDevice k now) n).to_links
       ≡ n.to_links ++ (record { peer = d.peer; bytes = pdu_encoding (pdu_of (response c.handle execution.reply)) }) ∷ []
 
--- A delivery of a copy of an untaken command is answered, where with it no session of the link's peer was forgotten, and the
+-- A delivery of a datagram that carries an untaken command is answered, where with it no session of the link's peer was forgotten, and the
 -- datagrams that came to the device came from at most 16 peers.
 abbrev pub AnswersUntaken : Network → Type 0
 AnswersUntaken n = (k now i : ℕ) (d : SentDatagram) (l : PeerLink) (c : CommandFields) (peers : List Peer) →
-    slice_get n.to_device k ≡ Some d → slice_get n.links i ≡ Some l → IsCopyOfUntaken d l c →
+    slice_get n.to_device k ≡ Some d → slice_get n.links i ≡ Some l → CarriesUntaken d l c →
     KeepsItsSession d.peer (after_step (ToDevice k now) n).events → length peers ≤ 16 → ComeFrom peers (after_step (ToDevice k now) n).events →
     IsAnswered k now n d c
 
