@@ -128,8 +128,8 @@ fn expect_log(rt: &impl Abort, transcript: &Transcript, expected: &[Seen]) {
     }
 }
 
-/// A command is given out twice, and the two copies overtake one another.
-fn two_copies() -> [Step<'static>; 8] {
+/// A command is given out twice, and the two datagrams overtake one another.
+fn given_out_twice() -> [Step<'static>; 8] {
     [
         unmute(0),
         Step::Due { link: 0, now: 0 },
@@ -167,8 +167,8 @@ const TWO_COPIES: [Seen; 8] = [
 ];
 
 #[test]
-fn a_copy_is_answered_once(rt: HostRuntime) -> Result<(), Fail> {
-    let transcript = run(rt.alloc(), 32, 16, &[start(A, 1)], &two_copies())?;
+fn a_duplicate_is_answered_once(rt: HostRuntime) -> Result<(), Fail> {
+    let transcript = run(rt.alloc(), 32, 16, &[start(A, 1)], &given_out_twice())?;
     expect_log(&rt, &transcript, &TWO_COPIES);
     assert_eq!(rt; transcript.to_device.len(), 2);
     assert_eq!(rt; transcript.to_links.len(), 2);
@@ -179,7 +179,7 @@ fn a_copy_is_answered_once(rt: HostRuntime) -> Result<(), Fail> {
 
 #[test]
 fn a_datagram_that_is_not_there(rt: HostRuntime) -> Result<(), Fail> {
-    let [a, b, c, d, e, f, g, h] = two_copies();
+    let [a, b, c, d, e, f, g, h] = given_out_twice();
     let steps = [a, b, c, d, e, f, g, h, Step::ToDevice { k: 9, now: 300 }];
     match run(rt.alloc(), 32, 16, &[start(A, 1)], &steps) {
         Err(fault) => assert_eq!(rt; fault, PairFault::BadStep(8)),
@@ -190,7 +190,7 @@ fn a_datagram_that_is_not_there(rt: HostRuntime) -> Result<(), Fail> {
 
 #[test]
 fn other_bytes(rt: HostRuntime) -> Result<(), Fail> {
-    let [a, b, c, d, e, f, g, h] = two_copies();
+    let [a, b, c, d, e, f, g, h] = given_out_twice();
     let of = |port: u16| Step::Other {
         from: peer(port),
         bytes: &GET,
@@ -244,7 +244,7 @@ fn numbers_of_faults(rt: HostRuntime) {
     assert_eq!(rt; PairFault::SamePeer.number(), 3);
 }
 
-/// Window 3 has the copy of command 2 that window 2 calls too old, where the span is 2.
+/// Window 3 has the duplicate of command 2 that window 2 calls too old, where the span is 2.
 #[test]
 fn the_smallest_window(rt: HostRuntime) -> Result<(), Fail> {
     let steps = [
@@ -285,7 +285,7 @@ fn the_smallest_window(rt: HostRuntime) -> Result<(), Fail> {
     Ok(())
 }
 
-/// Command 16 overtakes 1 to 15, and 30 others are accepted after it: its copy is still answered.
+/// Command 16 overtakes 1 to 15, and 30 others are accepted after it: its duplicate is still answered.
 #[test]
 fn sixteen_overtakes_fifteen(rt: HostRuntime) -> Result<(), Fail> {
     let alloc = rt.alloc();

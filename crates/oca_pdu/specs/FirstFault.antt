@@ -12,23 +12,27 @@ use Rattle.oca_pdu.specs.Faults.{IsFaultAt}
 use Rattle.oca_pdu.specs.Messages.{Pdu}
 use Rattle.oca_pdu.specs.Encoding.{command_encoding, response_encoding, pdu_frame, command_type, pdu_encoding, CommandFits, ResponseFits, PduFits}
 
--- The messages of the PDU at p fail. They lie in body, from p + 10 to the PDU's end, and are to be `count`; `before` are those
--- that hold, and `least` is the least size of one.
+-- The bytes are the encodings of `before`, each of which holds, and then the rest.
+pub record HoldsUpTo {X : Type 0} (encoding : X → List ℕ) (Fits : X → Type 0) (rest bytes : List ℕ) : Type 0 where
+  pub before : List X
+  pub each : AllByRecursion Fits before
+  pub parts : bytes ≡ flat_map encoding before ++ rest
+
+-- The messages of the PDU at p fail. They lie in body, from p + 10 to the PDU's end, and are to be `count`; `least` is the least size
+-- of one.
 pub data MessagesFail {X : Type 0} (encoding : X → List ℕ) (Fits : X → Type 0) (least count p : ℕ) (body : List ℕ) (f : PduFault) : Type 0 where
   -- the PDU ends, and messages are still to come
-  MessagesMissing : (before : List X) → AllByRecursion Fits before → body ≡ flat_map encoding before → length before < count
+  MessagesMissing : (end : HoldsUpTo encoding Fits [] body) → length end.before < count
       → IsFaultAt f Count (p + 8) → MessagesFail encoding Fits least count p body f
   -- fewer than 4 bytes are left for a message's size
-  MessageCutOff : (before : List X) (rest : List ℕ) → AllByRecursion Fits before → body ≡ flat_map encoding before ++ rest → length before < count
-      → 0 < length rest → length rest < 4
-      → IsFaultAt f MessageSize (p + 10 + length (flat_map encoding before)) → MessagesFail encoding Fits least count p body f
+  MessageCutOff : (rest : List ℕ) (here : HoldsUpTo encoding Fits rest body) → length here.before < count → 0 < length rest → length rest < 4
+      → IsFaultAt f MessageSize (p + 10 + length (flat_map encoding here.before)) → MessagesFail encoding Fits least count p body f
   -- the message's size is below the least, or the message would end after the PDU
-  MessageOfWrongSize : (before : List X) (rest : List ℕ) (size : ℕ) (behind : List ℕ) → AllByRecursion Fits before → body ≡ flat_map encoding before ++ rest → length before < count
+  MessageOfWrongSize : (rest : List ℕ) (here : HoldsUpTo encoding Fits rest body) (size : ℕ) (behind : List ℕ) → length here.before < count
       → rest ≡ unsigned_encoding w32 size ++ behind → size < 2 ^ 32 → (size < least) ⊎ (length rest < size)
-      → IsFaultAt f MessageSize (p + 10 + length (flat_map encoding before)) → MessagesFail encoding Fits least count p body f
+      → IsFaultAt f MessageSize (p + 10 + length (flat_map encoding here.before)) → MessagesFail encoding Fits least count p body f
   -- after the last message, the PDU goes on
-  BytesLeft : (before : List X) (rest : List ℕ) → AllByRecursion Fits before → body ≡ flat_map encoding before ++ rest → length before ≡ count
-      → 0 < length rest
+  BytesLeft : (rest : List ℕ) (here : HoldsUpTo encoding Fits rest body) → length here.before ≡ count → 0 < length rest
       → IsFaultAt f Count (p + 8) → MessagesFail encoding Fits least count p body f
 
 -- The rest begins with the frame of a PDU: sync, ProtocolVersion and PduSize hold, and the PDU ends within the datagram.
@@ -86,5 +90,5 @@ pub data IsFirstFault (bytes : List ℕ) (f : PduFault) : Type 0 where
   TooManyBytes : 1472 < length bytes
       → IsFaultAt f TooLong 1472 → IsFirstFault bytes f
   -- the bytes are the encodings of PDUs, none or more, and a rest, and the PDU with which the rest begins fails
-  InPdu : (before : List Pdu) (rest : List ℕ) → length bytes ≤ 1472 → AllByRecursion PduFits before → bytes ≡ flat_map pdu_encoding before ++ rest → 0 < length rest
-      → PduFails (length (flat_map pdu_encoding before)) rest f → IsFirstFault bytes f
+  InPdu : (rest : List ℕ) (here : HoldsUpTo pdu_encoding PduFits rest bytes) → length bytes ≤ 1472 → 0 < length rest
+      → PduFails (length (flat_map pdu_encoding here.before)) rest f → IsFirstFault bytes f
