@@ -1,3 +1,6 @@
+pub mod Following
+pub mod Calls
+pub mod Dues
 pub mod Histories
 pub mod Places
 pub mod Tables

@@ -43,6 +43,7 @@ impl Model for Slot {
 }
 
 impl Default for Slot {
+    /// A place that holds no command.
     fn default() -> Slot {
         Slot {
             held: false,

@@ -1,0 +1,128 @@
+-- Which command is due, by what was sent and what came.
+use Rattle.std.proofs.Common.{◌≡◌, ℕ, ◌-◌, ◌≤◌, Bool, true, false, cond, not, ◌&&◌, ◌||◌, List, [], ◌∷◌, ◌++◌, length, map, Option, Some, None, is_none, refl, sym, ap, ◌∙◌, arith, subst, suc}
+use Rattle.std.specs.Prelude.{nat_eq, nat_le}
+use Rattle.std.specs.List.{AllByRecursion}
+use Rattle.std.proofs.Math.Dec.{eqb}
+use Rattle.std.proofs.lemmas.Bool.Decides.{nat_tests}
+use Rattle.oca_types.specs.Peers.{CommandFields}
+use Rattle.oca_pdu.specs.Messages.{Msg, Command, Response, KeepAlive}
+use Rattle.oca_control.specs.Answers.{AnswerFields, answer_in}
+use Rattle.oca_control.specs.Untaken.{Untaken, is_due, first_due, given_out, answered, hears_all, without_handle, holds}
+use Rattle.oca_control.specs.Links.{LinkState, hears_content}
+use Rattle.oca_control.specs.Histories.{Sending, first_of, has_rested}
+use Rattle.oca_control.proofs.Following.{equal_is, equal_self, each_map, each_both, each_append, IsLast, IsSent, AreSent, AreAnswered}
+use Rattle.oca_control.proofs.Calls.{kept_answered, each_without}
+
+abbrev pub Rises : List Untaken → Type 0
+Rises [] = Unit {0}
+Rises (u ∷ us) = AllByRecursion (λ v. u.command.handle ≤ v.command.handle) us × Rises us
+
+pub record Rests (last : ℕ) (lost : Bool) (l : LinkState) : Type 0 where
+  pub lost_is : l.lost ≡ lost
+  pub sent_is : l.sent ≡ last
+  pub rises : Rises l.untaken
+
+pub rises_more : (us : List Untaken) (u : Untaken) → AllByRecursion (λ v. v.command.handle ≤ u.command.handle) us → Rises us → Rises (us ++ u ∷ [])
+rises_more [] u a r = (tt, tt)
+rises_more (v ∷ us) u a r = (each_append _ us (u ∷ []) r.0 (a.0, tt), rises_more us u a.1 r.1)
+
+kept_given_out : (t h k : ℕ) (us : List Untaken) → AllByRecursion (λ v. k ≤ v.command.handle) us → AllByRecursion (λ v. k ≤ v.command.handle) (map (given_out t h) us)
+kept_given_out t h k [] a = tt
+kept_given_out t h k (u ∷ us) a = (a.0, kept_given_out t h k us a.1)
+
+pub rises_given_out : (t h : ℕ) (us : List Untaken) → Rises us → Rises (map (given_out t h) us)
+rises_given_out t h [] r = tt
+rises_given_out t h (u ∷ us) r = (kept_given_out t h u.command.handle us r.0, rises_given_out t h us r.1)
+
+rises_answered : (h : ℕ) (a : AnswerFields) (us : List Untaken) → Rises us → Rises (map (answered h a) us)
+rises_answered h a [] r = tt
+rises_answered h a (u ∷ us) r = (kept_answered h a (λ c times last. u.command.handle ≤ c.handle) us r.0, rises_answered h a us r.1)
+
+rises_heard : (ms : List Msg) (us : List Untaken) → Rises us → Rises (hears_all ms us)
+rises_heard [] us r = r
+rises_heard (Response x ∷ ms) us r = rises_heard ms (map (answered x.handle (answer_in x)) us) (rises_answered x.handle (answer_in x) us r)
+rises_heard (KeepAlive form ∷ ms) us r = rises_heard ms us r
+rises_heard (Command respond c ∷ ms) us r = rises_heard ms us r
+
+pub rises_received : (b : Bool) (content : Option (List Msg)) (us : List Untaken) → Rises us → Rises (cond b (hears_content content us) us)
+rises_received true None us r = r
+rises_received true (Some ms) us r = rises_heard ms us r
+rises_received false content us r = r
+
+pub rises_without : (h : ℕ) (us : List Untaken) → Rises us → Rises (without_handle h us)
+rises_without h [] r = tt
+rises_without h (u ∷ us) r = by_test (eqb u.command.handle h) (rises_without h us r.1)
+  where
+    by_test : (b : Bool) → Rises (without_handle h us) → Rises (cond (not b) (u ∷ without_handle h us) (without_handle h us))
+    by_test true rest = rest
+    by_test false rest = (each_without h (λ v. u.command.handle ≤ v.command.handle) us r.0, rest)
+
+-- what holds of all that are held holds of each handle that is
+pub each_held : (Q : ℕ → Type 0) (x : ℕ) (us : List Untaken) → AllByRecursion (λ v. Q v.command.handle) us → holds x us ≡ true → Q x
+each_held Q x [] a e = cc
+each_held Q x (u ∷ us) a e = by_test (eqb u.command.handle x) refl e (each_held Q x us a.1)
+  where
+    by_test : (b : Bool) → eqb u.command.handle x ≡ b → (b || holds x us) ≡ true → (holds x us ≡ true → Q x) → Q x
+    by_test true q e rest = subst Q (equal_is u.command.handle x q) a.0
+    by_test false q e rest = rest e
+
+-- due, by what came and what was sent
+abbrev pub due_by : ℕ → (ℕ → List Sending) → (ℕ → List AnswerFields) → ℕ → Bool
+due_by t sent came h = is_none (first_of (came h)) && has_rested t (sent h)
+
+pub due_same : (t s n : ℕ) (accepted : List CommandFields) (sent : ℕ → List Sending) (came : ℕ → List AnswerFields) (us : List Untaken) →
+    AreSent s n accepted sent us → AreAnswered came us → AllByRecursion (λ u. is_due t u ≡ due_by t sent came u.command.handle) us
+due_same t s n accepted sent came us a b = each_both (λ u p q. one u p q) us a b
+  where
+    never : (k : ℕ) → nat_eq (suc k) 0 ≡ false
+    never k = grind (arith, nat_tests)
+
+    rests : (times last : ℕ) (xs : List Sending) → times ≡ length xs → IsLast last xs → (nat_eq times 0 || nat_le 250 (t - last)) ≡ has_rested t xs
+    rests times last [] e p = ap (λ k. nat_eq k 0 || nat_le 250 (t - last)) e
+    rests times last (x ∷ xs) e p = ap (λ k. nat_eq k 0 || nat_le 250 (t - last)) e ∙ ap (λ b. b || nat_le 250 (t - last)) (never (length xs)) ∙ ap (λ k. nat_le 250 (t - k)) (sym p)
+
+    one : (u : Untaken) → IsSent s n accepted sent u.command u.times u.last → u.answer ≡ first_of (came u.command.handle) → is_due t u ≡ due_by t sent came u.command.handle
+    one u p q = ap (λ o. is_none o && (nat_eq u.times 0 || nat_le 250 (t - u.last))) q
+        ∙ ap (λ b. is_none (first_of (came u.command.handle)) && b) (rests u.times u.last (sent u.command.handle) p.count p.last_is)
+
+pub first_held : (t : ℕ) (us : List Untaken) (u : Untaken) → first_due t us ≡ Some u → holds u.command.handle us ≡ true
+first_held t [] u e = cc
+first_held t (v ∷ us) u e = by_test (is_due t v) e (first_held t us u)
+  where
+    or_true : (b : Bool) → (b || true) ≡ true
+    or_true true = refl
+    or_true false = refl
+
+    by_test : (b : Bool) → cond b (Some v) (first_due t us) ≡ Some u → (first_due t us ≡ Some u → holds u.command.handle us ≡ true) → (eqb v.command.handle u.command.handle || holds u.command.handle us) ≡ true
+    by_test true e rest = let same : v ≡ u = cc in
+        ap (λ b. b || holds u.command.handle us) (ap (λ (w : Untaken). eqb w.command.handle u.command.handle) same ∙ equal_self u.command.handle)
+    by_test false e rest = ap (λ b. eqb v.command.handle u.command.handle || b) (rest e) ∙ or_true (eqb v.command.handle u.command.handle)
+
+pub first_lowest : (t : ℕ) (us : List Untaken) (u : Untaken) → Rises us → first_due t us ≡ Some u → AllByRecursion (λ v. is_due t v ≡ true → u.command.handle ≤ v.command.handle) us
+first_lowest t [] u r e = tt
+first_lowest t (v ∷ us) u r e = by_test (is_due t v) refl e (first_lowest t us u r.1)
+  where
+    least : (a b : ℕ) → b ≡ a → a ≤ b
+    least a b e = omega arith
+
+    by_test : (b : Bool) → is_due t v ≡ b → cond b (Some v) (first_due t us) ≡ Some u →
+        (first_due t us ≡ Some u → AllByRecursion (λ w. is_due t w ≡ true → u.command.handle ≤ w.command.handle) us) →
+        (is_due t v ≡ true → u.command.handle ≤ v.command.handle) × AllByRecursion (λ w. is_due t w ≡ true → u.command.handle ≤ w.command.handle) us
+    by_test true q e rest =
+        let same : v ≡ u = cc in (
+          (λ d. least u.command.handle v.command.handle (ap (λ (w : Untaken). w.command.handle) same)),
+          each_map (λ w p d. subst (λ (z : Untaken). z.command.handle ≤ w.command.handle) same p) us r.0,
+        )
+    by_test false q e rest = ((λ d. absurd (differs (sym q ∙ d))), rest e)
+      where
+        differs : false ≡ true → ⊥
+        differs e = cc
+
+pub none_first : (t : ℕ) (us : List Untaken) → first_due t us ≡ None → AllByRecursion (λ v. is_due t v ≡ false) us
+none_first t [] e = tt
+none_first t (v ∷ us) e = by_test (is_due t v) refl e (none_first t us)
+  where
+    by_test : (b : Bool) → is_due t v ≡ b → cond b (Some v) (first_due t us) ≡ None → (first_due t us ≡ None → AllByRecursion (λ w. is_due t w ≡ false) us) →
+        (is_due t v ≡ false) × AllByRecursion (λ w. is_due t w ≡ false) us
+    by_test true q e rest = cc
+    by_test false q e rest = (q, rest e)
