@@ -16,7 +16,8 @@ transcript alone:
  second   the transcript is, byte for byte, that of the second implementation
  premises there are schedules within the premises that lose, double and overtake datagrams
  sizes    with W = 2 * S - 2 a schedule breaks 'in hand', at each of the 31 pairs; and random ones do at (2, 2) and (4, 3)
- altered  altered transcripts are refused by the laws alone
+ altered  a transcript within the premises in which one answer, or what one copy led to, was altered is refused by the law that it breaks
+Some schedules end in a step that names what is not there, or start two links of one peer: these are refused by number, and by name.
 At the first break the schedule is printed, and the exit status is 1. The last line is 'N passed, M failed' over these checks."""
 import collections
 import multiprocessing
@@ -39,7 +40,7 @@ class Schedule:
 
     def __init__(self, window, span, starts):
         self.window, self.span, self.starts = window, span, starts
-        self.steps, self.outcomes, self.now = [], [], 0
+        self.steps, self.outcomes, self.now, self.refusal = [], [], 0, None
         self.network = oca.Network(window, span, starts)
 
     def add(self, *step):
@@ -63,8 +64,20 @@ class Schedule:
         starts = "".join(f" {oca.peer_text(p)}/{first}" for p, first in self.starts)
         return [f"schedule {self.window} {self.span}{starts}"] + [oca.step_line(s) for s in self.steps]
 
+    def refused(self, r):
+        """With one more step that names what is not there, or two starts of one peer or one of the device's."""
+        sent, kind = self.network, r.randrange(6)
+        step = [("to-device", self.now, len(sent.to_device)), ("to-link", self.now, len(sent.to_links)), ("take", len(self.starts), 1),
+                ("due", self.now, len(self.starts)), ("other", self.now, self.starts[-1][0], b""), None][kind]
+        if step is None:
+            self.starts, self.refusal = self.starts + [r.choice([(oca.DEVICE, 1), self.starts[0]])], "same peer"
+        else:
+            self.refusal = f"bad step {len(self.steps)}"
+            self.steps = self.steps + [step] + self.steps[:1]
+        return self
+
     def expected(self):
-        return self.network.transcript(self.outcomes)
+        return ["schedule", self.refusal] if self.refusal else self.network.transcript(self.outcomes)
 
     def front(self, count):
         """The first steps, and then all that links hold is handed on."""
@@ -122,6 +135,8 @@ def wander(r, window, span):
     kinds = ["submit", "due", "to-device", "to-link", "take"] + ["tick"] * r.randrange(2) + ["other"] * (len(strangers) > 0)
     weights = [r.choice([2, 3, 5]) for _ in kinds[:5]] + [1] * (len(kinds) - 5)
     heard = {"to-device": set(), "to-link": set()}
+    if r.randrange(16) == 0:  # a link without answers, until it is lost
+        pace, length, weights = [250, 250, 260], 80, [2, 12, 1, 0.05, 1] + weights[5:]
     while len(schedule.steps) < length:
         schedule.now = later(r, schedule.now, pace)
         kind, link = r.choices(kinds, weights)[0], r.randrange(links)
@@ -225,7 +240,8 @@ class Laws:
     answers and executions, when datagrams came to the device, and nothing of what a device or a link is inside."""
 
     def __init__(self, schedule, lines, fit):
-        self.fit, self.count = fit, collections.Counter()
+        self.fit, self.window, self.count = fit, schedule.window, collections.Counter()
+        self.places, self.number = collections.defaultdict(list), 0  # steps whose outcome a law speaks of
         self.peers = [p for p, _ in schedule.starts]
         self.steps = schedule.steps
         if len(lines) < len(self.steps) + 2 or lines[0] != "schedule":
@@ -238,18 +254,20 @@ class Laws:
         self.submitted = [{} for _ in self.peers]     # by handle
         self.untaken = [{} for _ in self.peers]
         self.executions = {p: [] for p in self.peers}  # (command, reply)
-        self.clock, self.came, self.forgotten = 0, {}, set()
+        self.clock, self.came, self.forgotten, self.within = 0, {}, set(), False
         self.answers_sent = 0
         self.heard = {"to-device": collections.Counter(), "to-link": collections.Counter()}
         self.latest = {}
 
     def walk(self):
-        for number, (step, said) in enumerate(zip(self.steps, self.outcomes)):
+        for self.number, (step, said) in enumerate(zip(self.steps, self.outcomes)):
             try:
                 getattr(self, step[0].replace("-", "_"))(step, said)
             except Break as fault:
-                fault.step = number
+                fault.step = self.number
                 raise
+            self.count["said " + said.split(" ")[0]] += 1
+            self.count["said too old"] += said == "served 0 0 1"
         if self.answers_sent != len(self.sent["to-link"]):
             raise Break("in hand", len(self.steps) - 1, "datagrams were sent to links that answer nothing")
         self.count["steps"] = len(self.steps)
@@ -258,9 +276,10 @@ class Laws:
             self.count["doubles"] += sum(n - 1 for n in self.heard[way].values())
         if not self.forgotten and len(self.came) <= 16:
             self.count["premises met"] = 1
+            self.within = True
             self.count["premises met, with loss, double and overtaking"] = \
                 int(min(self.count["losses"], self.count["doubles"], self.count["overtakings"]) > 0)
-        return self.count
+        return self
 
     def note_delivery(self, way, k):
         """Counts; an overtaking is a datagram that comes for the first time after a later one that was sent the same way."""
@@ -311,6 +330,8 @@ class Laws:
         command = message[2]
         self.count["executions"] += executed
         self.count["duplicates answered"] += kept
+        if kept:
+            self.places["once"].append(self.number)
         if executed:
             if p not in self.forgotten and any(c.handle == command.handle for c, _ in self.executions[p]):
                 raise Break("once", 0, f"handle {command.handle} of {oca.peer_text(p)} is executed twice")
@@ -334,6 +355,10 @@ class Laws:
         if not self.fit or p in self.forgotten or len(self.came) > 16:
             return
         self.count["in hand"] += 1
+        if said == "served 0 1 0":
+            self.places["in hand"].append(self.number)
+            later = len(self.executions[p]) - 1 - max(i for i, (c, _) in enumerate(self.executions[p]) if c.handle == command.handle)
+            self.count["in hand, the oldest of a full window"] += later == self.window - 1
         if said not in ("served 1 0 0", "served 0 1 0"):
             raise Break("in hand", 0, f"a copy of handle {command.handle}, which its link holds untaken: {said}")
         if not any(c.handle == command.handle and c.asks() == command.asks() and r == reply for c, r in self.executions[p]) \
@@ -348,6 +373,7 @@ class Laws:
         answer = (handle, int(status), int(count), oca.hex_of(params))
         p, command = self.peers[link], self.submitted[link].get(handle)
         self.count["answers"] += 1
+        self.places["answers"].append(self.number)
         under = [(c, r) for c, r in self.executions[p] if c.handle == handle]
         if command is None or not any(c.asks() == command.asks() and r == answer for c, r in under):
             raise Break("answers", 0, f"the answer under {handle} is none of an execution of its command")
@@ -377,14 +403,13 @@ def fits(window, span):
 
 
 def hold(schedule, lines):
-    """The counts of a run, where nothing breaks."""
-    count = Laws(schedule, lines, fits(schedule.window, schedule.span)).walk()
+    """The laws' walk along a run in which nothing breaks; None of a refusal."""
     expected = schedule.expected()
+    walk = None if schedule.refusal else Laws(schedule, lines, fits(schedule.window, schedule.span)).walk()
     if lines != expected:
         at = next((i for i, (a, b) in enumerate(zip(lines, expected)) if a != b), min(len(lines), len(expected)))
         raise Break("second", min(max(at - 1, 0), len(schedule.steps) - 1), f"{lines[at:at + 1]}, and the second implementation {expected[at:at + 1]}")
-    count["schedules"] += 1
-    return count
+    return walk
 
 
 def shown(schedule, lines, fault):
@@ -393,7 +418,7 @@ def shown(schedule, lines, fault):
     return [text[0]] + [f"{line:44}{said}" for line, said in zip(text[1:], lines[1:])] + [f"BREAK of '{fault.law}' at step {fault.step}: {fault.what}"]
 
 
-def made(seed, number, count):
+def made(seed, number):
     """The schedules of a number: first a directed one for each pair of sizes, then random ones."""
     r = random.Random(f"{seed} {number}")
     if number < len(PAIRS):
@@ -404,45 +429,47 @@ def made(seed, number, count):
     if r.randrange(3) == 0:
         return [directed(window, span, r).take_all()]
     schedule = wander(r, window, span)
+    if r.randrange(20) == 0:
+        return [schedule.refused(r)]
     if len(schedule.steps) <= 24 and r.randrange(8) == 0:
         return [schedule.front(n) for n in range(len(schedule.steps) + 1)]
     return [schedule.take_all()]
 
 
-def altered(r, lines):
+def altered(r, walk, lines):
     """The same transcript with one line changed that a law speaks of, and the law; or None."""
-    places = {}
-    for i, line in enumerate(lines):
-        if line.startswith("answer "):
-            places.setdefault("answers", []).append((i, line[:-2] + "ff" if not line.endswith("-") else line[:-1] + "ff"))
-        if line == "served 0 1 0":
-            places.setdefault("in hand", []).append((i, "served 0 0 1"))
-            places.setdefault("once", []).append((i, "served 1 0 0"))
-    if not places:
+    if not walk.within or not walk.places:
         return None
-    law = r.choice(sorted(places))
-    at, new = r.choice(places[law])
+    law = r.choice(sorted(walk.places))
+    at = 1 + r.choice(walk.places[law])
+    status, count, params = (lines[at].split(" ") + [""] * 4)[1:4]
+    new = {"answers": f"answer {int(status) ^ 1} {count} {params}" if r.randrange(2) else lines[at].removesuffix("-") + "00",
+           "in hand": "served 0 0 1", "once": "served 1 0 0"}[law]
     return law, lines[:at] + [new] + lines[at + 1:]
 
 
 def work(job):
-    """The counts of a range of numbers, or the text of the first break."""
-    program, seed, numbers, count = job
-    schedules = [s for n in numbers for s in made(seed, n, count)]
+    """The counts of a range of numbers, and the text of the first break or None."""
+    program, seed, numbers = job
+    schedules = [s for n in numbers for s in made(seed, n)]
     total, r = collections.Counter(), random.Random(f"{seed} {numbers[0]} altered")
     for schedule, lines in zip(schedules, transcripts(program, schedules)):
         try:
-            total += hold(schedule, lines)
+            walk = hold(schedule, lines)
         except Break as fault:
             return total, "\n".join(shown(schedule, lines, fault))
-        change = altered(r, lines)
+        total["schedules"] += 1
+        if walk is None:
+            total["refused"] += 1
+            continue
+        total += walk.count
+        change = altered(r, walk, lines)
         if change:
             total["altered"] += 1
             try:
                 Laws(schedule, change[1], fits(schedule.window, schedule.span)).walk()
-            except Break:
-                total["altered, refused"] += 1
-            total["altered within the premises"] += 0
+            except Break as fault:
+                total["altered, refused"] += fault.law == change[0]
     return total, None
 
 
@@ -475,11 +502,11 @@ def sizes(program, seed):
     random_found = 0
     for window, span in ((2, 2), (4, 3)):
         r = random.Random(f"{seed} {window}")
-        schedules = [wander(r, window, span) for _ in range(400)]
+        schedules = [wander(r, window, span) if n % 2 else directed(window, span, r) for n in range(400)]
         result = broken(program, window, span, schedules)
         if result:
             random_found += 1
-            print(f"window {window}, span {span}: a random schedule breaks at step {result[1].step} too")
+            print(f"window {window}, span {span}: a random schedule breaks too, at step {result[1].step}")
         else:
             print(f"window {window}, span {span}: none of {len(schedules)} random schedules breaks")
     return found == 31 and random_found == 2
@@ -493,26 +520,33 @@ def main():
         print(result[0] if result else "no break")
         return 0
     count, seed = int(sys.argv[2]), int(sys.argv[3]) if len(sys.argv) > 3 else 1
-    jobs = [(program, seed, range(a, min(a + BATCH, count)), count) for a in range(0, count, BATCH)]
     total = collections.Counter()
     with multiprocessing.Pool(min(4, multiprocessing.cpu_count())) as pool:
-        for counts, fault in pool.imap(work, jobs):
+        for counts, fault in pool.imap(work, [(program, seed, range(a, min(a + BATCH, count))) for a in range(0, count, BATCH)]):
             total += counts
             if fault:
                 print(fault)
-                print(f"world: seed {seed}, after {total['schedules']} schedules without a break")
+                print(f"world: seed {seed}: a break after {total['schedules']} schedules without one")
                 print("0 passed, 1 failed")
                 return 1
     good = sizes(program, seed)
-    for name in ("schedules", "steps", "deliveries", "losses", "doubles", "overtakings", "executions", "duplicates answered", "premises met",
-                 "premises met, with loss, double and overtaking"):
+    print(f"seed {seed}, {len(PAIRS)} pairs of sizes that fit")
+    for name in ("schedules", "steps", "deliveries", "losses", "doubles", "overtakings", "executions", "duplicates answered",
+                 "premises met", "premises met, with loss, double and overtaking"):
         print(f"{name:48}{total[name]:9}")
-    print(f"checked: {total['answers']} answers, {total['only']} of them of an only execution, {total['in hand']} copies in hand, "
-          f"{total['once']} executions once; {total['altered, refused']} of {total['altered']} altered transcripts refused; breaks 0")
-    checks = [total["answers"] > 0, total["only"] > 0, total["in hand"] > 0, total["once"] > 0, total["schedules"] >= count,
-              total["premises met, with loss, double and overtaking"] > 0, good, total["altered, refused"] > 0]
-    print(f"{sum(checks)} passed, {len(checks) - sum(checks)} failed")
-    return 0 if all(checks) else 1
+    print(f"held against the laws: {total['answers']} answers, {total['only']} of them of an only execution; {total['in hand']} copies in hand, "
+          f"{total['in hand, the oldest of a full window']} of them of the oldest command of a full window; {total['once']} executions; 0 breaks")
+    print(f"also met: {total['said too old']} old, {total['said no-room']} without room, {total['said refused']} refused submits, "
+          f"{total['said lost']} lost, {total['refused']} refused schedules")
+    print(f"altered transcripts refused by the law that they break: {total['altered, refused']} of {total['altered']}")
+    checks = {"answers": total["answers"], "only": total["only"], "in hand": total["in hand, the oldest of a full window"], "once": total["once"],
+              "second": total["schedules"] > count and total["refused"], "premises": total["premises met, with loss, double and overtaking"],
+              "sizes": good, "altered": total["altered"] and total["altered, refused"] == total["altered"]}
+    for name, passed in checks.items():
+        if not passed:
+            print(f"FAILED: {name}")
+    print(f"{sum(map(bool, checks.values()))} passed, {sum(not passed for passed in checks.values())} failed")
+    return 0 if all(checks.values()) else 1
 
 
 if __name__ == "__main__":
