@@ -72,7 +72,14 @@ fn damaged<R: Runtime + AllocGlobal>(rt: &R) -> ExitCode {
         "failing ends: {} runs with a failed receive, {} with a failed send, {} wrong",
         ends.receives, ends.sends, ends.wrong
     );
-    ExitCode::from(if tally.wrong == 0 && ends.wrong == 0 {
+    let Ok(links) = ends::failing_ends_of_a_link(rt.alloc()) else {
+        return said(rt, "no memory", 1);
+    };
+    let _ = println!(rt;
+        "failing ends of a link: {} runs with a failed receive, {} with a failed send, {} wrong",
+        links.receives, links.sends, links.wrong
+    );
+    ExitCode::from(if tally.wrong == 0 && ends.wrong == 0 && links.wrong == 0 {
         0
     } else {
         1
