@@ -1,5 +1,5 @@
-"""A second, plain implementation of the profile in docs/PROTOCOL.md: a device, a controller and the texts of
-`ocadev replay` and `ocactl replay`. It is written from the rules of the profile and not from the programs' code, to compare them with it.
+"""A second, plain implementation of the profile in docs/PROTOCOL.md: a device, a controller, both over a network, and the texts of
+`ocadev replay`, `ocactl replay` and `trials world`. It is written from the rules of the profile and not from the programs' code, to compare them with it.
 It favours plain lists over speed. Python 3, standard library only."""
 
 U32, U64 = 2**32 - 1, 2**64 - 1
@@ -503,6 +503,74 @@ class Link:
                 self.untaken.remove(u)
                 return u[3]
         return None
+
+
+# ---- a device and links over a network
+
+DEVICE = (127, 0, 0, 1, 65000)
+
+
+class Network:
+    """A device at 127.0.0.1:65000, a link for each start (a peer and a first handle), and two lists of datagrams that only grow: those
+    sent to the device and those sent to links, each a pair of the link's peer and the bytes. A step is a tuple, as `step_line` writes it."""
+
+    def __init__(self, window, span, starts):
+        self.device = Device(window=window)
+        self.links = [(peer, Link(DEVICE, first, span)) for peer, first in starts]
+        self.to_device, self.to_links = [], []
+
+    def step(self, step):
+        """The text of what the step led to, or None where it names what is not there."""
+        kind = step[0]
+        if kind == "tick":
+            self.device.advance(step[1])
+            return "quiet"
+        if kind == "other":
+            _, now, peer, data = step
+            return None if any(p == peer for p, _ in self.links) else self.device.datagram(peer, data, now)[0]
+        if kind in ("to-device", "to-link"):
+            _, now, k = step
+            sent = self.to_device if kind == "to-device" else self.to_links
+            if k >= len(sent):
+                return None
+            peer, data = sent[k]
+            if kind == "to-link":
+                return next(link for p, link in self.links if p == peer).datagram(DEVICE, data, now)
+            text, out = self.device.datagram(peer, data, now)
+            self.to_links += [(peer, packet) for packet in out]
+            return text
+        number = step[1] if kind == "take" else step[2]
+        if number >= len(self.links):
+            return None
+        peer, link = self.links[number]
+        if kind == "take":
+            answer = link.take(step[2])
+            return "none" if answer is None else f"answer {answer[0]} {answer[1]} {hex_text(answer[2])}"
+        if kind == "submit":
+            return link.submit(*step[3:], step[1])
+        said, data = link.due(step[1])
+        if data is None:
+            return said
+        self.to_device.append((peer, data))
+        return f"sent {len(self.to_device) - 1}"
+
+    def transcript(self, outcomes):
+        """What a run prints whose steps led to these texts."""
+        sent = [("to-device", d) for d in self.to_device] + [("to-link", d) for d in self.to_links]
+        return ["schedule"] + outcomes + [f"{way} {peer_text(peer)} {hex_text(data)}" for way, (peer, data) in sent] \
+            + [f"sessions {len(self.device.sessions)}"]
+
+
+def peer_text(peer):
+    return "{}.{}.{}.{}:{}".format(*peer)
+
+
+def step_line(step):
+    kind = step[0]
+    if kind == "take":
+        return f"take {step[1]} {step[2]}"
+    rest = [peer_text(f) if isinstance(f, tuple) else hex_text(f) if isinstance(f, bytes) else str(f) for f in step[2:]]
+    return " ".join([str(step[1]), kind] + rest)
 
 
 # ---- scripts

@@ -1,15 +1,16 @@
 //! Calls that take memory, one at a time, for a run in which memory is refused.
 use oca_device::{Device, Outbox};
 use oca_net::{BindFault, MemoryEnd, Scripted, UdpEnd};
+use oca_pair::{PairFault, Start, Step, run_pair};
 use oca_session::Sessions;
 use oca_tree::{AddFault, Kind, MuteState, Spec, TreeBuilder, bench};
-use oca_types::{Ono, Peer, Window};
+use oca_types::{Handle, MethodId, Ono, Peer, Span, Window};
 use std::alloc::Global;
 use std::net::Net;
 use std::rt::Clock;
 
 /// The names of the calls.
-pub const NAMES: [&str; 8] = [
+pub const NAMES: [&str; 9] = [
     "tree-builder-new",
     "tree-builder-add",
     "bench",
@@ -18,6 +19,7 @@ pub const NAMES: [&str; 8] = [
     "outbox-new",
     "memory-end-new",
     "udp-end-bind",
+    "run-pair",
 ];
 
 /// What a call answered.
@@ -43,6 +45,7 @@ pub fn call<R: Net + Clock>(alloc: Global, rt: &R, name: &str) -> Answered {
         "outbox-new" => said(Outbox::new(alloc).is_ok()),
         "memory-end-new" => memory_end_new(alloc),
         "udp-end-bind" => udp_end_bind(alloc, rt),
+        "run-pair" => paired(alloc),
         _ => Answered::Unknown,
     }
 }
@@ -108,5 +111,76 @@ fn udp_end_bind<R: Net + Clock>(alloc: Global, rt: &R) -> Answered {
         Ok(_) => Answered::Done,
         Err(BindFault::NoMemory) => Answered::NoMemory,
         Err(BindFault::Io) => Answered::Wrong,
+    }
+}
+
+/// How many steps the schedule of `run-pair` has: four times the same eight.
+const STEPS: usize = 32;
+
+/// The step of this number: each of two links submits GetState of 4097, gives it out, it is delivered, and so is the answer. So each
+/// list of a network grows past its first room.
+fn paired_step(number: usize) -> Step<'static> {
+    let link = number / 4 % 2;
+    let k = number / 4;
+    let now = number as u64;
+    match number % 4 {
+        0 => Step::Submit {
+            link,
+            target: Ono(4097),
+            method: MethodId { level: 4, index: 1 },
+            count: 0,
+            params: &[],
+            now,
+        },
+        1 => Step::Due { link, now },
+        2 => Step::ToDevice { k, now },
+        _ => Step::ToLink { k, now },
+    }
+}
+
+/// Two links of different peers.
+const STARTS: [Start; 2] = [
+    Start {
+        peer: Peer {
+            ip: 0x7f00_0001,
+            port: 9001,
+        },
+        first_handle: Handle(1),
+    },
+    Start {
+        peer: Peer {
+            ip: 0x7f00_0001,
+            port: 9002,
+        },
+        first_handle: Handle(1),
+    },
+];
+
+/// The schedule over the bench device.
+fn paired(alloc: Global) -> Answered {
+    let Ok(tree) = bench(alloc) else {
+        return Answered::NoMemory;
+    };
+    let mut steps = [Step::Tick { now: 0 }; STEPS];
+    for number in 0..STEPS {
+        steps[number] = paired_step(number);
+    }
+    match run_pair(
+        alloc,
+        tree,
+        Window::default(),
+        Span::default(),
+        &STARTS,
+        &steps,
+    ) {
+        Ok(transcript) => {
+            if transcript.log.len() == STEPS && transcript.to_links.len() == STEPS / 4 {
+                Answered::Done
+            } else {
+                Answered::Wrong
+            }
+        }
+        Err(PairFault::NoMemory) => Answered::NoMemory,
+        Err(_) => Answered::Wrong,
     }
 }

@@ -1,10 +1,12 @@
-//! Failing ends: a device that serves an end on which a receive or a send fails is the device that serves it without that.
+//! Failing ends: a device that serves an end on which a receive or a send fails is the device that serves it without that, and a link
+//! that is driven over such an end has the answers that it has without that.
 use crate::hostile::{same_objects, same_packets};
 use crate::vectors::vector;
+use oca_control::{DriveReport, Link, drive};
 use oca_device::{Device, Outbox, Report, serve};
 use oca_net::{MemoryEnd, Scripted};
 use oca_tree::bench;
-use oca_types::{NoMemory, Peer, Window};
+use oca_types::{Handle, MethodId, NoMemory, Ono, Peer, Span, Window};
 use std::alloc::Global;
 
 /// The datagrams of the script, by their numbers among the vectors: reads, writes, a duplicate, a reuse, keep-alives.
@@ -21,6 +23,18 @@ pub struct Tally {
     pub wrong: u64,
 }
 
+impl Tally {
+    /// Counts a run that was wrong.
+    fn note(&mut self, good: bool) {
+        if !good {
+            self.wrong = self.wrong.saturating_add(1);
+        }
+    }
+}
+
+/// A place that no script has.
+const NOWHERE: usize = 1000;
+
 /// Who sends the datagram of this place: three peers in turn.
 fn sender(place: usize) -> Peer {
     Peer {
@@ -29,34 +43,45 @@ fn sender(place: usize) -> Peer {
     }
 }
 
-/// The script, with a failed receive before the datagram of the place `failed`, where there is one.
+/// Adds an entry to a script, behind a failed receive where one is wanted.
+fn add(script: &mut Vec<Scripted>, fails: bool, entry: Scripted) -> Result<(), NoMemory> {
+    if fails && script.push(Scripted::Failed).is_err() {
+        return Err(NoMemory);
+    }
+    match script.push(entry) {
+        Ok(()) => Ok(()),
+        Err(_) => Err(NoMemory),
+    }
+}
+
+/// The vector of this number, as an entry of a script.
+fn scripted(alloc: Global, from: Peer, number: usize, now: u64) -> Result<Scripted, NoMemory> {
+    match vector(number).to_vec(alloc) {
+        Ok(bytes) => Ok(Scripted::Datagram { from, bytes, now }),
+        Err(_) => Err(NoMemory),
+    }
+}
+
+/// The script, with a failed receive before the entry of the place `failed`, where there is one. The last entry is silence.
 fn script(alloc: Global, failed: usize) -> Result<Vec<Scripted>, NoMemory> {
     let mut script = Vec::new(alloc);
     for (place, number) in DATAGRAMS.iter().enumerate() {
-        if place == failed && script.push(Scripted::Failed).is_err() {
-            return Err(NoMemory);
-        }
-        let Ok(bytes) = vector(*number).to_vec(alloc) else {
-            return Err(NoMemory);
-        };
-        let entry = Scripted::Datagram {
-            from: sender(place),
-            bytes,
-            now: place as u64,
-        };
-        if script.push(entry).is_err() {
-            return Err(NoMemory);
-        }
+        let entry = scripted(alloc, sender(place), *number, place as u64)?;
+        add(&mut script, place == failed, entry)?;
     }
+    let last = Scripted::Quiet {
+        now: DATAGRAMS.len() as u64,
+    };
+    add(&mut script, DATAGRAMS.len() == failed, last)?;
     Ok(script)
 }
 
-/// The bench device after serving the script, and the report.
+/// The bench device after serving the script, the report, and how many packets were taken.
 fn served(
     alloc: Global,
     failed: usize,
     fail_send: Option<u64>,
-) -> Result<(Device, Report), NoMemory> {
+) -> Result<(Device, Report, u64), NoMemory> {
     let Ok(tree) = bench(alloc) else {
         return Err(NoMemory);
     };
@@ -64,7 +89,8 @@ fn served(
     let mut outbox = Outbox::new(alloc)?;
     let mut end = MemoryEnd::new(alloc, script(alloc, failed)?, 100, fail_send)?;
     let report = serve(&mut device, &mut end, &mut outbox, 1000);
-    Ok((device, report))
+    let taken = end.taken().len() as u64;
+    Ok((device, report, taken))
 }
 
 /// Whether two devices have the same objects and sessions, and answer duplicates of all commands alike.
@@ -85,27 +111,115 @@ fn are_alike(alloc: Global, a: &mut Device, b: &mut Device) -> Result<bool, NoMe
 /// A failed receive in each place of the script, and each send failing in turn.
 pub fn failing_ends(alloc: Global) -> Result<Tally, NoMemory> {
     let mut tally = Tally::default();
-    let nowhere = DATAGRAMS.len();
-    let (_, whole) = served(alloc, nowhere, None)?;
-    for failed in 0..DATAGRAMS.len() {
-        let (mut plain, _) = served(alloc, nowhere, None)?;
-        let (mut device, report) = served(alloc, failed, None)?;
+    let (_, whole, taken) = served(alloc, NOWHERE, None)?;
+    for failed in 0..DATAGRAMS.len() + 1 {
+        let (mut plain, _, _) = served(alloc, NOWHERE, None)?;
+        let (mut device, report, _) = served(alloc, failed, None)?;
+        let expected = Report {
+            failed_receives: 1,
+            turns: whole.turns.saturating_add(1),
+            ..whole
+        };
         tally.receives = tally.receives.saturating_add(1);
-        let counted = report.failed_receives == 1
-            && report.turns == whole.turns.saturating_add(1)
-            && report.executed == whole.executed;
-        if !(are_alike(alloc, &mut plain, &mut device)? && counted) {
-            tally.wrong = tally.wrong.saturating_add(1);
-        }
+        tally.note(report == expected && are_alike(alloc, &mut plain, &mut device)?);
     }
-    for number in 0..DATAGRAMS.len() as u64 {
-        let (mut plain, _) = served(alloc, nowhere, None)?;
-        let (mut device, report) = served(alloc, nowhere, Some(number))?;
+    for number in 0..taken {
+        let (mut plain, _, _) = served(alloc, NOWHERE, None)?;
+        let (mut device, report, fewer) = served(alloc, NOWHERE, Some(number))?;
+        let expected = Report {
+            failed_sends: 1,
+            ..whole
+        };
+        let counted = report == expected && fewer.saturating_add(1) == taken;
         tally.sends = tally.sends.saturating_add(1);
-        let counted = report.failed_sends <= 1 && report.executed == whole.executed;
-        if !(are_alike(alloc, &mut plain, &mut device)? && counted) {
-            tally.wrong = tally.wrong.saturating_add(1);
-        }
+        tally.note(counted && are_alike(alloc, &mut plain, &mut device)?);
+    }
+    Ok(tally)
+}
+
+/// The device's address, for a link.
+const DEVICE: Peer = Peer {
+    ip: 0x7f00_0001,
+    port: 65000,
+};
+
+/// What a link is sent, by the numbers among the vectors: answers to 1, again to 1, to 2, a keep-alive, answers to 5 and to 9.
+const ANSWERS: [usize; 6] = [1, 8, 3, 15, 7, 5];
+
+/// How many commands the link has: the handles from 1 on.
+const COMMANDS: u32 = 9;
+
+/// A script for a link, with a failed receive before the entry of the place `failed`, where there is one: silence, and what it is
+/// sent.
+fn link_script(alloc: Global, failed: usize) -> Result<Vec<Scripted>, NoMemory> {
+    let mut script = Vec::new(alloc);
+    add(&mut script, failed == 0, Scripted::Quiet { now: 0 })?;
+    for (place, number) in ANSWERS.iter().enumerate() {
+        let entry = scripted(alloc, DEVICE, *number, place as u64)?;
+        add(&mut script, place + 1 == failed, entry)?;
+    }
+    Ok(script)
+}
+
+/// A link with its commands after the script, and the report.
+fn driven(
+    alloc: Global,
+    failed: usize,
+    fail_send: Option<u64>,
+) -> Result<(Link, DriveReport), NoMemory> {
+    let mut link = Link::new(DEVICE, Handle(1), 0, Span::default());
+    let method = MethodId { level: 4, index: 1 };
+    for _ in 0..COMMANDS {
+        let _ = link.submit(Ono(4097), method, 0, &[], 0);
+    }
+    let mut end = MemoryEnd::new(alloc, link_script(alloc, failed)?, 100, fail_send)?;
+    let report = drive(&mut link, &mut end, 1000);
+    Ok((link, report))
+}
+
+/// Whether two links have the same answers.
+fn answer_alike(a: &mut Link, b: &mut Link) -> bool {
+    let mut alike = true;
+    for handle in 1..COMMANDS + 1 {
+        let same = match (a.take(Handle(handle)), b.take(Handle(handle))) {
+            (Some(x), Some(y)) => {
+                x.status == y.status
+                    && x.count == y.count
+                    && x.params.as_slice() == y.params.as_slice()
+            }
+            (None, None) => true,
+            _ => false,
+        };
+        alike = alike && same;
+    }
+    alike
+}
+
+/// The same for a link: a failed receive in each place of its script, and each send failing in turn.
+pub fn failing_ends_of_a_link(alloc: Global) -> Result<Tally, NoMemory> {
+    let mut tally = Tally::default();
+    let (_, whole) = driven(alloc, NOWHERE, None)?;
+    tally.note(whole.answered == 4 && whole.sent == COMMANDS as u64);
+    for failed in 0..ANSWERS.len() + 1 {
+        let (mut plain, _) = driven(alloc, NOWHERE, None)?;
+        let (mut link, report) = driven(alloc, failed, None)?;
+        let expected = DriveReport {
+            failed_receives: 1,
+            turns: whole.turns.saturating_add(1),
+            ..whole
+        };
+        tally.receives = tally.receives.saturating_add(1);
+        tally.note(report == expected && answer_alike(&mut plain, &mut link));
+    }
+    for number in 0..COMMANDS as u64 {
+        let (mut plain, _) = driven(alloc, NOWHERE, None)?;
+        let (mut link, report) = driven(alloc, NOWHERE, Some(number))?;
+        let expected = DriveReport {
+            failed_sends: 1,
+            ..whole
+        };
+        tally.sends = tally.sends.saturating_add(1);
+        tally.note(report == expected && answer_alike(&mut plain, &mut link));
     }
     Ok(tally)
 }

@@ -1,7 +1,7 @@
 //! Damaged datagrams: what a device refuses leaves it as it was, and what it accepts is what the writer writes.
 use crate::vectors::{COUNT, vector};
 use oca_device::{Device, Outbox, Verdict};
-use oca_pdu::{Message, Messages, check, write_command, write_keepalive};
+use oca_pdu::{Message, Messages, PduFault, check, write_command, write_keepalive};
 use oca_tree::bench;
 use oca_types::{NoMemory, Packet, Peer, Window};
 use std::alloc::Global;
@@ -10,6 +10,12 @@ use std::alloc::Global;
 const SENDER: Peer = Peer {
     ip: 0x7f00_0001,
     port: 9001,
+};
+
+/// Who has no session.
+const STRANGER: Peer = Peer {
+    ip: 0x7f00_0001,
+    port: 9002,
 };
 
 /// What the trial found.
@@ -66,12 +72,18 @@ impl Bench {
     /// Whether both devices have the same objects, sessions and retained replies, as far as duplicates of all retained
     /// commands, one differing command and the readers of the tree show.
     fn is_untouched(&mut self) -> bool {
-        self.outbox.is_empty()
-            && self.tried.sessions() == self.untouched.sessions()
+        self.tried.sessions() == self.untouched.sessions()
             && same_objects(&self.tried, &self.untouched)
             && self.probe(vector(2))
             && self.probe(vector(4))
             && self.probe(vector(10))
+    }
+
+    /// Whether the bytes of this peer are refused with this fault, and nothing is answered.
+    fn is_refused(&mut self, from: Peer, bytes: &[u8], fault: PduFault) -> bool {
+        self.outbox.clear();
+        let verdict = self.tried.datagram(from, bytes, 0, &mut self.outbox);
+        is_malformed(verdict, fault) && self.outbox.is_empty()
     }
 
     /// Tries one datagram.
@@ -79,9 +91,10 @@ impl Bench {
         self.tally.tried = self.tally.tried.saturating_add(1);
         match check(bytes) {
             Err(fault) => {
-                self.outbox.clear();
-                let verdict = self.tried.datagram(SENDER, bytes, 0, &mut self.outbox);
-                if is_malformed(verdict, fault) && self.is_untouched() {
+                if self.is_refused(SENDER, bytes, fault)
+                    && self.is_refused(STRANGER, bytes, fault)
+                    && self.is_untouched()
+                {
                     self.tally.refused = self.tally.refused.saturating_add(1);
                 } else {
                     self.tally.wrong = self.tally.wrong.saturating_add(1);
@@ -89,15 +102,12 @@ impl Bench {
             }
             Ok(datagram) => {
                 self.tally.accepted = self.tally.accepted.saturating_add(1);
-                match rewritten(datagram.messages()) {
-                    Some(packet) => {
-                        if packet.as_slice() == bytes {
-                            self.tally.written_back = self.tally.written_back.saturating_add(1);
-                        } else {
-                            self.tally.wrong = self.tally.wrong.saturating_add(1);
-                        }
+                match written_again(datagram.messages()) {
+                    Rewritten::Again(packet) if packet.as_slice() == bytes => {
+                        self.tally.written_back = self.tally.written_back.saturating_add(1);
                     }
-                    None => {}
+                    Rewritten::Other => {}
+                    _ => self.tally.wrong = self.tally.wrong.saturating_add(1),
                 }
             }
         }
@@ -112,7 +122,7 @@ fn device(alloc: Global) -> Result<Device, NoMemory> {
     Device::new(alloc, tree, Window::default())
 }
 
-fn is_malformed(verdict: Verdict, fault: oca_pdu::PduFault) -> bool {
+fn is_malformed(verdict: Verdict, fault: PduFault) -> bool {
     match verdict {
         Verdict::Malformed(other) => other == fault,
         _ => false,
@@ -157,25 +167,36 @@ pub fn same_objects(a: &Device, b: &Device) -> bool {
     true
 }
 
+/// What the writers make of the messages of a datagram.
+#[derive(Drop)]
+enum Rewritten {
+    /// Its only message, a command or a keep-alive, written again.
+    Again(Packet),
+    /// It has responses or several messages.
+    Other,
+    /// The writer refused it.
+    Refused,
+}
+
 /// The only message of a datagram once more, where it is a command or a keep-alive.
-fn rewritten(messages: Messages<'_>) -> Option<Packet> {
+fn written_again(messages: Messages<'_>) -> Rewritten {
     let mut packet = Packet::new();
     let mut count = 0u32;
     for message in messages {
         if count == 1 {
-            return None;
+            return Rewritten::Other;
         }
         count = 1;
         let written = match message {
             Message::Command { respond, command } => write_command(&mut packet, respond, &command),
             Message::KeepAlive { form } => write_keepalive(&mut packet, form),
-            Message::Response { .. } => return None,
+            Message::Response { .. } => return Rewritten::Other,
         };
         if written.is_err() {
-            return None;
+            return Rewritten::Refused;
         }
     }
-    Some(packet)
+    Rewritten::Again(packet)
 }
 
 /// Each byte of each vector replaced by each other value, each prefix of each, and each followed by each.

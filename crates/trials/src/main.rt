@@ -2,7 +2,8 @@
 //!
 //! `trials`: damaged datagrams against a bench device. `trials calls`: the names of the calls that take memory, and `trials
 //! call NAME`: one of them. `trials bench KIND OBJECTS SESSIONS COUNT served|made`: datagrams in memory, handed to a device or only made.
-//! `trials echo COUNT`: so many datagrams answered by a bare loop at a socket.
+//! `trials echo COUNT`: so many datagrams answered by a bare loop at a socket. `trials world`: the schedules on standard input, run by
+//! `run_pair`, each with what its steps led to (`schedule` tells their lines).
 #![tactic(auto)]
 
 mod calls;
@@ -10,7 +11,9 @@ mod core_bench;
 mod echo;
 mod ends;
 mod hostile;
+mod schedule;
 mod vectors;
+mod world;
 
 use calls::{Answered, NAMES, call};
 use core_bench::{Kind, Size};
@@ -18,6 +21,7 @@ use std::net::Net;
 use std::process::ExitCode;
 use std::rt::Runtime;
 use std::{env, io};
+use world::{WorldFault, worlds};
 
 fn main(rt: HostRuntime) -> ExitCode {
     let Ok(args) = env::args(&rt) else {
@@ -29,6 +33,7 @@ fn main(rt: HostRuntime) -> ExitCode {
     match words.as_slice() {
         [_] => damaged(&rt),
         [_, word] if word.as_str() == "calls" => names(&rt),
+        [_, word] if word.as_str() == "world" => schedules(&rt),
         [_, word, name] if word.as_str() == "call" => one_call(&rt, name.as_str()),
         [_, word, count] if word.as_str() == "echo" => echoed(&rt, count.as_str()),
         [_, word, kind, objects, sessions, count, way] if word.as_str() == "bench" => {
@@ -67,7 +72,14 @@ fn damaged<R: Runtime + AllocGlobal>(rt: &R) -> ExitCode {
         "failing ends: {} runs with a failed receive, {} with a failed send, {} wrong",
         ends.receives, ends.sends, ends.wrong
     );
-    ExitCode::from(if tally.wrong == 0 && ends.wrong == 0 {
+    let Ok(links) = ends::failing_ends_of_a_link(rt.alloc()) else {
+        return said(rt, "no memory", 1);
+    };
+    let _ = println!(rt;
+        "failing ends of a link: {} runs with a failed receive, {} with a failed send, {} wrong",
+        links.receives, links.sends, links.wrong
+    );
+    ExitCode::from(if tally.wrong == 0 && ends.wrong == 0 && links.wrong == 0 {
         0
     } else {
         1
@@ -85,6 +97,24 @@ fn echoed<R: Runtime + Net>(rt: &R, count: &str) -> ExitCode {
     }
 }
 
+/// The schedules on standard input.
+fn schedules<R: Runtime + AllocGlobal>(rt: &R) -> ExitCode {
+    let Ok(text) = io::read_to_string(rt.alloc(), rt.reader()) else {
+        return said(rt, "read failed", 1);
+    };
+    match worlds(rt, text.as_str()) {
+        Ok(()) => ExitCode::SUCCESS,
+        Err(WorldFault::NoMemory) => said(rt, "no memory", 1),
+        Err(WorldFault::Write) => said(rt, "write failed", 1),
+        Err(WorldFault::Line(number, fault)) => {
+            let word = fault.word();
+            let _ = eprintln!(rt; "line {number}: {word}");
+            ExitCode::from(2)
+        }
+    }
+}
+
+/// The names of the calls that take memory.
 fn names<R: Runtime + AllocGlobal>(rt: &R) -> ExitCode {
     for name in NAMES {
         let _ = println!(rt; "{name}");

@@ -150,3 +150,29 @@ fn returns_keep_alives(rt: HostRuntime) -> Result<(), Fail> {
     bench.takes(&rt, B, 751, set_state(2, 2), EXECUTED, Some(done(2)));
     Ok(())
 }
+
+/// The grammar has no rule for ParamCount: a wrong one is answered with the status ParameterError.
+#[test]
+fn a_wrong_count_of_parameters(rt: HostRuntime) -> Result<(), Fail> {
+    let mut bench = Bench::new(rt.alloc())?;
+    let mut five = pack(&GET[..26]);
+    put(&mut five, &[5]);
+    bench.takes(&rt, A, 0, five, EXECUTED, Some(response(1, 6, 0, &[])));
+    Ok(())
+}
+
+/// With 16 sessions, a datagram of a 17th peer that is cut short is malformed, and not without room.
+#[test]
+fn the_grammar_is_looked_at_before_the_sessions(rt: HostRuntime) -> Result<(), Fail> {
+    let mut bench = Bench::new(rt.alloc())?;
+    for port in 9001..9017u16 {
+        bench.takes(&rt, port, 0, pack(&GET), EXECUTED, Some(pack(&MUTED)));
+    }
+    let truncated = Verdict::Malformed(PduFault {
+        kind: PduFaultKind::Truncated,
+        at: 3,
+    });
+    bench.takes(&rt, 9017, 0, pack(&GET[..26]), truncated, None);
+    assert_eq!(rt; bench.device.sessions(), 16);
+    Ok(())
+}

@@ -4,7 +4,7 @@ use super::{GET_1, MUTED_1, NO_LIMIT, runs_as};
 use oca_control::Link;
 use oca_script::fakes::{PatternReader, PieceReader, ShortWriter};
 use oca_script::{LineFault, Printer, ReplayFault};
-use oca_types::{Handle, Peer, Span};
+use oca_types::{Handle, MethodId, Ono, Peer, Span};
 use std::net::Net;
 use std::process::Abort;
 use std::rt::Clock;
@@ -314,6 +314,57 @@ fn too_much_input(rt: HostRuntime) {
         replay(&mut link(1), &mut from, &mut to),
         Err(ReplayFault::TooMuch)
     );
+}
+
+/// The link stands as after a front of the exchange, at least its first line: the next handle is 2, and the answer to 1 is held or not.
+fn stands(rt: &impl Abort, link: &mut Link, next: u32, held: bool) {
+    let mute = MethodId { level: 4, index: 1 };
+    assert_eq!(rt; link.submit(Ono(4097), mute, 0, &[], 20), Ok(Handle(next)));
+    assert_eq!(rt; link.take(Handle(1)).is_some(), held);
+}
+
+#[test]
+fn reader_fails_at_each_place(rt: HostRuntime) {
+    for place in 0..EXCHANGE.len() {
+        let mut link = link(1);
+        let mut from = PieceReader::new(EXCHANGE, 50, place);
+        let mut to = Printer::new(ShortWriter::new(1000, NO_LIMIT));
+        assert_eq!(rt;
+            replay(&mut link, &mut from, &mut to),
+            Err(ReplayFault::Read)
+        );
+        let lines = EXCHANGE[..place]
+            .iter()
+            .filter(|byte| **byte == b'\n')
+            .count();
+        let text = match lines {
+            0 => 0,
+            1 => 9,
+            2 => 69,
+            3 => 77,
+            4 => 86,
+            5 => 97,
+            _ => 111,
+        };
+        assert!(rt; to.sink().taken.as_slice() == &EXCHANGED[..text]);
+        stands(&rt, &mut link, if lines == 0 { 1 } else { 2 }, lines == 5);
+    }
+}
+
+/// In pieces of 43 bytes the lines come in groups: the first three, the fourth, the fifth, and the last two.
+#[test]
+fn writer_fails_at_each_place(rt: HostRuntime) {
+    for place in 0..EXCHANGED.len() {
+        let mut link = link(1);
+        let mut from = PieceReader::new(EXCHANGE, 43, NO_LIMIT);
+        let mut to = Printer::new(ShortWriter::new(7, place));
+        assert_eq!(rt;
+            replay(&mut link, &mut from, &mut to),
+            Err(ReplayFault::Write)
+        );
+        assert!(rt; to.sink().taken.as_slice() == &EXCHANGED[..place]);
+        stands(&rt, &mut link, 2, place >= 86 && place < 97);
+    }
 }
 
 #[test]

@@ -1,0 +1,323 @@
+//! The lines of a list of schedules: what begins one, and its steps.
+//!
+//! `schedule W S P/H ..` begins a schedule over a device with windows of size W and links of span S, one for each `P/H`: the link of
+//! the peer P whose first handle is H. The lines after it are its steps, in order, with N a moment, LINK the number of a link and K
+//! that of a datagram, both from 0; the other fields are those of the scripts.
+//!
+//!     N submit LINK ONO LEVEL INDEX COUNT HEX      N due LINK
+//!     N to-device K                                N to-link K
+//!     N other P HEX                                N tick
+//!     take LINK H
+use oca_pair::{Start, Step};
+use oca_script::field::{first_field, moment, number, peer};
+use oca_types::{Handle, MethodId, Ono, Peer, Span, Window};
+use std::alloc::Global;
+
+/// Why a line is refused.
+#[derive(Clone, Copy, Debug, PartialEq, Eq)]
+pub enum LineFault {
+    /// Memory was refused.
+    NoMemory,
+    /// A wrong number of fields or an unknown word, or a step before the first schedule.
+    Form,
+    /// A moment that is none.
+    Moment,
+    /// A number that is none or too large, a size that no window or span has included.
+    Number,
+    /// A peer that is none.
+    Peer,
+    /// Bytes that are none.
+    Hex,
+}
+
+impl LineFault {
+    /// The word for it.
+    pub fn word(self) -> &'static str {
+        match self {
+            LineFault::NoMemory => "no memory",
+            LineFault::Form => "form",
+            LineFault::Moment => "moment",
+            LineFault::Number => "number",
+            LineFault::Peer => "peer",
+            LineFault::Hex => "hex",
+        }
+    }
+}
+
+/// The fields of a line that were not read yet.
+#[derive(Drop)]
+struct Fields<'a> {
+    rest: Option<&'a [u8]>,
+}
+
+impl<'a> Fields<'a> {
+    fn new(line: &'a [u8]) -> Fields<'a> {
+        Fields { rest: Some(line) }
+    }
+
+    /// The next field.
+    fn next(&mut self) -> Result<&'a [u8], LineFault> {
+        let Some(text) = self.rest else {
+            return Err(LineFault::Form);
+        };
+        let (field, rest) = first_field(text);
+        self.rest = rest;
+        Ok(field)
+    }
+
+    /// Nothing is left.
+    fn end(&self) -> Result<(), LineFault> {
+        match self.rest {
+            None => Ok(()),
+            Some(_) => Err(LineFault::Form),
+        }
+    }
+
+    /// A number of 32 bits.
+    fn number(&mut self) -> Result<u32, LineFault> {
+        number_32(self.next()?)
+    }
+
+    /// A number of 16 bits.
+    fn short_number(&mut self) -> Result<u16, LineFault> {
+        match number(self.next()?, 5, 65535) {
+            Some(value) => Ok(value as u16),
+            None => Err(LineFault::Number),
+        }
+    }
+
+    /// A number of 8 bits.
+    fn byte(&mut self) -> Result<u8, LineFault> {
+        match number(self.next()?, 3, 255) {
+            Some(value) => Ok(value as u8),
+            None => Err(LineFault::Number),
+        }
+    }
+
+    /// The number of a link or a datagram.
+    fn place(&mut self) -> Result<usize, LineFault> {
+        Ok(self.number()? as usize)
+    }
+
+    /// A peer.
+    fn peer(&mut self) -> Result<Peer, LineFault> {
+        match peer(self.next()?) {
+            Some(peer) => Ok(peer),
+            None => Err(LineFault::Peer),
+        }
+    }
+
+    /// Bytes.
+    fn bytes(&mut self, alloc: Global) -> Result<Vec<u8>, LineFault> {
+        let text = self.next()?;
+        if text == b"-".as_slice() {
+            return Ok(Vec::new(alloc));
+        }
+        if text.is_empty() {
+            return Err(LineFault::Hex);
+        }
+        match hex::decode(alloc, text) {
+            Ok(bytes) => Ok(bytes),
+            Err(hex::FromHexError::OutOfMemory) => Err(LineFault::NoMemory),
+            Err(_) => Err(LineFault::Hex),
+        }
+    }
+}
+
+/// The number of 32 bits that the digits write.
+fn number_32(digits: &[u8]) -> Result<u32, LineFault> {
+    match number(digits, 10, 4294967295) {
+        Some(value) => Ok(value as u32),
+        None => Err(LineFault::Number),
+    }
+}
+
+/// A step with its own bytes.
+#[derive(Drop)]
+pub struct HeldStep {
+    step: Step<'static>,
+    bytes: Vec<u8>,
+}
+
+impl HeldStep {
+    /// The step.
+    pub fn step(&self) -> Step<'_> {
+        match self.step {
+            Step::Submit {
+                link,
+                target,
+                method,
+                count,
+                params: _,
+                now,
+            } => Step::Submit {
+                link,
+                target,
+                method,
+                count,
+                params: self.bytes.as_slice(),
+                now,
+            },
+            Step::Other {
+                from,
+                bytes: _,
+                now,
+            } => Step::Other {
+                from,
+                bytes: self.bytes.as_slice(),
+                now,
+            },
+            other => other,
+        }
+    }
+}
+
+/// A schedule.
+#[derive(Drop)]
+pub struct Schedule {
+    /// The size of the device's windows.
+    pub window: Window,
+    /// The span of the links.
+    pub span: Span,
+    /// The links.
+    pub starts: Vec<Start>,
+    /// The steps.
+    pub steps: Vec<HeldStep>,
+}
+
+/// A line.
+#[derive(Drop)]
+pub enum Line {
+    /// A schedule begins.
+    Begins(Schedule),
+    /// A step of the schedule that began last.
+    Step(HeldStep),
+}
+
+/// What a line says.
+pub fn read_line(alloc: Global, text: &[u8]) -> Result<Line, LineFault> {
+    let mut fields = Fields::new(text);
+    let first = fields.next()?;
+    if first == b"schedule".as_slice() {
+        return Ok(Line::Begins(begun(alloc, &mut fields)?));
+    }
+    Ok(Line::Step(step(alloc, first, &mut fields)?))
+}
+
+/// A schedule without steps yet.
+fn begun(alloc: Global, fields: &mut Fields<'_>) -> Result<Schedule, LineFault> {
+    let window = fields.byte()?;
+    let span = fields.byte()?;
+    let (Some(window), Some(span)) = (Window::new(window), Span::new(span)) else {
+        return Err(LineFault::Number);
+    };
+    let mut starts = Vec::new(alloc);
+    for _ in 0..64 {
+        if fields.end().is_ok() {
+            return Ok(Schedule {
+                window,
+                span,
+                starts,
+                steps: Vec::new(alloc),
+            });
+        }
+        if starts.push(start(fields.next()?)?).is_err() {
+            return Err(LineFault::NoMemory);
+        }
+    }
+    Err(LineFault::Form)
+}
+
+/// A link: `P/H`.
+fn start(text: &[u8]) -> Result<Start, LineFault> {
+    let Some((from, first)) = oca_script::field::split_at_byte(text, b'/') else {
+        return Err(LineFault::Form);
+    };
+    match peer(from) {
+        Some(peer) => Ok(Start {
+            peer,
+            first_handle: Handle(number_32(first)?),
+        }),
+        None => Err(LineFault::Peer),
+    }
+}
+
+/// A step of which the first field was read.
+fn step(alloc: Global, first: &[u8], fields: &mut Fields<'_>) -> Result<HeldStep, LineFault> {
+    if first == b"take".as_slice() {
+        let step = Step::Take {
+            link: fields.place()?,
+            handle: Handle(fields.number()?),
+        };
+        fields.end()?;
+        return Ok(HeldStep {
+            step,
+            bytes: Vec::new(alloc),
+        });
+    }
+    let word = fields.next()?;
+    let Some(now) = moment(first) else {
+        return Err(LineFault::Moment);
+    };
+    let (step, bytes) = timed(alloc, now, word, fields)?;
+    fields.end()?;
+    Ok(HeldStep { step, bytes })
+}
+
+/// A step with a moment and its bytes, of which the word was read.
+fn timed(
+    alloc: Global,
+    now: u64,
+    word: &[u8],
+    fields: &mut Fields<'_>,
+) -> Result<(Step<'static>, Vec<u8>), LineFault> {
+    let none = Vec::new(alloc);
+    if word == b"submit".as_slice() {
+        return submitted(alloc, now, fields);
+    }
+    if word == b"due".as_slice() {
+        let link = fields.place()?;
+        return Ok((Step::Due { link, now }, none));
+    }
+    if word == b"to-device".as_slice() {
+        let k = fields.place()?;
+        return Ok((Step::ToDevice { k, now }, none));
+    }
+    if word == b"to-link".as_slice() {
+        let k = fields.place()?;
+        return Ok((Step::ToLink { k, now }, none));
+    }
+    if word == b"tick".as_slice() {
+        return Ok((Step::Tick { now }, none));
+    }
+    if word == b"other".as_slice() {
+        let from = fields.peer()?;
+        let step = Step::Other {
+            from,
+            bytes: &[],
+            now,
+        };
+        return Ok((step, fields.bytes(alloc)?));
+    }
+    Err(LineFault::Form)
+}
+
+/// A command that is submitted, and the bytes of its parameters.
+fn submitted(
+    alloc: Global,
+    now: u64,
+    fields: &mut Fields<'_>,
+) -> Result<(Step<'static>, Vec<u8>), LineFault> {
+    let step = Step::Submit {
+        link: fields.place()?,
+        target: Ono(fields.number()?),
+        method: MethodId {
+            level: fields.short_number()?,
+            index: fields.short_number()?,
+        },
+        count: fields.byte()?,
+        params: &[],
+        now,
+    };
+    Ok((step, fields.bytes(alloc)?))
+}

@@ -1,0 +1,216 @@
+//! Schedules over a device and links, read as lines and run one after another.
+use crate::schedule::{Line, LineFault, Schedule, read_line};
+use oca_control::{Answer, ControlFault, Reception};
+use oca_device::Verdict;
+use oca_pair::{Outcome, PairFault, Sent, Transcript, run_pair};
+use oca_tree::bench;
+use oca_types::Peer;
+use std::alloc::Global;
+use std::fmt::Write;
+
+/// Why the run ends.
+#[derive(Clone, Copy, Debug, PartialEq, Eq)]
+pub enum WorldFault {
+    /// Memory was refused.
+    NoMemory,
+    /// The line of this number, from 1, is refused.
+    Line(u64, LineFault),
+    /// Standard output takes no more.
+    Write,
+}
+
+/// Runs the schedules that the text has, and prints what each led to: `schedule`, a line for each step, the datagrams that were sent
+/// to the device and to links in order, and how many sessions the device has at the end; or, behind `schedule`, why it does not run.
+pub fn worlds<R: Print + AllocGlobal>(rt: &R, text: &str) -> Result<(), WorldFault> {
+    let mut pending = None;
+    let mut count = 0u64;
+    for text in text.lines() {
+        count = count.saturating_add(1);
+        if text.is_empty() || text.as_bytes().first() == Some(&b'#') {
+            continue;
+        }
+        match read_line(rt.alloc(), text.as_bytes()) {
+            Ok(Line::Begins(schedule)) => {
+                finish(rt, pending)?;
+                pending = Some(schedule);
+            }
+            Ok(Line::Step(step)) => match &mut pending {
+                Some(schedule) => {
+                    if schedule.steps.push(step).is_err() {
+                        return Err(WorldFault::NoMemory);
+                    }
+                }
+                None => return Err(WorldFault::Line(count, LineFault::Form)),
+            },
+            Err(fault) => return Err(WorldFault::Line(count, fault)),
+        }
+    }
+    finish(rt, pending)
+}
+
+/// Runs a schedule, where there is one, and prints what it led to.
+fn finish<R: Print + AllocGlobal>(rt: &R, pending: Option<Schedule>) -> Result<(), WorldFault> {
+    let Some(schedule) = pending else {
+        return Ok(());
+    };
+    let mut out = String::new(rt.alloc());
+    let ran = run(rt.alloc(), &schedule);
+    if put_run(rt.alloc(), &mut out, &ran).is_err() {
+        return Err(WorldFault::NoMemory);
+    }
+    match print!(rt; "{out}") {
+        Ok(()) => Ok(()),
+        Err(_) => Err(WorldFault::Write),
+    }
+}
+
+/// Runs a schedule over the bench device.
+fn run(alloc: Global, schedule: &Schedule) -> Result<Transcript, PairFault> {
+    let Ok(tree) = bench(alloc) else {
+        return Err(PairFault::NoMemory);
+    };
+    let mut steps = Vec::new(alloc);
+    for held in schedule.steps.as_slice() {
+        if steps.push(held.step()).is_err() {
+            return Err(PairFault::NoMemory);
+        }
+    }
+    run_pair(
+        alloc,
+        tree,
+        schedule.window,
+        schedule.span,
+        schedule.starts.as_slice(),
+        steps.as_slice(),
+    )
+}
+
+/// Memory was refused.
+#[derive(Drop)]
+struct Full;
+
+impl From<std::alloc::AllocError> for Full {
+    fn from(_error: std::alloc::AllocError) -> Full {
+        Full
+    }
+}
+
+/// The lines of a run.
+fn put_run(
+    alloc: Global,
+    out: &mut String,
+    ran: &Result<Transcript, PairFault>,
+) -> Result<(), Full> {
+    writeln!(out, "schedule")?;
+    match ran {
+        Ok(transcript) => put_transcript(alloc, out, transcript),
+        Err(PairFault::NoMemory) => Err(Full),
+        Err(PairFault::BadStep(number)) => Ok(writeln!(out, "bad step {number}")?),
+        Err(PairFault::SamePeer) => Ok(writeln!(out, "same peer")?),
+    }
+}
+
+/// The lines of a transcript.
+fn put_transcript(alloc: Global, out: &mut String, transcript: &Transcript) -> Result<(), Full> {
+    for outcome in transcript.log.as_slice() {
+        put_outcome(alloc, out, outcome)?;
+    }
+    put_sent(alloc, out, "to-device", transcript.to_device.as_slice())?;
+    put_sent(alloc, out, "to-link", transcript.to_links.as_slice())?;
+    let sessions = transcript.device.sessions();
+    Ok(writeln!(out, "sessions {sessions}")?)
+}
+
+/// The line of a step.
+fn put_outcome(alloc: Global, out: &mut String, outcome: &Outcome) -> Result<(), Full> {
+    match outcome {
+        Outcome::Submitted(handle) => {
+            let number = handle.0;
+            writeln!(out, "handle {number}")?;
+        }
+        Outcome::Refused(fault) => put_refusal(out, *fault)?,
+        Outcome::Sent(number) => writeln!(out, "sent {number}")?,
+        Outcome::Nothing => writeln!(out, "nothing")?,
+        Outcome::Lost => writeln!(out, "lost")?,
+        Outcome::Device(verdict) => put_verdict(out, *verdict)?,
+        Outcome::Link(Reception::Answered(count)) => writeln!(out, "answered {count}")?,
+        Outcome::Link(Reception::Stranger) => writeln!(out, "stranger")?,
+        Outcome::Link(Reception::Malformed) => writeln!(out, "malformed")?,
+        Outcome::Link(Reception::NothingNew) => writeln!(out, "nothing new")?,
+        Outcome::Ticked => writeln!(out, "quiet")?,
+        Outcome::Answer(answer) => put_answer(alloc, out, answer)?,
+        Outcome::NoAnswer => writeln!(out, "none")?,
+    }
+    Ok(())
+}
+
+/// The line of a command that a link refused.
+fn put_refusal(out: &mut String, fault: ControlFault) -> Result<(), Full> {
+    let text = match fault {
+        ControlFault::Lost => "refused 1 lost",
+        ControlFault::HandlesSpent => "refused 2 handles-spent",
+        ControlFault::SpanFull => "refused 3 span-full",
+        ControlFault::TooLong => "refused 4 too-long",
+    };
+    Ok(writeln!(out, "{text}")?)
+}
+
+/// The line of a delivery to the device.
+fn put_verdict(out: &mut String, verdict: Verdict) -> Result<(), Full> {
+    match verdict {
+        Verdict::Served {
+            executed,
+            kept,
+            old,
+            reused,
+        } => {
+            write!(out, "served {executed} {kept} {old}")?;
+            if reused != 0 {
+                write!(out, " reused {reused}")?;
+            }
+        }
+        Verdict::Malformed(fault) => {
+            let number = fault.kind.number();
+            let at = fault.at;
+            write!(out, "malformed {number} at {at}")?;
+        }
+        Verdict::NoRoom => write!(out, "no-room")?,
+    }
+    Ok(writeln!(out, "")?)
+}
+
+/// The line of an answer.
+fn put_answer(alloc: Global, out: &mut String, answer: &Answer) -> Result<(), Full> {
+    let status = answer.status;
+    let count = answer.count;
+    write!(out, "answer {status} {count} ")?;
+    put_bytes(alloc, out, answer.params.as_slice())
+}
+
+/// The lines of the datagrams that were sent one way.
+fn put_sent(alloc: Global, out: &mut String, way: &str, sent: &[Sent]) -> Result<(), Full> {
+    for datagram in sent {
+        write!(out, "{way} ")?;
+        put_peer(out, datagram.peer)?;
+        put_bytes(alloc, out, datagram.bytes.as_slice())?;
+    }
+    Ok(())
+}
+
+/// A peer and a space.
+fn put_peer(out: &mut String, peer: Peer) -> Result<(), Full> {
+    let [a, b, c, d] = peer.ip.to_be_bytes();
+    let port = peer.port;
+    Ok(write!(out, "{a}.{b}.{c}.{d}:{port} ")?)
+}
+
+/// Bytes in hexadecimal, `-` for none, and the end of the line.
+fn put_bytes(alloc: Global, out: &mut String, bytes: &[u8]) -> Result<(), Full> {
+    if bytes.is_empty() {
+        return Ok(writeln!(out, "-")?);
+    }
+    match hex::encode(alloc, bytes) {
+        Ok(text) => Ok(writeln!(out, "{text}")?),
+        Err(_) => Err(Full),
+    }
+}

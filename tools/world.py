@@ -1,0 +1,553 @@
+#!/usr/bin/env python3
+"""Random and directed schedules for a device and links over a network, run by `trials world`, and each transcript held against the laws
+of networks and against the second implementation (oca_profile.py).
+
+Usage: world.py BIN COUNT [SEED]        COUNT schedules over every pair of sizes that fits; BIN is the folder with `trials`
+       world.py BIN broken W S          prints the directed schedule for a window of W and a span of S with what it led to
+
+The checks, each written from the statement of the laws (docs/DEFINITIONS.md, section 8, and crates/oca_pair/specs) and made on a
+transcript alone:
+ answers  an answer that a link holds or handed on is what an execution gave of the very command that this link submitted under that handle,
+          for that link's peer. (What a link holds at the end is taken by the last steps; short schedules are run to each of their steps.)
+ only     where the peer's session was never forgotten, it is the only execution for that peer under that handle
+ in hand  a delivered copy of a command that its link holds untaken is executed now or answered from the window, and gets one datagram with
+          the reply of an execution of that command: where 2 * S <= W + 1, the peer's session was never forgotten and at most 16 peers came
+ once     no command is executed twice where the peer's session was never forgotten
+ second   the transcript is, byte for byte, that of the second implementation
+ premises there are schedules within the premises that lose, double and overtake datagrams
+ sizes    with W = 2 * S - 2 a schedule breaks 'in hand', at each of the 31 pairs; and random ones do at (2, 2) and (4, 3)
+ altered  a transcript within the premises in which one answer, or what one copy led to, was altered is refused by the law that it breaks
+Some schedules end in a step that names what is not there, or start two links of one peer: these are refused by number, and by name.
+At the first break the schedule is printed, and the exit status is 1. The last line is 'N passed, M failed' over these checks."""
+import collections
+import multiprocessing
+import random
+import subprocess
+import sys
+
+import oca_profile as oca
+from fuzz import USUAL
+
+PAIRS = [(w, s) for s in range(1, 33) for w in range(2 * s - 1, 65)]
+BATCH = 40
+
+
+# ---- schedules
+
+
+class Schedule:
+    """A schedule in the making. Each step is taken by the second implementation at once, so that the next can name what is there."""
+
+    def __init__(self, window, span, starts):
+        self.window, self.span, self.starts = window, span, starts
+        self.steps, self.outcomes, self.now, self.refusal = [], [], 0, None
+        self.network = oca.Network(window, span, starts)
+
+    def add(self, *step):
+        said = self.network.step(step)
+        assert said is not None, step
+        self.steps.append(step)
+        self.outcomes.append(said)
+        return said
+
+    def timed(self, kind, *fields):
+        return self.add(kind, self.now, *fields)
+
+    def take_all(self):
+        """What each link holds is handed on."""
+        for i, (_, link) in enumerate(self.network.links):
+            for untaken in list(link.untaken):
+                self.add("take", i, untaken[0].handle)
+        return self
+
+    def text(self):
+        starts = "".join(f" {oca.peer_text(p)}/{first}" for p, first in self.starts)
+        return [f"schedule {self.window} {self.span}{starts}"] + [oca.step_line(s) for s in self.steps]
+
+    def refused(self, r):
+        """With one more step that names what is not there, or two starts of one peer or one of the device's."""
+        sent, kind = self.network, r.randrange(6)
+        step = [("to-device", self.now, len(sent.to_device)), ("to-link", self.now, len(sent.to_links)), ("take", len(self.starts), 1),
+                ("due", self.now, len(self.starts)), ("other", self.now, self.starts[-1][0], b""), None][kind]
+        if step is None:
+            self.starts, self.refusal = self.starts + [r.choice([(oca.DEVICE, 1), self.starts[0]])], "same peer"
+        else:
+            self.refusal = f"bad step {len(self.steps)}"
+            self.steps = self.steps + [step] + self.steps[:1]
+        return self
+
+    def expected(self):
+        return ["schedule", self.refusal] if self.refusal else self.network.transcript(self.outcomes)
+
+    def front(self, count):
+        """The first steps, and then all that links hold is handed on."""
+        short = Schedule(self.window, self.span, self.starts)
+        for step in self.steps[:count]:
+            short.add(*step)
+        return short.take_all()
+
+
+def peer(number):
+    return (127, 0, 0, 1 + number % 3, 9001 + number)
+
+
+def starts(r, count):
+    return [(peer(n), r.choice([0, 1, 1, 5, 1000, 2**31, oca.U32 - 300, oca.U32 - 3])) for n in range(count)]
+
+
+CALM = [0] * 8 + [1, 1, 2, 5, 20, 100, 250, 300]
+WILD = CALM + [2500, 3001, 15001, 60000, 119999, 120000, 120001, -50, -5000, -130000]
+
+
+def later(r, now, steps):
+    if r.randrange(400) == 0 and steps is WILD:
+        return oca.U64
+    return min(oca.U64, max(0, now + r.choice(steps) - (r.choice([1, 40, 3000]) if r.randrange(12) == 0 else 0)))
+
+
+def some_datagram(r, count, delivered):
+    """The number of a datagram: one of the last, one that was not delivered yet, or any."""
+    kind = r.randrange(10)
+    if kind < 5:
+        return max(0, count - 1 - int(r.expovariate(0.4)))
+    left = [k for k in range(count) if k not in delivered] if kind < 8 else []
+    return r.choice(left) if left else r.randrange(count)
+
+
+def submit(r, schedule, link):
+    target, (level, index), count, make = r.choice(USUAL)
+    params = make(r) if r.randrange(60) else bytes(r.choice([1445, 1446]))
+    return schedule.timed("submit", link, target, level, index, count, params)
+
+
+def others_bytes(r):
+    c = oca.Command(r.randrange(5), 4097, 1, r.choice([3, 4, 5, 6]), 0, b"")
+    return r.choice([oca.pdu(1, [c.body()]), oca.pdu(4, [oca.u16(1)]), b"", b"\x3b\x00", oca.pdu(3, [oca.response_body(1, 0, 0, b"")]),
+                     oca.pdu(1, [c.body(), c.body()])])
+
+
+def wander(r, window, span):
+    """Any steps in any order."""
+    schedule = Schedule(window, span, starts(r, r.choice([1, 1, 1, 2, 2, 3, 4, 4, 16])))
+    network, pace = schedule.network, r.choice([CALM, CALM, WILD])
+    length, links = r.choice([10, 16, 24, 40, 80, 150, 250]), len(network.links)
+    strangers = [peer(n) for n in range(16, 16 + r.choice([0, 0, 1, 3, 20]))]
+    kinds = ["submit", "due", "to-device", "to-link", "take"] + ["tick"] * r.randrange(2) + ["other"] * (len(strangers) > 0)
+    weights = [r.choice([2, 3, 5]) for _ in kinds[:5]] + [1] * (len(kinds) - 5)
+    heard = {"to-device": set(), "to-link": set()}
+    if r.randrange(16) == 0:  # a link without answers, until it is lost
+        pace, length, weights = [250, 250, 260], 80, [2, 12, 1, 0.05, 1] + weights[5:]
+    while len(schedule.steps) < length:
+        schedule.now = later(r, schedule.now, pace)
+        kind, link = r.choices(kinds, weights)[0], r.randrange(links)
+        if kind == "submit":
+            submit(r, schedule, link)
+        elif kind == "due":
+            schedule.timed("due", link)
+        elif kind == "take":
+            answered = [u[0].handle for u in network.links[link][1].untaken if u[3] is not None]
+            schedule.add("take", link, r.choice(answered) if answered and r.randrange(8) else r.randrange(20))
+        elif kind == "tick":
+            schedule.timed("tick")
+        elif kind == "other":
+            schedule.timed("other", r.choice(strangers), others_bytes(r))
+        else:
+            sent = network.to_device if kind == "to-device" else network.to_links
+            if sent:
+                k = some_datagram(r, len(sent), heard[kind])
+                heard[kind].add(k)
+                schedule.timed(kind, k)
+    return schedule
+
+
+def noise(r, schedule):
+    """Now and then a copy of what was sent before, a clock reading, or other bytes."""
+    kind = r.randrange(12)
+    schedule.now = later(r, schedule.now, [0, 0, 0, 1, 7])
+    if kind == 0 and schedule.network.to_device:
+        schedule.timed("to-device", r.randrange(len(schedule.network.to_device)))
+    elif kind == 1 and schedule.network.to_links:
+        schedule.timed("to-link", r.randrange(len(schedule.network.to_links)))
+    elif kind == 2:
+        schedule.timed("other", peer(20), others_bytes(r))
+    elif kind == 3:
+        schedule.timed("tick")
+
+
+def directed(window, span, r=None):
+    """The last command of a full span overtakes the others and stays in hand, while the others are answered and taken and as many more
+    follow; then a copy of it comes. With r in another order, with noise, and several times."""
+    schedule = Schedule(window, span, [(peer(0), r.choice([1, 1, 1000]) if r else 1)])
+    network, step = schedule.network, (lambda: noise(r, schedule)) if r else (lambda: None)
+    mixed = (lambda xs: r.sample(xs, len(xs))) if r else list
+
+    def give_out(count):
+        numbers = []
+        for _ in range(count):
+            step()
+            if r:
+                submit(r, schedule, 0)
+            else:
+                schedule.timed("submit", 0, 4097, 4, 1, 0, b"")
+        for _ in range(count):
+            step()
+            said = schedule.timed("due", 0).split()
+            numbers += [int(said[1])] if said[0] == "sent" else []
+        return numbers
+
+    def deliver(numbers):
+        for k in numbers:
+            step()
+            schedule.timed("to-device", k)
+
+    def take_others(pinned):
+        for k in mixed(range(len(network.to_links))):
+            message = oca.check(network.to_links[k][1])[0]
+            if message[0] == "response" and message[1] != pinned and any(u[0].handle == message[1] and u[3] is None for u in network.links[0][1].untaken):
+                schedule.timed("to-link", k)
+        for u in list(network.links[0][1].untaken):
+            if u[3] is not None and u[0].handle != pinned:
+                schedule.add("take", 0, u[0].handle)
+
+    for _ in range(r.choice([1, 1, 2]) if r and span < 20 else 1):
+        first = give_out(span)
+        untaken = network.links[0][1].untaken
+        if not first or not untaken:
+            break
+        last = first[-1]
+        pinned = oca.check(network.to_device[last][1])[0]
+        pinned = pinned[2].handle if pinned[0] == "command" else untaken[-1][0].handle
+        deliver([last] + mixed(first[:-1]))
+        take_others(pinned)
+        deliver(mixed(give_out(span - 1)))
+        schedule.timed("to-device", last)
+        if r:
+            schedule.take_all()
+    return schedule
+
+
+# ---- the laws, on a transcript
+
+
+class Break(Exception):
+    def __init__(self, law, step, what):
+        super().__init__(law, step, what)
+        self.law, self.step, self.what = law, step, what
+
+
+class Laws:
+    """Walks along a schedule and what its steps led to, and holds each step against the laws. It knows the lists of datagrams, commands,
+    answers and executions, when datagrams came to the device, and nothing of what a device or a link is inside."""
+
+    def __init__(self, schedule, lines, fit):
+        self.fit, self.window, self.count = fit, schedule.window, collections.Counter()
+        self.places, self.number = collections.defaultdict(list), 0  # steps whose outcome a law speaks of
+        self.peers = [p for p, _ in schedule.starts]
+        self.steps = schedule.steps
+        if len(lines) < len(self.steps) + 2 or lines[0] != "schedule":
+            raise Break("second", 0, f"no transcript: {lines[:2]}")
+        self.outcomes = lines[1:len(self.steps) + 1]
+        self.sent = {"to-device": [], "to-link": []}
+        for line in lines[len(self.steps) + 1:-1]:
+            way, to, data = line.split(" ")
+            self.sent[way].append((oca.peer_of(to), oca.hex_of(data)))
+        self.submitted = [{} for _ in self.peers]     # by handle
+        self.untaken = [{} for _ in self.peers]
+        self.executions = {p: [] for p in self.peers}  # (command, reply)
+        self.clock, self.came, self.forgotten, self.within = 0, {}, set(), False
+        self.answers_sent = 0
+        self.heard = {"to-device": collections.Counter(), "to-link": collections.Counter()}
+        self.latest = {}
+
+    def walk(self):
+        for self.number, (step, said) in enumerate(zip(self.steps, self.outcomes)):
+            try:
+                getattr(self, step[0].replace("-", "_"))(step, said)
+            except Break as fault:
+                fault.step = self.number
+                raise
+            self.count["said " + said.split(" ")[0]] += 1
+            self.count["said too old"] += said == "served 0 0 1"
+        if self.answers_sent != len(self.sent["to-link"]):
+            raise Break("in hand", len(self.steps) - 1, "datagrams were sent to links that answer nothing")
+        self.count["steps"] = len(self.steps)
+        for way in self.heard:
+            self.count["losses"] += len(self.sent[way]) - len(self.heard[way])
+            self.count["doubles"] += sum(n - 1 for n in self.heard[way].values())
+        if not self.forgotten and len(self.came) <= 16:
+            self.count["premises met"] = 1
+            self.within = True
+            self.count["premises met, with loss, double and overtaking"] = \
+                int(min(self.count["losses"], self.count["doubles"], self.count["overtakings"]) > 0)
+        return self
+
+    def note_delivery(self, way, k):
+        """Counts; an overtaking is a datagram that comes for the first time after a later one that was sent the same way."""
+        self.count["deliveries"] += 1
+        key = (way, self.sent[way][k][0])
+        if self.heard[way][k] == 0 and self.latest.get(key, -1) > k:
+            self.count["overtakings"] += 1
+        self.heard[way][k] += 1
+        self.latest[key] = max(self.latest.get(key, -1), k)
+
+    def came_from(self, p, now):
+        """A datagram of p came to the device: its session is forgotten where it comes more than 120,000 ms after the one before it."""
+        self.clock = max(self.clock, now)
+        if p in self.came and self.clock - self.came[p] > 120000:
+            self.forgotten.add(p)
+        self.came[p] = self.clock
+
+    def submit(self, step, said):
+        if said.startswith("handle "):
+            handle = int(said.split(" ")[1])
+            if handle in self.submitted[step[2]]:
+                raise Break("answers", 0, f"two commands have handle {handle}")
+            self.submitted[step[2]][handle] = self.untaken[step[2]][handle] = oca.Command(handle, *step[3:])
+
+    def due(self, step, said):
+        pass
+
+    def tick(self, step, said):
+        self.clock = max(self.clock, step[1])
+
+    def other(self, step, said):
+        self.came_from(step[2], step[1])
+
+    def to_link(self, step, said):
+        self.note_delivery("to-link", step[2])
+
+    def to_device(self, step, said):
+        _, now, k = step
+        p, data = self.sent["to-device"][k]
+        self.note_delivery("to-device", k)
+        self.came_from(p, now)
+        (message,) = oca.check(data)
+        executed, kept = {"served 1 0 0": (1, 0), "served 0 1 0": (0, 1)}.get(said, (0, 0))
+        answered = said.startswith("served") and (executed + kept > 0 or message[0] == "keep-alive")
+        reply = self.next_answer(p) if answered else None
+        if message[0] == "keep-alive":
+            return
+        command = message[2]
+        self.count["executions"] += executed
+        self.count["duplicates answered"] += kept
+        if kept:
+            self.places["once"].append(self.number)
+        if executed:
+            if p not in self.forgotten and any(c.handle == command.handle for c, _ in self.executions[p]):
+                raise Break("once", 0, f"handle {command.handle} of {oca.peer_text(p)} is executed twice")
+            self.executions[p].append((command, reply))
+            self.count["once"] += p not in self.forgotten
+        link = self.peers.index(p)
+        held = self.untaken[link].get(command.handle)
+        if held and data == oca.pdu(1, [held.body()]):
+            self.in_hand(p, command, said, reply)
+
+    def next_answer(self, p):
+        """The response that the device sent next."""
+        if self.answers_sent == len(self.sent["to-link"]) or self.sent["to-link"][self.answers_sent][0] != p:
+            raise Break("in hand", 0, "no datagram was sent to the link")
+        messages = oca.check(self.sent["to-link"][self.answers_sent][1])
+        self.answers_sent += 1
+        return messages[0][1:] if len(messages) == 1 and messages[0][0] == "response" else None
+
+    def in_hand(self, p, command, said, reply):
+        """A copy came of a command that the link of p holds untaken."""
+        if not self.fit or p in self.forgotten or len(self.came) > 16:
+            return
+        self.count["in hand"] += 1
+        if said == "served 0 1 0":
+            self.places["in hand"].append(self.number)
+            later = len(self.executions[p]) - 1 - max(i for i, (c, _) in enumerate(self.executions[p]) if c.handle == command.handle)
+            self.count["in hand, the oldest of a full window"] += later == self.window - 1
+        if said not in ("served 1 0 0", "served 0 1 0"):
+            raise Break("in hand", 0, f"a copy of handle {command.handle}, which its link holds untaken: {said}")
+        if not any(c.handle == command.handle and c.asks() == command.asks() and r == reply for c, r in self.executions[p]) \
+                or reply[0] != command.handle:
+            raise Break("in hand", 0, f"a copy of handle {command.handle} gets a reply of no execution of it")
+
+    def take(self, step, said):
+        _, link, handle = step
+        if said == "none":
+            return
+        _, status, count, params = said.split(" ")
+        answer = (handle, int(status), int(count), oca.hex_of(params))
+        p, command = self.peers[link], self.submitted[link].get(handle)
+        self.count["answers"] += 1
+        self.places["answers"].append(self.number)
+        under = [(c, r) for c, r in self.executions[p] if c.handle == handle]
+        if command is None or not any(c.asks() == command.asks() and r == answer for c, r in under):
+            raise Break("answers", 0, f"the answer under {handle} is none of an execution of its command")
+        if p not in self.forgotten:
+            self.count["only"] += 1
+            if len(under) != 1:
+                raise Break("only", 0, f"{len(under)} executions under {handle}")
+        self.untaken[link].pop(handle, None)
+
+
+# ---- runs
+
+
+def transcripts(program, schedules):
+    text = "\n".join(line for s in schedules for line in s.text()) + "\n"
+    done = subprocess.run([program, "world"], input=text.encode(), capture_output=True, timeout=300)
+    lines = done.stdout.decode().splitlines()
+    begins = [i for i, line in enumerate(lines) if line == "schedule"] + [len(lines)]
+    runs = [lines[a:b] for a, b in zip(begins, begins[1:])]
+    if done.returncode != 0 or len(runs) != len(schedules):
+        raise SystemExit(f"world: status {done.returncode}, {len(runs)} of {len(schedules)} schedules, {done.stderr.decode()!r}")
+    return runs
+
+
+def fits(window, span):
+    return 2 * span <= window + 1
+
+
+def hold(schedule, lines):
+    """The laws' walk along a run in which nothing breaks; None of a refusal."""
+    expected = schedule.expected()
+    walk = None if schedule.refusal else Laws(schedule, lines, fits(schedule.window, schedule.span)).walk()
+    if lines != expected:
+        at = next((i for i, (a, b) in enumerate(zip(lines, expected)) if a != b), min(len(lines), len(expected)))
+        raise Break("second", min(max(at - 1, 0), len(schedule.steps) - 1), f"{lines[at:at + 1]}, and the second implementation {expected[at:at + 1]}")
+    return walk
+
+
+def shown(schedule, lines, fault):
+    """A schedule with what its steps led to."""
+    text = schedule.text()
+    return [text[0]] + [f"{line:44}{said}" for line, said in zip(text[1:], lines[1:])] + [f"BREAK of '{fault.law}' at step {fault.step}: {fault.what}"]
+
+
+def made(seed, number):
+    """The schedules of a number: first a directed one for each pair of sizes, then random ones."""
+    r = random.Random(f"{seed} {number}")
+    if number < len(PAIRS):
+        return [directed(*PAIRS[number])]
+    window, span = r.choice(PAIRS) if r.randrange(2) else (lambda s: (min(64, 2 * s - 1 + r.choice([0, 0, 1])), s))(r.choice([1, 2, 2, 3, 4, 8, 16, 32]))
+    if r.randrange(12) == 0:  # sizes that do not fit
+        window, span = r.randrange(1, 65), r.randrange(1, 33)
+    if r.randrange(3) == 0:
+        return [directed(window, span, r).take_all()]
+    schedule = wander(r, window, span)
+    if r.randrange(20) == 0:
+        return [schedule.refused(r)]
+    if len(schedule.steps) <= 24 and r.randrange(8) == 0:
+        return [schedule.front(n) for n in range(len(schedule.steps) + 1)]
+    return [schedule.take_all()]
+
+
+def altered(r, walk, lines):
+    """The same transcript with one line changed that a law speaks of, and the law; or None."""
+    if not walk.within or not walk.places:
+        return None
+    law = r.choice(sorted(walk.places))
+    at = 1 + r.choice(walk.places[law])
+    status, count, params = (lines[at].split(" ") + [""] * 4)[1:4]
+    new = {"answers": f"answer {int(status) ^ 1} {count} {params}" if r.randrange(2) else lines[at].removesuffix("-") + "00",
+           "in hand": "served 0 0 1", "once": "served 1 0 0"}[law]
+    return law, lines[:at] + [new] + lines[at + 1:]
+
+
+def work(job):
+    """The counts of a range of numbers, and the text of the first break or None."""
+    program, seed, numbers = job
+    schedules = [s for n in numbers for s in made(seed, n)]
+    total, r = collections.Counter(), random.Random(f"{seed} {numbers[0]} altered")
+    for schedule, lines in zip(schedules, transcripts(program, schedules)):
+        try:
+            walk = hold(schedule, lines)
+        except Break as fault:
+            return total, "\n".join(shown(schedule, lines, fault))
+        total["schedules"] += 1
+        if walk is None:
+            total["refused"] += 1
+            continue
+        total += walk.count
+        change = altered(r, walk, lines)
+        if change:
+            total["altered"] += 1
+            try:
+                Laws(schedule, change[1], fits(schedule.window, schedule.span)).walk()
+            except Break as fault:
+                total["altered, refused"] += fault.law == change[0]
+    return total, None
+
+
+def broken(program, window, span, schedules):
+    """The first of the schedules that breaks 'in hand' for sizes that do not fit, as text, and the break."""
+    for schedule, lines in zip(schedules, transcripts(program, schedules)):
+        try:
+            Laws(schedule, lines, True).walk()
+        except Break as fault:
+            if fault.law == "in hand" and lines == schedule.expected():
+                return "\n".join(shown(schedule, lines, fault)), fault
+    return None
+
+
+def sizes(program, seed):
+    """Whether each pair of W = 2 * S - 2 breaks 'in hand'; prints what was found."""
+    found = 0
+    for span in range(2, 33):
+        window = 2 * span - 2
+        schedule = directed(window, span)
+        result = broken(program, window, span, [schedule])
+        if result is None:
+            print(f"no break with a window of {window} and a span of {span}")
+            continue
+        found += 1
+        if span == 2:
+            print("with a window of 2 and a span of 2, which do not fit, this breaks, as it must:")
+            print(result[0])
+    print(f"windows of 2 * S - 2: {found} of 31 directed schedules break 'in hand'")
+    random_found = 0
+    for window, span in ((2, 2), (4, 3)):
+        r = random.Random(f"{seed} {window}")
+        schedules = [wander(r, window, span) if n % 2 else directed(window, span, r) for n in range(400)]
+        result = broken(program, window, span, schedules)
+        if result:
+            random_found += 1
+            print(f"window {window}, span {span}: a random schedule breaks too, at step {result[1].step}")
+        else:
+            print(f"window {window}, span {span}: none of {len(schedules)} random schedules breaks")
+    return found == 31 and random_found == 2
+
+
+def main():
+    program = f"{sys.argv[1]}/trials"
+    if sys.argv[2] == "broken":
+        window, span = int(sys.argv[3]), int(sys.argv[4])
+        result = broken(program, window, span, [directed(window, span)])
+        print(result[0] if result else "no break")
+        return 0
+    count, seed = int(sys.argv[2]), int(sys.argv[3]) if len(sys.argv) > 3 else 1
+    total = collections.Counter()
+    with multiprocessing.Pool(min(4, multiprocessing.cpu_count())) as pool:
+        for counts, fault in pool.imap(work, [(program, seed, range(a, min(a + BATCH, count))) for a in range(0, count, BATCH)]):
+            total += counts
+            if fault:
+                print(fault)
+                print(f"world: seed {seed}: a break after {total['schedules']} schedules without one")
+                print("0 passed, 1 failed")
+                return 1
+    good = sizes(program, seed)
+    print(f"seed {seed}, {len(PAIRS)} pairs of sizes that fit")
+    for name in ("schedules", "steps", "deliveries", "losses", "doubles", "overtakings", "executions", "duplicates answered",
+                 "premises met", "premises met, with loss, double and overtaking"):
+        print(f"{name:48}{total[name]:9}")
+    print(f"held against the laws: {total['answers']} answers, {total['only']} of them of an only execution; {total['in hand']} copies in hand, "
+          f"{total['in hand, the oldest of a full window']} of them of the oldest command of a full window; {total['once']} executions; 0 breaks")
+    print(f"also met: {total['said too old']} old, {total['said no-room']} without room, {total['said refused']} refused submits, "
+          f"{total['said lost']} lost, {total['refused']} refused schedules")
+    print(f"altered transcripts refused by the law that they break: {total['altered, refused']} of {total['altered']}")
+    checks = {"answers": total["answers"], "only": total["only"], "in hand": total["in hand, the oldest of a full window"], "once": total["once"],
+              "second": total["schedules"] > count and total["refused"], "premises": total["premises met, with loss, double and overtaking"],
+              "sizes": good, "altered": total["altered"] and total["altered, refused"] == total["altered"]}
+    for name, passed in checks.items():
+        if not passed:
+            print(f"FAILED: {name}")
+    print(f"{sum(map(bool, checks.values()))} passed, {sum(not passed for passed in checks.values())} failed")
+    return 0 if all(checks.values()) else 1
+
+
+if __name__ == "__main__":
+    sys.exit(main())
