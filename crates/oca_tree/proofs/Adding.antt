@@ -12,7 +12,7 @@ use Rattle.oca_tree.specs.Trees as trees
 use Rattle.oca_tree.specs.Building.{root, new_object, object_of_spec, value_of, has_bad_name, is_bad_value, add_fault}
 use Rattle.oca_tree.proofs.Chains.{place_absent}
 
-places_push : (tree : List Object) (o : Object) → places (tree ++ o ∷ []) ≡ places tree ++ place_of o ∷ []
+pub places_push : (tree : List Object) (o : Object) → places (tree ++ o ∷ []) ≡ places tree ++ place_of o ∷ []
 places_push [] o = refl
 places_push (x ∷ xs) o = ap (λ ps. place_of x ∷ ps) (places_push xs o)
 

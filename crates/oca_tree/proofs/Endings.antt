@@ -4,7 +4,7 @@ use Rattle.std.specs.Prelude.{Option, Some, None, is_some, ◌==◌, ◌||◌, �
 use Rattle.std.specs.Option.{option_map_or, option_or}
 use Rattle.std.specs.List.{list_any}
 use Rattle.std.proofs.lemmas.List.Folds.{find-append}
-use Rattle.oca_tree.specs.Places.{Place, place_at, is_block, chain_within, chain, reaches, ChainReaches}
+use Rattle.oca_tree.specs.Places.{Place, place_at, is_block, chain_within, chain, depth, reaches, ChainReaches}
 use Rattle.oca_tree.specs.Places as places
 use Rattle.oca_tree.specs.Trees.{IsBuilt, IsFree}
 use Rattle.oca_tree.specs.Trees as trees
@@ -12,7 +12,7 @@ use Rattle.oca_tree.specs.Trees as trees
 abbrev single : Place → ℕ → Option Place
 single p n = cond (p.number == n) (Some p) None
 
-looked_up : (ps : List Place) (p : Place) (n : ℕ) → place_at (ps ++ p ∷ []) n ≡ option_or (place_at ps n) (single p n)
+pub looked_up : (ps : List Place) (p : Place) (n : ℕ) → place_at (ps ++ p ∷ []) n ≡ option_or (place_at ps n) (single p n)
 looked_up ps p n = find-append (λ q. q.number == n) ps (p ∷ [])
 
 other : (ps : List Place) (p : Place) (n : ℕ) → (p.number == n) ≡ false → place_at (ps ++ p ∷ []) n ≡ place_at ps n
@@ -29,7 +29,7 @@ kept ps p n e = ap is_some (looked_up ps p n) ∙ by (place_at ps n) e
     by None h = cc
     by (Some q) h = refl
 
-block_there : (ps : List Place) (n : ℕ) → is_block ps n ≡ true → is_some (place_at ps n) ≡ true
+pub block_there : (ps : List Place) (n : ℕ) → is_block ps n ≡ true → is_some (place_at ps n) ≡ true
 block_there ps n e = by (place_at ps n) e
   where
     by : (o : Option Place) → option_map_or (λ p. p.block) o false ≡ true → is_some o ≡ true
@@ -135,6 +135,12 @@ ends _ (trees.next ps p built free) n =
         ∙ ap (λ c. n ∷ c) (push (suc (length ps)) p.container away ∙ same p.container ∙ sym (push (length ps) p.container away))
         ∙ sym (chain_there (length ps) (ps ++ p ∷ []) n p there)
 
+pub depth_absent : (ps : List Place) (n : ℕ) → place_at ps n ≡ None → depth ps n ≡ 0
+depth_absent ps n e = ap length (chain_absent (length ps) ps n e)
+
+pub depth_there : (ps : List Place) → IsBuilt ps → (n : ℕ) (p : Place) → place_at ps n ≡ Some p → depth ps n ≡ suc (depth ps p.container)
+depth_there ps built n p e = sym (ap length (ends ps built n)) ∙ ap length (chain_there (length ps) ps n p e)
+
 module _ (ps : List Place) (block : ℕ) where
   abbrev found_in : List ℕ → Bool
   found_in numbers = list_any (λ number. number == block) numbers
@@ -170,6 +176,12 @@ module _ (ps : List Place) (block : ℕ) where
       either : (b : Bool) → found_in (chain ps p.container) ≡ true → b || found_in (chain ps p.container) ≡ true
       either true h = refl
       either false h = h
+
+  pub reaches_absent : (n : ℕ) → place_at ps n ≡ None → reaches ps block n ≡ false
+  reaches_absent n e = ap found_in (chain_absent (length ps) ps n e)
+
+  pub reaches_there : IsBuilt ps → (n : ℕ) (p : Place) → place_at ps n ≡ Some p → reaches ps block n ≡ (n == block) || reaches ps block p.container
+  reaches_there built n p e = sym (ap found_in (ends ps built n)) ∙ ap found_in (chain_there (length ps) ps n p e)
 
   pub reaches_chain : IsBuilt ps → (n : ℕ) → (reaches ps block n ≡ true → ChainReaches ps block n) × (ChainReaches ps block n → reaches ps block n ≡ true)
   reaches_chain built n = (found (length ps) n, reached built n)

@@ -2,7 +2,6 @@
 use Rattle.std.proofs.Common.{◌≡◌, ℕ, ◌<◌, ◌≤◌, true, false, List, length, get_or, set, refl, sym, ap, ◌∙◌, arith, eqb-true}
 use Rattle.std.specs.Prelude.{Some, None, Ok, Err, nat_lt, ◌==◌}
 use Rattle.std.specs.List.{position}
-use Rattle.std.proofs.lemmas.Option.{slice_get-get_or}
 use Rattle.oca_types.specs.declared.words.Peer.{Peer}
 use Rattle.oca_types.specs.declared.status.Status.{Status}
 use Rattle.oca_types.specs.declared.status.Status.TheVariants as statuses
@@ -18,7 +17,7 @@ use Rattle.oca_tree.specs.Requests.{request_of, is_out_of_range, is_invalid}
 use Rattle.oca_tree.specs.Execution.{execution, refused, carried_out, answer, answer_count, changed, status_of, by_status, request_at, kind_at}
 use Rattle.oca_tree.specs.Trees.{IsTree, IsSound}
 use Rattle.oca_tree.specs.PrivateSteps.{IsRequestFor, IsAnsweredAs}
-use Rattle.oca_tree.proofs.Positions.{find_some, find_passes, place_found, with_object_at}
+use Rattle.oca_tree.proofs.Positions.{find_some, find_passes, place_found, with_object_at, same_element}
 use Rattle.oca_tree.proofs.Asked.{request_fits}
 use Rattle.oca_tree.proofs.Sound.{changed_place, changed_ono, changed_sound, written_tree}
 
@@ -56,10 +55,6 @@ module _ (tree : List Object) (peer : Peer) (c : CommandFields) where
           let short : nat_lt 1452 (length (answer tree o r)) ≡ false = grind arith in
           let fine : status_of tree peer (Some o) c ≡ statuses.Ok = asked.3 tree ∙ (rw short refl) in
           at_object ∙ with_request ∙ ap (by_status tree peer (Some o) (Some r)) fine
-
--- an element that is there doesn't depend on the default
-same_element : (tree : List Object) (i : ℕ) (d e : Object) → i < length tree → get_or tree i d ≡ get_or tree i e
-same_element tree i d e h = let a = slice_get-get_or tree i d h in let b = slice_get-get_or tree i e h in cc
 
 pub answered_at : (tree : List Object) (peer : Peer) (c : CommandFields) (i : ℕ) (o : Object) (r : Request) (out : List ℕ)
     → Some i ≡ position (has_number c.target) tree → o ≡ get_or tree i o → IsRequestFor (Ok r) o peer c → out ≡ answer tree o r → length out ≤ 1452 → IsTree tree

@@ -8,5 +8,7 @@ pub mod Sound
 pub mod Adding
 pub mod Executing
 pub mod Endings
+pub mod Containers
+pub mod Marking
 pub mod Locking
 pub mod Keyed

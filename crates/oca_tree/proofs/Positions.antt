@@ -6,7 +6,7 @@ use Rattle.std.specs.Prelude.{Option, Some, None, IfNone, IfSome, is_some, ◌==
 use Rattle.std.specs.List.{find, position, position_or_len, slice_get}
 use Rattle.std.proofs.lemmas.List.Folds.{find_at}
 use Rattle.std.proofs.lemmas.List.Sums.{length-filter}
-use Rattle.std.proofs.lemmas.Option.{slice_get_past}
+use Rattle.std.proofs.lemmas.Option.{slice_get_past, slice_get-get_or}
 
 module _ {X : Type 0} (p : X → Bool) where
   pub slice_get_at : (xs : List X) (i : ℕ) (d : X) → i < length xs → slice_get xs i ≡ Some (get_or xs i d)
@@ -76,5 +76,9 @@ module _ {X : Type 0} (p : X → Bool) (xs : List X) where
   place_some (Some i) e =
       let found = place_found p xs i e in
       sym (ap is_some (find_at p xs ∙ ap (slice_get xs) (sym found.1)) ∙ slice_get_is_some xs i found.0)
+
+-- an element that is there doesn't depend on the default
+pub same_element : {X : Type 0} (xs : List X) (i : ℕ) (d e : X) → i < length xs → get_or xs i d ≡ get_or xs i e
+same_element xs i d e h = let a = slice_get-get_or xs i d h in let b = slice_get-get_or xs i e h in cc
 
 pub ruleset counted = (length-filter)

@@ -208,7 +208,7 @@ without_lock_place peer o = by_test (is_held_by peer o.lock)
     by_test true = refl
     by_test false = refl
 
-released_places : (peer : Peer) (tree : List Object) → places (map (without_lock_of peer) tree) ≡ places tree
+pub released_places : (peer : Peer) (tree : List Object) → places (map (without_lock_of peer) tree) ≡ places tree
 released_places peer [] = refl
 released_places peer (o ∷ os) = rw (without_lock_place peer o, released_places peer os) refl
 

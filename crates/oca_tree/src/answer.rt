@@ -1,5 +1,5 @@
 //! Writing the parameters of an answer.
-ghost use Rattle.std.specs.Prelude.{◌≡◌, ◌==◌, ◌≤◌, ◌<◌, length, false};
+ghost use Rattle.std.specs.Prelude.{◌≡◌, ◌==◌, ◌≤◌, ◌<◌, Bool, length, map, take, slice_index_or, true, false};
 ghost use Rattle.std.specs.List.{flat_map, filter};
 ghost use Rattle.std.specs.Int.{w8};
 ghost use Rattle.oca_types.specs.Numbers.{bool_encoding};
@@ -7,7 +7,7 @@ ghost use Rattle.oca_types.specs.Texts.{text_encoding};
 ghost use Rattle.oca_tree.specs.Requests.{is_out_of_range};
 ghost use Rattle.oca_tree.specs.Execution.{list_encoding, state_encoding, position_parameters, switch_parameters, setting_parameters, joined, answer, answer_count, mute_number, polarity_number};
 ghost use Rattle.oca_tree.specs.Requests.{is_bad_position};
-ghost use Rattle.oca_tree.specs.Trees.{IsSoundValue, IsSoundSwitch, IsSoundRange};
+ghost use Rattle.oca_tree.specs.Trees.{IsTree, IsSoundValue, IsSoundSwitch, IsSoundRange};
 ghost use Rattle.oca_tree.specs.PrivateSteps.{Puts, is_listed, item_encoding};
 ghost use Rattle.std.specs.Prelude.{List};
 ghost use Rattle.oca_tree.specs.declared.object.Object.{Object as AnObject};
@@ -18,9 +18,9 @@ ghost use Rattle.oca_tree.specs.declared.request.SwitchRequest.TheVariants.{GetP
 
 use crate::object::{MuteState, Object, PolarityState, Range, Switch, Value};
 use crate::objects::Objects;
-use crate::place::reaches;
 use crate::put::{put_bool, put_class, put_number, put_text, put_u8, put_u16, put_u32};
 use crate::request::{Request, SwitchRequest};
+use arrayvec::ArrayVec;
 use oca_types::{Ono, Params, PutFault, Text};
 
 /// An object's number and class, and where all descendants are listed its container too.
@@ -35,36 +35,68 @@ fn put_item(out: &mut Params, object: &Object, deep: bool) -> Result<(), PutFaul
     Ok(())
 }
 
-/// Whether the object is one of those that are listed for the block.
-fn is_listed(objects: &Objects, object: &Object, block: Ono, deep: bool) -> bool
-    ensures { result ≡ is_listed objects.now block.0 deep object.now }
+/// Whether the object at this index lies in the block, however deep: its container is the block, or is marked.
+fn lies_in(objects: &Objects, at: usize, block: Ono, marks: &[bool]) -> bool
+    requires tree { IsTree objects.now }
+    requires within { at < length objects.now }
+    requires marks { marks.now ≡ map (is_listed objects.now block.0 true) (take at objects.now) }
+    ensures { (d : AnObject) → result ≡ is_listed objects.now block.0 true (slice_index_or objects.now at d) }
 {
-    if deep {
-        reaches(objects, block, object.container)
-    } else {
-        object.container == block
+    match objects.container_at(at) {
+        Some(container) => objects.object_at(at).container == block || marks[container],
+        None => false,
     }
 }
 
-/// How many objects are listed for the block.
-#[tactic(auto, using(crate::proofs::Positions::counted))]
-fn listed_count(objects: &Objects, block: Ono, deep: bool) -> usize
-    ensures few { result ≤ length objects.now }
-    ensures count { result ≡ length (filter (is_listed objects.now block.0 deep) objects.now) }
+/// Whether the object at this index is listed for the block, by the marks of those before it.
+fn is_listed(objects: &Objects, at: usize, block: Ono, deep: bool, marks: &[bool]) -> bool
+    requires tree { IsTree objects.now }
+    requires within { at < length objects.now }
+    requires marks { marks.now ≡ map (is_listed objects.now block.0 deep) (take at objects.now) }
+    ensures { (d : AnObject) → result ≡ is_listed objects.now block.0 deep (slice_index_or objects.now at d) }
 {
-    objects
-        .as_slice()
-        .iter()
-        .filter(|object| is_listed(objects, object, block, deep))
-        .count()
+    if deep {
+        lies_in(objects, at, block, marks)
+    } else {
+        objects.object_at(at).container == block
+    }
 }
 
-/// What is listed of each object.
-fn put_items(out: &mut Params, objects: &Objects, block: Ono, deep: bool) -> Result<(), PutFault>
-    ensures { Puts result out.old.items out.new.items (flat_map (item_encoding deep) (filter (is_listed objects.now block.0 deep) objects.now)) }
+/// Marks the objects that are listed for the block, in one walk: containers stand before what they contain.
+fn listed(objects: &Objects, block: Ono, deep: bool) -> ArrayVec<bool, 128>
+    requires { IsTree objects.now }
+    ensures { result.items ≡ map (is_listed objects.now block.0 deep) objects.now }
 {
-    for object in objects.as_slice() {
-        if is_listed(objects, object, block, deep) {
+    let mut marks = ArrayVec::new();
+    for at in 0..objects.len() {
+        let mark = is_listed(objects, at, block, deep, &marks);
+        marks.push(mark);
+    }
+    marks
+}
+
+/// How many marks are set.
+#[tactic(auto, using(crate::proofs::Positions::counted))]
+fn marked_count(marks: &[bool]) -> usize
+    ensures few { result ≤ length marks.now }
+    ensures count { result ≡ length (filter (λ mark. mark) marks.now) }
+{
+    marks.iter().filter(|mark| **mark).count()
+}
+
+/// What is listed of each object that is marked.
+fn put_items(
+    out: &mut Params,
+    objects: &Objects,
+    marks: &[bool],
+    deep: bool,
+) -> Result<(), PutFault>
+    requires { length marks.now ≡ length objects.now }
+    ensures { (p : AnObject → Bool) → marks.now ≡ map p objects.now → Puts result out.old.items out.new.items (flat_map (item_encoding deep) (filter p objects.now)) }
+{
+    for at in 0..objects.len() {
+        let object = objects.object_at(at);
+        if marks[at] {
             put_item(out, object, deep)?;
         }
     }
@@ -72,12 +104,14 @@ fn put_items(out: &mut Params, objects: &Objects, block: Ono, deep: bool) -> Res
 }
 
 /// The members of a block, or all that lie in it however deep.
+#[inline(never)]
 fn put_members(out: &mut Params, objects: &Objects, block: Ono, deep: bool) -> Result<(), PutFault>
-    requires { length objects.now ≤ 128 }
+    requires { IsTree objects.now }
     ensures { Puts result out.old.items out.new.items (list_encoding (item_encoding deep) (filter (is_listed objects.now block.0 deep) objects.now)) }
 {
-    put_u16(out, listed_count(objects, block, deep) as u16)?;
-    put_items(out, objects, block, deep)
+    let marks = listed(objects, block, deep);
+    put_u16(out, marked_count(&marks) as u16)?;
+    put_items(out, objects, &marks, deep)
 }
 
 /// The number of a mute's state.
@@ -269,7 +303,7 @@ pub(crate) fn put_answer(
 ) -> Result<(), PutFault>
     requires sound { IsSoundValue object.now.value }
     requires range { is_out_of_range object.now.value request.now ≡ false }
-    requires few { length objects.now ≤ 128 }
+    requires tree { IsTree objects.now }
     ensures { Puts result out.old.items out.new.items (answer objects.now object.now request.now) }
 {
     match request {

@@ -10,7 +10,7 @@ ghost use Rattle.oca_tree.specs.declared.builder.AddFault.TheVariants.{NoMemory}
 
 use crate::object::{MuteState, NumberKind, Object, PolarityState, Range, Switch, Value};
 use crate::objects::Objects;
-use crate::place::{contains, depth, is_block};
+use crate::place::{block_depth, contains};
 use crate::tree::Tree;
 use arrayvec::ArrayVec;
 use oca_types::{Ono, Text};
@@ -364,10 +364,10 @@ fn object_for(
     if contains(objects, ono) {
         return Err(AddFault::Taken);
     }
-    if !is_block(objects, container) {
+    let Some(depth) = block_depth(objects, container) else {
         return Err(AddFault::NoSuchBlock);
-    }
-    if depth(objects, container) >= 8 {
+    };
+    if depth >= 8 {
         return Err(AddFault::TooDeep);
     }
     if spec.role.is_empty() || has_bad_name(&spec.kind) {

@@ -6,35 +6,40 @@ ghost use Rattle.oca_tree.specs.Objects.{has_number, object_of};
 ghost use Rattle.oca_tree.specs.Locks.{released, lock_count};
 ghost use Rattle.oca_tree.specs.Requests.{is_out_of_range};
 ghost use Rattle.oca_tree.specs.Execution.{changed};
+ghost use Rattle.oca_tree.specs.Places.{places};
 ghost use Rattle.oca_tree.specs.Trees.{IsTree};
-ghost use Rattle.oca_tree.specs.PrivateObjects.{IsKeyed, IsMap};
+ghost use Rattle.oca_tree.specs.PrivateObjects.{IsKeyed, IsMap, containers};
 ghost use Rattle.oca_tree.specs.declared.object.Object.{Object as Item};
 
 use crate::change::change;
 use crate::object::Object;
 use crate::request::Request;
+use arrayvec::ArrayVec;
 use indexmap::IndexMap;
 use oca_types::{Ono, Peer};
 use std::alloc::{AllocError, Global};
 use std::marker::Model;
 
-/// At most 128 objects. Contracts see the list of them in order of adding.
+/// At most 128 objects, each with the index of its container. Contracts see the list of them in order of adding.
 #[derive(Drop)]
 pub(crate) struct Objects {
     map: IndexMap<Ono, Object>,
+    /// Where the container of each object stands in the map; nothing for the root.
+    containers: ArrayVec<Option<usize>, 128>,
 }
 
 impl Model for Objects {
-    ghost use Rattle.std.specs.Prelude.{List};
+    ghost use Rattle.std.specs.Prelude.{List, ◌≡◌};
     ghost use Rattle.indexmap.specs.IndexMap.{values};
     ghost use Rattle.oca_tree.specs.declared.object.Object.{Object as Item};
-    ghost use Rattle.oca_tree.specs.PrivateObjects.{IsMap};
+    ghost use Rattle.oca_tree.specs.Places.{places};
+    ghost use Rattle.oca_tree.specs.PrivateObjects.{IsMap, containers as containers_of};
 
     ghost Value = { List Item };
 
     ghost view = { λ o. values o.map };
 
-    ghost invariant = { λ o. IsMap o.map };
+    ghost invariant = { λ o. IsMap o.map × (o.containers.items ≡ containers_of (places (values o.map))) };
 }
 
 impl Objects {
@@ -43,7 +48,8 @@ impl Objects {
         ensures { IfOk result (λ objects. objects ≡ []) }
     {
         let map = IndexMap::with_capacity(alloc, 128)?;
-        Ok(Objects { map })
+        let containers = ArrayVec::new();
+        Ok(Objects { map, containers })
     }
 
     /// The objects in order of adding.
@@ -69,6 +75,14 @@ impl Objects {
         &objects[index]
     }
 
+    /// The index of the container of the object at this index; nothing for the root.
+    pub(crate) fn container_at(&self, index: usize) -> Option<usize>
+        requires { index < length self.now }
+        ensures { result ≡ slice_index_or (containers (places self.now)) index None }
+    {
+        self.containers[index]
+    }
+
     /// The object with this number.
     pub(crate) fn find(&self, ono: Ono) -> Option<&Object>
         ensures { option_copied result ≡ object_of self.now ono.0 }
@@ -89,6 +103,8 @@ impl Objects {
         requires free { object_of self.old object.ono.0 ≡ None }
         ensures { self.new ≡ self.old ++ object ∷ [] }
     {
+        let container = self.map.get_index_of(&object.container);
+        self.containers.push(container);
         match self.map.insert(object.ono, object) {
             Ok(_) => {}
             Err(_) => unreachable!(),

@@ -1,10 +1,10 @@
 //! Where objects stand: found by their number, and the chain of containers above them.
-ghost use Rattle.std.specs.Prelude.{◌≡◌, ◌==◌, ◌<◌, ◌≤◌, length, slice_index_or, is_some, IfNone, IfSome, Some, None};
+ghost use Rattle.std.specs.Prelude.{◌≡◌, ◌<◌, ◌≤◌, length, slice_index_or, is_some, IfNone, IfSome, Some, None};
 ghost use Rattle.std.specs.List.{position};
-ghost use Rattle.std.specs.Option.{option_map};
 ghost use Rattle.oca_tree.specs.Objects.{has_number, object_of};
 ghost use Rattle.oca_tree.specs.declared.object.Object.{Object};
-ghost use Rattle.oca_tree.specs.Places.{places, place_at, is_block, depth, reaches};
+ghost use Rattle.oca_tree.specs.Places.{places, is_block, depth};
+ghost use Rattle.oca_tree.specs.Trees.{IsTree};
 
 use crate::objects::Objects;
 use oca_types::Ono;
@@ -26,34 +26,16 @@ pub(crate) fn contains(objects: &Objects, ono: Ono) -> bool
     objects.find(ono).is_some()
 }
 
-/// The container of the object with this number.
-fn container_of(objects: &Objects, ono: Ono) -> Option<Ono>
-    ensures { option_map (λ n. n.0) result ≡ option_map (λ p. p.container) (place_at (places objects.now) ono.0) }
+/// How deep the object at this index stands, the root at depth 1.
+fn depth(objects: &Objects, at: usize) -> usize
+    requires tree { IsTree objects.now }
+    requires within { at < length objects.now }
+    ensures { (d : Object) → result ≡ depth (places objects.now) (slice_index_or objects.now at d).ono.0 }
 {
-    match objects.find(ono) {
-        Some(object) => Some(object.container),
-        None => None,
-    }
-}
-
-/// Whether there is a block with this number.
-pub(crate) fn is_block(objects: &Objects, ono: Ono) -> bool
-    ensures { result ≡ is_block (places objects.now) ono.0 }
-{
-    match objects.find(ono) {
-        Some(object) => object.value.is_block(),
-        None => false,
-    }
-}
-
-/// How deep the object with this number stands: 1 at the root, and 0 where it is not there.
-pub(crate) fn depth(objects: &Objects, ono: Ono) -> usize
-    ensures { result ≡ depth (places objects.now) ono.0 }
-{
-    let mut depth = 0;
-    let mut current = ono;
+    let mut depth = 1;
+    let mut current = at;
     for _ in 0..objects.len() {
-        let Some(container) = container_of(objects, current) else {
+        let Some(container) = objects.container_at(current) else {
             return depth;
         };
         depth += 1;
@@ -62,19 +44,19 @@ pub(crate) fn depth(objects: &Objects, ono: Ono) -> usize
     depth
 }
 
-/// Whether the chain of containers that begins with this one reaches the block.
-pub(crate) fn reaches(objects: &Objects, block: Ono, container: Ono) -> bool
-    ensures { result ≡ reaches (places objects.now) block.0 container.0 }
+/// How deep the block with this number stands; nothing where it is not there.
+pub(crate) fn block_depth(objects: &Objects, ono: Ono) -> Option<usize>
+    requires { IsTree objects.now }
+    ensures block { is_some result ≡ is_block (places objects.now) ono.0 }
+    ensures depth { IfSome result (λ n. n ≡ depth (places objects.now) ono.0) }
 {
-    let mut current = container;
-    for _ in 0..objects.len() {
-        let Some(above) = container_of(objects, current) else {
-            return false;
-        };
-        if current == block {
-            return true;
-        }
-        current = above;
+    let Some(at) = index_of(objects, ono) else {
+        return None;
+    };
+    let object = objects.object_at(at);
+    if object.value.is_block() {
+        Some(depth(objects, at))
+    } else {
+        None
     }
-    false
 }

@@ -1,26 +1,22 @@
-use Rattle.std.proofs.Common.{◌≡◌, ◌-◌, ◌<◌, length, arith, ap}
-use Rattle.oca_tree.specs.Places.{places}
-use Rattle.oca_tree.proofs.Chains.{length_places, depth_more, depth_ends, chain_zero}
+use Rattle.std.proofs.Common.{arith}
+use Rattle.oca_tree.proofs.Containers.{container_below, depth_root, depth_above}
 use Rattle.oca_tree.proofs.place.depth.Goals as goal
 
 pub returns-in_default : goal.returns-in_default
-returns-in_default c =
-    let long = length_places c.args.objects.now in
-    let below : c.loop.counter < length (places c.args.objects.now) = omega arith in
-    depth_ends _ c.loop.counter (places c.args.objects.now) c.loop.current.0 below c.loop.depth _ c.loop.invariant.steps c.in_default.ensures
+returns-in_default c = λ d.
+    let root = depth_root c.args.objects.now c.requires.tree c.loop.current d c.loop.invariant.within c.in_default.ensures in
+    let steps = c.loop.invariant.steps d in
+    omega (arith, root, steps)
 
 pub loop-preserved : goal.loop-preserved
 loop-preserved c =
-    let long = length_places c.args.objects.now in
-    let below : c.loop.counter < length (places c.args.objects.now) = omega arith in
+    let below = container_below c.args.objects.now c.requires.tree c.loop.current c.loop.invariant.within c.in-Some.container c.in-Some.ensures in
     record {
-      steps = depth_more _ c.loop.counter (places c.args.objects.now) c.loop.current.0 below c.loop.depth _ c.in-Some.container.0 c.loop.invariant.steps c.in-Some.ensures;
-      few = omega arith;
+      within = omega (arith, below);
+      steps = λ d.
+          let above = depth_above c.args.objects.now c.requires.tree c.loop.current d c.loop.invariant.within c.in-Some.container c.in-Some.ensures in
+          let steps = c.loop.invariant.steps d in
+          omega (arith, above, steps);
+      earlier = omega (arith, below, c.loop.invariant.earlier);
+      few = omega (arith, c.loop.invariant.few);
     }
-
-pub returns : goal.returns
-returns c =
-    let long = length_places c.args.objects.now in
-    let over : length (places c.args.objects.now) - c.loop.counter ≡ 0 = omega arith in
-    let none = ap length (chain_zero (length (places c.args.objects.now)) c.loop.counter (places c.args.objects.now) c.loop.current.0 over) in
-    omega (arith, none, c.loop.invariant.steps)

@@ -1,10 +1,13 @@
-use Rattle.std.proofs.Common.{◌≡◌, ◌+◌, ◌-◌, ◌≤◌, length}
-use Rattle.oca_tree.specs.Places.{places, chain_within, depth}
+use Rattle.std.proofs.Common.{◌≡◌, ◌+◌, ◌<◌, ◌≤◌, suc, length, get_or}
+use Rattle.oca_tree.specs.declared.object.Object.{Object}
+use Rattle.oca_tree.specs.Places.{places, depth}
 use Rattle.oca_tree.proofs.place.depth.Given as goal
 
--- the steps so far and those from here on are all
+-- the steps so far and the depth from here on are all, and each step goes to an earlier object
 abbrev pub invariant-loop : goal.invariant-loop
 invariant-loop l = record {
-  steps : l.depth + length (chain_within (length (places l.objects) - l.counter) (places l.objects) l.current.0) ≡ depth (places l.objects) l.fn.ono.0;
-  few : l.depth ≤ l.counter;
+  within : l.current < length l.objects;
+  steps : (d : Object) → l.depth + depth (places l.objects) (get_or l.objects l.current d).ono.0 ≡ suc (depth (places l.objects) (get_or l.objects l.fn.at d).ono.0);
+  earlier : l.counter + l.current ≤ l.fn.at;
+  few : l.depth ≤ l.counter + 1;
 }

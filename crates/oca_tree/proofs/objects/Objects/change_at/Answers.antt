@@ -1,11 +1,11 @@
 use Rattle.std.proofs.Common.{sym, ap, ◌∙◌, arith}
 use Rattle.indexmap.specs.IndexMap.{values}
-use Rattle.oca_tree.specs.declared.object.Object.{Object}
 use Rattle.oca_tree.specs.Locks.{lock_count}
-use Rattle.oca_tree.proofs.Keyed.{keyed-set_value_at, length-set_value, change_there, same_ono}
+use Rattle.oca_tree.specs.Places.{Place, place_of}
+use Rattle.oca_tree.specs.PrivateObjects.{containers}
+use Rattle.oca_tree.proofs.Keyed.{keyed-set_value_at, length-set_value, places_kept, change_there, same_ono}
 use Rattle.oca_tree.proofs.Locking.{locks_few, lock_counted_get, lock_written_get}
-use Rattle.oca_tree.specs.Execution.{changed}
-use Rattle.oca_tree.proofs.Sound.{changed_ono}
+use Rattle.oca_tree.proofs.Sound.{changed_place}
 use Rattle.oca_tree.proofs.objects.Objects.change_at.Goals as goal
 
 pub change-requires-clause-room : goal.change-requires-clause-room
@@ -18,11 +18,16 @@ change-requires-clause-counted c =
     omega (arith, one, same, c.requires.count)
 
 pub invariant_of-self : goal.invariant_of-self
-invariant_of-self c = record {
-  keyed = keyed-set_value_at c.self.inside.map.entries c.args.at c.change.new.object c.index_mut.result.now c.index_mut.ensures.value
-      (ap (λ (o : Object). o.ono) c.change.ensures.object ∙ same_ono (changed c.index_mut.result.now c.args.peer c.args.request) c.index_mut.result.now (changed_ono c.index_mut.result.now c.args.peer c.args.request)) c.self.invariant.keyed;
-  room = rw (length-set_value c.self.inside.map.entries c.args.at c.change.new.object) c.self.invariant.room;
-}
+invariant_of-self c =
+    let place = ap place_of c.change.ensures.object ∙ changed_place c.index_mut.result.now c.args.peer c.args.request in
+    let same_containers = ap containers (places_kept c.self.inside.map.entries c.args.at c.index_mut.result.now c.change.new.object c.index_mut.ensures.value place) in (
+      record {
+        keyed = keyed-set_value_at c.self.inside.map.entries c.args.at c.change.new.object c.index_mut.result.now c.index_mut.ensures.value
+            (same_ono c.change.new.object c.index_mut.result.now (ap (λ (p : Place). p.number) place)) c.self.invariant.0.keyed;
+        room = rw (length-set_value c.self.inside.map.entries c.args.at c.change.new.object) c.self.invariant.0.room;
+      },
+      c.self.invariant.1 ∙ sym same_containers,
+    )
 
 pub returns-clause-objects : goal.returns-clause-objects
 returns-clause-objects c = λ d. rw (← c.self.view_is)

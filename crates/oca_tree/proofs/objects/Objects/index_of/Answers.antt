@@ -4,4 +4,4 @@ use Rattle.oca_tree.proofs.Keyed.{position_keyed, eqb_comm}
 use Rattle.oca_tree.proofs.objects.Objects.index_of.Goals as goal
 
 pub returns : goal.returns
-returns c = rw (← c.self.view_is) (c.get_index_of.ensures.index ∙ position_keyed _ (has_number c.args.ono.0) (λ o. eqb_comm c.args.ono.0 o.ono.0) c.self.inside.map.entries c.self.invariant.keyed)
+returns c = rw (← c.self.view_is) (c.get_index_of.ensures.index ∙ position_keyed _ (has_number c.args.ono.0) (λ o. eqb_comm c.args.ono.0 o.ono.0) c.self.inside.map.entries c.self.invariant.0.keyed)

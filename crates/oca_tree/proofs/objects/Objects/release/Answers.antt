@@ -1,0 +1,14 @@
+use Rattle.std.proofs.Common.{sym, ap, ◌∙◌}
+use Rattle.indexmap.specs.IndexMap.{values}
+use Rattle.oca_tree.specs.Locks.{released}
+use Rattle.oca_tree.specs.Places.{places}
+use Rattle.oca_tree.specs.PrivateObjects.{containers}
+use Rattle.oca_tree.proofs.Sound.{released_places}
+use Rattle.oca_tree.proofs.objects.Objects.release.Goals as goal
+
+pub invariant_of-self : goal.invariant_of-self
+unfolding released
+invariant_of-self c = (
+  c.release_all.ensures.map,
+  c.self.invariant.1 ∙ ap containers (sym (ap places c.release_all.ensures.objects ∙ released_places c.args.peer (values c.self.inside.map))),
+)
