@@ -51,6 +51,7 @@ fn ends_at_closed(rt: HostRuntime) -> Result<(), Fail> {
     Ok(())
 }
 
+/// Three turns and then the rest, each reply to its sender.
 #[test]
 fn serves_an_end(rt: HostRuntime) -> Result<(), Fail> {
     let mut bench = Bench::new(rt.alloc())?;
@@ -75,6 +76,7 @@ fn serves_an_end(rt: HostRuntime) -> Result<(), Fail> {
     Ok(())
 }
 
+/// A failed send is counted, and the repeated command then gets its reply.
 #[test]
 fn goes_on_after_a_failed_send(rt: HostRuntime) -> Result<(), Fail> {
     let mut bench = Bench::new(rt.alloc())?;
