@@ -17,7 +17,7 @@ use Rattle.oca_control.specs.Answers.{AnswerFields, answer_in}
 use Rattle.oca_control.specs.Contents.{IsContent}
 use Rattle.oca_control.specs.Untaken.{Untaken, new_untaken, has_room, is_due, first_due, given_out, answered, hears_all, answer_under, without_handle, holds}
 use Rattle.oca_control.specs.Links.{LinkState, Request, new_link, present, command_under, most_params, submission, submission_under, after_submission, handle_after, Decision, GivesCommand, GivesKeepAlive, GivesNothing, IsLost, decision, decision_among, due_answer, due_bytes, after_due, hears_content, received, taken}
-use Rattle.oca_control.specs.Histories.{Call, Submits, GivesOut, Receives, Takes, IsCall, IsHistory, clock, commands, command_of, Sending, sendings, answers_in, answers_of, answers_to, first_of, is_untaken, has_rested, last_given, is_lost, RiseFrom, IsCopy, AreApart, TakesTheFirst, IsLowestDue, NoneIsDue, HasRoom, IsFull, IsSubmitAnswer, AnswersSubmits, IsDueAnswer, GivesWhatIsDue, IsLawful}
+use Rattle.oca_control.specs.Histories.{Call, Submits, GivesOut, Receives, TakesAnswer, IsCall, IsHistory, clock, commands, command_of, Sending, sendings, answers_in, answers_of, answers_to, first_of, is_untaken, has_rested, last_given, is_lost, RiseFrom, IsCopy, AreApart, TakesTheFirst, IsLowestDue, NoneIsDue, HasRoom, IsFull, IsSubmitAnswer, AnswersSubmits, IsDueAnswer, GivesWhatIsDue, IsLawful}
 
 -- ---- numbers, tests and lists
 
@@ -689,11 +689,11 @@ due_step device first opened s before l now IsLost e g =
     passes device first s (clock opened before) now l.sent true (commands before) (λ x. sendings opened x before) (λ x. answers_to device x before) (λ x. is_untaken x before) l g
 
 take_step : (device : Peer) (first opened s : ℕ) (before : List Call) (l after : LinkState) (h : ℕ) (a : Option AnswerFields) →
-    a ≡ answer_under h l.untaken → after ≡ taken h l → Now device first opened s before l → Now device first opened s (Takes h a ∷ before) after
+    a ≡ answer_under h l.untaken → after ≡ taken h l → Now device first opened s before l → Now device first opened s (TakesAnswer h a ∷ before) after
 take_step device first opened s before l after h None e f g =
     subst (λ m. Now device first opened s before m) (sym (f ∙ ap (λ (o : Option AnswerFields). let m : LinkState = record l { untaken = cond (is_some o) (without_handle h l.untaken) l.untaken } in m) (sym e))) g
 take_step device first opened s before l after h (Some a) e f g =
-    subst (λ m. Now device first opened s (Takes h (Some a) ∷ before) m)
+    subst (λ m. Now device first opened s (TakesAnswer h (Some a) ∷ before) m)
     (sym (f ∙ ap (λ (o : Option AnswerFields). let m : LinkState = record l { untaken = cond (is_some o) (without_handle h l.untaken) l.untaken } in m) (sym e)))
     (takes device first s (clock opened before) (commands before) (λ x. sendings opened x before) (λ x. answers_to device x before) (λ x. is_untaken x before) l h g)
 
@@ -841,7 +841,7 @@ step device first opened s before l after (Receives from bytes content now a) so
   dues_are = g.dues_are;
   takes_are = g.takes_are;
 }
-step device first opened s before l after (Takes h a) some g c = record {
+step device first opened s before l after (TakesAnswer h a) some g c = record {
   now = take_step device first opened s before l after h a c.0 c.1 g.now;
   rests = subst (λ m. Rests (last_given opened before) (is_lost before) m) (sym c.1) (take_rests (last_given opened before) h (is_lost before) l g.rests);
   dues_are = g.dues_are;
@@ -974,7 +974,7 @@ fit device first opened s (GivesOut now a bytes ∷ before) after some low h =
 fit device first opened s (Receives from bytes content now a ∷ before) after some low h =
     let f = fit device first opened s before h.0 some low h.1 in
     record { next = subst (λ (m : LinkState). Fits32 m.next) (sym h.2.2) f.next; submits_are = f.submits_are }
-fit device first opened s (Takes x a ∷ before) after some low h =
+fit device first opened s (TakesAnswer x a ∷ before) after some low h =
     let f = fit device first opened s before h.0 some low h.1 in
     record { next = subst (λ (m : LinkState). Fits32 m.next) (sym h.2.1) f.next; submits_are = f.submits_are }
 

@@ -9,14 +9,14 @@ use Rattle.std.proofs.lemmas.List.Sums.{sum_by-append}
 use Rattle.std.proofs.lemmas.List.Folds.{list_any-append}
 use Rattle.oca_types.specs.declared.words.Peer.{Peer}
 use Rattle.oca_net.specs.Deliveries.{Delivery, Datagram, Quiet, Failed, Sent}
-use Rattle.oca_net.specs.Ends.{taken_after, largest_datagram, last_u64, one_more}
+use Rattle.oca_net.specs.Ends.{taken_after, largest_datagram, last_u64, one_more, Lacks, none, kept, missing, TakesAllBut}
 use Rattle.oca_control.specs.declared.reception.Reception.{Reception}
 use Rattle.oca_control.specs.Steps.{ReceivesDatagram}
 use Rattle.oca_control.specs.declared.due.Due.{Due}
 use Rattle.oca_control.specs.declared.due.Due.TheVariants as dues
 use Rattle.oca_control.specs.declared.report.DriveReport.{DriveReport}
 use Rattle.oca_control.specs.Links.{LinkState, Decision, GivesCommand, GivesKeepAlive, GivesNothing, IsLost, decision, gone_on, due_answer, due_bytes, after_due}
-use Rattle.oca_control.specs.Driving.{answered_by, HearsDatagram, is_command, is_keep_alive, is_lost, goes_on, decisions_from, link_from, given_to, all_given_to, NoTurn, OneMore, is_failed_delivery, report_of, Lacks, none, kept, missing, TakesGiven, DrivesTelling, DrivesAny, receives_of}
+use Rattle.oca_control.specs.Driving.{answered_by, HearsDatagram, is_command, is_keep_alive, is_lost, goes_on, decisions_from, link_from, given_to, all_given_to, NoTurn, OneMore, is_failed_delivery, report_of, DrivesTelling, DrivesAny, receives_of}
 use Rattle.oca_control.specs.PrivateDriving.{added, IsWithin, given_report, TurnTelling, TurnAny, IsUnchanged}
 
 -- ---- what an end took
@@ -32,10 +32,10 @@ lacks_both k j xs ys us vs (missing {k = i} y a) b = subst (λ (n : ℕ). Lacks 
     one_later : (i j : ℕ) → i + j + 1 ≡ i + 1 + j
     one_later i j = omega arith
 
-pub takes_none : (t t' : List Sent) → t' ≡ t → TakesGiven 0 t t' []
+pub takes_none : (t t' : List Sent) → t' ≡ t → TakesAllBut 0 t t' []
 takes_none t t' same = record { sent = []; grew = same ∙ sym (append-nil t); part = none }
 
-pub takes_more : (k j : ℕ) (a b c xs ys : List Sent) → TakesGiven k a b xs → TakesGiven j b c ys → TakesGiven (k + j) a c (xs ++ ys)
+pub takes_more : (k j : ℕ) (a b c xs ys : List Sent) → TakesAllBut k a b xs → TakesAllBut j b c ys → TakesAllBut (k + j) a c (xs ++ ys)
 takes_more k j a b c xs ys f g = record {
   sent = f.sent ++ g.sent;
   grew = g.grew ∙ ap (λ zs. zs ++ g.sent) f.grew ∙ append_assoc a f.sent g.sent;
@@ -43,14 +43,14 @@ takes_more k j a b c xs ys f g = record {
 }
 
 pub takes_sent : (t t' : List Sent) (to : Peer) (bytes bytes' : List ℕ) (b : Bool) → t' ≡ taken_after b to bytes' t → bytes' ≡ bytes → b ≡ true →
-    TakesGiven 0 t t' ((record { to = to; bytes = bytes }) ∷ [])
+    TakesAllBut 0 t t' ((record { to = to; bytes = bytes }) ∷ [])
 takes_sent t t' to bytes bytes' b took same so = record {
   sent = (record { to = to; bytes = bytes }) ∷ [];
   grew = took ∙ ap (λ x. taken_after x to bytes' t) so ∙ ap (λ x. taken_after true to x t) same;
   part = kept (record { to = to; bytes = bytes }) none;
 }
 
-pub takes_missed : (t t' : List Sent) (s : Sent) (b : Bool) (to : Peer) (bytes : List ℕ) → t' ≡ taken_after b to bytes t → b ≡ false → TakesGiven 1 t t' (s ∷ [])
+pub takes_missed : (t t' : List Sent) (s : Sent) (b : Bool) (to : Peer) (bytes : List ℕ) → t' ≡ taken_after b to bytes t → b ≡ false → TakesAllBut 1 t t' (s ∷ [])
 takes_missed t t' s b to bytes took not_so = record {
   sent = [];
   grew = took ∙ ap (λ x. taken_after x to bytes t) not_so ∙ sym (append-nil t);
@@ -83,8 +83,8 @@ gives_lost p GivesKeepAlive h e f = let g = sym e ∙ f in cc
 gives_lost p GivesNothing h e f = refl
 gives_lost p IsLost h e f = refl
 
-pub takes_as : (k : ℕ) (t t' xs ys : List Sent) → xs ≡ ys → TakesGiven k t t' xs → TakesGiven k t t' ys
-takes_as k t t' xs ys e took = subst (TakesGiven k t t') e took
+pub takes_as : (k : ℕ) (t t' xs ys : List Sent) → xs ≡ ys → TakesAllBut k t t' xs → TakesAllBut k t t' ys
+takes_as k t t' xs ys e took = subst (TakesAllBut k t t') e took
 
 -- ---- sums of reports
 
@@ -109,7 +109,7 @@ pub record GivesSoFar (now left : ℕ) (start : LinkState) (i : ℕ) (l : LinkSt
   pub link : link_from now left start ≡ link_from now (left - i) l
   pub reported : report ≡ given_report decisions report.failed_sends
   pub device : l.device ≡ start.device
-  pub took : IsTrue tells → TakesGiven report.failed_sends t t' (all_given_to start.device decisions)
+  pub took : IsTrue tells → TakesAllBut report.failed_sends t t' (all_given_to start.device decisions)
 
 pub gives_start : (now left : ℕ) (l : LinkState) (r : DriveReport) (tells : Bool) (t : List Sent) → r ≡ given_report [] 0 → GivesSoFar now left l 0 l r tells t t
 gives_start now left l r tells t is = record {
@@ -118,7 +118,7 @@ gives_start now left l r tells t is = record {
   link = ap (λ n. link_from now n l) (all_left left);
   reported = is ∙ ap (given_report []) (sym (ap (λ (q : DriveReport). q.failed_sends) is));
   device = refl;
-  took = λ h. subst (λ (k : ℕ). TakesGiven k t t []) (sym (ap (λ (q : DriveReport). q.failed_sends) is)) (takes_none t t refl);
+  took = λ h. subst (λ (k : ℕ). TakesAllBut k t t []) (sym (ap (λ (q : DriveReport). q.failed_sends) is)) (takes_none t t refl);
 }
   where
     all_left : (n : ℕ) → n ≡ n - 0
@@ -129,7 +129,7 @@ pub record GivesOne (now : ℕ) (l l' : LinkState) (go : Bool) (given : DriveRep
   pub link : l' ≡ gone_on now l
   pub goes : go ≡ goes_on (decision now l)
   pub reported : given ≡ given_report (decision now l ∷ []) given.failed_sends
-  pub took : IsTrue tells → TakesGiven given.failed_sends t t' (given_to l.device (decision now l))
+  pub took : IsTrue tells → TakesAllBut given.failed_sends t t' (given_to l.device (decision now l))
   pub device : l'.device ≡ l.device
 
 -- all that was due was given out
@@ -137,7 +137,7 @@ pub record GaveAll (now left : ℕ) (start l : LinkState) (report : DriveReport)
   pub link : l ≡ link_from now left start
   pub device : l.device ≡ start.device
   pub reported : report ≡ given_report (decisions_from now left start) report.failed_sends
-  pub took : IsTrue tells → TakesGiven report.failed_sends t t' (all_given_to start.device (decisions_from now left start))
+  pub took : IsTrue tells → TakesAllBut report.failed_sends t t' (all_given_to start.device (decisions_from now left start))
 
 one_given : (p : Peer) (ds : List Decision) (d : Decision) → all_given_to p (ds ++ d ∷ []) ≡ all_given_to p ds ++ given_to p d
 one_given p ds d = flat_map-append (given_to p) ds (d ∷ []) ∙ ap (λ zs. all_given_to p ds ++ zs) (append-nil (given_to p d))
@@ -149,12 +149,12 @@ module _ (now left : ℕ) (start : LinkState) (i : ℕ) (l l' : LinkState) (r gi
       g ∙ ap (λ q. added q given) e ∙ ap (added (given_report ds r.failed_sends)) f ∙ added_reports [] [] ds (d ∷ []) 0 0 r.failed_sends given.failed_sends
       ∙ ap (given_report (ds ++ d ∷ [])) (sym (ap (λ (q : DriveReport). q.failed_sends) g))
 
-  one_took : (ds : List Decision) (d : Decision) → r' ≡ added r given → l.device ≡ start.device → TakesGiven r.failed_sends t t1 (all_given_to start.device ds) →
-      TakesGiven given.failed_sends t1 t' (given_to l.device d) → TakesGiven r'.failed_sends t t' (all_given_to start.device (ds ++ d ∷ []))
+  one_took : (ds : List Decision) (d : Decision) → r' ≡ added r given → l.device ≡ start.device → TakesAllBut r.failed_sends t t1 (all_given_to start.device ds) →
+      TakesAllBut given.failed_sends t1 t' (given_to l.device d) → TakesAllBut r'.failed_sends t t' (all_given_to start.device (ds ++ d ∷ []))
   one_took ds d g same a b =
-      subst (λ (k : ℕ). TakesGiven k t t' (all_given_to start.device (ds ++ d ∷ []))) (sym (ap (λ (q : DriveReport). q.failed_sends) g))
-      (subst (λ (xs : List Sent). TakesGiven (r.failed_sends + given.failed_sends) t t' xs) (sym (one_given start.device ds d))
-      (takes_more r.failed_sends given.failed_sends t t1 t' _ _ a (subst (λ (p : Peer). TakesGiven given.failed_sends t1 t' (given_to p d)) same b)))
+      subst (λ (k : ℕ). TakesAllBut k t t' (all_given_to start.device (ds ++ d ∷ []))) (sym (ap (λ (q : DriveReport). q.failed_sends) g))
+      (subst (λ (xs : List Sent). TakesAllBut (r.failed_sends + given.failed_sends) t t' xs) (sym (one_given start.device ds d))
+      (takes_more r.failed_sends given.failed_sends t t1 t' _ _ a (subst (λ (p : Peer). TakesAllBut given.failed_sends t1 t' (given_to p d)) same b)))
 
   next_decisions : (m : ℕ) → decisions_from now (suc m) l ≡ decision now l ∷ cond (goes_on (decision now l)) (decisions_from now m (gone_on now l)) []
   unfolding decisions_from
@@ -189,7 +189,7 @@ module _ (now left : ℕ) (start : LinkState) (i : ℕ) (l l' : LinkState) (r gi
         ∙ ap (λ b. cond b (link_from now (left - (i + 1)) (gone_on now l)) (gone_on now l)) (sym g.goes ∙ not_so));
     device = g.device ∙ f.device;
     reported = one_reported f.decisions (decision now l) f.reported g.reported sum ∙ ap (λ ds. given_report ds r'.failed_sends) (sym all);
-    took = λ h. subst (λ (ds : List Decision). TakesGiven r'.failed_sends t t' (all_given_to start.device ds)) (sym all) (one_took f.decisions (decision now l) sum f.device (f.took h) (g.took h));
+    took = λ h. subst (λ (ds : List Decision). TakesAllBut r'.failed_sends t t' (all_given_to start.device ds)) (sym all) (one_took f.decisions (decision now l) sum f.device (f.took h) (g.took h));
   }
     where
       one_less : (n i : ℕ) → i < n → n - i ≡ suc (n - (i + 1))
@@ -205,7 +205,7 @@ gave_all now left start i l r tells t t' f over = record {
   link = sym (f.link ∙ ap (λ n. link_from now n l) (nothing_left left i over));
   device = f.device;
   reported = f.reported ∙ ap (λ ds. given_report ds r.failed_sends) (sym all);
-  took = λ h. subst (λ (ds : List Decision). TakesGiven r.failed_sends t t' (all_given_to start.device ds)) (sym all) (f.took h);
+  took = λ h. subst (λ (ds : List Decision). TakesAllBut r.failed_sends t t' (all_given_to start.device ds)) (sym all) (f.took h);
 }
   where
     nothing_left : (n i : ℕ) → n ≤ i → n - i ≡ 0
@@ -224,7 +224,7 @@ no_telling l delivered t r is = record {
   grew = sym (append-nil delivered);
   drives = NoTurn;
   reported = is ∙ ap (given_report []) (sym (ap (λ (q : DriveReport). q.failed_sends) is));
-  took = subst (λ (k : ℕ). TakesGiven k t t []) (sym (ap (λ (q : DriveReport). q.failed_sends) is)) (takes_none t t refl);
+  took = subst (λ (k : ℕ). TakesAllBut k t t []) (sym (ap (λ (q : DriveReport). q.failed_sends) is)) (takes_none t t refl);
 }
 
 pub no_any : (l : LinkState) (r : DriveReport) → r ≡ given_report [] 0 → DrivesAny l l r
@@ -251,9 +251,9 @@ telling_more a b c d1 d2 d3 t1 t2 t3 r turn r' f g going same sum = record {
   grew = g.grew ∙ ap (λ xs. xs ++ g.delivery ∷ []) f.grew ∙ append_assoc d1 f.deliveries (g.delivery ∷ []);
   drives = OneMore g.delivery f.drives (sym (ap (λ (q : DriveReport). q.lost) f.reported) ∙ going) g.drives;
   reported = turn_reported r turn r' f.deliveries g.delivery f.decisions g.decisions f.answered g.answered f.reported g.reported sum;
-  took = subst (λ (k : ℕ). TakesGiven k t1 t3 (all_given_to a.device (f.decisions ++ g.decisions))) (sym (ap (λ (q : DriveReport). q.failed_sends) sum))
-      (subst (λ (xs : List Sent). TakesGiven (r.failed_sends + turn.failed_sends) t1 t3 xs) (sym (flat_map-append (given_to a.device) f.decisions g.decisions))
-      (takes_more r.failed_sends turn.failed_sends t1 t2 t3 _ _ f.took (subst (λ (p : Peer). TakesGiven turn.failed_sends t2 t3 (all_given_to p g.decisions)) same g.took)));
+  took = subst (λ (k : ℕ). TakesAllBut k t1 t3 (all_given_to a.device (f.decisions ++ g.decisions))) (sym (ap (λ (q : DriveReport). q.failed_sends) sum))
+      (subst (λ (xs : List Sent). TakesAllBut (r.failed_sends + turn.failed_sends) t1 t3 xs) (sym (flat_map-append (given_to a.device) f.decisions g.decisions))
+      (takes_more r.failed_sends turn.failed_sends t1 t2 t3 _ _ f.took (subst (λ (p : Peer). TakesAllBut turn.failed_sends t2 t3 (all_given_to p g.decisions)) same g.took)));
 }
 
 pub any_more : (a b c : LinkState) (r turn r' : DriveReport) → DrivesAny a b r → TurnAny b c turn → r.lost ≡ false → r' ≡ added r turn → DrivesAny a c r'
@@ -346,7 +346,7 @@ module _ (old mid new : LinkState) (now : ℕ) (given : DriveReport) (link : new
   }
 
   pub datagram_telling : (from : Peer) (bytes : List ℕ) (answer : Reception) (n : ℕ) (d d' : List Delivery) (t t1 t' : List Sent) → length bytes ≤ 1472 → ReceivesDatagram from bytes now old answer mid → n ≡ answered_by answer →
-      d' ≡ d ++ Datagram from bytes now ∷ [] → t1 ≡ t → TakesGiven given.failed_sends t1 t' (all_given_to mid.device (decisions_from now (mid.span + 1) mid)) →
+      d' ≡ d ++ Datagram from bytes now ∷ [] → t1 ≡ t → TakesAllBut given.failed_sends t1 t' (all_given_to mid.device (decisions_from now (mid.span + 1) mid)) →
       TurnTelling old new d d' t t' (record { turns = 1; sent = given.sent; keep_alives = given.keep_alives; answered = n; failed_receives = given.failed_receives; failed_sends = given.failed_sends; lost = given.lost })
   datagram_telling from bytes answer n d d' t t1 t' short received count grew same took = record {
     delivery = Datagram from bytes now;
@@ -355,8 +355,8 @@ module _ (old mid new : LinkState) (now : ℕ) (given : DriveReport) (link : new
     grew = grew;
     drives = record { between = mid; hears = heard_datagram from bytes now old mid answer n short received count; gives = (refl, link) };
     reported = datagram_reported from bytes now (decisions_from now (mid.span + 1) mid) n given reported;
-    took = subst (λ (x : List Sent). TakesGiven given.failed_sends x t' (all_given_to old.device (decisions_from now (mid.span + 1) mid))) same
-        (subst (λ (p : Peer). TakesGiven given.failed_sends t1 t' (all_given_to p (decisions_from now (mid.span + 1) mid))) (same_device from bytes now old mid answer received) took);
+    took = subst (λ (x : List Sent). TakesAllBut given.failed_sends x t' (all_given_to old.device (decisions_from now (mid.span + 1) mid))) same
+        (subst (λ (p : Peer). TakesAllBut given.failed_sends t1 t' (all_given_to p (decisions_from now (mid.span + 1) mid))) (same_device from bytes now old mid answer received) took);
   }
 
 module _ (old new : LinkState) (now : ℕ) (given : DriveReport) (link : new ≡ link_from now (old.span + 1) old)
@@ -370,7 +370,7 @@ module _ (old new : LinkState) (now : ℕ) (given : DriveReport) (link : new ≡
     reported = silent_reported (Quiet now) (decisions_from now (old.span + 1) old) given refl reported;
   }
 
-  pub quiet_telling : (d d' : List Delivery) (t t1 t' : List Sent) → d' ≡ d ++ Quiet now ∷ [] → t1 ≡ t → TakesGiven given.failed_sends t1 t' (all_given_to old.device (decisions_from now (old.span + 1) old)) →
+  pub quiet_telling : (d d' : List Delivery) (t t1 t' : List Sent) → d' ≡ d ++ Quiet now ∷ [] → t1 ≡ t → TakesAllBut given.failed_sends t1 t' (all_given_to old.device (decisions_from now (old.span + 1) old)) →
       TurnTelling old new d d' t t' (record { turns = 1; sent = given.sent; keep_alives = given.keep_alives; answered = given.answered; failed_receives = given.failed_receives; failed_sends = given.failed_sends; lost = given.lost })
   quiet_telling d d' t t1 t' grew same took = record {
     delivery = Quiet now;
@@ -379,11 +379,11 @@ module _ (old new : LinkState) (now : ℕ) (given : DriveReport) (link : new ≡
     grew = grew;
     drives = record { between = old; hears = (refl, refl); gives = (refl, link) };
     reported = silent_reported (Quiet now) (decisions_from now (old.span + 1) old) given refl reported;
-    took = subst (λ (x : List Sent). TakesGiven given.failed_sends x t' (all_given_to old.device (decisions_from now (old.span + 1) old))) same took;
+    took = subst (λ (x : List Sent). TakesAllBut given.failed_sends x t' (all_given_to old.device (decisions_from now (old.span + 1) old))) same took;
   }
 
   pub oversize_telling : (from : Peer) (bytes : List ℕ) (d d' : List Delivery) (t t1 t' : List Sent) → largest_datagram < length bytes → d' ≡ d ++ Datagram from bytes now ∷ [] → t1 ≡ t →
-      TakesGiven given.failed_sends t1 t' (all_given_to old.device (decisions_from now (old.span + 1) old)) →
+      TakesAllBut given.failed_sends t1 t' (all_given_to old.device (decisions_from now (old.span + 1) old)) →
       TurnTelling old new d d' t t' (record { turns = 1; sent = given.sent; keep_alives = given.keep_alives; answered = given.answered; failed_receives = given.failed_receives; failed_sends = given.failed_sends; lost = given.lost })
   oversize_telling from bytes d d' t t1 t' over grew same took = record {
     delivery = Datagram from bytes now;
@@ -392,7 +392,7 @@ module _ (old new : LinkState) (now : ℕ) (given : DriveReport) (link : new ≡
     grew = grew;
     drives = record { between = old; hears = record { short = λ fits. absurd (omega arith); long = λ _. (refl, refl) }; gives = (refl, link) };
     reported = silent_reported (Datagram from bytes now) (decisions_from now (old.span + 1) old) given refl reported;
-    took = subst (λ (x : List Sent). TakesGiven given.failed_sends x t' (all_given_to old.device (decisions_from now (old.span + 1) old))) same took;
+    took = subst (λ (x : List Sent). TakesAllBut given.failed_sends x t' (all_given_to old.device (decisions_from now (old.span + 1) old))) same took;
   }
 
 pub failed_telling : (l : LinkState) (given : DriveReport) (d d' : List Delivery) (t t' : List Sent) → given ≡ given_report [] 0 → d' ≡ d ++ Failed ∷ [] → t' ≡ t →
@@ -404,7 +404,7 @@ failed_telling l given d d' t t' e grew same = record {
   grew = grew;
   drives = record { between = l; hears = (refl, refl); gives = (refl, refl) };
   reported = failed_reported given e;
-  took = subst (λ (k : ℕ). TakesGiven k t t' []) (sym (ap (λ (q : DriveReport). q.failed_sends) e)) (takes_none t t' same);
+  took = subst (λ (k : ℕ). TakesAllBut k t t' []) (sym (ap (λ (q : DriveReport). q.failed_sends) e)) (takes_none t t' same);
 }
 
 pub failed_any : (l : LinkState) (given : DriveReport) → given ≡ given_report [] 0 →

@@ -3,7 +3,7 @@ use Rattle.std.specs.Prelude.{◌≡◌, ℕ, zero, suc, ◌+◌, ◌<◌, ◌�
 use Rattle.std.specs.List.{list_any, flat_map}
 use Rattle.oca_types.specs.declared.words.Peer.{Peer}
 use Rattle.oca_net.specs.Deliveries.{Delivery, Datagram, Quiet, Failed, Sent}
-use Rattle.oca_net.specs.Ends.{largest_datagram}
+use Rattle.oca_net.specs.Ends.{largest_datagram, TakesAllBut}
 use Rattle.oca_control.specs.declared.reception.Reception.{Reception}
 use Rattle.oca_control.specs.declared.reception.Reception.TheVariants as receptions
 use Rattle.oca_control.specs.declared.report.DriveReport.{DriveReport}
@@ -108,18 +108,6 @@ report_of deliveries decisions answered failed_sends =
       lost = list_any is_lost decisions;
     }
 
--- The first list is the second without k of its members.
-pub data Lacks {X : Type 0} : (k : ℕ) (xs ys : List X) → Type 0 where
-  none : Lacks 0 [] []
-  kept : {k : ℕ} {xs ys : List X} (x : X) → Lacks k xs ys → Lacks k (x ∷ xs) (x ∷ ys)
-  missing : {k : ℕ} {xs ys : List X} (y : X) → Lacks k xs ys → Lacks (k + 1) xs (y ∷ ys)
-
--- What an end took grew by these datagrams, but for those whose send failed.
-pub record TakesGiven (failed : ℕ) (old new given : List Sent) : Type 0 where
-  pub sent : List Sent
-  pub grew : new ≡ old ++ sent
-  pub part : Lacks failed sent given
-
 -- A link was driven by an end that tells: what the end delivered grew by the turns' deliveries, what it took by what was given
 -- out but for the failed sends, and the report is that of the turns.
 pub record DrivesTelling (old new : LinkState) (delivered delivered' : List Delivery) (taken taken' : List Sent) (report : DriveReport) : Type 0 where
@@ -129,7 +117,7 @@ pub record DrivesTelling (old new : LinkState) (delivered delivered' : List Deli
   pub grew : delivered' ≡ delivered ++ deliveries
   pub drives : Drives deliveries old new decisions answered
   pub reported : report ≡ report_of deliveries decisions answered report.failed_sends
-  pub took : TakesGiven report.failed_sends taken taken' (all_given_to old.device decisions)
+  pub took : TakesAllBut report.failed_sends taken taken' (all_given_to old.device decisions)
 
 -- Whatever the end tells: there are deliveries of which the turns are what was done and reported.
 pub record DrivesAny (old new : LinkState) (report : DriveReport) : Type 0 where

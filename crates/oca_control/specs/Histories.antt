@@ -26,14 +26,14 @@ pub data Call : Type 0 where
   Submits : (request : Request) (now : ℕ) (answer : Result Handle ControlFault) → Call
   GivesOut : (now : ℕ) (answer : Due) (bytes : List ℕ) → Call
   Receives : (from : Peer) (bytes : List ℕ) (content : Option (List Msg)) (now : ℕ) (answer : Reception) → Call
-  Takes : (handle : ℕ) (answer : Option AnswerFields) → Call
+  TakesAnswer : (handle : ℕ) (answer : Option AnswerFields) → Call
 
 -- The call of a link makes another of it: just what the clauses of `submit`, `due`, `datagram` and `take` say.
 abbrev pub IsCall : LinkState → Call → LinkState → Type 0
 IsCall l (Submits request now answer) after = (answer ≡ submission request l) × (after ≡ submitted request now l)
 IsCall l (GivesOut now answer bytes) after = (answer ≡ due_answer (decision now l)) × (bytes ≡ due_bytes (decision now l)) × (after ≡ gone_on now l)
 IsCall l (Receives from bytes content now answer) after = IsContent content bytes × (answer ≡ reception from content l) × (after ≡ received from content now l)
-IsCall l (Takes h answer) after = (answer ≡ answer_under h l.untaken) × (after ≡ taken h l)
+IsCall l (TakesAnswer h answer) after = (answer ≡ answer_under h l.untaken) × (after ≡ taken h l)
 
 -- A HISTORY: a link that is new at a moment becomes this one by these calls.
 abbrev pub IsHistory : Peer → ℕ → ℕ → ℕ → List Call → LinkState → Type 0
@@ -49,7 +49,7 @@ clock opened (Submits request now (Ok h) ∷ before) = max (clock opened before)
 clock opened (Submits request now (Err fault) ∷ before) = clock opened before
 clock opened (GivesOut now answer bytes ∷ before) = max (clock opened before) now
 clock opened (Receives from bytes content now answer ∷ before) = max (clock opened before) now
-clock opened (Takes h answer ∷ before) = clock opened before
+clock opened (TakesAnswer h answer ∷ before) = clock opened before
 
 -- THE ACCEPTED COMMANDS, the latest first.
 abbrev pub commands : List Call → List CommandFields
@@ -58,7 +58,7 @@ commands (Submits request now (Ok h) ∷ before) = command_under h.0 request ∷
 commands (Submits request now (Err fault) ∷ before) = commands before
 commands (GivesOut now answer bytes ∷ before) = commands before
 commands (Receives from bytes content now answer ∷ before) = commands before
-commands (Takes h answer ∷ before) = commands before
+commands (TakesAnswer h answer ∷ before) = commands before
 
 -- the command that was accepted under a handle
 abbrev pub command_of : ℕ → List CommandFields → Option CommandFields
@@ -82,7 +82,7 @@ sendings opened h (GivesOut now answer bytes ∷ before) =
     sending_of h answer (record { at = max (clock opened before) now; bytes = bytes }) (sendings opened h before)
 sendings opened h (Submits request now answer ∷ before) = sendings opened h before
 sendings opened h (Receives from bytes content now answer ∷ before) = sendings opened h before
-sendings opened h (Takes handle answer ∷ before) = sendings opened h before
+sendings opened h (TakesAnswer handle answer ∷ before) = sendings opened h before
 
 -- what the responses among messages answer under a handle, in order
 abbrev pub answers_in : ℕ → List Msg → List AnswerFields
@@ -104,7 +104,7 @@ answers_to device h (Submits request now (Err fault) ∷ before) = answers_to de
 answers_to device h (GivesOut now answer bytes ∷ before) = answers_to device h before
 answers_to device h (Receives from bytes content now answer ∷ before) =
     answers_to device h before ++ (if same_peer from device then answers_of h content else [])
-answers_to device h (Takes x answer ∷ before) = answers_to device h before
+answers_to device h (TakesAnswer x answer ∷ before) = answers_to device h before
 
 abbrev pub first_of : List AnswerFields → Option AnswerFields
 first_of [] = None
@@ -117,8 +117,8 @@ is_untaken h (Submits request now (Ok x) ∷ before) = is_untaken h before || (x
 is_untaken h (Submits request now (Err fault) ∷ before) = is_untaken h before
 is_untaken h (GivesOut now answer bytes ∷ before) = is_untaken h before
 is_untaken h (Receives from bytes content now answer ∷ before) = is_untaken h before
-is_untaken h (Takes x (Some answer) ∷ before) = not (x == h) && is_untaken h before
-is_untaken h (Takes x None ∷ before) = is_untaken h before
+is_untaken h (TakesAnswer x (Some answer) ∷ before) = not (x == h) && is_untaken h before
+is_untaken h (TakesAnswer x None ∷ before) = is_untaken h before
 
 -- a command has rested where it was never given out, or last 250 ms before t or earlier
 abbrev pub has_rested : ℕ → List Sending → Bool
@@ -143,7 +143,7 @@ last_given opened [] = opened
 last_given opened (GivesOut now answer bytes ∷ before) = given_at (max (clock opened before) now) answer (last_given opened before)
 last_given opened (Submits request now answer ∷ before) = last_given opened before
 last_given opened (Receives from bytes content now answer ∷ before) = last_given opened before
-last_given opened (Takes h answer ∷ before) = last_given opened before
+last_given opened (TakesAnswer h answer ∷ before) = last_given opened before
 
 abbrev pub says_lost : Due → Bool
 says_lost (dues.Send h) = false
@@ -157,7 +157,7 @@ is_lost [] = false
 is_lost (GivesOut now answer bytes ∷ before) = says_lost answer || is_lost before
 is_lost (Submits request now answer ∷ before) = is_lost before
 is_lost (Receives from bytes content now answer ∷ before) = is_lost before
-is_lost (Takes h answer ∷ before) = is_lost before
+is_lost (TakesAnswer h answer ∷ before) = is_lost before
 
 -- ---- THE LAW
 
@@ -189,7 +189,7 @@ AnswersSubmits first span (Submits request now answer ∷ before) =
     IsSubmitAnswer span (first + length (commands before)) (length request.params) before answer × AnswersSubmits first span before
 AnswersSubmits first span (GivesOut now answer bytes ∷ before) = AnswersSubmits first span before
 AnswersSubmits first span (Receives from bytes content now answer ∷ before) = AnswersSubmits first span before
-AnswersSubmits first span (Takes h answer ∷ before) = AnswersSubmits first span before
+AnswersSubmits first span (TakesAnswer h answer ∷ before) = AnswersSubmits first span before
 
 -- A COPY: bytes that are a PDU of type 1 with the command of the handle alone (AES70-3). So all copies of a handle are the same.
 pub record IsCopy (h : ℕ) (accepted : List CommandFields) (bytes : List ℕ) : Type 0 where
@@ -206,7 +206,7 @@ AreApart (s ∷ r ∷ before) = (r.at + 250 ≤ s.at) × AreApart (r ∷ before)
 -- EACH TAKE of an untaken handle gives the first answer that came to it, where one came. Of another handle it gives nothing.
 abbrev pub TakesTheFirst : Peer → List Call → Type 0
 TakesTheFirst device [] = ⊤
-TakesTheFirst device (Takes h answer ∷ before) =
+TakesTheFirst device (TakesAnswer h answer ∷ before) =
     (answer ≡ (if is_untaken h before then first_of (answers_to device h before) else None)) × TakesTheFirst device before
 TakesTheFirst device (Submits request now answer ∷ before) = TakesTheFirst device before
 TakesTheFirst device (GivesOut now answer bytes ∷ before) = TakesTheFirst device before
@@ -242,7 +242,7 @@ GivesWhatIsDue device opened (GivesOut now answer bytes ∷ before) =
     IsDueAnswer device opened (max (clock opened before) now) bytes before answer × GivesWhatIsDue device opened before
 GivesWhatIsDue device opened (Submits request now answer ∷ before) = GivesWhatIsDue device opened before
 GivesWhatIsDue device opened (Receives from bytes content now answer ∷ before) = GivesWhatIsDue device opened before
-GivesWhatIsDue device opened (Takes h answer ∷ before) = GivesWhatIsDue device opened before
+GivesWhatIsDue device opened (TakesAnswer h answer ∷ before) = GivesWhatIsDue device opened before
 
 -- THE CALLS of a link to a device that was opened at a moment, with a first handle and a span.
 pub record IsLawful (device : Peer) (first opened span : ℕ) (calls : List Call) : Type 0 where

@@ -1,9 +1,10 @@
 -- For private contracts: what a part of a turn does and reports.
 use Rattle.std.specs.Prelude.{◌≡◌, ℕ, ◌+◌, ◌≤◌, ◌||◌, List, [], ◌∷◌, ◌++◌, Option, Some, None}
 use Rattle.oca_net.specs.Deliveries.{Delivery, Sent}
+use Rattle.oca_net.specs.Ends.{TakesAllBut}
 use Rattle.oca_control.specs.declared.report.DriveReport.{DriveReport}
 use Rattle.oca_control.specs.Links.{LinkState, Decision}
-use Rattle.oca_control.specs.Driving.{DrivesTurn, report_of, TakesGiven, all_given_to}
+use Rattle.oca_control.specs.Driving.{DrivesTurn, report_of, all_given_to}
 
 -- first the one, then the other
 abbrev pub added : DriveReport → DriveReport → DriveReport
@@ -39,7 +40,7 @@ pub record TurnTelling (old new : LinkState) (delivered delivered' : List Delive
   pub grew : delivered' ≡ delivered ++ delivery ∷ []
   pub drives : DrivesTurn delivery old new decisions answered
   pub reported : turn ≡ report_of (delivery ∷ []) decisions answered turn.failed_sends
-  pub took : TakesGiven turn.failed_sends taken taken' (all_given_to old.device decisions)
+  pub took : TakesAllBut turn.failed_sends taken taken' (all_given_to old.device decisions)
 
 -- a turn of any end
 pub record TurnAny (old new : LinkState) (turn : DriveReport) : Type 0 where

@@ -1,9 +1,9 @@
 //! The loop that drives a link over an end.
 ghost use Rattle.std.specs.Prelude.{◌≡◌, ◌+◌, ◌-◌, ◌<◌, ◌≤◌, ◌^◌, ℕ, [], ◌∷◌, IsTrue, IfSome, IfNone, true, false, length};
 ghost use Rattle.oca_types.specs.declared.words.Peer.{Peer};
-ghost use Rattle.oca_net.specs.Ends.{last_u64, one_more, failures_sent, taken_after, largest_datagram};
+ghost use Rattle.oca_net.specs.Ends.{last_u64, one_more, failures_sent, taken_after, largest_datagram, TakesAllBut};
 ghost use Rattle.oca_control.specs.Links.{decision, gone_on, due_bytes};
-ghost use Rattle.oca_control.specs.Driving.{DrivesTelling, DrivesAny, TakesGiven, answered_by, decisions_from, link_from, goes_on, given_to, all_given_to, receives_of};
+ghost use Rattle.oca_control.specs.Driving.{DrivesTelling, DrivesAny, answered_by, decisions_from, link_from, goes_on, given_to, all_given_to, receives_of};
 ghost use Rattle.oca_control.specs.PrivateDriving.{added, IsWithin, given_report, TurnOrClosed, AnyTurnOrClosed};
 
 use crate::due::Due;
@@ -107,7 +107,7 @@ fn give_all<E: End>(link: &mut Link, end: &mut E, packet: &mut Packet, now: u64)
     ensures telling { E.tells end.new ≡ E.tells end.old }
     ensures delivered { IsTrue (E.tells end.old) → E.delivered end.new ≡ E.delivered end.old }
     ensures taken { IsTrue (E.tells end.old) →
-        TakesGiven result.failed_sends (E.taken end.old) (E.taken end.new) (all_given_to link.old.device (decisions_from now (link.old.span + 1) link.old)) }
+        TakesAllBut result.failed_sends (E.taken end.old) (E.taken end.new) (all_given_to link.old.device (decisions_from now (link.old.span + 1) link.old)) }
     ensures closed { E.closed end.new ≡ E.closed end.old }
     ensures receives { E.receives end.new ≡ E.receives end.old }
     ensures failures { E.failures end.new < last_u64 → E.failures end.new ≡ E.failures end.old + result.failed_sends }
@@ -139,7 +139,7 @@ fn give_one<E: End>(
     ensures telling { E.tells end.new ≡ E.tells end.old }
     ensures delivered { IsTrue (E.tells end.old) → E.delivered end.new ≡ E.delivered end.old }
     ensures taken { IsTrue (E.tells end.old) →
-        TakesGiven result.1.failed_sends (E.taken end.old) (E.taken end.new) (given_to link.old.device (decision now link.old)) }
+        TakesAllBut result.1.failed_sends (E.taken end.old) (E.taken end.new) (given_to link.old.device (decision now link.old)) }
     ensures closed { E.closed end.new ≡ E.closed end.old }
     ensures receives { E.receives end.new ≡ E.receives end.old }
     ensures failures { E.failures end.new < last_u64 → E.failures end.new ≡ E.failures end.old + result.1.failed_sends }
@@ -178,7 +178,7 @@ fn give_one<E: End>(
 fn send<E: End>(end: &mut E, to: Peer, packet: &Packet) -> u64
     ensures telling { E.tells end.new ≡ E.tells end.old }
     ensures delivered { IsTrue (E.tells end.old) → E.delivered end.new ≡ E.delivered end.old }
-    ensures taken { IsTrue (E.tells end.old) → TakesGiven result (E.taken end.old) (E.taken end.new) ((record { to = to; bytes = packet.now.items }) ∷ []) }
+    ensures taken { IsTrue (E.tells end.old) → TakesAllBut result (E.taken end.old) (E.taken end.new) ((record { to = to; bytes = packet.now.items }) ∷ []) }
     ensures closed { E.closed end.new ≡ E.closed end.old }
     ensures receives { E.receives end.new ≡ E.receives end.old }
     ensures failures { E.failures end.new < last_u64 → E.failures end.new ≡ E.failures end.old + result }

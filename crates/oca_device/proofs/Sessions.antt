@@ -7,7 +7,7 @@ use Rattle.oca_types.specs.Peers.{same_peer, CommandFields}
 use Rattle.oca_pdu.specs.Messages.{Msg, Command, Response, KeepAlive}
 use Rattle.oca_device.specs.Notes.{Noted, Admitted, Heartbeat, Executed, Note, notes_of, is_within, unbroken, run, is_known, peers_except, opened, known, accepted, heartbeat_of, last_moment, has_lapsed}
 use Rattle.oca_device.specs.States.{State, noted, admits, judged_in, reply_of, after_command, after_messages, time_of, lapsed_at}
-use Rattle.oca_device.specs.LawByEvents.{Arrival, Happening, session, is_open, said, heard, heartbeat, accepted_of, accepts_handle, admitted, clock, is_silent, silent, has_room}
+use Rattle.oca_device.specs.LawByEvents.{Arrival, Happening, session, is_open, said, heartbeat, accepted_of, accepts_handle, admitted, clock, is_lapsed, lapsed, has_room}
 use Rattle.oca_device.specs.LawByEvents as law
 use Rattle.oca_device.proofs.Lists.{filter_same, filter_both}
 use Rattle.oca_device.proofs.Peers.{same_self, same_is, same_turned}
@@ -50,7 +50,7 @@ known_where t q D = ap is_open (session_latest t q D) ∙ open_where t (latest q
 
 pub record Bridged (w : ℕ) (own : List Note) (S : List Arrival) : Type 0 where
   pub moments : (t : ℕ) → is_within t own ≡ within t S
-  pub last : last_moment (unbroken own) ≡ heard S
+  pub last : last_moment (unbroken own) ≡ law.last_moment S
   pub beat : heartbeat_of (unbroken own) ≡ law.heartbeat_of S
   pub commands : commands_of (accepted (unbroken own)) ≡ accepted_of w [] (said S)
 
@@ -207,14 +207,14 @@ let_in_bridged w p ms s D h = record {
     by q true e = subst (λ (x : Peer). Bridged w (notes_of x after.notes) (latest x (arrival p ms s.moment ∷ D))) (same_is p q e) (own_bridged w p ms s D (h.each p))
     by q false e = other_bridged w p q ms s D e (h.each q)
 
--- ---- who is silent
+-- ---- who has lapsed
 
-pub same_silent : (w t : ℕ) (s : State) (H : List Happening) → s.moment ≡ clock H → AllBridged w s (admitted H) → lapsed_at t s ≡ silent t H
-same_silent w t s H c h =
+pub same_lapsed : (w t : ℕ) (s : State) (H : List Happening) → s.moment ≡ clock H → AllBridged w s (admitted H) → lapsed_at t s ≡ lapsed t H
+same_lapsed w t s H c h =
     filter_both (has_lapsed t s.notes) (is_known s.moment s.notes) both (λ p. refl) (opened s.notes)
     ∙ filter_same both both' same (opened s.notes)
     ∙ ap (filter both') h.opened_is
-    ∙ sym (filter_both (λ p. is_silent t (session (clock H) p D)) (λ p. law.is_known (clock H) p D) both' (λ p. refl) (law.opened D))
+    ∙ sym (filter_both (λ p. is_lapsed t (session (clock H) p D)) (λ p. law.is_known (clock H) p D) both' (λ p. refl) (law.opened D))
   where
     D : List Arrival
     D = admitted H
@@ -223,20 +223,20 @@ same_silent w t s H c h =
     both p = is_known s.moment s.notes p && has_lapsed t s.notes p
 
     both' : Peer → Bool
-    both' p = law.is_known (clock H) p D && is_silent t (session (clock H) p D)
+    both' p = law.is_known (clock H) p D && is_lapsed t (session (clock H) p D)
 
     same : (p : Peer) → both p ≡ both' p
     same p =
         by (is_known s.moment s.notes p) refl
-        ∙ ap (λ (m : ℕ). law.is_known m p D && is_silent t (session m p D)) c
+        ∙ ap (λ (m : ℕ). law.is_known m p D && is_lapsed t (session m p D)) c
       where
-        by : (b : Bool) → is_known s.moment s.notes p ≡ b → (b && has_lapsed t s.notes p) ≡ (law.is_known s.moment p D && is_silent t (session s.moment p D))
+        by : (b : Bool) → is_known s.moment s.notes p ≡ b → (b && has_lapsed t s.notes p) ≡ (law.is_known s.moment p D && is_lapsed t (session s.moment p D))
         by true k =
             ap (λ (x : ℕ). nat_lt (3 * x) (t - last_moment (run p s.notes))) (h.each p).beat
             ∙ ap (λ (x : ℕ). nat_lt (3 * law.heartbeat_of (latest p D)) (t - x)) (h.each p).last
-            ∙ ap (λ (x : List Arrival). is_silent t x) (sym (session_now w p s D true (h.each p) k))
-            ∙ ap (λ b. b && is_silent t (session s.moment p D)) (sym k ∙ same_known w s.moment s D h p)
-        by false k = ap (λ b. b && is_silent t (session s.moment p D)) (sym k ∙ same_known w s.moment s D h p)
+            ∙ ap (λ (x : List Arrival). is_lapsed t x) (sym (session_now w p s D true (h.each p) k))
+            ∙ ap (λ b. b && is_lapsed t (session s.moment p D)) (sym k ∙ same_known w s.moment s D h p)
+        by false k = ap (λ b. b && is_lapsed t (session s.moment p D)) (sym k ∙ same_known w s.moment s D h p)
 
 -- what is known of a known peer
 pub session_is : (w : ℕ) (s : State) (D : List Arrival) (p : Peer) → AllBridged w s D → is_known s.moment s.notes p ≡ true → session s.moment p D ≡ latest p D

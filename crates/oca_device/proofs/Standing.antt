@@ -21,14 +21,14 @@ use Rattle.oca_device.specs.Events.{Event, Datagram, Tick}
 use Rattle.oca_device.specs.Notes.{Note, notes_of, unbroken, run, is_known, accepted}
 use Rattle.oca_device.specs.States.{State, admits, after_messages, after_reading, released_all, lapsed_at, moved_to, state_after}
 use Rattle.oca_device.specs.Answers.{answers_to_messages, answers_to_reading, answers_in, counts_of_messages, served, verdict_of_reading}
-use Rattle.oca_device.specs.LawByEvents.{Arrival, Happening, Passes, Says, Happened, nothing, tick, malformed, datagram, EventsAreBytes, clock, admitted, session, said, silent, has_room, accepted_of, accepted_by, served_of, Change, Executes, Releases, changes, objects, reply, replies, all_counted, IsVerdict}
+use Rattle.oca_device.specs.LawByEvents.{Arrival, Happening, Passes, Says, Happened, nothing, tick, malformed, datagram, EventsAreBytes, clock, admitted, session, said, lapsed, has_room, accepted_of, accepted_by, served_of, Change, Executes, Releases, changes, objects, reply, replies, all_counted, IsVerdict}
 use Rattle.oca_device.specs.LawByEvents as law
 use Rattle.oca_device.proofs.Peers.{same_is}
 use Rattle.oca_device.proofs.Runs.{run_goes_on, run_begins}
 use Rattle.oca_device.proofs.Acceptance.{commands_of, AreDistinct, distinct_none, distinct_of}
 use Rattle.oca_device.proofs.Messages.{executed_of, messages_tree, messages_moment, messages_other, messages_counted, other_note}
 use Rattle.oca_device.proofs.Answering.{AnswersUnder, messages_answered, objects_both, reply_both, reply_released, reply_other, Replied, messages_replied}
-use Rattle.oca_device.proofs.Sessions.{Bridged, none_bridged, latest, AllBridged, same_known, same_room, same_silent, arrival, let_in, let_in_note, let_in_known, let_in_executed, let_in_bridged}
+use Rattle.oca_device.proofs.Sessions.{Bridged, none_bridged, latest, AllBridged, same_known, same_room, same_lapsed, arrival, let_in, let_in_note, let_in_known, let_in_executed, let_in_bridged}
 
 -- ---- what is read of bytes
 
@@ -79,13 +79,13 @@ objects_released (p ∷ ps) tree = objects_released ps (released tree p)
 pub passing : (w : ℕ) (tree : List Object) (now : ℕ) (s : State) (H : List Happening) → Stands w tree s H → Stands w tree (moved_to (max s.moment now) s) (Passes now ∷ H)
 passing w tree now s H h =
     let t = max (clock H) now in
-    let ps = silent t H in
+    let ps = lapsed t H in
     let e = ap (λ (m : ℕ). max m now) h.clock_is in
     record {
       clock_is = e;
       bridged = record { each = h.bridged.each; opened_is = h.bridged.opened_is };
       tree_is = ap (λ (m : ℕ). released_all (lapsed_at m s) s.tree) e
-          ∙ ap (λ (x : List Peer). released_all x s.tree) (same_silent w t s H h.clock_is h.bridged)
+          ∙ ap (λ (x : List Peer). released_all x s.tree) (same_lapsed w t s H h.clock_is h.bridged)
           ∙ ap (released_all ps) h.tree_is
           ∙ sym (objects_both tree (changes w H) (map Releases ps) ∙ objects_released ps (objects tree (changes w H)));
       replied = λ q i x f. reply_both q i [] tree (changes w H) (map Releases ps) ∙ reply_released q i (reply q i [] tree (changes w H)) (objects tree (changes w H)) ps

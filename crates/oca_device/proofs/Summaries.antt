@@ -9,7 +9,7 @@ use Rattle.oca_session.specs.Table.{Session}
 use Rattle.oca_device.specs.Notes.{run, is_known, known, opened, accepted, heartbeat_of, last_moment}
 use Rattle.oca_device.specs.States.{State}
 use Rattle.oca_device.specs.Devices.{session_for, table_of}
-use Rattle.oca_device.specs.LawByEvents.{Arrival, Happening, clock, admitted, session, said, heard, accepted_of, Summary, summary_of, summary_by_events}
+use Rattle.oca_device.specs.LawByEvents.{Arrival, Happening, clock, admitted, session, said, accepted_of, Summary, summary_of, summary_by_events}
 use Rattle.oca_device.specs.LawByEvents as law
 use Rattle.oca_device.proofs.Acceptance.{commands_of, window_mapped}
 use Rattle.oca_device.proofs.Sessions.{latest, AllBridged, known_are, session_is}
@@ -31,7 +31,7 @@ module _ {X Y : Type 0} where
       by false e k = k
 
 summary_with : Peer → ℕ → ℕ → List CommandFields → Summary
-summary_with p t ms cs = record { peer = p; last_heard = t; heartbeat = ms; commands = cs }
+summary_with p t ms cs = record { peer = p; heard = t; heartbeat = ms; commands = cs }
 
 one_summary : (w : ℕ) (s : State) (D : List Arrival) (p : Peer) → AllBridged w s D → is_known s.moment s.notes p ≡ true →
     summary_of (session_for w s.notes p) ≡ summary_by_events w s.moment D p
@@ -39,9 +39,9 @@ unfolding summary_with
 one_summary w s D p h k =
     let b = h.each p in
     ap (λ (x : ℕ). summary_with p x (heartbeat_of (run p s.notes)) (map (λ e. e.command) (window w (accepted (run p s.notes))))) b.last
-    ∙ ap (λ (x : ℕ). summary_with p (heard (latest p D)) x (map (λ e. e.command) (window w (accepted (run p s.notes))))) b.beat
-    ∙ ap (λ (x : List CommandFields). summary_with p (heard (latest p D)) (law.heartbeat_of (latest p D)) x) (sym (window_mapped w (accepted (run p s.notes))) ∙ ap (window w) b.commands)
-    ∙ ap (λ (S : List Arrival). summary_with p (heard S) (law.heartbeat_of S) (window w (accepted_of w [] (said S)))) (sym (session_is w s D p h k))
+    ∙ ap (λ (x : ℕ). summary_with p (law.last_moment (latest p D)) x (map (λ e. e.command) (window w (accepted (run p s.notes))))) b.beat
+    ∙ ap (λ (x : List CommandFields). summary_with p (law.last_moment (latest p D)) (law.heartbeat_of (latest p D)) x) (sym (window_mapped w (accepted (run p s.notes))) ∙ ap (window w) b.commands)
+    ∙ ap (λ (S : List Arrival). summary_with p (law.last_moment S) (law.heartbeat_of S) (window w (accepted_of w [] (said S)))) (sym (session_is w s D p h k))
 
 pub summaries_are : (w : ℕ) (tree : List Object) (s : State) (H : List Happening) → Stands w tree s H →
     map summary_of (table_of w s).sessions ≡ map (summary_by_events w (clock H) (admitted H)) (law.known (clock H) (admitted H))

@@ -3,7 +3,7 @@ use Rattle.std.specs.Prelude.{◌≡◌, ℕ, ◌≤◌, List, Option, Some, Non
 use Rattle.oca_net.specs.Deliveries.{Delivery, Sent}
 use Rattle.oca_device.specs.declared.report.Report.{Report}
 use Rattle.oca_device.specs.Devices.{DeviceState}
-use Rattle.oca_device.specs.Replies.{ServesDeliveries}
+use Rattle.oca_device.specs.Replies.{ServesTelling, ServesAny}
 
 -- no number of the report is above m
 pub record IsWithin (m : ℕ) (r : Report) : Type 0 where
@@ -28,4 +28,9 @@ pub record IsUnchanged (old new : DeviceState) (delivered delivered' : List Deli
 -- a turn serves deliveries, and at Closed nothing changes
 abbrev pub ServesTurn : DeviceState → DeviceState → List Delivery → List Delivery → List Sent → List Sent → Option Report → Type 0
 ServesTurn old new delivered delivered' taken taken' None = IsUnchanged old new delivered delivered' taken taken'
-ServesTurn old new delivered delivered' taken taken' (Some report) = ServesDeliveries old new delivered delivered' taken taken' report
+ServesTurn old new delivered delivered' taken taken' (Some report) = ServesTelling old new delivered delivered' taken taken' report
+
+-- the same over any end
+abbrev pub ServesAnyTurn : DeviceState → DeviceState → Option Report → Type 0
+ServesAnyTurn old new None = new ≡ old
+ServesAnyTurn old new (Some report) = ServesAny old new report

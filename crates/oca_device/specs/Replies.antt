@@ -1,8 +1,8 @@
 -- What the loop sends: the packets of each datagram, to its sender (profile).
-use Rattle.std.specs.Prelude.{◌≡◌, ℕ, ◌+◌, nat_le, if◌then◌else◌, List, [], ◌∷◌, ◌++◌, map, length}
+use Rattle.std.specs.Prelude.{◌≡◌, ℕ, nat_le, if◌then◌else◌, List, [], ◌∷◌, ◌++◌, map, length}
 use Rattle.oca_types.specs.declared.words.Peer.{Peer}
 use Rattle.oca_net.specs.Deliveries.{Delivery, Datagram, Quiet, Failed, Sent}
-use Rattle.oca_net.specs.Ends.{largest_datagram}
+use Rattle.oca_net.specs.Ends.{largest_datagram, TakesAllBut}
 use Rattle.oca_tree.specs.declared.object.Object.{Object}
 use Rattle.oca_device.specs.declared.report.Report.{Report}
 use Rattle.oca_device.specs.Events.{Event}
@@ -27,34 +27,25 @@ abbrev pub replies : ℕ → List Object → List Event → List Delivery → Li
 replies w tree events [] = []
 replies w tree events (d ∷ deliveries) = replies_to w tree events d ++ replies w tree (events_after d events) deliveries
 
--- The first list is the second without k of its members.
-pub data Lacks {X : Type 0} : (k : ℕ) (xs ys : List X) → Type 0 where
-  none : Lacks 0 [] []
-  taken : {k : ℕ} {xs ys : List X} (x : X) → Lacks k xs ys → Lacks k (x ∷ xs) (x ∷ ys)
-  missing : {k : ℕ} {xs ys : List X} (y : X) → Lacks k xs ys → Lacks (k + 1) xs (y ∷ ys)
-
--- What an end took grew by the replies, but for those whose send failed.
-pub record TakesReplies (failed : ℕ) (old new : List Sent) (all : List Sent) : Type 0 where
-  pub sent : List Sent
-  pub grew : new ≡ old ++ sent
-  pub part : Lacks failed sent all
-
--- A device served an end: what the end delivered grew by some deliveries, one a turn, and for each tree and events that the
--- device represented, it then represents these with the deliveries' events, the end took the replies to them but for those
--- whose send failed, and the report is that of the deliveries and of the failed sends.
-pub record ServesDeliveries (old new : DeviceState) (delivered delivered' : List Delivery) (taken taken' : List Sent) (report : Report) : Type 0 where
-  pub deliveries : List Delivery
-  pub grew : delivered' ≡ delivered ++ deliveries
+-- A DEVICE SERVED THESE DELIVERIES, one a turn: for each tree and events that it represented, it then represents these with the
+-- deliveries' events, and the report is that of the deliveries and of the sends that failed.
+pub record Serves (deliveries : List Delivery) (old new : DeviceState) (report : Report) : Type 0 where
   pub turns : report.turns ≡ length deliveries
   pub represents : (w : ℕ) (tree : List Object) (events : List Event) → Represents w old tree events →
       Represents w new tree (events_after_all deliveries events)
-  pub replied : (w : ℕ) (tree : List Object) (events : List Event) → Represents w old tree events →
-      TakesReplies report.failed_sends taken taken' (replies w tree events deliveries)
   pub reported : (w : ℕ) (tree : List Object) (events : List Event) → Represents w old tree events →
       report ≡ record (report_of w tree events deliveries) { failed_sends = report.failed_sends }
 
--- Whatever the end tells: there is a list `more` such that the device after the call represents what it represented before,
--- followed by `more`.
-pub record GoesOn (old new : DeviceState) : Type 0 where
-  pub more : List Event
-  pub represents : (w : ℕ) (tree : List Object) (events : List Event) → Represents w old tree events → Represents w new tree (more ++ events)
+-- Over an end that tells: what the end delivered grew by some deliveries, the device served these, and the end took the replies to
+-- them but for those whose send failed.
+pub record ServesTelling (old new : DeviceState) (delivered delivered' : List Delivery) (taken taken' : List Sent) (report : Report) : Type 0 where
+  pub deliveries : List Delivery
+  pub grew : delivered' ≡ delivered ++ deliveries
+  pub serves : Serves deliveries old new report
+  pub replied : (w : ℕ) (tree : List Object) (events : List Event) → Represents w old tree events →
+      TakesAllBut report.failed_sends taken taken' (replies w tree events deliveries)
+
+-- Whatever the end tells: there are deliveries that the device served.
+pub record ServesAny (old new : DeviceState) (report : Report) : Type 0 where
+  pub deliveries : List Delivery
+  pub serves : Serves deliveries old new report

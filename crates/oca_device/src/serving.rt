@@ -2,9 +2,9 @@
 ghost use Rattle.std.specs.Prelude.{◌≡◌, ◌+◌, ◌<◌, ◌≤◌, ◌^◌, ℕ, List, [], ◌∷◌, ◌++◌, IsTrue, IfSome, IfNone, length, ◌-◌, slice_index_or};
 ghost use Rattle.oca_net.specs.Ends.{last_u64};
 ghost use Rattle.oca_device.specs.Reports.{added, no_turns, one_turn, verdict_turn, receives_of};
-ghost use Rattle.oca_device.specs.Replies.{ServesDeliveries, TakesReplies, GoesOn, sent_to};
-ghost use Rattle.oca_net.specs.Ends.{failures_sent, taken_after, one_more};
-ghost use Rattle.oca_device.specs.PrivateTotals.{IsWithin, ServesTurn};
+ghost use Rattle.oca_device.specs.Replies.{ServesTelling, ServesAny, sent_to};
+ghost use Rattle.oca_net.specs.Ends.{failures_sent, taken_after, one_more, TakesAllBut};
+ghost use Rattle.oca_device.specs.PrivateTotals.{IsWithin, ServesTurn, ServesAnyTurn};
 
 use crate::device::Device;
 use crate::outbox::Outbox;
@@ -21,8 +21,8 @@ use oca_types::{Packet, Peer};
 /// is emptied at first and after each turn.
 pub fn serve<E: End>(device: &mut Device, end: &mut E, outbox: &mut Outbox, turns: u32) -> Report
     ensures telling { IsTrue (E.tells end.old) →
-        ServesDeliveries device.old device.new (E.delivered end.old) (E.delivered end.new) (E.taken end.old) (E.taken end.new) result }
-    ensures any_end { GoesOn device.old device.new }
+        ServesTelling device.old device.new (E.delivered end.old) (E.delivered end.new) (E.taken end.old) (E.taken end.new) result }
+    ensures any_end { ServesAny device.old device.new result }
     ensures tells { E.tells end.new ≡ E.tells end.old }
     ensures turns { result.turns ≤ turns }
     ensures closed { result.turns < turns → IsTrue (E.closed end.new) }
@@ -54,7 +54,7 @@ fn take_turn<E: End>(
     ensures telling { E.tells end.new ≡ E.tells end.old }
     ensures turn { IsTrue (E.tells end.old) →
         ServesTurn device.old device.new (E.delivered end.old) (E.delivered end.new) (E.taken end.old) (E.taken end.new) result }
-    ensures any_end { GoesOn device.old device.new }
+    ensures any_end { ServesAnyTurn device.old device.new result }
     ensures one { IfSome result (λ turn. turn.turns ≡ 1) }
     ensures fits { IfSome result (IsWithin 4294967295) }
     ensures closed { IfNone result (IsTrue (E.closed end.new)) }
@@ -100,7 +100,7 @@ fn take_turn<E: End>(
 fn send_all<E: End>(end: &mut E, to: Peer, outbox: &Outbox) -> u64
     ensures telling { E.tells end.new ≡ E.tells end.old }
     ensures delivered { IsTrue (E.tells end.old) → E.delivered end.new ≡ E.delivered end.old }
-    ensures taken { IsTrue (E.tells end.old) → TakesReplies result (E.taken end.old) (E.taken end.new) (sent_to to outbox.now) }
+    ensures taken { IsTrue (E.tells end.old) → TakesAllBut result (E.taken end.old) (E.taken end.new) (sent_to to outbox.now) }
     ensures closed { E.closed end.new ≡ E.closed end.old }
     ensures failures { E.failures end.new < last_u64 → E.failures end.new ≡ E.failures end.old + result }
     ensures receives { E.receives end.new ≡ E.receives end.old }

@@ -1,13 +1,11 @@
--- What the calls of an end do to what it delivered, what it took, whether it is closed and its count of failures (*profile*).
+-- What the calls of an end do to what it delivered, what it took, whether it is closed and its count of failures (*profile*); and
+-- what many sends do to what it took.
 use Rattle.std.specs.Prelude.{◌≡◌, ℕ, ◌+◌, ◌<◌, min, Bool, true, false, if◌then◌else◌, List, [], ◌∷◌, ◌++◌, length}
 use Rattle.oca_types.specs.declared.words.Peer.{Peer}
+pub use Rattle.oca_types.specs.Sizes.{largest_datagram}
 use Rattle.oca_net.specs.declared.end.Heard.{Heard}
 use Rattle.oca_net.specs.declared.end.Heard.TheVariants as heard
 use Rattle.oca_net.specs.Deliveries.{Delivery, Datagram, Quiet, Failed, Sent}
-
--- a datagram holds at most 1,472 bytes
-abbrev pub largest_datagram : ℕ
-largest_datagram = 1472
 
 -- What an end delivered grows by the entry that a receive answers, `bytes` being what the packet then holds:
 -- for an oversize datagram some datagram of more than 1,472 bytes with that moment, for Closed nothing.
@@ -61,3 +59,15 @@ failures_sent was_taken n = if was_taken then n else one_more n
 -- what an end took, after a send
 abbrev pub taken_after : Bool → Peer → List ℕ → List Sent → List Sent
 taken_after was_taken to bytes taken = if was_taken then taken ++ (record { to = to; bytes = bytes }) ∷ [] else taken
+
+-- The first list is the second without k of its members.
+pub data Lacks {X : Type 0} : (k : ℕ) (xs ys : List X) → Type 0 where
+  none : Lacks 0 [] []
+  kept : {k : ℕ} {xs ys : List X} (x : X) → Lacks k xs ys → Lacks k (x ∷ xs) (x ∷ ys)
+  missing : {k : ℕ} {xs ys : List X} (y : X) → Lacks k xs ys → Lacks (k + 1) xs (y ∷ ys)
+
+-- what an end took grew by these datagrams, but for those whose send failed
+pub record TakesAllBut (failed : ℕ) (old new all : List Sent) : Type 0 where
+  pub sent : List Sent
+  pub grew : new ≡ old ++ sent
+  pub part : Lacks failed sent all

@@ -1,8 +1,10 @@
 -- What holds of one link, when its own datagram comes to the device, and when the link does something.
-use Rattle.std.proofs.Common.{append-nil, ◌≡◌, ℕ, ◌+◌, ◌-◌, ◌^◌, ◌<◌, ◌≤◌, Bool, true, false, cond, List, [], ◌∷◌, ◌++◌, length, Option, Some, None, refl, sym, ap, ◌∙◌, arith, inl, inr}
-use Rattle.std.specs.Prelude.{nat_eq, nat_lt, nat_le, max, not, ◌&&◌, map, is_some, is_none, Result, Ok, Err}
+use Rattle.std.proofs.Common.{append-nil, ◌≡◌, ℕ, ◌+◌, ◌-◌, ◌^◌, ◌<◌, ◌≤◌, Bool, true, false, cond, List, [], ◌∷◌, ◌++◌, length, Option, Some, None, refl, sym, ap, ◌∙◌, subst, arith, inl, inr}
+use Rattle.std.specs.Prelude.{nat_eq, nat_lt, nat_le, max, not, ◌&&◌, map, filter, is_some, is_none, Result, Ok, Err}
 use Rattle.std.specs.List.{AllByRecursion}
 use Rattle.std.proofs.lemmas.Bool.Decides.{nat_tests}
+use Rattle.std.proofs.lemmas.List.{append_assoc, map-append}
+use Rattle.std.proofs.lemmas.List.Elements.{filter-append}
 use Rattle.oca_types.specs.declared.words.Peer.{Peer}
 use Rattle.oca_types.specs.declared.words.Handle.{Handle}
 use Rattle.oca_types.specs.declared.words.Reply.{Reply}
@@ -26,13 +28,13 @@ use Rattle.oca_control.specs.Links.{LinkState, Request, command_under, submissio
 use Rattle.oca_pair.specs.Networks.{SentDatagram, SubmittedCommand, TakenAnswer, device_address}
 use Rattle.oca_pair.specs.Steps.{sendings, submitted_by, given_by, content_of, taken_by}
 use Rattle.oca_pair.specs.Premises.{RequestFits}
-use Rattle.oca_pair.specs.Laws.{IsIn, Execution, executed_for, answer_of, response_to, WasSubmitted}
+use Rattle.oca_pair.specs.Laws.{Execution, executed_for, answer_of, handles_of, AreConsecutive}
 use Rattle.oca_pair.proofs.Core.{each_map, each_append}
-use Rattle.oca_pair.proofs.Lists.{in_parts, in_last, each_in, same_self, equal_is}
+use Rattle.oca_pair.proofs.Lists.{IsIn, in_parts, in_last, each_in, same_self, same_of, other_is, equal_is}
 use Rattle.oca_pair.proofs.Wire.{IsSendable, read_command, read_keep_alive, read_response}
-use Rattle.oca_pair.proofs.Fitting.{reply_fits}
-use Rattle.oca_pair.proofs.Truths.{Past, and_then, and_submitted, state_of, IsHonest, IsTrueAnswer, window_executed}
-use Rattle.oca_pair.proofs.Fair.{end_of, NextFits, IsOut, IsBack, IsHeld, IsFair, AreSendable, AreUnique, AreOwn, Fair, fair_more, fair_then, owns_then, judged_duplicate}
+use Rattle.oca_pair.proofs.Fitting.{response_to, reply_fits}
+use Rattle.oca_pair.proofs.Truths.{Past, and_then, and_submitted, state_of, IsSubmitted, IsHonest, IsTrueAnswer, window_executed}
+use Rattle.oca_pair.proofs.Fair.{end_of, NextFits, IsOut, IsBack, IsHeld, IsFair, AreSendable, AreUnique, AreRising, AreOwn, Fair, fair_more, fair_then, owns_then, judged_duplicate}
 
 -- ---- a datagram of the link itself
 
@@ -95,7 +97,7 @@ answers_read w p m bytes now g room read admitted =
     ∙ ap (λ b. cond b (answers_to_messages w p (m ∷ []) (let_in p m now g)) []) admitted
 
 pub fair_command : (law : WrittenIsReadBack) (p : Peer) (next : Option ℕ) (us : List Untaken) (g : Past) (out back : List SentDatagram) (handed : List TakenAnswer) (c : CommandFields) (now : ℕ) →
-    IsSendable c → WasSubmitted p c g.submitted → Fair p next us g out back handed →
+    IsSendable c → IsSubmitted p c g.submitted → Fair p next us g out back handed →
     let e : Event = Datagram p (pdu_encoding (Commands true (c ∷ []))) now in
     Fair p next us (and_then e g) out (back ++ sendings p (packets g.window g.tree g.events e)) handed
 fair_command law p next us g out back handed c now sendable sub f = by_room (admits (looked_at now g) p) refl
@@ -248,6 +250,35 @@ next_fits h low = by_test (nat_eq h 4294967295) refl
     by_test true q = tt
     by_test false q = higher q
 
+-- one command more
+consecutive_more : (xs : List ℕ) (h k : ℕ) → k ≡ h + 1 → AreConsecutive (xs ++ h ∷ []) → AreConsecutive (xs ++ h ∷ k ∷ [])
+consecutive_more [] h k e a = (e, tt)
+consecutive_more (x ∷ []) h k e a = (a.0, (e, tt))
+consecutive_more (x ∷ y ∷ xs) h k e a = (a.0, consecutive_more (y ∷ xs) h k e a.1)
+
+handles_more : (p : Peer) (xs : List SubmittedCommand) (new : SubmittedCommand) → handles_of p (xs ++ new ∷ []) ≡ handles_of p xs ++ handles_of p (new ∷ [])
+handles_more p xs new =
+    ap (λ ys. map (λ (x : SubmittedCommand). x.command.handle) ys) (filter-append (λ (x : SubmittedCommand). same_peer x.peer p) xs (new ∷ []))
+    ∙ map-append (λ (x : SubmittedCommand). x.command.handle) (filter (λ (x : SubmittedCommand). same_peer x.peer p) xs) (filter (λ (x : SubmittedCommand). same_peer x.peer p) (new ∷ []))
+
+own_handle : (p : Peer) (new : SubmittedCommand) (b : Bool) → same_peer new.peer p ≡ b →
+    handles_of p (new ∷ []) ≡ map (λ (x : SubmittedCommand). x.command.handle) (cond b (new ∷ []) [])
+own_handle p new b e = ap (λ t. map (λ (x : SubmittedCommand). x.command.handle) (cond t (new ∷ []) [])) e
+
+rising_more : (p : Peer) (xs : List SubmittedCommand) (new : SubmittedCommand) (h n k : ℕ) → new.peer ≡ p → new.command.handle ≡ h → n ≡ h → k ≡ h + 1 →
+    AreConsecutive (handles_of p xs ++ n ∷ []) → AreConsecutive (handles_of p (xs ++ new ∷ []) ++ k ∷ [])
+rising_more p xs new h n k same own was is a =
+    let one : handles_of p (new ∷ []) ≡ h ∷ [] = own_handle p new true (same_of new.peer p same) ∙ ap (λ m. m ∷ []) own in
+    let all : handles_of p (xs ++ new ∷ []) ++ k ∷ [] ≡ handles_of p xs ++ h ∷ k ∷ [] =
+    ap (λ ys. ys ++ k ∷ []) (handles_more p xs new ∙ ap (λ ys. handles_of p xs ++ ys) one) ∙ append_assoc (handles_of p xs) (h ∷ []) (k ∷ []) in
+    subst AreConsecutive (sym all) (consecutive_more (handles_of p xs) h k is (subst (λ m. AreConsecutive (handles_of p xs ++ m ∷ [])) was a))
+
+rising_of_another : (p q : Peer) (next : Option ℕ) (xs : List SubmittedCommand) (new : SubmittedCommand) → (q ≡ p → ⊥) → new.peer ≡ q → AreRising p next xs → AreRising p next (xs ++ new ∷ [])
+rising_of_another p q next xs new other its a =
+    let none : handles_of p (new ∷ []) ≡ [] = own_handle p new false (other_is new.peer p (λ e. other (sym its ∙ e))) in
+    let all : handles_of p (xs ++ new ∷ []) ≡ handles_of p xs = handles_more p xs new ∙ ap (λ ys. handles_of p xs ++ ys) none ∙ append-nil (handles_of p xs) in
+    subst (λ ys. AreConsecutive (ys ++ end_of next ∷ [])) (sym all) a
+
 -- the link of the peer submits
 pub fair_submit : (p : Peer) (r : Request) (now : ℕ) (l : LinkState) (g : Past) (out back : List SentDatagram) (handed : List TakenAnswer) → RequestFits r →
     Fair p l.next l.untaken g out back handed →
@@ -257,7 +288,7 @@ fair_submit p r now l g out back handed fits f = by_answer (submission r l) refl
     by_answer : (a : Result Handle ControlFault) → submission r l ≡ a →
         Fair p (after_submission a r now l).next (after_submission a r now l).untaken (and_submitted (submitted_by p r a) g) out back handed
     by_answer (Err fault) e =
-        fair_more p l.next l.next l.untaken l.untaken g out back handed [] f.fits (rw append-nil f.sendable) (rw append-nil f.unique) (λ a. a) f
+        fair_more p l.next l.next l.untaken l.untaken g out back handed [] f.fits (rw append-nil f.sendable) (rw append-nil f.unique) (rw append-nil f.rising) (λ a. a) f
     by_answer (Ok h) e =
         let t = granted r l h e in
         let was : end_of l.next ≡ h.0 = ap end_of t.0 in
@@ -275,6 +306,7 @@ fair_submit p r now l g out back handed fits f = by_answer (submission r l) refl
           tt,
         ))
         (unique new h.0 was refl)
+        (rising_more p g.submitted new h.0 (end_of l.next) (end_of (handle_after h.0)) refl refl was is f.rising)
         (λ a. each_append _ l.untaken (new_untaken c ∷ []) a ((in_last new g.submitted, tt), tt)) f
       where
         higher : (x a b h : ℕ) → a ≡ h → b ≡ h + 1 → x < a → x < b
@@ -286,7 +318,7 @@ fair_submit p r now l g out back handed fits f = by_answer (submission r l) refl
         room : (n : ℕ) → n ≤ 1445 → 17 + n < 2 ^ 32
         room n k = omega arith
 
-        below : (c : CommandFields) → WasSubmitted p c g.submitted → c.handle < end_of l.next
+        below : (c : CommandFields) → IsSubmitted p c g.submitted → c.handle < end_of l.next
         below c i = (each_in (λ (x : SubmittedCommand). x.peer ≡ p → IsSendable x.command × (x.command.handle < end_of l.next)) _ g.submitted f.sendable i refl).1
 
         never : {X : Type 0} (a b n : ℕ) → a < n → n ≡ b → a ≡ b → X
@@ -319,28 +351,32 @@ pub fair_submitted_by : (p q : Peer) (r : Request) (a : Result Handle ControlFau
 fair_submitted_by p q r a next us g out back handed other f =
     fair_more p next next us us g out back handed (submitted_by q r a) f.fits
     (each_append _ g.submitted (submitted_by q r a) f.sendable (none a))
-    (λ c d i j e. f.unique c d (old c a i) (old d a j) e) (λ x. x) f
+    (λ c d i j e. f.unique c d (old c a i) (old d a j) e) (rising a) (λ x. x) f
   where
     none : (a : Result Handle ControlFault) → AreSendable p next (submitted_by q r a)
     none (Ok h) = ((λ same. absurd (other same)), tt)
     none (Err fault) = tt
 
-    not_his : (c : CommandFields) (a : Result Handle ControlFault) → WasSubmitted p c (submitted_by q r a) → ⊥
+    rising : (a : Result Handle ControlFault) → AreRising p next (g.submitted ++ submitted_by q r a)
+    rising (Ok h) = rising_of_another p q next g.submitted (record { peer = q; command = command_under h.0 r }) other refl f.rising
+    rising (Err fault) = rw append-nil f.rising
+
+    not_his : (c : CommandFields) (a : Result Handle ControlFault) → IsSubmitted p c (submitted_by q r a) → ⊥
     not_his c (Ok h) i = elim i [ inl e ↦ other (ap (λ (x : SubmittedCommand). x.peer) e) | inr n ↦ n ]
     not_his c (Err fault) i = i
 
-    old : (c : CommandFields) (a : Result Handle ControlFault) → WasSubmitted p c (g.submitted ++ submitted_by q r a) → WasSubmitted p c g.submitted
+    old : (c : CommandFields) (a : Result Handle ControlFault) → IsSubmitted p c (g.submitted ++ submitted_by q r a) → IsSubmitted p c g.submitted
     old c a i = elim (in_parts _ g.submitted (submitted_by q r a) i) [ inl b ↦ b | inr n ↦ absurd (not_his c a n) ]
 
 fair_given_out : (p : Peer) (g : Past) (t h : ℕ) (us : List Untaken) → AllByRecursion (IsFair p g) us → AllByRecursion (IsFair p g) (map (given_out t h) us)
 fair_given_out p g t h [] a = tt
 fair_given_out p g t h (u ∷ us) a = ((a.0.0, a.0.1), fair_given_out p g t h us a.1)
 
-submitted_due : (p : Peer) (g : Past) (t : ℕ) (us : List Untaken) → AllByRecursion (IsFair p g) us → (u : Untaken) → first_due t us ≡ Some u → WasSubmitted p u.command g.submitted
+submitted_due : (p : Peer) (g : Past) (t : ℕ) (us : List Untaken) → AllByRecursion (IsFair p g) us → (u : Untaken) → first_due t us ≡ Some u → IsSubmitted p u.command g.submitted
 submitted_due p g t [] a u e = cc
 submitted_due p g t (x ∷ xs) a u e = by_test (submitted_due p g t xs a.1 u) (is_due t x) e
   where
-    by_test : (first_due t xs ≡ Some u → WasSubmitted p u.command g.submitted) → (b : Bool) → cond b (Some x) (first_due t xs) ≡ Some u → WasSubmitted p u.command g.submitted
+    by_test : (first_due t xs ≡ Some u → IsSubmitted p u.command g.submitted) → (b : Bool) → cond b (Some x) (first_due t xs) ≡ Some u → IsSubmitted p u.command g.submitted
     by_test rest true q = let same : x ≡ u = cc in rw same at a.0.0
     by_test rest false q = rest q
 
@@ -351,7 +387,7 @@ given_out_is : (p : Peer) (now : ℕ) (l : LinkState) (g : Past) → AllByRecurs
     AllByRecursion (λ (d : SentDatagram). d.peer ≡ p → IsOut p g.submitted d.bytes) (sendings p (given_by (decision now l)))
 given_out_is p now l g a = by_lost l.lost
   where
-    by_many : (u : Untaken) → WasSubmitted p u.command g.submitted → (b : Bool) → Outs p g (cond b (GivesCommand u.command) IsLost)
+    by_many : (u : Untaken) → IsSubmitted p u.command g.submitted → (b : Bool) → Outs p g (cond b (GivesCommand u.command) IsLost)
     by_many u q true = ((λ same. inl (u.command, q, refl)), tt)
     by_many u q false = tt
 
@@ -373,7 +409,7 @@ fair_gone_on p now l g out back handed f = by_decision (decision now l) (given_o
   where
     with_untaken : (us : List Untaken) (more : List SentDatagram) → AllByRecursion (IsFair p g) us → AllByRecursion (λ (d : SentDatagram). d.peer ≡ p → IsOut p g.submitted d.bytes) more →
         Fair p l.next us g (out ++ more) back handed
-    with_untaken us more a new = record { fits = f.fits; own = f.own; outgoing = each_append _ out more f.outgoing new; incoming = f.incoming; untaken = a; handed_on = f.handed_on; sendable = f.sendable; unique = f.unique }
+    with_untaken us more a new = record { fits = f.fits; own = f.own; outgoing = each_append _ out more f.outgoing new; incoming = f.incoming; untaken = a; was_taken = f.was_taken; sendable = f.sendable; unique = f.unique; rising = f.rising }
 
     by_decision : (d : Decision) → AllByRecursion (λ (x : SentDatagram). x.peer ≡ p → IsOut p g.submitted x.bytes) (sendings p (given_by d)) →
         Fair p (after_due d (present now l) l).next (after_due d (present now l) l).untaken g (out ++ sendings p (given_by d)) back handed
@@ -391,9 +427,10 @@ fair_sent p q next us g out back handed packets other f = record {
   outgoing = each_append _ out (sendings q packets) f.outgoing (none packets);
   incoming = f.incoming;
   untaken = f.untaken;
-  handed_on = f.handed_on;
+  was_taken = f.was_taken;
   sendable = f.sendable;
   unique = f.unique;
+  rising = f.rising;
 }
   where
     none : (packets : List (List ℕ)) → AllByRecursion (λ (d : SentDatagram). d.peer ≡ p → IsOut p g.submitted d.bytes) (sendings q packets)
@@ -424,9 +461,10 @@ fair_untaken p next us vs g out back handed more a new f = record {
   outgoing = f.outgoing;
   incoming = f.incoming;
   untaken = a;
-  handed_on = each_append _ handed more f.handed_on new;
+  was_taken = each_append _ handed more f.was_taken new;
   sendable = f.sendable;
   unique = f.unique;
+  rising = f.rising;
 }
 
 pub fair_received : (p : Peer) (bytes : List ℕ) (now : ℕ) (l : LinkState) (g : Past) (out back : List SentDatagram) (handed : List TakenAnswer) → IsBack p g bytes →
@@ -435,7 +473,7 @@ pub fair_received : (p : Peer) (bytes : List ℕ) (now : ℕ) (l : LinkState) (g
 fair_received p bytes now l g out back handed b f = by_from (same_peer device_address l.device)
   where
     with_us : (us : List Untaken) → AllByRecursion (IsFair p g) us → Fair p l.next us g out back handed
-    with_us us a = record { fits = f.fits; own = f.own; outgoing = f.outgoing; incoming = f.incoming; untaken = a; handed_on = f.handed_on; sendable = f.sendable; unique = f.unique }
+    with_us us a = record { fits = f.fits; own = f.own; outgoing = f.outgoing; incoming = f.incoming; untaken = a; was_taken = f.was_taken; sendable = f.sendable; unique = f.unique; rising = f.rising }
 
     by_from : (b : Bool) → Fair p l.next (cond b (hears_content (content_of bytes) l.untaken) l.untaken) g out back handed
     by_from true = with_us (hears_content (content_of bytes) l.untaken) (fair_hears p bytes g l.untaken b f.untaken)

@@ -12,7 +12,7 @@ use Rattle.oca_pair.specs.declared.start.Start.{Start}
 use Rattle.oca_pair.specs.Networks.{Network, PeerLink, SentDatagram, device_address, opening}
 use Rattle.oca_pair.specs.Steps.{Step, Submit, Due, ToDevice, after_steps}
 use Rattle.oca_pair.specs.Premises.{RequestFits, Fit}
-use Rattle.oca_pair.specs.Laws.{IsCopyOfUntaken, IsAnswered}
+use Rattle.oca_pair.specs.Laws.{CarriesUntaken, IsAnswered}
 use Rattle.oca_pair.proofs.Lawful.{never_old_law}
 
 abbrev controller : Peer
@@ -56,11 +56,11 @@ fits = record { target = lit< tt; level = lit< tt; index = lit< tt; count = lit<
 meets : Fit the_starts the_steps
 meets = ((lit< tt, tt), (fits, (fits, (fits, (tt, (tt, (tt, (tt, (tt, (tt, tt))))))))))
 
-is_copy : IsCopyOfUntaken sent_third the_link third
-is_copy = record { peer = refl; untaken = held 3; held = inr (inr (inl refl)); command = refl; bytes = refl }
+carries_third : CarriesUntaken sent_third the_link third
+carries_third = record { peer = refl; untaken = held 3; held = (2, lit< tt, refl); command = refl; bytes = refl }
 
 -- so the third command, delivered once more, is answered
 pub repeated_is_answered : WrittenIsReadBack → (tree : List Object) → IsAnswered 2 400 (the_network tree) sent_third third
 repeated_is_answered law tree =
     never_old_law law 5 3 tree the_starts the_steps (lit< tt) (lit≤ tt) refl meets 2 400 0 sent_third the_link third (controller ∷ [])
-    refl refl is_copy refl (lit≤ tt) (refl, (refl, (refl, (refl, tt))))
+    refl refl carries_third refl (lit≤ tt) (refl, (refl, (refl, (refl, tt))))

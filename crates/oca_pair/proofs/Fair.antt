@@ -19,12 +19,12 @@ use Rattle.oca_control.specs.Answers.{AnswerFields, answer_in}
 use Rattle.oca_control.specs.Untaken.{Untaken}
 use Rattle.oca_pair.specs.Networks.{SentDatagram, SubmittedCommand, TakenAnswer}
 use Rattle.oca_pair.specs.Steps.{sendings}
-use Rattle.oca_pair.specs.Laws.{WasSubmitted}
+use Rattle.oca_pair.specs.Laws.{handles_of, AreConsecutive}
 use Rattle.oca_pair.proofs.Core.{each_map, each_append, has}
 use Rattle.oca_pair.proofs.Lists.{in_more}
 use Rattle.oca_pair.proofs.Wire.{IsSendable}
 use Rattle.oca_pair.proofs.Clocks.{Grows, grows_reading}
-use Rattle.oca_pair.proofs.Truths.{Past, and_then, and_submitted, state_of, IsTrueAnswer, honest_then, honest_submitted, true_then, true_submitted, IsOwn}
+use Rattle.oca_pair.proofs.Truths.{Past, and_then, and_submitted, state_of, IsSubmitted, IsTrueAnswer, honest_then, honest_submitted, true_then, true_submitted, IsOwn}
 
 -- the handle that follows all that were given
 abbrev pub end_of : Option ℕ → ℕ
@@ -38,7 +38,7 @@ NextFits (Some h) = h < 2 ^ 32
 -- what the link of a peer sends to the device: a submitted command, or a keep-alive
 abbrev pub IsOut : Peer → List SubmittedCommand → List ℕ → Type 0
 IsOut p submitted bytes =
-    ((c : CommandFields) × WasSubmitted p c submitted × (bytes ≡ pdu_encoding (Commands true (c ∷ [])))) ⊎ (bytes ≡ pdu_encoding (OneKeepAlive (Seconds 5)))
+    ((c : CommandFields) × IsSubmitted p c submitted × (bytes ≡ pdu_encoding (Commands true (c ∷ [])))) ⊎ (bytes ≡ pdu_encoding (OneKeepAlive (Seconds 5)))
 
 -- what the device sends to it: a true answer, or the keep-alive
 abbrev pub IsBack : Peer → Past → List ℕ → Type 0
@@ -50,14 +50,18 @@ IsHeld p g h None = Unit {0}
 IsHeld p g h (Some a) = IsTrueAnswer p h a g
 
 abbrev pub IsFair : Peer → Past → Untaken → Type 0
-IsFair p g u = WasSubmitted p u.command g.submitted × IsHeld p g u.command.handle u.answer
+IsFair p g u = IsSubmitted p u.command g.submitted × IsHeld p g u.command.handle u.answer
 
 -- each command that the link submitted can be sent, and has a handle below the next one
 abbrev pub AreSendable : Peer → Option ℕ → List SubmittedCommand → Type 0
 AreSendable p next xs = AllByRecursion (λ x. x.peer ≡ p → IsSendable x.command × (x.command.handle < end_of next)) xs
 
 abbrev pub AreUnique : Peer → List SubmittedCommand → Type 0
-AreUnique p xs = (c d : CommandFields) → WasSubmitted p c xs → WasSubmitted p d xs → c.handle ≡ d.handle → c ≡ d
+AreUnique p xs = (c d : CommandFields) → IsSubmitted p c xs → IsSubmitted p d xs → c.handle ≡ d.handle → c ≡ d
+
+-- its handles rise by one, up to the next one
+abbrev pub AreRising : Peer → Option ℕ → List SubmittedCommand → Type 0
+AreRising p next xs = AreConsecutive (handles_of p xs ++ end_of next ∷ [])
 
 abbrev pub AreOwn : Peer → Past → List Note → Type 0
 AreOwn p g ns = AllByRecursion (λ n. n.peer ≡ p → IsOwn p g n.what) ns
@@ -68,9 +72,10 @@ pub record Fair (p : Peer) (next : Option ℕ) (us : List Untaken) (g : Past) (o
   pub outgoing : AllByRecursion (λ d. d.peer ≡ p → IsOut p g.submitted d.bytes) out
   pub incoming : AllByRecursion (λ d. d.peer ≡ p → IsBack p g d.bytes) back
   pub untaken : AllByRecursion (IsFair p g) us
-  pub handed_on : AllByRecursion (λ t. t.peer ≡ p → IsTrueAnswer p t.handle t.answer g) handed
+  pub was_taken : AllByRecursion (λ t. t.peer ≡ p → IsTrueAnswer p t.handle t.answer g) handed
   pub sendable : AreSendable p next g.submitted
   pub unique : AreUnique p g.submitted
+  pub rising : AreRising p next g.submitted
 
 -- ---- more is submitted
 
@@ -92,18 +97,19 @@ own_more p g more (Heartbeat ms) h = tt
 own_more p g more (Executed objects c r) h = honest_submitted p (record { objects = objects; command = c; reply = r }) g more h
 
 pub fair_more : (p : Peer) (next next' : Option ℕ) (us us' : List Untaken) (g : Past) (out back : List SentDatagram) (handed : List TakenAnswer) (more : List SubmittedCommand) →
-    NextFits next' → AreSendable p next' (g.submitted ++ more) → AreUnique p (g.submitted ++ more) →
+    NextFits next' → AreSendable p next' (g.submitted ++ more) → AreUnique p (g.submitted ++ more) → AreRising p next' (g.submitted ++ more) →
     (AllByRecursion (IsFair p (and_submitted more g)) us → AllByRecursion (IsFair p (and_submitted more g)) us') →
     Fair p next us g out back handed → Fair p next' us' (and_submitted more g) out back handed
-fair_more p next next' us us' g out back handed more fits sendable unique grow f = record {
+fair_more p next next' us us' g out back handed more fits sendable unique rising grow f = record {
   fits = fits;
   own = each_map (λ n h e. own_more p g more n.what (h e)) (state_of g).notes f.own;
   outgoing = each_map (λ d h e. out_more p g.submitted more d.bytes (h e)) out f.outgoing;
   incoming = each_map (λ d h e. back_more p g more d.bytes (h e)) back f.incoming;
   untaken = grow (each_map (λ u h. (in_more _ g.submitted more h.0, held_more p g more u.command.handle u.answer h.1)) us f.untaken);
-  handed_on = each_map (λ t h e. true_submitted p t.handle t.answer g more (h e)) handed f.handed_on;
+  was_taken = each_map (λ t h e. true_submitted p t.handle t.answer g more (h e)) handed f.was_taken;
   sendable = sendable;
   unique = unique;
+  rising = rising;
 }
 
 -- ---- more happens
@@ -133,9 +139,10 @@ fair_then p next us g out back handed e more own new f = record {
   outgoing = f.outgoing;
   incoming = each_append _ back more (each_map (λ d h same. back_then p g e d.bytes (h same)) back f.incoming) new;
   untaken = each_map (λ u h. (h.0, held_then p g e u.command.handle u.answer h.1)) us f.untaken;
-  handed_on = each_map (λ t h same. true_then p t.handle t.answer g e (h same)) handed f.handed_on;
+  was_taken = each_map (λ t h same. true_then p t.handle t.answer g e (h same)) handed f.was_taken;
   sendable = f.sendable;
   unique = f.unique;
+  rising = f.rising;
 }
 
 -- the datagrams for another peer are not for this one
@@ -166,9 +173,10 @@ fair_tick p next us g out back handed now f = record {
   outgoing = f.outgoing;
   incoming = each_map (λ d h same. back_then p g (Tick now) d.bytes (h same)) back f.incoming;
   untaken = each_map (λ u h. (h.0, held_then p g (Tick now) u.command.handle u.answer h.1)) us f.untaken;
-  handed_on = each_map (λ t h same. true_then p t.handle t.answer g (Tick now) (h same)) handed f.handed_on;
+  was_taken = each_map (λ t h same. true_then p t.handle t.answer g (Tick now) (h same)) handed f.was_taken;
   sendable = f.sendable;
   unique = f.unique;
+  rising = f.rising;
 }
 
 -- ---- what a judgement says

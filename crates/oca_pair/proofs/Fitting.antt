@@ -3,11 +3,13 @@ use Rattle.std.proofs.Common.{◌≡◌, ℕ, ◌+◌, ◌^◌, ◌<◌, ◌≤�
 use Rattle.std.specs.Prelude.{nat_lt}
 use Rattle.std.proofs.lemmas.Bool.Decides.{nat_tests}
 use Rattle.oca_types.specs.declared.words.Peer.{Peer}
+use Rattle.oca_types.specs.declared.words.Reply.{Reply}
 use Rattle.oca_types.specs.declared.status.Status.{Status}
 use Rattle.oca_types.specs.declared.status.Status.TheVariants as status
 use Rattle.oca_types.specs.declared.class.MethodKind.{MethodKind}
 use Rattle.oca_types.specs.Status.{status_number}
 use Rattle.oca_types.specs.Peers.{CommandFields}
+use Rattle.oca_pdu.specs.Messages.{ResponseFields}
 use Rattle.oca_pdu.specs.Encoding.{ResponseFits}
 use Rattle.oca_tree.specs.declared.object.Object.{Object}
 use Rattle.oca_tree.specs.declared.object.Value.{Value}
@@ -20,7 +22,10 @@ use Rattle.oca_tree.specs.declared.request.Request.TheVariants as requests
 use Rattle.oca_tree.specs.Objects.{object_of}
 use Rattle.oca_tree.specs.Execution.{Execution, parameters, answer, setting_parameters, position_parameters, switch_parameters, first_that_applies, status_lines, status_of, kind_at, request_at, refused, by_status, execution}
 use Rattle.oca_device.specs.States.{reply_of}
-use Rattle.oca_pair.specs.Laws.{response_to}
+
+-- the response with a reply, under a handle
+abbrev pub response_to : ℕ → Reply → ResponseFields
+response_to h reply = record { handle = h; status = status_number reply.status; count = reply.count; params = reply.params.items }
 
 abbrev pub IsSmall : Execution → Type 0
 IsSmall x = (x.count < 256) × (length x.parameters ≤ 1452)

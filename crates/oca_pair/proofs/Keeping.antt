@@ -16,9 +16,9 @@ use Rattle.oca_device.specs.Events.{Datagram, clock_after}
 use Rattle.oca_device.specs.Notes.{Noted, Admitted, Heartbeat, Executed, Note, notes_of, is_within, unbroken, run, known, accepted, accepted_after}
 use Rattle.oca_device.specs.States.{State, noted, admits, judged_in, reply_of, after_command, after_message, after_reading, time_of}
 use Rattle.oca_pair.specs.Premises.{moments_of, is_soon_after, KeepsItsSession}
-use Rattle.oca_pair.specs.Laws.{Execution, executed_in, executed_for, IsIn}
+use Rattle.oca_pair.specs.Laws.{Execution, executed_in, executed_for}
 use Rattle.oca_pair.proofs.Core.{each_map, has, none_passes}
-use Rattle.oca_pair.proofs.Lists.{same_self, differs}
+use Rattle.oca_pair.proofs.Lists.{IsIn, same_self, differs}
 use Rattle.oca_pair.proofs.Clocks.{clock_is, Grows, grows_reading, notes_of_grown, IsLatest, moments_other, moments_own, soon_now}
 use Rattle.oca_pair.proofs.Truths.{Past, and_then, state_of}
 use Rattle.oca_pair.proofs.Fair.{judged_fresh}

@@ -28,12 +28,12 @@ use Rattle.oca_pair.specs.Steps as steps
 use Rattle.oca_control.specs.Links.{Request}
 use Rattle.oca_pair.specs.Steps.{Step, Submit, Due, ToDevice, ToLink, Other, Take, has_link, sendings, after_submit, after_due_step, after_delivery, after_reception, after_take, after_step, after_steps}
 use Rattle.oca_pair.specs.Premises.{are_apart, Fit, KeepsItsSession, ComeFrom}
-use Rattle.oca_pair.specs.Laws.{IsIn, Execution, executed_for, executions_for, executions_under, WasSubmitted, IsAnswerOfItsCommand, AnswersItsCommands, IsCopyOfUntaken, IsAnswered, AnswersUntaken, ExecutesOnce}
+use Rattle.oca_pair.specs.Laws.{Execution, executed_for, executions_for, executions_under, IsAnswerOfItsCommand, handles_of, AreConsecutive, AnswersItsCommands, CarriesUntaken, IsAnswered, AnswersUntaken, ExecutesOnce}
 use Rattle.oca_pair.proofs.Core.{IsServed}
-use Rattle.oca_pair.proofs.Lists.{each_at, each_in, equal_is}
+use Rattle.oca_pair.proofs.Lists.{IsIn, contains_in, in_contains, each_at, each_in, equal_is}
 use Rattle.oca_pair.proofs.Clocks.{keeps_before}
 use Rattle.oca_pair.proofs.Wire.{IsSendable, read_command}
-use Rattle.oca_pair.proofs.Truths.{Past, past, and_then, state_of, IsTrueAnswer, window_executed}
+use Rattle.oca_pair.proofs.Truths.{Past, past, and_then, state_of, IsSubmitted, IsTrueAnswer, window_executed}
 use Rattle.oca_pair.proofs.Fair.{end_of, IsFair, AreOwn, Fair, owns_then, judged_duplicate}
 use Rattle.oca_pair.proofs.Delivering.{looked_at, let_in, executed_now, after_read, answers_read, held_answer}
 use Rattle.oca_pair.proofs.Keeping.{accepted_by, Kept, accepted_let_in}
@@ -73,14 +73,20 @@ only_one h x (y ∷ ys) d (inr i) e =
 true_answer : (p : Peer) (h : ℕ) (a : AnswerFields) (n : Network) → (KeepsItsSession p n.events → Kept p (past n)) → IsTrueAnswer p h a (past n) → IsAnswerOfItsCommand p h a n
 true_answer p h a n kept t = record {
   execution = t.execution;
-  executed = t.executed;
+  executed = in_contains t.execution (executions_for p n) t.executed;
   came = record { later = t.honest.came.later; before = t.honest.came.before; now = t.honest.came.now; events = t.honest.came.events; objects = t.honest.came.objects };
-  submitted = t.honest.submitted;
+  submitted = in_contains _ n.submitted t.honest.submitted;
   handle = t.handle;
   reply = t.honest.reply;
   answer_is = t.answer_is;
   only = λ keeps. only_one h t.execution (executions_for p n) (kept keeps).once t.executed t.handle;
 }
+
+-- without the last
+before_last : (xs : List ℕ) (h : ℕ) → AreConsecutive (xs ++ h ∷ []) → AreConsecutive xs
+before_last [] h a = tt
+before_last (x ∷ []) h a = tt
+before_last (x ∷ y ∷ xs) h a = (a.0, before_last (y ∷ xs) h a.1)
 
 pub answers_law : WrittenIsReadBack → (w s : ℕ) (tree : List Object) (starts : List Start) (es : List Step) → are_apart starts ≡ true → Fit starts es →
     AnswersItsCommands (after_steps es (opening w s tree starts))
@@ -91,12 +97,12 @@ answers_law law w s tree starts es apart fit =
       held = λ i l h a own held.
           let of : LinkSound s n l = each_at (LinkSound s n) n.links i l sound.each own in
           true_answer l.peer h a n of.kept (rw held at (held_answer l.peer (past n) h l.link.untaken of.fair.untaken));
-      handed_on = λ i l h a own was.
+      was_taken = λ i l h a own was.
           let of : LinkSound s n l = each_at (LinkSound s n) n.links i l sound.each own in
-          true_answer l.peer h a n of.kept (each_in (λ (t : TakenAnswer). t.peer ≡ l.peer → IsTrueAnswer l.peer t.handle t.answer (past n)) _ n.taken of.fair.handed_on was refl);
-      handles = λ i l c d own a b e.
+          true_answer l.peer h a n of.kept (each_in (λ (t : TakenAnswer). t.peer ≡ l.peer → IsTrueAnswer l.peer t.handle t.answer (past n)) _ n.taken of.fair.was_taken (contains_in _ n.taken was) refl);
+      handles = λ i l own.
           let of : LinkSound s n l = each_at (LinkSound s n) n.links i l sound.each own in
-          of.fair.unique c d a b e;
+          before_last (handles_of l.peer n.submitted) (end_of l.link.next) of.fair.rising;
     }
 
 -- ---- each command is executed once
@@ -137,7 +143,7 @@ answered_now law w s f n k now d next us u c peers wide there fair kept good hel
     its : IsFair p g u
     its = each_in (IsFair p g) u us fair.untaken held
 
-    sub : WasSubmitted p c g.submitted
+    sub : IsSubmitted p c g.submitted
     sub = rw command at (each_in (IsFair p g) u us fair.untaken held).0
 
     sendable : IsSendable c
@@ -178,7 +184,7 @@ answered_now law w s f n k now d next us u c peers wide there fair kept good hel
         | inr q ↦ inr (ap (λ y. outcomes.Device y ∷ []) (verdict_is ∙ q))
       ]);
       execution = x;
-      executed = rw (there, state_is) i;
+      executed = rw (there, state_is) (in_contains x (executed_for p s'.notes) i);
       command = command;
       sent = rw there (ap (λ ps. n.to_links ++ sendings p ps) (ap packets_of answers_are ∙ ap (λ r. packets_of (response c.handle r ∷ [])) reply_is));
     }
@@ -210,17 +216,17 @@ answered_now law w s f n k now d next us u c peers wide there fair kept good hel
     by_judgement Old q t = absurd t
 
 delivered : WrittenIsReadBack → (w s : ℕ) (n : Network) (k now : ℕ) (d : SentDatagram) (l : PeerLink) (c : CommandFields) (peers : List Peer) → 0 < s → 2 * s ≤ n.window + 1 →
-    slice_get n.to_device k ≡ Some d → LinkSound s n l → IsCopyOfUntaken d l c →
+    slice_get n.to_device k ≡ Some d → LinkSound s n l → CarriesUntaken d l c →
     KeepsItsSession d.peer (Datagram d.peer d.bytes now ∷ n.events) → length peers ≤ 16 → ComeFrom peers (Datagram d.peer d.bytes now ∷ n.events) → IsAnswered k now n d c
-delivered law w s n k now d l c peers some wide there of copy keeps small come =
+delivered law w s n k now d l c peers some wide there of of_untaken keeps small come =
     let As : Peer → Type 0 = λ x. KeepsItsSession x n.events in
-    let before : KeepsItsSession l.peer n.events = subst As (sym copy.peer) (keeps_before d.peer (Datagram d.peer d.bytes now) n.events keeps) in
+    let before : KeepsItsSession l.peer n.events = subst As (sym of_untaken.peer) (keeps_before d.peer (Datagram d.peer d.bytes now) n.events keeps) in
     let FairAs : Peer → Type 0 = λ x. Fair x l.link.next l.link.untaken (past n) n.to_device n.to_links n.taken in
     let KeptAs : Peer → Type 0 = λ x. Kept x (past n) in
     let good = of.good some before in
     let GoodAs : Peer → Type 0 = λ x. Good s good.0 x l.link.next l.link.untaken n.submitted (accepted_by x (past n)) in
-    answered_now law w s good.0 n k now d l.link.next l.link.untaken copy.untaken c peers wide there
-    (subst FairAs copy.peer of.fair) (subst KeptAs copy.peer (of.kept before)) (subst GoodAs copy.peer good.1) copy.held copy.command copy.bytes keeps small come
+    answered_now law w s good.0 n k now d l.link.next l.link.untaken of_untaken.untaken c peers wide there
+    (subst FairAs of_untaken.peer of.fair) (subst KeptAs of_untaken.peer (of.kept before)) (subst GoodAs of_untaken.peer good.1) (contains_in of_untaken.untaken l.link.untaken of_untaken.held) of_untaken.command of_untaken.bytes keeps small come
 
 window_kept : (es : List Step) (n : Network) → (after_steps es n).window ≡ n.window
 window_kept [] n = refl
@@ -261,9 +267,9 @@ window_kept (step ∷ es) n = window_kept es (after_step step n) ∙ one step
 
 pub never_old_law : WrittenIsReadBack → (w s : ℕ) (tree : List Object) (starts : List Start) (es : List Step) → 0 < s → 2 * s ≤ w + 1 → are_apart starts ≡ true → Fit starts es →
     AnswersUntaken (after_steps es (opening w s tree starts))
-never_old_law law w s tree starts es some wide apart fit k now i d l c peers there own copy keeps small come =
+never_old_law law w s tree starts es some wide apart fit k now i d l c peers there own of_untaken keeps small come =
     let n : Network = after_steps es (opening w s tree starts) in
     let sound : Sound s n = sound_after law w s tree starts es apart fit in
     let of : LinkSound s n l = each_at (LinkSound s n) n.links i l sound.each own in
     let sizes : n.window ≡ w = window_kept es (opening w s tree starts) in
-    delivered law w s n k now d l c peers some (rw sizes wide) there of copy (rw there at keeps) small (rw there at come)
+    delivered law w s n k now d l c peers some (rw sizes wide) there of of_untaken (rw there at keeps) small (rw there at come)

@@ -1,11 +1,10 @@
 -- Of lists and peers.
-use Rattle.std.proofs.Common.{◌≡◌, ℕ, ◌≢◌, Bool, true, false, List, [], ◌∷◌, ◌++◌, Some, refl, sym, ap, ◌∙◌, arith, zero, suc, ◌⊎◌, inl, inr}
+use Rattle.std.proofs.Common.{◌≡◌, ℕ, ◌≢◌, Bool, true, false, List, [], ◌∷◌, ◌++◌, Some, refl, sym, ap, ◌∙◌, ◌+◌, ◌<◌, length, arith, zero, suc, ◌⊎◌, inl, inr}
 use Rattle.std.specs.Prelude.{nat_eq, not, ◌&&◌, ◌||◌}
-use Rattle.std.specs.List.{AllByRecursion, slice_get, slice_set}
+use Rattle.std.specs.List.{AllByRecursion, Contains, slice_get, slice_set}
 use Rattle.std.proofs.lemmas.Bool.Decides.{nat_tests}
 use Rattle.oca_types.specs.declared.words.Peer.{Peer}
 use Rattle.oca_types.specs.Peers.{same_peer}
-use Rattle.oca_pair.specs.Laws.{IsIn}
 
 -- ---- tests
 
@@ -63,6 +62,21 @@ other_is p q other = by_test (same_peer p q) refl
     by_test false e = refl
 
 -- ---- members
+
+-- x is a member of the list: as `Contains` says it, by recursion
+abbrev pub IsIn : {X : Type 0} → X → List X → Type 0
+IsIn x [] = ⊥
+IsIn x (y ∷ ys) = (y ≡ x) ⊎ IsIn x ys
+
+pub contains_in : {X : Type 0} (x : X) (xs : List X) → Contains xs x → IsIn x xs
+contains_in x [] (k, lt, e) = absurd (omega (arith, lt))
+contains_in x (y ∷ ys) (zero, lt, e) = inl e
+contains_in x (y ∷ ys) (suc k, lt, e) = inr (contains_in x ys (k, omega (arith, lt), e))
+
+pub in_contains : {X : Type 0} (x : X) (xs : List X) → IsIn x xs → Contains xs x
+in_contains x [] i = absurd i
+in_contains x (y ∷ ys) (inl e) = (0, omega arith, e)
+in_contains x (y ∷ ys) (inr i) = let h = in_contains x ys i in let lt = h.1 in (suc h.0, omega arith, h.2)
 
 pub in_more : {X : Type 0} (x : X) (xs ys : List X) → IsIn x xs → IsIn x (xs ++ ys)
 in_more x [] ys i = absurd i

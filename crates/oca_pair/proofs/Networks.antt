@@ -22,12 +22,11 @@ use Rattle.oca_pair.specs.Networks.{Network, PeerLink, SentDatagram, SubmittedCo
 use Rattle.oca_pair.specs.Steps.{Step, Submit, Due, ToDevice, ToLink, Other, Take, has_link, sendings, submitted_by, after_submit, given_by, after_due_step, after_delivery, content_of, hears_datagram, after_reception, after_take, after_step, after_steps}
 use Rattle.oca_pair.specs.Steps as steps
 use Rattle.oca_pair.specs.Premises.{is_of_another_peer, are_apart, RequestFits, StepFits, StartFits, Fit, KeepsItsSession}
-use Rattle.oca_pair.specs.Laws.{WasSubmitted}
 use Rattle.oca_pair.proofs.Core.{each_map, none_passes, has}
 use Rattle.oca_pair.proofs.Lists.{both_true, not_true, same_is, same_turned, other_of, each_at, each_in, each_set}
 use Rattle.oca_pair.proofs.Clocks.{keeps_before}
 use Rattle.oca_pair.proofs.Wire.{IsSendable, read_command, read_keep_alive}
-use Rattle.oca_pair.proofs.Truths.{Past, past, and_then, state_of, IsTrueAnswer}
+use Rattle.oca_pair.proofs.Truths.{Past, past, and_then, state_of, IsSubmitted, IsTrueAnswer}
 use Rattle.oca_pair.proofs.Fair.{end_of, IsOut, IsBack, IsHeld, Fair, fair_other, fair_tick}
 use Rattle.oca_pair.proofs.Delivering.{granted, fair_command, fair_keep_alive, fair_submit, fair_submitted_by, fair_gone_on, fair_sent, fair_received, fair_taken, fair_taken_by, held_answer}
 use Rattle.oca_pair.proofs.Keeping.{Kept, accepted_by, IsGrown, delivers, kept_other, accepted_other, executed_has}
@@ -297,7 +296,7 @@ own_fair : (law : WrittenIsReadBack) (p : Peer) (next : Option ℕ) (us : List U
 own_fair law p next us g out back handed bytes now (inl (c, sub, is)) f =
     rw is (fair_command law p next us g out back handed c now (sendable_of c sub) sub f)
   where
-    sendable_of : (c : CommandFields) → WasSubmitted p c g.submitted → IsSendable c
+    sendable_of : (c : CommandFields) → IsSubmitted p c g.submitted → IsSendable c
     sendable_of c sub = (each_in (λ (x : SubmittedCommand). x.peer ≡ p → IsSendable x.command × (x.command.handle < end_of next)) _ g.submitted f.sendable sub refl).0
 own_fair law p next us g out back handed bytes now (inr is) f = rw is (fair_keep_alive law p next us g out back handed now f)
 
@@ -454,7 +453,7 @@ sound_opening w s tree starts a fits = record { apart = apart starts a; each = e
     each (x ∷ xs) f = (
       record {
         span = refl;
-        fair = record { fits = f.0; own = tt; outgoing = tt; incoming = tt; untaken = tt; handed_on = tt; sendable = tt; unique = λ c d i j e. absurd i };
+        fair = record { fits = f.0; own = tt; outgoing = tt; incoming = tt; untaken = tt; was_taken = tt; sendable = tt; unique = λ c d i j e. absurd i; rising = tt };
         kept = λ keeps. record { latest = tt; whole = refl; once = tt };
         good = λ some keeps. (x.first_handle.0, record { start = omega arith; untaken = tt; taken = λ y p q free. nothing x.first_handle.0 y p q; own = tt; order = tt; from = tt });
       },

@@ -1,17 +1,16 @@
 -- What each step of a network that runs leads to.
 use Rattle.std.proofs.Common.{◌≡◌, ℕ, ◌+◌, ◌<◌, ◌≤◌, Bool, true, false, List, [], ◌∷◌, ◌++◌, length, take, drop, get_or, Option, Some, None, Result, Ok, Err, refl, sym, ap, ◌∙◌, subst, arith, zero, suc, append-nil, append_assoc, take_all}
 use Rattle.std.specs.Prelude.{map, not, ◌&&◌, ◌||◌, is_some, if◌then◌else◌}
-use Rattle.std.specs.List.{slice_get, slice_set, list_any, list_all}
+use Rattle.std.specs.List.{slice_get, slice_set, list_any, list_all, flat_map}
 use Rattle.std.specs.Option.{option_or}
 use Rattle.std.proofs.lemmas.List.{get_or_at, set_at, drop_more, drop_all, map_more, length-map, length-take-le}
 use Rattle.std.proofs.lemmas.Option.{slice_get-get_or}
 use Rattle.oca_types.specs.declared.words.Peer.{Peer}
 use Rattle.oca_types.specs.Peers.{same_peer}
 use Rattle.oca_pdu.specs.declared.fault.PduFault.{PduFault}
-use Rattle.oca_pdu.specs.Messages.{Msg}
+use Rattle.oca_pdu.specs.Messages.{Msg, messages_of}
 use Rattle.oca_pdu.specs.Reading.{read_datagram}
-use Rattle.oca_pdu.proofs.Codec.{IsBytes}
-use Rattle.oca_pdu.proofs.Exact.{is_found, not_refused}
+use Rattle.oca_pdu.specs.Laws.{AreBytes, ReadsExactly, ReadingIsExact}
 use Rattle.oca_tree.specs.declared.object.Object.{Object}
 use Rattle.oca_device.specs.declared.verdict.Verdict.{Verdict}
 use Rattle.oca_device.specs.Devices.{Represents}
@@ -37,12 +36,23 @@ use Rattle.oca_pair.specs.PrivateRunning.{AreOfLinks, Shows, Took, is_of_peer, h
 
 -- ---- bytes
 
-pub content_is : (bytes : List ℕ) → IsBytes bytes → IsContent (content_of bytes) bytes
-content_is bytes fits = by (read_datagram bytes) refl
+are_bytes : (bytes : List ℕ) → ((i : ℕ) → get_or bytes i 0 < 256) → AreBytes bytes
+are_bytes [] fits = tt
+are_bytes (b ∷ bytes) fits = (fits 0, are_bytes bytes (λ i. fits (suc i)))
+
+pub content_is : ReadingIsExact → (bytes : List ℕ) → ((i : ℕ) → get_or bytes i 0 < 256) → IsContent (content_of bytes) bytes
+content_is law bytes fits = by (read_datagram bytes) refl
   where
+    exact : ReadsExactly bytes
+    exact = law bytes (are_bytes bytes fits)
+
+    not_both : (ms : List Msg) (f : PduFault) (r : Result (List Msg) PduFault) → r ≡ Ok ms → r ≡ Err f → ⊥
+    not_both ms f (Ok ns) a b = cc
+    not_both ms f (Err g) a b = cc
+
     by : (r : Result (List Msg) PduFault) → read_datagram bytes ≡ r → IsContent (messages_read r) bytes
-    by (Ok ms) e = is_found bytes ms fits e
-    by (Err f) e = λ ps are. not_refused ps bytes f are e
+    by (Ok ms) e = (exact.messages ms).0 e
+    by (Err f) e = λ ps are. not_both (flat_map messages_of ps) f (read_datagram bytes) ((exact.messages (flat_map messages_of ps)).1 (ps, are, refl)) e
 
 -- ---- lists
 

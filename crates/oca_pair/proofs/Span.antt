@@ -14,9 +14,8 @@ use Rattle.oca_control.specs.Answers.{AnswerFields}
 use Rattle.oca_control.specs.Untaken.{Untaken, new_untaken, has_room, given_out, answered, without_handle, holds}
 use Rattle.oca_control.specs.Links.{Request, command_under, handle_after}
 use Rattle.oca_pair.specs.Networks.{SubmittedCommand}
-use Rattle.oca_pair.specs.Laws.{IsIn}
 use Rattle.oca_pair.proofs.Core.{has, Ordered, each_map, each_both, each_append, either_false, below_all, never_old, IsServed}
-use Rattle.oca_pair.proofs.Lists.{neither, equal_self}
+use Rattle.oca_pair.proofs.Lists.{IsIn, neither, equal_self}
 use Rattle.oca_pair.proofs.Fair.{end_of}
 use Rattle.oca_pair.proofs.Delivering.{end_after}
 

@@ -3,7 +3,7 @@ use Rattle.std.proofs.Common.{◌≡◌, ℕ, ◌-◌, Bool, true, false, cond, 
 use Rattle.std.specs.Prelude.{nat_eq, max}
 use Rattle.std.specs.List.{AllByRecursion}
 use Rattle.oca_types.specs.declared.words.Peer.{Peer}
-use Rattle.oca_types.specs.Peers.{same_peer}
+use Rattle.oca_types.specs.Peers.{same_peer, CommandFields}
 use Rattle.oca_pdu.specs.Messages.{Commands}
 use Rattle.oca_pdu.specs.Encoding.{pdu_encoding}
 use Rattle.oca_pdu.specs.Reading.{read_datagram}
@@ -14,8 +14,8 @@ use Rattle.oca_device.specs.Notes.{Noted, Admitted, Heartbeat, Executed, Note, n
 use Rattle.oca_device.specs.States.{State, moved_to, reply_of, after_reading, state_after}
 use Rattle.oca_control.specs.Answers.{AnswerFields}
 use Rattle.oca_pair.specs.Networks.{Network, SubmittedCommand}
-use Rattle.oca_pair.specs.Laws.{IsIn, Execution, executed_in, executed_for, answer_of, WasSubmitted}
-use Rattle.oca_pair.proofs.Lists.{in_more, in_behind, in_parts, same_is}
+use Rattle.oca_pair.specs.Laws.{Execution, executed_in, executed_for, answer_of}
+use Rattle.oca_pair.proofs.Lists.{IsIn, in_more, in_behind, in_parts, same_is}
 use Rattle.oca_pair.proofs.Clocks.{Grows, grows_reading}
 
 -- what happened and was submitted
@@ -37,6 +37,10 @@ and_submitted more g = record { window = g.window; tree = g.tree; events = g.eve
 abbrev pub state_of : Past → State
 state_of g = state_after g.window g.tree g.events
 
+-- the link of this peer submitted the command
+abbrev pub IsSubmitted : Peer → CommandFields → List SubmittedCommand → Type 0
+IsSubmitted p c submitted = let it : SubmittedCommand = record { peer = p; command = c } in IsIn it submitted
+
 pub record Came (p : Peer) (x : Execution) (g : Past) : Type 0 where
   pub later : List Event
   pub before : List Event
@@ -47,7 +51,7 @@ pub record Came (p : Peer) (x : Execution) (g : Past) : Type 0 where
 -- an execution of a submitted command, with its reply
 pub record IsHonest (p : Peer) (x : Execution) (g : Past) : Type 0 where
   pub came : Came p x g
-  pub submitted : WasSubmitted p x.command g.submitted
+  pub submitted : IsSubmitted p x.command g.submitted
   pub reply : x.reply ≡ reply_of x.objects p x.command
 
 -- the answer is that of an honest execution under the handle

@@ -1,17 +1,20 @@
 -- THE LAWS OF A NETWORK (profile), over every schedule.
 use Rattle.std.specs.Prelude.{◌≡◌, ◌==◌, ◌⊎◌, ℕ, ◌+◌, ◌*◌, ◌<◌, ◌≤◌, true, if◌then◌else◌, List, [], ◌∷◌, ◌++◌, map, filter, length, Some}
-use Rattle.std.specs.List.{slice_get, IsDistinct}
+use Rattle.std.specs.List.{slice_get, Contains, IsDistinct}
 use Rattle.oca_types.specs.declared.words.Peer.{Peer}
 use Rattle.oca_types.specs.declared.words.Reply.{Reply}
 use Rattle.oca_types.specs.Peers.{CommandFields, same_peer}
 use Rattle.oca_types.specs.Status.{status_number}
-use Rattle.oca_pdu.specs.Messages.{ResponseFields, Commands, Responses}
+use Rattle.oca_pdu.specs.Messages.{Commands}
 use Rattle.oca_pdu.specs.Encoding.{pdu_encoding}
 use Rattle.oca_tree.specs.declared.object.Object.{Object}
+use Rattle.oca_session.specs.Limits.{most_sessions}
 use Rattle.oca_device.specs.declared.verdict.Verdict.TheVariants as verdicts
 use Rattle.oca_device.specs.Events.{Event, Datagram, Tick}
 use Rattle.oca_device.specs.Notes.{Noted, Admitted, Heartbeat, Executed, Note}
 use Rattle.oca_device.specs.States.{state_after, reply_of}
+use Rattle.oca_device.specs.Groups.{pdu_of}
+use Rattle.oca_device.specs.Answers.{response}
 use Rattle.oca_control.specs.Answers.{AnswerFields}
 use Rattle.oca_control.specs.Untaken.{Untaken, answer_under}
 use Rattle.oca_pair.specs.declared.outcome.Outcome.TheVariants as outcomes
@@ -19,11 +22,6 @@ use Rattle.oca_pair.specs.declared.start.Start.{Start}
 use Rattle.oca_pair.specs.Networks.{Network, PeerLink, SentDatagram, SubmittedCommand, TakenAnswer, opening}
 use Rattle.oca_pair.specs.Steps.{Step, ToDevice, after_step, after_steps, outcome_of}
 use Rattle.oca_pair.specs.Premises.{are_apart, Fit, KeepsItsSession, ComeFrom}
-
--- x is a member of the list
-abbrev pub IsIn : {X : Type 0} → X → List X → Type 0
-IsIn x [] = ⊥
-IsIn x (y ∷ ys) = (y ≡ x) ⊎ IsIn x ys
 
 -- ---- what the device executed
 
@@ -58,11 +56,11 @@ answer_of reply = record { status = status_number reply.status; count = reply.co
 
 -- the link of this peer submitted the command
 abbrev pub WasSubmitted : Peer → CommandFields → List SubmittedCommand → Type 0
-WasSubmitted p c submitted = let it : SubmittedCommand = record { peer = p; command = c } in IsIn it submitted
+WasSubmitted p c submitted = let it : SubmittedCommand = record { peer = p; command = c } in Contains submitted it
 
--- the link of this peer handed this answer on, under the handle
-abbrev pub WasHandedOn : Peer → ℕ → AnswerFields → List TakenAnswer → Type 0
-WasHandedOn p h answer taken = let it : TakenAnswer = record { peer = p; handle = h; answer = answer } in IsIn it taken
+-- this answer was taken from the link of this peer, under the handle
+abbrev pub WasTaken : Peer → ℕ → AnswerFields → List TakenAnswer → Type 0
+WasTaken p h answer taken = let it : TakenAnswer = record { peer = p; handle = h; answer = answer } in Contains taken it
 
 -- The execution was of a datagram of the peer that held its command alone, on the objects as the clock left them when it came.
 pub record CameWithADatagram (p : Peer) (x : Execution) (n : Network) : Type 0 where
@@ -76,7 +74,7 @@ pub record CameWithADatagram (p : Peer) (x : Execution) (n : Network) : Type 0 w
 -- Where the peer's session was never forgotten, it is the only execution for the peer under that handle.
 pub record IsAnswerOfItsCommand (p : Peer) (h : ℕ) (answer : AnswerFields) (n : Network) : Type 0 where
   pub execution : Execution
-  pub executed : IsIn execution (executions_for p n)
+  pub executed : Contains (executions_for p n) execution
   pub came : CameWithADatagram p execution n
   pub submitted : WasSubmitted p execution.command n.submitted
   pub handle : execution.command.handle ≡ h
@@ -84,14 +82,24 @@ pub record IsAnswerOfItsCommand (p : Peer) (h : ℕ) (answer : AnswerFields) (n 
   pub answer_is : answer ≡ answer_of execution.reply
   pub only : KeepsItsSession p n.events → executions_under h (executions_for p n) ≡ execution ∷ []
 
--- Of each answer that a link holds, and of each that it handed on; and no two commands that it submitted have one handle.
+-- the handles of the commands that the link of this peer submitted, in order
+abbrev pub handles_of : Peer → List SubmittedCommand → List ℕ
+handles_of p submitted = map (λ x. x.command.handle) (filter (λ x. same_peer x.peer p) submitted)
+
+-- each is the one before it plus one, so that no two are equal
+abbrev pub AreConsecutive : List ℕ → Type 0
+AreConsecutive [] = Unit {0}
+AreConsecutive (h ∷ []) = Unit {0}
+AreConsecutive (h ∷ k ∷ more) = (k ≡ h + 1) × AreConsecutive (k ∷ more)
+
+-- Of each answer that a link holds, and of each that was taken from it; and each command that it submitted has a handle of its own, the
+-- one before it plus one.
 pub record AnswersItsCommands (n : Network) : Type 0 where
   pub held : (i : ℕ) (l : PeerLink) (h : ℕ) (answer : AnswerFields) → slice_get n.links i ≡ Some l → answer_under h l.link.untaken ≡ Some answer →
       IsAnswerOfItsCommand l.peer h answer n
-  pub handed_on : (i : ℕ) (l : PeerLink) (h : ℕ) (answer : AnswerFields) → slice_get n.links i ≡ Some l → WasHandedOn l.peer h answer n.taken →
+  pub was_taken : (i : ℕ) (l : PeerLink) (h : ℕ) (answer : AnswerFields) → slice_get n.links i ≡ Some l → WasTaken l.peer h answer n.taken →
       IsAnswerOfItsCommand l.peer h answer n
-  pub handles : (i : ℕ) (l : PeerLink) (c d : CommandFields) → slice_get n.links i ≡ Some l → WasSubmitted l.peer c n.submitted →
-      WasSubmitted l.peer d n.submitted → c.handle ≡ d.handle → c ≡ d
+  pub handles : (i : ℕ) (l : PeerLink) → slice_get n.links i ≡ Some l → AreConsecutive (handles_of l.peer n.submitted)
 
 -- Over every schedule, for all sizes:
 abbrev pub EveryScheduleAnswersItsCommands : Type 0
@@ -99,20 +107,16 @@ EveryScheduleAnswersItsCommands =
     (w s : ℕ) (tree : List Object) (starts : List Start) (steps : List Step) → are_apart starts ≡ true → Fit starts steps →
     AnswersItsCommands (after_steps steps (opening w s tree starts))
 
--- ---- THE LAW OF COMMANDS IN HAND
+-- ---- THE LAW OF UNTAKEN COMMANDS
 
--- A datagram of the link of this peer is a copy of a command that the link holds untaken: its bytes are those that the link gives
--- out for it.
-pub record IsCopyOfUntaken (d : SentDatagram) (l : PeerLink) (c : CommandFields) : Type 0 where
+-- A datagram of the link of this peer carries a command that the link holds untaken: its bytes are those that the link gives out
+-- for it, whether for the first time or again.
+pub record CarriesUntaken (d : SentDatagram) (l : PeerLink) (c : CommandFields) : Type 0 where
   pub peer : l.peer ≡ d.peer
   pub untaken : Untaken
-  pub held : IsIn untaken l.link.untaken
+  pub held : Contains l.link.untaken untaken
   pub command : untaken.command ≡ c
   pub bytes : d.bytes ≡ pdu_encoding (Commands true (c ∷ []))
-
--- the response with a reply, under a handle
-abbrev pub response_to : ℕ → Reply → ResponseFields
-response_to h reply = record { handle = h; status = status_number reply.status; count = reply.count; params = reply.params.items }
 
 -- The delivery is answered: the device executes the command now, or finds it in its window; and it sends the link one datagram, the
 -- response with the reply of an execution of that command for that peer.
@@ -120,17 +124,17 @@ pub record IsAnswered (k now : ℕ) (n : Network) (d : SentDatagram) (c : Comman
   pub served : (outcome_of (ToDevice k now) n ≡ outcomes.Device (verdicts.Served 1 0 0 0) ∷ [])
       ⊎ (outcome_of (ToDevice k now) n ≡ outcomes.Device (verdicts.Served 0 1 0 0) ∷ [])
   pub execution : Execution
-  pub executed : IsIn execution (executions_for d.peer (after_step (ToDevice k now) n))
+  pub executed : Contains (executions_for d.peer (after_step (ToDevice k now) n)) execution
   pub command : execution.command ≡ c
   pub sent : (after_step (ToDevice k now) n).to_links
-      ≡ n.to_links ++ (record { peer = d.peer; bytes = pdu_encoding (Responses (response_to c.handle execution.reply ∷ [])) }) ∷ []
+      ≡ n.to_links ++ (record { peer = d.peer; bytes = pdu_encoding (pdu_of (response c.handle execution.reply)) }) ∷ []
 
--- A delivery of a copy of an untaken command is answered, where with it no session of the link's peer was forgotten, and the
+-- A delivery of a datagram that carries an untaken command is answered, where with it no session of the link's peer was forgotten, and the
 -- datagrams that came to the device came from at most 16 peers.
 abbrev pub AnswersUntaken : Network → Type 0
 AnswersUntaken n = (k now i : ℕ) (d : SentDatagram) (l : PeerLink) (c : CommandFields) (peers : List Peer) →
-    slice_get n.to_device k ≡ Some d → slice_get n.links i ≡ Some l → IsCopyOfUntaken d l c →
-    KeepsItsSession d.peer (after_step (ToDevice k now) n).events → length peers ≤ 16 → ComeFrom peers (after_step (ToDevice k now) n).events →
+    slice_get n.to_device k ≡ Some d → slice_get n.links i ≡ Some l → CarriesUntaken d l c →
+    KeepsItsSession d.peer (after_step (ToDevice k now) n).events → length peers ≤ most_sessions → ComeFrom peers (after_step (ToDevice k now) n).events →
     IsAnswered k now n d c
 
 -- Over every schedule, for all sizes where the window is at least twice the span less one:

@@ -29,7 +29,7 @@ pub record SubmittedCommand : Type 0 where
   pub peer : Peer
   pub command : CommandFields
 
--- an answer that the link of a peer handed on, and the handle that it was asked for
+-- an answer that was taken from the link of a peer, and the handle under which it was asked for
 pub record TakenAnswer : Type 0 where
   pub peer : Peer
   pub handle : ℕ

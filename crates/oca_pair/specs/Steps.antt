@@ -123,7 +123,7 @@ reception_outcomes d [] = []
 reception_outcomes d (l ∷ links) =
     if same_peer l.peer d.peer then outcomes.Link (reception device_address (content_of d.bytes) l.link) ∷ [] else reception_outcomes d links
 
--- ---- TAKE: the link hands its answer on, where it has one
+-- ---- TAKE: the answer is taken from the link, where it has one
 abbrev pub taken_by : Peer → ℕ → Option AnswerFields → List TakenAnswer
 taken_by p h (Some answer) = (record { peer = p; handle = h; answer = answer }) ∷ []
 taken_by p h None = []

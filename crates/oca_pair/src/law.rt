@@ -3,7 +3,7 @@ ghost use Rattle.oca_pair.specs.Laws.{EveryScheduleAnswersItsCommands, NoUntaken
 
 use oca_pdu::law_written_is_read_back;
 
-/// Over every schedule and for all sizes of window and span: each answer that a link holds or handed on under a handle is what an
+/// Over every schedule and for all sizes of window and span: each answer that a link holds or gave under a handle is what an
 /// execution gave, for that link's peer, of the very command that the link submitted under that handle. Where no session of the
 /// peer was forgotten, it is the only execution for the peer under that handle.
 pub fn law_answers()
@@ -12,8 +12,8 @@ pub fn law_answers()
     law_written_is_read_back();
 }
 
-/// Over every schedule, where the window `w` and the span `s` have `0 < s` and `2 * s <= w + 1`: a delivered copy of a command that
-/// its link still holds untaken is answered. It is executed now, or its reply is found in the window; it is never too old, never met
+/// Over every schedule, where the window `w` and the span `s` have `0 < s` and `2 * s <= w + 1`: a delivered datagram with a command
+/// that its link still holds untaken is answered. It is executed now, or its reply is found in the window; it is never too old, never met
 /// without room, and never taken for another command under its handle. This holds where no session of the link's peer was
 /// forgotten, which is where each of its datagrams comes at most 120,000 ms after the one before it, and where all datagrams came
 /// from at most 16 peers. And no command is executed twice, for all sizes, where no session of its peer was forgotten.

@@ -22,7 +22,7 @@ pub enum Outcome {
     Link(Reception),
     /// The device's clock was read.
     Ticked,
-    /// The link handed this answer on.
+    /// The link gave this answer.
     Answer(Answer),
     /// The link has no answer under the handle.
     NoAnswer,

@@ -14,6 +14,7 @@ use crate::start::Start;
 use crate::step::Step;
 use oca_control::{Due, Link, Reception};
 use oca_device::{Device, Outbox};
+use oca_pdu::law_reading;
 use oca_tree::Tree;
 use oca_types::{Handle, MethodId, NoMemory, Ono, Packet, Peer, Span, Window};
 use std::alloc::Global;
@@ -92,6 +93,7 @@ impl PeerLink {
         ensures answer { result ≡ reception device_address (content_of bytes.now) self.old.link }
         ensures link { self.new ≡ record { peer = self.old.peer; link = received device_address (content_of bytes.now) now self.old.link } }
     {
+        law_reading();
         self.link.datagram(DEVICE, bytes, now)
     }
 

@@ -43,6 +43,7 @@ enum Seen {
     NoAnswer,
 }
 
+/// What the tests compare of an outcome.
 fn shown(outcome: &Outcome) -> Seen {
     match outcome {
         Outcome::Submitted(handle) => Seen::Submitted(handle.0),
@@ -68,6 +69,7 @@ fn served(executed: u32, kept: u32, old: u32) -> Seen {
     })
 }
 
+/// The start of a link at this port of 127.0.0.1.
 fn start(port: u16, first: u32) -> Start {
     Start {
         peer: peer(port),
@@ -128,8 +130,8 @@ fn expect_log(rt: &impl Abort, transcript: &Transcript, expected: &[Seen]) {
     }
 }
 
-/// A command is given out twice, and the two copies overtake one another.
-fn two_copies() -> [Step<'static>; 8] {
+/// A command is given out twice, and the two datagrams overtake one another.
+fn given_out_twice() -> [Step<'static>; 8] {
     [
         unmute(0),
         Step::Due { link: 0, now: 0 },
@@ -166,9 +168,10 @@ const TWO_COPIES: [Seen; 8] = [
     Seen::Answer(0, 0, 0),
 ];
 
+/// A command that comes twice is executed once and answered twice, and its link hears the first answer.
 #[test]
-fn a_copy_is_answered_once(rt: HostRuntime) -> Result<(), Fail> {
-    let transcript = run(rt.alloc(), 32, 16, &[start(A, 1)], &two_copies())?;
+fn a_duplicate_is_answered_once(rt: HostRuntime) -> Result<(), Fail> {
+    let transcript = run(rt.alloc(), 32, 16, &[start(A, 1)], &given_out_twice())?;
     expect_log(&rt, &transcript, &TWO_COPIES);
     assert_eq!(rt; transcript.to_device.len(), 2);
     assert_eq!(rt; transcript.to_links.len(), 2);
@@ -177,9 +180,10 @@ fn a_copy_is_answered_once(rt: HostRuntime) -> Result<(), Fail> {
     Ok(())
 }
 
+/// A step that names a datagram that was never sent is refused by its number.
 #[test]
 fn a_datagram_that_is_not_there(rt: HostRuntime) -> Result<(), Fail> {
-    let [a, b, c, d, e, f, g, h] = two_copies();
+    let [a, b, c, d, e, f, g, h] = given_out_twice();
     let steps = [a, b, c, d, e, f, g, h, Step::ToDevice { k: 9, now: 300 }];
     match run(rt.alloc(), 32, 16, &[start(A, 1)], &steps) {
         Err(fault) => assert_eq!(rt; fault, PairFault::BadStep(8)),
@@ -188,9 +192,10 @@ fn a_datagram_that_is_not_there(rt: HostRuntime) -> Result<(), Fail> {
     Ok(())
 }
 
+/// Bytes of a peer without a link are served, and those of a link's peer are no such step.
 #[test]
 fn other_bytes(rt: HostRuntime) -> Result<(), Fail> {
-    let [a, b, c, d, e, f, g, h] = two_copies();
+    let [a, b, c, d, e, f, g, h] = given_out_twice();
     let of = |port: u16| Step::Other {
         from: peer(port),
         bytes: &GET,
@@ -220,6 +225,7 @@ fn other_bytes(rt: HostRuntime) -> Result<(), Fail> {
     Ok(())
 }
 
+/// Two starts with one peer are refused, and so is one with the device's.
 #[test]
 fn starts_of_one_peer(rt: HostRuntime) -> Result<(), Fail> {
     for starts in [[start(A, 1), start(A, 5)], [start(A, 1), start(DEVICE, 1)]] {
@@ -237,6 +243,7 @@ fn starts_of_one_peer(rt: HostRuntime) -> Result<(), Fail> {
     Ok(())
 }
 
+/// The numbers of the faults.
 #[test]
 fn numbers_of_faults(rt: HostRuntime) {
     assert_eq!(rt; PairFault::NoMemory.number(), 1);
@@ -244,7 +251,7 @@ fn numbers_of_faults(rt: HostRuntime) {
     assert_eq!(rt; PairFault::SamePeer.number(), 3);
 }
 
-/// Window 3 has the copy of command 2 that window 2 calls too old, where the span is 2.
+/// Window 3 has the duplicate of command 2 that window 2 calls too old, where the span is 2.
 #[test]
 fn the_smallest_window(rt: HostRuntime) -> Result<(), Fail> {
     let steps = [
@@ -285,7 +292,7 @@ fn the_smallest_window(rt: HostRuntime) -> Result<(), Fail> {
     Ok(())
 }
 
-/// Command 16 overtakes 1 to 15, and 30 others are accepted after it: its copy is still answered.
+/// Command 16 overtakes 1 to 15, and 30 others are accepted after it: its duplicate is still answered.
 #[test]
 fn sixteen_overtakes_fifteen(rt: HostRuntime) -> Result<(), Fail> {
     let alloc = rt.alloc();

@@ -88,15 +88,15 @@ module _ {X : Type 0} (kind : Kind) (encoding : X → List ℕ) (Fits : X → Ty
       → AreMessages count body ⊎ ((f : PduFault) × MessagesFail encoding Fits (least_size kind) count p body f)
   go zero count p body xs rest all parts are fits = elim (same_or_not (length rest) 0) [
     | inl none ↦ inl (xs, all, omega (arith, are), parts ∙ ap (λ (l : List ℕ). flat_map encoding xs ++ l) (nil_from_length rest none) ∙ append-nil (flat_map encoding xs))
-    | inr some ↦ inr (at_fault Count (p + 8), BytesLeft xs rest all parts (omega (arith, are)) (positive _ some) (refl, refl))
+    | inr some ↦ inr (at_fault Count (p + 8), BytesLeft rest (record { before = xs; each = all; parts = parts }) (omega (arith, are)) (positive _ some) (refl, refl))
   ]
   go (suc n) count p body xs rest all parts are fits = elim (same_or_not (length rest) 0) [
-    | inl none ↦ inr (at_fault Count (p + 8), MessagesMissing xs all (parts ∙ ap (λ (l : List ℕ). flat_map encoding xs ++ l) (nil_from_length rest none) ∙ append-nil (flat_map encoding xs)) (omega (arith, are)) (refl, refl))
+    | inl none ↦ inr (at_fault Count (p + 8), MessagesMissing (record { before = xs; each = all; parts = parts ∙ ap (λ (l : List ℕ). flat_map encoding xs ++ l) (nil_from_length rest none) }) (omega (arith, are)) (refl, refl))
     | inr some ↦
         let m : ℕ = p + 10 + length (flat_map encoding xs) in
         elim (front rest fits) [
-          | IsShort short ↦ inr (at_fault MessageSize m, MessageCutOff xs rest all parts (omega (arith, are)) (positive _ some) short (refl, refl))
-          | IsWrong size behind begins below wrong ↦ inr (at_fault MessageSize m, MessageOfWrongSize xs rest size behind all parts (omega (arith, are)) begins below wrong (refl, refl))
+          | IsShort short ↦ inr (at_fault MessageSize m, MessageCutOff rest (record { before = xs; each = all; parts = parts }) (omega (arith, are)) (positive _ some) short (refl, refl))
+          | IsWrong size behind begins below wrong ↦ inr (at_fault MessageSize m, MessageOfWrongSize rest (record { before = xs; each = all; parts = parts }) size behind (omega (arith, are)) begins below wrong (refl, refl))
           | IsWhole x behind ok begins more ↦
               go n count p body (xs ++ x ∷ []) behind (each-append Fits xs (x ∷ []) all (ok, tt)) (moved encoding xs x body rest behind parts begins) (omega (arith, are, length-append xs (x ∷ []))) more
         ]
@@ -315,7 +315,7 @@ go_on (suc n) bytes qs rest some short all parts le fits = elim (same_or_not (le
         | inl first ↦
             go_on n bytes (qs ++ first.pdu ∷ []) first.behind some short (each-append PduFits qs (first.pdu ∷ []) all (first.fits, tt)) (moved pdu_encoding qs first.pdu bytes rest first.behind parts first.parts)
             (omega (arith, le, ap length first.parts, length-append (pdu_encoding first.pdu) first.behind, pdu_some first.pdu)) first.behind_fits
-        | inr fail ↦ inr (fail.0, InPdu qs rest short all parts (positive _ more) fail.1)
+        | inr fail ↦ inr (fail.0, InPdu rest (record { before = qs; each = all; parts = parts }) short (positive _ more) fail.1)
       ]
 ]
 

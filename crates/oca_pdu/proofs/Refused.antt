@@ -79,25 +79,29 @@ module _ {X : Type 0} (kind : Kind) (encoding : X → List ℕ) (Fits : X → Ty
   above n count lt = (count - n - 1, omega arith)
 
   pub messages_refused : (least count p : ℕ) (body : List ℕ) (f : PduFault) → least_size kind ≡ least → MessagesFail encoding Fits least count p body f → messages_at kind count p (p + 10) body ≡ Err f
-  messages_refused least count p body f le (MessagesMissing xs fits parts lt is) =
+  messages_refused least count p body f le (MessagesMissing end lt is) =
+      let xs = end.before in
       let k = above (length xs) count lt in
-      fails_behind xs count (suc k.0) p body [] f fits (parts ∙ sym (append-nil (flat_map encoding xs))) k.1
+      fails_behind xs count (suc k.0) p body [] f end.each end.parts k.1
       (missing k.0 p (p + 10 + length (flat_map encoding xs)) ∙ is_fault f Count (p + 8) is)
-  messages_refused least count p body f le (MessageCutOff xs rest fits parts lt some short is) =
+  messages_refused least count p body f le (MessageCutOff rest here lt some short is) =
+      let xs = here.before in
       let k = above (length xs) count lt in
       let m : ℕ = p + 10 + length (flat_map encoding xs) in
-      fails_behind xs count (suc k.0) p body rest f fits parts k.1
+      fails_behind xs count (suc k.0) p body rest f here.each here.parts k.1
       (first_fails k.0 p m rest f some (message_cut_off kind m rest short ∙ is_fault f MessageSize m is))
-  messages_refused least count p body f le (MessageOfWrongSize xs rest size behind fits parts lt front small bad is) =
+  messages_refused least count p body f le (MessageOfWrongSize rest here size behind lt front small bad is) =
+      let xs = here.before in
       let k = above (length xs) count lt in
       let m : ℕ = p + 10 + length (flat_map encoding xs) in
       let some : 0 < length rest = omega (arith, ap length front) in
       let wrong : (size < least_size kind) ⊎ (length rest < size) = rw le bad in
-      fails_behind xs count (suc k.0) p body rest f fits parts k.1
+      fails_behind xs count (suc k.0) p body rest f here.each here.parts k.1
       (first_fails k.0 p m rest f some (wrong_size kind m size rest behind front small wrong ∙ is_fault f MessageSize m is))
-  messages_refused least count p body f le (BytesLeft xs rest fits parts all some is) =
+  messages_refused least count p body f le (BytesLeft rest here all some is) =
+      let xs = here.before in
       let k : count ≡ length xs + 0 = omega (arith, all) in
-      fails_behind xs count 0 p body rest f fits parts k
+      fails_behind xs count 0 p body rest f here.each here.parts k
       (left_over p (p + 10 + length (flat_map encoding xs)) rest some ∙ is_fault f Count (p + 8) is)
 
 -- ---- one PDU
@@ -230,10 +234,12 @@ datagram_refused bytes f (TooManyBytes many is) =
     let a : eqb (length bytes) 0 ≡ false = ne_eqb _ _ (λ e. omega (arith, e, many)) in
     let b : ltb 1472 (length bytes) ≡ true = lt-ltb _ _ many in
     rw (a, b) (is_fault f TooLong 1472 is)
-datagram_refused bytes f (InPdu before rest short fits parts some fails) =
+datagram_refused bytes f (InPdu rest here short some fails) =
+    let before = here.before in
+    let parts = here.parts in
     let a : eqb (length bytes) 0 ≡ false = ne_eqb _ _ (λ e. omega (arith, e, some, ap length parts, length-append (flat_map pdu_encoding before) rest)) in
     let b : ltb 1472 (length bytes) ≡ false = le-ltb _ _ short in
-    let all = pdus_before before (length bytes) 0 rest fits (omega (arith, ap length parts)) in
+    let all = pdus_before before (length bytes) 0 rest here.each (omega (arith, ap length parts)) in
     let at : 0 + length (flat_map pdu_encoding before) ≡ length (flat_map pdu_encoding before) = omega arith in
     let there : pdus_at all.0 (0 + length (flat_map pdu_encoding before)) rest ≡ Err f
     = ap (λ (p : ℕ). pdus_at all.0 p rest) at ∙ pdu_fails_first all.0 (length (flat_map pdu_encoding before)) rest f some all.1 (pdu_refused (length (flat_map pdu_encoding before)) rest f fails) in

@@ -1,13 +1,13 @@
 use Rattle.std.proofs.Common.{◌≡◌, ℕ, ap, sym, refl, subst, List, []}
 use Rattle.oca_net.specs.Deliveries.{Sent}
 use Rattle.oca_control.specs.Links.{decision}
-use Rattle.oca_control.specs.Driving.{TakesGiven}
+use Rattle.oca_net.specs.Ends.{TakesAllBut}
 use Rattle.oca_control.specs.declared.report.DriveReport.{DriveReport}
 use Rattle.oca_control.proofs.Turns.{takes_none, takes_as, gives_nothing, gives_lost}
 use Rattle.oca_control.proofs.driving.give_one.Goals as goal
 
-nothing_taken : (k : ℕ) (t xs : List Sent) → k ≡ 0 → xs ≡ [] → TakesGiven k t t xs
-nothing_taken k t xs e f = subst (λ (n : ℕ). TakesGiven n t t xs) (sym e) (takes_as 0 t t [] xs (sym f) (takes_none t t refl))
+nothing_taken : (k : ℕ) (t xs : List Sent) → k ≡ 0 → xs ≡ [] → TakesAllBut k t t xs
+nothing_taken k t xs e f = subst (λ (n : ℕ). TakesAllBut n t t xs) (sym e) (takes_as 0 t t [] xs (sym f) (takes_none t t refl))
 
 pub returns-in-Nothing-clause-taken : goal.returns-in-Nothing-clause-taken
 returns-in-Nothing-clause-taken g c = λ tells.

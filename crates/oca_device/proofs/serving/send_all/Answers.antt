@@ -1,7 +1,6 @@
 use Rattle.std.proofs.Common.{ℕ, ◌+◌, Bool, ap, ◌∙◌, sym, refl, subst, arith}
 use Rattle.std.specs.Prelude.{IsTrue, slice_index_or, []}
-use Rattle.oca_net.specs.Ends.{taken_after, failures_sent}
-use Rattle.oca_device.specs.Replies.{TakesReplies}
+use Rattle.oca_net.specs.Ends.{taken_after, failures_sent, TakesAllBut}
 use Rattle.oca_device.proofs.Turns.{first_sent, nothing_sent, sent_further, failed_further, failure_counted, no_failure_counted}
 use Rattle.oca_device.proofs.serving.send_all.Goals as goal
 use Rattle.oca_device.proofs.serving.send_all.Goals.{then-not-send_one, else-not-send_one}
@@ -30,10 +29,10 @@ loop-i-preserved g c =
       telling = one.telling ∙ inv.telling;
       delivered = λ h. one.delivered (still h) ∙ inv.delivered h;
       taken = λ h. elim c.if-not-send_one.branch [
-        | then-not-send_one w ↦ subst (λ (k : ℕ). TakesReplies k old took' (first_sent c.args.to (c.loop-i.i + 1) c.args.outbox.now)) (sym w.failed-is)
+        | then-not-send_one w ↦ subst (λ (k : ℕ). TakesAllBut k old took' (first_sent c.args.to (c.loop-i.i + 1) c.args.outbox.now)) (sym w.failed-is)
             (failed_further c.args.to c.loop-i.i c.loop-i.failed c.args.outbox.now old took took' (omega arith) (inv.taken h)
             (one.taken (still h) ∙ ap (λ (b : Bool). taken_after b c.args.to bytes took) w.if-not-send_one.true))
-        | else-not-send_one w ↦ subst (λ (k : ℕ). TakesReplies k old took' (first_sent c.args.to (c.loop-i.i + 1) c.args.outbox.now)) (sym w.failed-is)
+        | else-not-send_one w ↦ subst (λ (k : ℕ). TakesAllBut k old took' (first_sent c.args.to (c.loop-i.i + 1) c.args.outbox.now)) (sym w.failed-is)
             (sent_further c.args.to c.loop-i.i c.loop-i.failed c.args.outbox.now old took took' (omega arith) (inv.taken h)
             (one.taken (still h) ∙ ap (λ (b : Bool). taken_after b c.args.to bytes took) w.if-not-send_one.false))
       ];

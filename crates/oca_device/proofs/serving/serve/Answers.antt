@@ -1,7 +1,7 @@
 use Rattle.std.proofs.Common.{◌≡◌, ℕ, ◌+◌, ap, ◌∙◌, sym, refl, subst, arith}
 use Rattle.oca_device.specs.declared.report.Report.{Report}
-use Rattle.oca_device.specs.Replies.{ServesDeliveries}
-use Rattle.oca_device.proofs.Turns.{no_deliveries, one_more_turn, none_within, more_within, failures_so_far, received_further, stays, goes_further}
+use Rattle.oca_device.specs.Replies.{ServesTelling}
+use Rattle.oca_device.proofs.Turns.{no_deliveries, one_more_turn, none_within, more_within, failures_so_far, received_further, any_nothing, any_more, any_closed}
 use Rattle.oca_device.proofs.serving.serve.Goals as goal
 
 pub loop-turn-init : goal.loop-turn-init
@@ -11,9 +11,9 @@ loop-turn-init g c =
     record {
       empty = c.clear.ensures;
       telling = refl;
-      served = λ _. subst (λ (r : Report). ServesDeliveries c.args.device.now c.args.device.now delivered delivered taken taken r) (sym c.nothing-report.ensures)
+      served = λ _. subst (λ (r : Report). ServesTelling c.args.device.now c.args.device.now delivered delivered taken taken r) (sym c.nothing-report.ensures)
           (no_deliveries c.args.device.now delivered taken);
-      goes_on = stays c.args.device.now;
+      served_any = any_nothing c.args.device.now c.nothing-report.result c.nothing-report.ensures;
       turns = ap (λ (r : Report). r.turns) c.nothing-report.ensures;
       within = none_within c.nothing-report.result _ c.nothing-report.ensures;
       receives = λ _. omega arith;
@@ -34,10 +34,10 @@ loop-turn-preserved g c =
     record {
       empty = one.outbox;
       telling = one.telling ∙ inv.telling;
-      served = λ h. subst (λ (r : Report). ServesDeliveries c.args.device.now c.take_turn.new.device delivered delivered' taken taken' r) (sym c.sum-report.ensures)
+      served = λ h. subst (λ (r : Report). ServesTelling c.args.device.now c.take_turn.new.device delivered delivered' taken taken' r) (sym c.sum-report.ensures)
           (one_more_turn c.args.device.now c.loop-turn.device c.take_turn.new.device delivered (g.E.End.delivered c.loop-turn.end) delivered' taken (g.E.End.taken c.loop-turn.end) taken'
           c.loop-turn.report c.in-Some.turn (inv.served h) (one.turn (inv.telling ∙ h)));
-      goes_on = goes_further c.args.device.now c.loop-turn.device c.take_turn.new.device inv.goes_on one.any_end;
+      served_any = any_more c.args.device.now c.loop-turn.device c.take_turn.new.device c.loop-turn.report c.in-Some.turn c.sum-report.result inv.served_any one.any_end c.sum-report.ensures;
       turns = ap (λ (r : Report). r.turns) c.sum-report.ensures ∙ ap (λ (n : ℕ). n + c.in-Some.turn.turns) inv.turns ∙ ap (λ (n : ℕ). c.loop-turn._turn + n) one.one;
       within = more_within _ 4294967295 _ c.loop-turn.report c.in-Some.turn c.sum-report.result c.sum-report.ensures inv.within one.fits (omega arith);
       receives = received_further (g.E.End.receives c.args.end.now) (g.E.End.receives c.loop-turn.end) (g.E.End.receives c.take_turn.new.end) c.loop-turn._turn one.receives inv.receives;
@@ -49,4 +49,4 @@ loop-turn-preserved g c =
 
 pub returns-in-None-clause-any_end : goal.returns-in-None-clause-any_end
 returns-in-None-clause-any_end g c =
-    goes_further c.args.device.now c.loop-turn.device c.take_turn.new.device c.loop-turn.invariant.goes_on c.in-None.ensures.any_end
+    any_closed c.args.device.now c.loop-turn.device c.take_turn.new.device c.loop-turn.report c.loop-turn.invariant.served_any c.in-None.ensures.any_end
