@@ -1,12 +1,13 @@
 -- Everything that is noted of the peers of a device. Nothing is ever taken away from the notes; a session is what the
 -- notes of its peer say (profile). In a list of notes the latest stands first, and in a list of peers or commands last.
-use Rattle.std.specs.Prelude.{ℕ, ◌*◌, ◌-◌, nat_le, nat_lt, max, min, Bool, false, not, if◌then◌else◌, List, [], ◌∷◌, ◌++◌, filter}
+use Rattle.std.specs.Prelude.{ℕ, ◌*◌, ◌-◌, nat_le, nat_lt, Bool, false, not, if◌then◌else◌, List, [], ◌∷◌, ◌++◌, filter}
 use Rattle.oca_types.specs.declared.words.Peer.{Peer}
 use Rattle.oca_types.specs.declared.words.Reply.{Reply}
 use Rattle.oca_types.specs.Peers.{same_peer, CommandFields}
 use Rattle.oca_pdu.specs.Messages.{Msg}
 use Rattle.oca_tree.specs.declared.object.Object.{Object}
 use Rattle.oca_session.specs.Accepted.{Entry}
+use Rattle.oca_session.specs.Limits.{longest_silence, first_heartbeat, within_heartbeats}
 
 -- What is noted of a peer: a datagram of these messages was admitted, a keep-alive set the heartbeat, or a command was
 -- executed on a tree and gave a reply.
@@ -23,10 +24,6 @@ pub record Note : Type 0 where
 
 abbrev pub notes_of : Peer → List Note → List Note
 notes_of p notes = filter (λ n. same_peer n.peer p) notes
-
--- a session is forgotten once its silence passes this many milliseconds
-abbrev pub longest_silence : ℕ
-longest_silence = 120000
 
 -- the latest of these notes lies at most the longest silence before the moment
 abbrev pub is_within : ℕ → List Note → Bool
@@ -69,13 +66,13 @@ last_moment (n ∷ notes) = n.at
 
 abbrev pub heartbeat_after : Noted → ℕ → ℕ
 heartbeat_after (Admitted messages) heartbeat = heartbeat
-heartbeat_after (Heartbeat ms) heartbeat = max 250 (min ms 30000)
+heartbeat_after (Heartbeat ms) heartbeat = within_heartbeats ms
 heartbeat_after (Executed tree request reply) heartbeat = heartbeat
 
 -- The heartbeat is the time of the last keep-alive, raised to 250 or lowered to 30,000 ms where it is outside them, and
 -- 5,000 ms where there was none.
 abbrev pub heartbeat_of : List Note → ℕ
-heartbeat_of [] = 5000
+heartbeat_of [] = first_heartbeat
 heartbeat_of (n ∷ notes) = heartbeat_after n.what (heartbeat_of notes)
 
 abbrev pub accepted_after : Noted → List Entry → List Entry

@@ -11,6 +11,7 @@ use Rattle.oca_pdu.specs.Reading.{read_datagram}
 use Rattle.oca_tree.specs.declared.object.Object.{Object}
 use Rattle.oca_tree.specs.Execution.{execution}
 use Rattle.oca_tree.specs.Locks.{released}
+use Rattle.oca_session.specs.Limits.{most_sessions}
 use Rattle.oca_session.specs.Accepted.{Judgement, Fresh, Duplicate, Reused, Old, judgement}
 use Rattle.oca_device.specs.Events.{Event, Datagram, Tick}
 use Rattle.oca_device.specs.Notes.{Noted, Admitted, Heartbeat, Executed, Note, run, is_known, known, accepted, has_lapsed}
@@ -39,10 +40,6 @@ abbrev pub moved_to : ℕ → State → State
 moved_to t s = record { tree = released_all (lapsed_at t s) s.tree; moment = t; notes = s.notes }
 
 -- ---- a datagram is admitted, and its messages are served in order
-
--- there are at most so many sessions
-abbrev pub most_sessions : ℕ
-most_sessions = 16
 
 -- A datagram is admitted where its peer is known, or there is room for one more session.
 abbrev pub admits : State → Peer → Bool

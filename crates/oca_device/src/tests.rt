@@ -55,10 +55,12 @@ const MILLIS: [u8; 14] = [0x3b, 0, 1, 0, 0, 0, 0x0d, 4, 0, 1, 0, 0, 5, 0xdc];
 
 const NO_SECONDS: [u8; 12] = [0x3b, 0, 1, 0, 0, 0, 0x0b, 4, 0, 1, 0, 0];
 
+/// Adds bytes at the end of a packet that has room for them.
 fn put(packet: &mut Packet, bytes: &[u8]) {
     let _ = packet.try_extend_from_slice(bytes);
 }
 
+/// A packet of these bytes.
 fn pack(bytes: &[u8]) -> Packet {
     let mut packet = Packet::new();
     put(&mut packet, bytes);
@@ -114,6 +116,7 @@ fn done(handle: u32) -> Packet {
     response(handle, 0, 0, &[])
 }
 
+/// The verdict on so many executed and so many repeated commands.
 fn served(executed: u32, kept: u32) -> Verdict {
     Verdict::Served {
         executed,
@@ -165,10 +168,12 @@ struct Bench {
 }
 
 impl Bench {
+    /// The bench device with windows of 32 commands.
     fn new(alloc: Global) -> Result<Bench, Fail> {
         Bench::with_window(alloc, 32)
     }
 
+    /// The bench device with windows of this size.
     fn with_window(alloc: Global, size: u8) -> Result<Bench, Fail> {
         let window = Window::new(size).ok_or("no window")?;
         let tree = bench(alloc).map_err(|_| "no memory")?;

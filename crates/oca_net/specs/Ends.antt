@@ -2,13 +2,10 @@
 -- what many sends do to what it took.
 use Rattle.std.specs.Prelude.{◌≡◌, ℕ, ◌+◌, ◌<◌, min, Bool, true, false, if◌then◌else◌, List, [], ◌∷◌, ◌++◌, length}
 use Rattle.oca_types.specs.declared.words.Peer.{Peer}
+pub use Rattle.oca_types.specs.Sizes.{largest_datagram}
 use Rattle.oca_net.specs.declared.end.Heard.{Heard}
 use Rattle.oca_net.specs.declared.end.Heard.TheVariants as heard
 use Rattle.oca_net.specs.Deliveries.{Delivery, Datagram, Quiet, Failed, Sent}
-
--- a datagram holds at most 1,472 bytes
-abbrev pub largest_datagram : ℕ
-largest_datagram = 1472
 
 -- What an end delivered grows by the entry that a receive answers, `bytes` being what the packet then holds:
 -- for an oversize datagram some datagram of more than 1,472 bytes with that moment, for Closed nothing.

@@ -8,6 +8,7 @@ use Rattle.oca_types.specs.Status.{status_number}
 use Rattle.oca_pdu.specs.Messages.{Commands}
 use Rattle.oca_pdu.specs.Encoding.{pdu_encoding}
 use Rattle.oca_tree.specs.declared.object.Object.{Object}
+use Rattle.oca_session.specs.Limits.{most_sessions}
 use Rattle.oca_device.specs.declared.verdict.Verdict.TheVariants as verdicts
 use Rattle.oca_device.specs.Events.{Event, Datagram, Tick}
 use Rattle.oca_device.specs.Notes.{Noted, Admitted, Heartbeat, Executed, Note}
@@ -133,7 +134,7 @@ pub record IsAnswered (k now : ℕ) (n : Network) (d : SentDatagram) (c : Comman
 abbrev pub AnswersUntaken : Network → Type 0
 AnswersUntaken n = (k now i : ℕ) (d : SentDatagram) (l : PeerLink) (c : CommandFields) (peers : List Peer) →
     slice_get n.to_device k ≡ Some d → slice_get n.links i ≡ Some l → CarriesUntaken d l c →
-    KeepsItsSession d.peer (after_step (ToDevice k now) n).events → length peers ≤ 16 → ComeFrom peers (after_step (ToDevice k now) n).events →
+    KeepsItsSession d.peer (after_step (ToDevice k now) n).events → length peers ≤ most_sessions → ComeFrom peers (after_step (ToDevice k now) n).events →
     IsAnswered k now n d c
 
 -- Over every schedule, for all sizes where the window is at least twice the span less one:

@@ -3,6 +3,7 @@ use Rattle.std.specs.Prelude.{◌≡◌, ℕ, ◌-◌, ◌<◌, ◌^◌, nat_le,
 use Rattle.std.specs.List.{list_any, list_all, AllByRecursion}
 use Rattle.oca_types.specs.declared.words.Peer.{Peer}
 use Rattle.oca_types.specs.Peers.{same_peer}
+use Rattle.oca_session.specs.Limits.{longest_silence}
 use Rattle.oca_device.specs.Events.{Event, Datagram, Tick, clock_after}
 use Rattle.oca_control.specs.Links.{Request}
 use Rattle.oca_pair.specs.declared.start.Start.{Start}
@@ -45,7 +46,7 @@ moments_of p (Tick now ∷ before) = moments_of p before
 -- the moment lies at most 120,000 ms after the latest of these
 abbrev pub is_soon_after : ℕ → List ℕ → Bool
 is_soon_after t [] = true
-is_soon_after t (u ∷ earlier) = nat_le (t - u) 120000
+is_soon_after t (u ∷ earlier) = nat_le (t - u) longest_silence
 
 abbrev pub are_close : List ℕ → Bool
 are_close [] = true

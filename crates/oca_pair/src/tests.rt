@@ -43,6 +43,7 @@ enum Seen {
     NoAnswer,
 }
 
+/// What the tests compare of an outcome.
 fn shown(outcome: &Outcome) -> Seen {
     match outcome {
         Outcome::Submitted(handle) => Seen::Submitted(handle.0),
@@ -68,6 +69,7 @@ fn served(executed: u32, kept: u32, old: u32) -> Seen {
     })
 }
 
+/// The start of a link at this port of 127.0.0.1.
 fn start(port: u16, first: u32) -> Start {
     Start {
         peer: peer(port),
@@ -166,6 +168,7 @@ const TWO_COPIES: [Seen; 8] = [
     Seen::Answer(0, 0, 0),
 ];
 
+/// A command that comes twice is executed once and answered twice, and its link hears the first answer.
 #[test]
 fn a_duplicate_is_answered_once(rt: HostRuntime) -> Result<(), Fail> {
     let transcript = run(rt.alloc(), 32, 16, &[start(A, 1)], &given_out_twice())?;
@@ -177,6 +180,7 @@ fn a_duplicate_is_answered_once(rt: HostRuntime) -> Result<(), Fail> {
     Ok(())
 }
 
+/// A step that names a datagram that was never sent is refused by its number.
 #[test]
 fn a_datagram_that_is_not_there(rt: HostRuntime) -> Result<(), Fail> {
     let [a, b, c, d, e, f, g, h] = given_out_twice();
@@ -188,6 +192,7 @@ fn a_datagram_that_is_not_there(rt: HostRuntime) -> Result<(), Fail> {
     Ok(())
 }
 
+/// Bytes of a peer without a link are served, and those of a link's peer are no such step.
 #[test]
 fn other_bytes(rt: HostRuntime) -> Result<(), Fail> {
     let [a, b, c, d, e, f, g, h] = given_out_twice();
@@ -220,6 +225,7 @@ fn other_bytes(rt: HostRuntime) -> Result<(), Fail> {
     Ok(())
 }
 
+/// Two starts with one peer are refused, and so is one with the device's.
 #[test]
 fn starts_of_one_peer(rt: HostRuntime) -> Result<(), Fail> {
     for starts in [[start(A, 1), start(A, 5)], [start(A, 1), start(DEVICE, 1)]] {
@@ -237,6 +243,7 @@ fn starts_of_one_peer(rt: HostRuntime) -> Result<(), Fail> {
     Ok(())
 }
 
+/// The numbers of the faults.
 #[test]
 fn numbers_of_faults(rt: HostRuntime) {
     assert_eq!(rt; PairFault::NoMemory.number(), 1);

@@ -3,20 +3,32 @@ use Rattle.std.specs.Prelude.{◌≡◌, ℕ, ◌+◌, ◌<◌, ◌≤◌, ◌^�
 use Rattle.std.specs.List.{flat_map, AllByRecursion}
 use Rattle.std.specs.Int.{w16, w32}
 use Rattle.oca_types.specs.Numbers.{unsigned_encoding}
+use Rattle.oca_types.specs.Sizes.{largest_datagram}
 use Rattle.oca_types.specs.Peers.{CommandFields}
 use Rattle.oca_pdu.specs.declared.message.Form.{Form}
 use Rattle.oca_pdu.specs.declared.message.Form.TheVariants.{Seconds, Millis}
 use Rattle.oca_pdu.specs.Messages.{ResponseFields, Pdu, Commands, Responses, OneKeepAlive}
 
+-- the sync, with which each PDU begins
+abbrev pub sync_value : ℕ
+sync_value = 0x3B
+
+-- the bytes of a command before its parameters, and of a response
+abbrev pub command_head : ℕ
+command_head = 17
+
+abbrev pub response_head : ℕ
+response_head = 10
+
 -- a command: CommandSize, which counts all its bytes (17 of the fields and the parameters), handle, target ONo, DefLevel,
 -- MethodIndex, ParamCount, parameters
 abbrev pub command_encoding : CommandFields → List ℕ
-command_encoding c = unsigned_encoding w32 (17 + length c.params) ++ unsigned_encoding w32 c.handle ++ unsigned_encoding w32 c.target
+command_encoding c = unsigned_encoding w32 (command_head + length c.params) ++ unsigned_encoding w32 c.handle ++ unsigned_encoding w32 c.target
     ++ unsigned_encoding w16 c.level ++ unsigned_encoding w16 c.index ++ c.count ∷ c.params
 
 -- a response: ResponseSize, which counts all its bytes (10 of the fields and the parameters), handle, status, ParamCount, parameters
 abbrev pub response_encoding : ResponseFields → List ℕ
-response_encoding r = unsigned_encoding w32 (10 + length r.params) ++ unsigned_encoding w32 r.handle ++ r.status ∷ r.count ∷ r.params
+response_encoding r = unsigned_encoding w32 (response_head + length r.params) ++ unsigned_encoding w32 r.handle ++ r.status ∷ r.count ∷ r.params
 
 -- a keep-alive: its time
 abbrev pub keep_alive_encoding : Form → List ℕ
@@ -26,7 +38,7 @@ keep_alive_encoding (Millis n) = unsigned_encoding w32 n
 -- a PDU of this PduType, MessageCount and messages: sync, ProtocolVersion 1, PduSize, which counts all bytes but the sync
 -- (9 of the header and the messages), PduType, MessageCount, messages
 abbrev pub pdu_frame : ℕ → ℕ → List ℕ → List ℕ
-pdu_frame type count body = 0x3B ∷ unsigned_encoding w16 1 ++ unsigned_encoding w32 (9 + length body) ++ type ∷ unsigned_encoding w16 count ++ body
+pdu_frame type count body = sync_value ∷ unsigned_encoding w16 1 ++ unsigned_encoding w32 (9 + length body) ++ type ∷ unsigned_encoding w16 count ++ body
 
 -- commands are of type 1 where they ask for responses, and else of type 0
 abbrev pub command_type : Bool → ℕ
@@ -46,14 +58,14 @@ pub record CommandFits (c : CommandFields) : Type 0 where
   pub level : c.level < 2 ^ 16
   pub index : c.index < 2 ^ 16
   pub count : c.count < 2 ^ 8
-  pub size : 17 + length c.params < 2 ^ 32
+  pub size : command_head + length c.params < 2 ^ 32
 
 -- the same of a response
 pub record ResponseFits (r : ResponseFields) : Type 0 where
   pub handle : r.handle < 2 ^ 32
   pub status : r.status < 2 ^ 8
   pub count : r.count < 2 ^ 8
-  pub size : 10 + length r.params < 2 ^ 32
+  pub size : response_head + length r.params < 2 ^ 32
 
 -- the same of the time of a keep-alive
 abbrev pub FormFits : Form → Type 0
@@ -71,4 +83,4 @@ pub record IsDatagram (ps : List Pdu) (bytes : List ℕ) : Type 0 where
   pub nonempty : 0 < length ps
   pub well_formed : AllByRecursion PduFits ps
   pub bytes_are : bytes ≡ flat_map pdu_encoding ps
-  pub within_limit : length bytes ≤ 1472
+  pub within_limit : length bytes ≤ largest_datagram

@@ -6,11 +6,12 @@ use Rattle.std.specs.Prelude.{◌≡◌, ◌≢◌, ℕ, ◌+◌, ◌<◌, ◌�
 use Rattle.std.specs.List.{flat_map, AllByRecursion}
 use Rattle.std.specs.Int.{w16, w32}
 use Rattle.oca_types.specs.Numbers.{unsigned_encoding}
+use Rattle.oca_types.specs.Sizes.{largest_datagram}
 use Rattle.oca_pdu.specs.declared.fault.PduFault.{PduFault}
 use Rattle.oca_pdu.specs.declared.fault.PduFaultKind.TheVariants.{Empty, TooLong, Sync, Version, PduSize, PduType, Count, MessageSize, Truncated}
 use Rattle.oca_pdu.specs.Faults.{IsFaultAt}
 use Rattle.oca_pdu.specs.Messages.{Pdu}
-use Rattle.oca_pdu.specs.Encoding.{command_encoding, response_encoding, pdu_frame, command_type, pdu_encoding, CommandFits, ResponseFits, PduFits}
+use Rattle.oca_pdu.specs.Encoding.{sync_value, command_head, response_head, command_encoding, response_encoding, pdu_frame, command_type, pdu_encoding, CommandFits, ResponseFits, PduFits}
 
 -- The bytes are the encodings of `before`, each of which holds, and then the rest.
 pub record HoldsUpTo {X : Type 0} (encoding : X → List ℕ) (Fits : X → Type 0) (rest bytes : List ℕ) : Type 0 where
@@ -45,22 +46,22 @@ pub record BeginsWithFrame (type count : ℕ) (body behind rest : List ℕ) : Ty
 -- The PDU at p, with which the rest of the datagram begins, fails.
 pub data PduFails (p : ℕ) (rest : List ℕ) (f : PduFault) : Type 0 where
   -- the byte at p is not 3B
-  WrongSync : (first : ℕ) (behind : List ℕ) → rest ≡ first ∷ behind → first ≢ 0x3B
+  WrongSync : (first : ℕ) (behind : List ℕ) → rest ≡ first ∷ behind → first ≢ sync_value
       → IsFaultAt f Sync p → PduFails p rest f
   -- ProtocolVersion is not wholly inside the datagram
-  VersionCutOff : (behind : List ℕ) → rest ≡ 0x3B ∷ behind → length behind < 2
+  VersionCutOff : (behind : List ℕ) → rest ≡ sync_value ∷ behind → length behind < 2
       → IsFaultAt f Truncated (p + 1) → PduFails p rest f
   -- ProtocolVersion is not 1
-  WrongVersion : (version : ℕ) (behind : List ℕ) → rest ≡ 0x3B ∷ unsigned_encoding w16 version ++ behind → version < 2 ^ 16 → version ≢ 1
+  WrongVersion : (version : ℕ) (behind : List ℕ) → rest ≡ sync_value ∷ unsigned_encoding w16 version ++ behind → version < 2 ^ 16 → version ≢ 1
       → IsFaultAt f Version (p + 1) → PduFails p rest f
   -- PduSize is not wholly inside the datagram
-  SizeCutOff : (behind : List ℕ) → rest ≡ 0x3B ∷ unsigned_encoding w16 1 ++ behind → length behind < 4
+  SizeCutOff : (behind : List ℕ) → rest ≡ sync_value ∷ unsigned_encoding w16 1 ++ behind → length behind < 4
       → IsFaultAt f Truncated (p + 3) → PduFails p rest f
   -- PduSize is below 11
-  SizeTooSmall : (size : ℕ) (behind : List ℕ) → rest ≡ 0x3B ∷ unsigned_encoding w16 1 ++ unsigned_encoding w32 size ++ behind → size < 11
+  SizeTooSmall : (size : ℕ) (behind : List ℕ) → rest ≡ sync_value ∷ unsigned_encoding w16 1 ++ unsigned_encoding w32 size ++ behind → size < 11
       → IsFaultAt f PduSize (p + 3) → PduFails p rest f
   -- the PDU, which has the sync and PduSize bytes, ends after the datagram
-  PduCutOff : (size : ℕ) (behind : List ℕ) → rest ≡ 0x3B ∷ unsigned_encoding w16 1 ++ unsigned_encoding w32 size ++ behind → size < 2 ^ 32 → 11 ≤ size → length rest < 1 + size
+  PduCutOff : (size : ℕ) (behind : List ℕ) → rest ≡ sync_value ∷ unsigned_encoding w16 1 ++ unsigned_encoding w32 size ++ behind → size < 2 ^ 32 → 11 ≤ size → length rest < 1 + size
       → IsFaultAt f Truncated (p + 3) → PduFails p rest f
   -- PduType is not 0, 1, 3 or 4
   WrongType : (type count : ℕ) (body behind : List ℕ) → BeginsWithFrame type count body behind rest → type ≢ 0 → type ≢ 1 → type ≢ 3 → type ≢ 4
@@ -76,10 +77,10 @@ pub data PduFails (p : ℕ) (rest : List ℕ) (f : PduFault) : Type 0 where
       → IsFaultAt f MessageSize (p + 10) → PduFails p rest f
   -- the commands fail
   InCommands : (respond : Bool) (count : ℕ) (body behind : List ℕ) → BeginsWithFrame (command_type respond) count body behind rest → count ≢ 0
-      → MessagesFail command_encoding CommandFits 17 count p body f → PduFails p rest f
+      → MessagesFail command_encoding CommandFits command_head count p body f → PduFails p rest f
   -- the responses fail
   InResponses : (count : ℕ) (body behind : List ℕ) → BeginsWithFrame 3 count body behind rest → count ≢ 0
-      → MessagesFail response_encoding ResponseFits 10 count p body f → PduFails p rest f
+      → MessagesFail response_encoding ResponseFits response_head count p body f → PduFails p rest f
 
 -- The first fault of the bytes is f: of the number of bytes, or else of the first PDU that fails.
 pub data IsFirstFault (bytes : List ℕ) (f : PduFault) : Type 0 where
@@ -87,8 +88,8 @@ pub data IsFirstFault (bytes : List ℕ) (f : PduFault) : Type 0 where
   NoBytes : bytes ≡ []
       → IsFaultAt f Empty 0 → IsFirstFault bytes f
   -- there are more than 1,472 bytes
-  TooManyBytes : 1472 < length bytes
-      → IsFaultAt f TooLong 1472 → IsFirstFault bytes f
+  TooManyBytes : largest_datagram < length bytes
+      → IsFaultAt f TooLong largest_datagram → IsFirstFault bytes f
   -- the bytes are the encodings of PDUs, none or more, and a rest, and the PDU with which the rest begins fails
-  InPdu : (rest : List ℕ) (here : HoldsUpTo pdu_encoding PduFits rest bytes) → length bytes ≤ 1472 → 0 < length rest
+  InPdu : (rest : List ℕ) (here : HoldsUpTo pdu_encoding PduFits rest bytes) → length bytes ≤ largest_datagram → 0 < length rest
       → PduFails (length (flat_map pdu_encoding here.before)) rest f → IsFirstFault bytes f

@@ -11,7 +11,9 @@ use Rattle.oca_pdu.specs.declared.message.Kind.{Kind}
 use Rattle.oca_pdu.specs.declared.message.Kind.TheVariants as kinds
 use Rattle.oca_pdu.specs.declared.message.Content.{Content}
 use Rattle.oca_pdu.specs.declared.message.Content.TheVariants as contents
+use Rattle.oca_types.specs.Sizes.{largest_datagram}
 use Rattle.oca_pdu.specs.Messages.{Msg, Command, Response, KeepAlive}
+use Rattle.oca_pdu.specs.Encoding.{sync_value, command_head, response_head}
 
 infixl 10 ◌>>=◌
 abbrev pub ◌>>=◌ : {A B : Type 0} → Result A PduFault → (A → Result B PduFault) → Result B PduFault
@@ -27,9 +29,9 @@ number_at w i bytes = from_be_bytes w (take (byte_len w) (drop i bytes))
 
 -- the least size of a message
 abbrev pub least_size : Kind → ℕ
-least_size kinds.Command = 17
-least_size kinds.CommandWithResponse = 17
-least_size kinds.Response = 10
+least_size kinds.Command = command_head
+least_size kinds.CommandWithResponse = command_head
+least_size kinds.Response = response_head
 
 -- the message that is all of the bytes
 abbrev pub command_in : Bool → List ℕ → Msg
@@ -86,7 +88,7 @@ inside_at p bytes = content_at (content_of (slice_index bytes 7)) (number_at w16
 -- the messages of the PDU at p, and what is after it
 unfoldable pub pdu_at : ℕ → List ℕ → Result (List Msg × List ℕ) PduFault
 pdu_at p bytes =
-    if not (slice_index bytes 0 == 0x3B) then fault Sync p
+    if not (slice_index bytes 0 == sync_value) then fault Sync p
     else (if nat_lt (length bytes) 3 then fault Truncated (p + 1)
     else (if not (number_at w16 1 bytes == 1) then fault Version (p + 1)
     else (if nat_lt (length bytes) 7 then fault Truncated (p + 3)
@@ -102,4 +104,4 @@ pdus_at (suc n) p bytes = if length bytes == 0 then Ok []
 
 unfoldable pub read_datagram : List ℕ → Result (List Msg) PduFault
 read_datagram bytes = if length bytes == 0 then fault Empty 0
-    else (if nat_lt 1472 (length bytes) then fault TooLong 1472 else pdus_at (length bytes) 0 bytes)
+    else (if nat_lt largest_datagram (length bytes) then fault TooLong largest_datagram else pdus_at (length bytes) 0 bytes)

@@ -121,6 +121,7 @@ impl<'a> Iterator for Messages<'a> {
 
     ghost remaining = { item_count messages_left };
 
+    /// The next message, or nothing after the last.
     fn next(&mut self) -> Option<Message<'a>> {
         if self.left != 0 {
             let (message, after) = Messages::next_in_pdu(

@@ -142,6 +142,7 @@ fn refusal(bytes: &[u8]) -> (u8, u16) {
     }
 }
 
+/// The bytes are refused with the fault of this number at this place.
 fn is_refused(rt: &impl Abort, bytes: &[u8], number: u8, at: u16) {
     assert_eq!(rt; refusal(bytes), (number, at), "of {bytes:?}");
 }
@@ -171,6 +172,7 @@ fn commands_in(datagram: &Datagram) -> usize
     count
 }
 
+/// A reply that is Locked at 3 and else OK.
 fn reply(status: u8, count: u8, bytes: &[u8]) -> Reply {
     let mut params = Params::new();
     let _ = params.try_extend_from_slice(bytes);

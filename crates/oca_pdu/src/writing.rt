@@ -14,12 +14,16 @@ use crate::fields;
 use crate::message::{COMMAND_BYTES, Form, HEADER_BYTES, RESPONSE_BYTES, SYNC};
 use oca_types::{Command, Handle, MOST_BYTES, Packet, Reply};
 
-/// Appends bytes for which there is room.
+/// Appends bytes for which there is room. A single one is written without a call.
 fn put(packet: &mut Packet, bytes: &[u8])
     requires { array_vec_len packet.old + length bytes.now ≤ 1472 }
     ensures { packet.new.items ≡ packet.old.items ++ bytes.now }
 {
-    let _ = packet.try_extend_from_slice(bytes);
+    if bytes.len() == 1 {
+        packet.push(bytes[0]);
+    } else {
+        let _ = packet.try_extend_from_slice(bytes);
+    }
 }
 
 /// Appends a PDU of one command (AES70-3), of type 1 where it asks for a response. Refusal: `TooLong` where the packet would

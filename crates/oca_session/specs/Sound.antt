@@ -1,13 +1,14 @@
 -- What holds of the sessions at all times (profile).
 use Rattle.std.specs.Prelude.{◌≡◌, ℕ, ◌≤◌, false, List, length, All, AllPairs}
 use Rattle.oca_types.specs.Peers.{same_peer}
+use Rattle.oca_session.specs.Limits.{most_sessions, least_heartbeat, greatest_heartbeat}
 use Rattle.oca_session.specs.Table.{Session, Table}
 
 -- a session with a window of this size and a heartbeat within its limits (profile)
 pub record IsSession (w : ℕ) (s : Session) : Type 0 where
   pub size : s.retained.size ≡ w
-  pub least : 250 ≤ s.heartbeat
-  pub most : s.heartbeat ≤ 30000
+  pub least : least_heartbeat ≤ s.heartbeat
+  pub most : s.heartbeat ≤ greatest_heartbeat
 
 -- no two sessions are of one peer (profile)
 abbrev pub IsOnePerPeer : List Session → Type 0
@@ -15,6 +16,6 @@ IsOnePerPeer ss = AllPairs (λ s t. same_peer s.peer t.peer ≡ false) ss
 
 -- There are at most 16 sessions, one for a peer (profile).
 pub record IsTable (t : Table) : Type 0 where
-  pub few : length t.sessions ≤ 16
+  pub few : length t.sessions ≤ most_sessions
   pub one : IsOnePerPeer t.sessions
   pub all : All (IsSession t.window) t.sessions

@@ -1,5 +1,5 @@
 -- The sessions in order of opening, the latest last, and what each call makes of them (profile). Moments and times are in milliseconds.
-use Rattle.std.specs.Prelude.{◌≡◌, ℕ, ◌*◌, ◌-◌, ◌<◌, ◌≤◌, nat_lt, nat_le, max, min, Bool, not, if◌then◌else◌, List, [], ◌∷◌, ◌++◌, map, filter, length, Option, None, IfSome, IsSome}
+use Rattle.std.specs.Prelude.{◌≡◌, ℕ, ◌*◌, ◌-◌, ◌<◌, ◌≤◌, nat_lt, nat_le, max, Bool, not, if◌then◌else◌, List, [], ◌∷◌, ◌++◌, map, filter, length, Option, None, IfSome, IsSome}
 use Rattle.std.specs.List.{find}
 use Rattle.oca_types.specs.declared.words.Peer.{Peer}
 use Rattle.oca_types.specs.Peers.{same_peer}
@@ -7,6 +7,7 @@ use Rattle.oca_session.specs.declared.sessions.Admission.{Admission}
 use Rattle.oca_session.specs.declared.sessions.Admission.TheVariants as answer
 use Rattle.oca_session.specs.Accepted.{Entry, Retained, retained_of, Agrees}
 use Rattle.oca_session.specs.Judging.{retained_after}
+use Rattle.oca_session.specs.Limits.{most_sessions, longest_silence, first_heartbeat, within_heartbeats}
 
 -- A session: whose it is, when its last datagram was heard, its heartbeat, and what its reply window retains (profile).
 pub record Session : Type 0 where
@@ -51,7 +52,7 @@ changed p f ss = map (λ s. if is_of p s then f s else s) ss
 
 -- an opened session: the heartbeat 5,000, an empty window and no floor (profile)
 abbrev pub opened_session : ℕ → Peer → ℕ → Session
-opened_session w p moment = record { peer = p; heard = moment; heartbeat = 5000; retained = retained_of w [] }
+opened_session w p moment = record { peer = p; heard = moment; heartbeat = first_heartbeat; retained = retained_of w [] }
 
 -- the session where its peer was last heard at this moment (profile)
 abbrev pub heard_at : ℕ → Session → Session
@@ -59,7 +60,7 @@ heard_at moment s = record s { heard = moment }
 
 -- a heartbeat below 250 is raised to it, and one above 30,000 lowered (profile)
 abbrev pub with_heartbeat : ℕ → Session → Session
-with_heartbeat ms s = record s { heartbeat = max 250 (min ms 30000) }
+with_heartbeat ms s = record s { heartbeat = within_heartbeats ms }
 
 -- the session where one more command is accepted (profile)
 abbrev pub with_entry : Entry → Session → Session
@@ -79,7 +80,7 @@ is_lapsed moment s = nat_lt (3 * s.heartbeat) (silence moment s)
 
 -- A session stays where its silence doesn't pass 120,000 ms (profile).
 abbrev pub stays : ℕ → Session → Bool
-stays moment s = nat_le (silence moment s) 120000
+stays moment s = nat_le (silence moment s) longest_silence
 
 -- the peers whose sessions are lapsed (profile)
 abbrev pub lapsed : ℕ → List Session → List Peer
@@ -97,10 +98,10 @@ abbrev pub Hears : Peer → ℕ → Table → Admission → Table → Type 0
 Hears p moment old answer.Known new =
     IsSome (session_of p old.sessions) × (new ≡ with_moment_and_sessions old moment (changed p (heard_at moment) old.sessions))
 Hears p moment old answer.Opened new =
-    (session_of p old.sessions ≡ None) × (length old.sessions < 16)
+    (session_of p old.sessions ≡ None) × (length old.sessions < most_sessions)
     × (new ≡ with_moment_and_sessions old moment (old.sessions ++ opened_session old.window p moment ∷ []))
 Hears p moment old answer.NoRoom new =
-    (session_of p old.sessions ≡ None) × (16 ≤ length old.sessions) × (new ≡ with_moment_and_sessions old moment old.sessions)
+    (session_of p old.sessions ≡ None) × (most_sessions ≤ length old.sessions) × (new ≡ with_moment_and_sessions old moment old.sessions)
 
 -- who has a session after an answer (profile)
 abbrev pub IsKnownAfter : Admission → Peer → List Session → Type 0

@@ -88,10 +88,20 @@ fn copy_bytes<const N: usize>(room: &mut ArrayVec<u8, N>, bytes: &[u8])
         return;
     }
     let (front, rest) = bytes.split_at(room.len());
-    if !front.is_empty() {
-        room.as_mut_slice().copy_from_slice(front);
-    }
+    write_over(room.as_mut_slice(), front);
     if !rest.is_empty() {
         let _ = room.try_extend_from_slice(rest);
+    }
+}
+
+/// Writes bytes over as many others. A single one is written without a call.
+fn write_over(room: &mut [u8], bytes: &[u8])
+    requires { length room.old ≡ length bytes.now }
+    ensures { room.new ≡ bytes.now }
+{
+    if bytes.len() == 1 {
+        room[0] = bytes[0];
+    } else {
+        room.copy_from_slice(bytes);
     }
 }

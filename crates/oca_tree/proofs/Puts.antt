@@ -2,7 +2,7 @@
 use Rattle.std.proofs.Common.{◌≡◌, ℕ, ◌+◌, ◌<◌, Bool, true, false, cond, List, ◌∷◌, ◌++◌, length, drop, get_or, sym, ap, ◌∙◌, append_assoc, length-append, arith}
 use Rattle.std.specs.List.{flat_map, filter}
 use Rattle.std.specs.Prelude.{Result, Ok, Err, is_err}
-use Rattle.oca_tree.specs.PrivateSteps.{Puts}
+use Rattle.oca_types.specs.Putting.{Puts}
 use Rattle.std.proofs.lemmas.List.{drop_more}
 
 -- bytes that don't fit, with more to come after them, don't fit with those

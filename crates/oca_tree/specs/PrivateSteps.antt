@@ -1,5 +1,5 @@
 -- What the tree's own functions say to one another. No public clause cites it.
-use Rattle.std.specs.Prelude.{◌≡◌, ℕ, ◌==◌, Bool, true, false, if◌then◌else◌, List, [], ◌∷◌, ◌++◌, length, ◌<◌, ◌+◌, slice_set, slice_index_or, nat_lt, Option, Some, None, Result, Ok, Err}
+use Rattle.std.specs.Prelude.{◌≡◌, ℕ, ◌==◌, Bool, true, false, if◌then◌else◌, List, [], ◌∷◌, ◌++◌, length, ◌<◌, slice_set, slice_index_or, nat_lt, Option, Some, None, Result, Ok, Err}
 use Rattle.oca_types.specs.declared.words.Peer.{Peer}
 use Rattle.oca_types.specs.declared.status.Status.{Status}
 use Rattle.oca_types.specs.declared.status.Status.TheVariants as status
@@ -14,11 +14,6 @@ use Rattle.oca_tree.specs.Requests.{is_out_of_range, is_invalid}
 use Rattle.oca_tree.specs.Execution.{identification_encoding, block_member_encoding, answer, kind_at, request_at, status_of, by_status, refused, execution, changed, answer_count}
 use Rattle.oca_tree.specs.Trees.{IsTree, IsSoundValue}
 use Rattle.oca_tree.specs.Building.{add_fault, object_of_spec, is_bad_value}
-
--- A put leaves the bytes at the end, or the bytes would have passed the room.
-abbrev pub Puts : {X E : Type 0} → Result X E → List ℕ → List ℕ → List ℕ → Type 0
-Puts (Ok _) old new bytes = new ≡ old ++ bytes
-Puts (Err _) old new bytes = 1452 < length old + length bytes
 
 -- members and descendants in one: whether an object is listed, and how
 abbrev pub is_listed : List Object → ℕ → Bool → Object → Bool

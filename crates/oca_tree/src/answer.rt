@@ -3,12 +3,13 @@ ghost use Rattle.std.specs.Prelude.{◌≡◌, ◌==◌, ◌≤◌, ◌<◌, Boo
 ghost use Rattle.std.specs.List.{flat_map, filter};
 ghost use Rattle.std.specs.Int.{w8};
 ghost use Rattle.oca_types.specs.Numbers.{bool_encoding};
+ghost use Rattle.oca_types.specs.Putting.{Puts};
 ghost use Rattle.oca_types.specs.Texts.{text_encoding};
 ghost use Rattle.oca_tree.specs.Requests.{is_out_of_range};
 ghost use Rattle.oca_tree.specs.Execution.{list_encoding, state_encoding, position_parameters, switch_parameters, setting_parameters, joined, answer, answer_count, mute_number, polarity_number};
 ghost use Rattle.oca_tree.specs.Requests.{is_bad_position};
 ghost use Rattle.oca_tree.specs.Trees.{IsTree, IsSoundValue, IsSoundSwitch, IsSoundRange};
-ghost use Rattle.oca_tree.specs.PrivateSteps.{Puts, is_listed, item_encoding};
+ghost use Rattle.oca_tree.specs.PrivateSteps.{is_listed, item_encoding};
 ghost use Rattle.std.specs.Prelude.{List};
 ghost use Rattle.oca_tree.specs.declared.object.Object.{Object as AnObject};
 ghost use Rattle.oca_tree.specs.declared.object.Switch.{Switch};
@@ -18,17 +19,20 @@ ghost use Rattle.oca_tree.specs.declared.request.SwitchRequest.TheVariants.{GetP
 
 use crate::object::{MuteState, Object, PolarityState, Range, Switch, Value};
 use crate::objects::Objects;
-use crate::put::{put_bool, put_class, put_number, put_text, put_u8, put_u16, put_u32};
+use crate::put::put_number;
 use crate::request::{Request, SwitchRequest};
 use arrayvec::ArrayVec;
-use oca_types::{Ono, Params, PutFault, Text};
+use oca_types::{
+    Ono, Params, PutFault, Text, put_bool, put_class_identification, put_text, put_u8, put_u16,
+    put_u32,
+};
 
 /// An object's number and class, and where all descendants are listed its container too.
 fn put_item(out: &mut Params, object: &Object, deep: bool) -> Result<(), PutFault>
     ensures { Puts result out.old.items out.new.items (item_encoding deep object.now) }
 {
     put_u32(out, object.ono.0)?;
-    put_class(out, object.class())?;
+    put_class_identification(out, object.class())?;
     if deep {
         put_u32(out, object.container.0)?;
     }
@@ -307,7 +311,7 @@ pub(crate) fn put_answer(
     ensures { Puts result out.old.items out.new.items (answer objects.now object.now request.now) }
 {
     match request {
-        Request::GetClassIdentification => put_class(out, object.class()),
+        Request::GetClassIdentification => put_class_identification(out, object.class()),
         Request::GetLockable => put_bool(out, object.lockable),
         Request::GetRole => put_text(out, &object.role),
         Request::GetEnabled => put_bool(out, object.enabled),

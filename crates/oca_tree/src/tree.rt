@@ -1,5 +1,5 @@
 //! The tree: executing commands, taking locks off, and reading its objects.
-ghost use Rattle.std.specs.Prelude.{◌≡◌, length};
+ghost use Rattle.std.specs.Prelude.{◌≡◌, [], length};
 ghost use Rattle.oca_types.specs.Peers.{fields_of};
 ghost use Rattle.oca_tree.specs.Locks.{released, lock_count};
 ghost use Rattle.oca_tree.specs.Trees.{IsTree};
@@ -89,20 +89,21 @@ impl Tree {
     /// Executes a command of the peer (AES70-2; the order of the statuses is the profile's). `out` is
     /// emptied first; then it holds the answer's parameters, and none where the status is not OK. A
     /// refusal changes no object.
+    #[inline(never)]
     pub fn execute(&mut self, peer: Peer, command: &Command<'_>, out: &mut Params) -> Done
         ensures tree { self.new ≡ (execution self.old peer (fields_of command.now)).tree }
         ensures status { result.status ≡ (execution self.old peer (fields_of command.now)).status }
         ensures count { result.count ≡ (execution self.old peer (fields_of command.now)).count }
         ensures parameters { out.new.items ≡ (execution self.old peer (fields_of command.now)).parameters }
     {
-        out.clear();
+        empty(out);
         match carry_out(&mut self.objects, &mut self.locks, peer, command, out) {
             Ok(count) => Done {
                 status: Status::Ok,
                 count,
             },
             Err(status) => {
-                out.clear();
+                empty(out);
                 Done { status, count: 0 }
             }
         }
@@ -199,6 +200,17 @@ fn setting_in(objects: &Objects, ono: Ono) -> Option<Setting>
     match objects.find(ono) {
         Some(object) => value_setting(&object.value),
         None => None,
+    }
+}
+
+/// Leaves no parameters. A single byte is taken off by itself, since `clear` overwrites what there was by a call.
+fn empty(out: &mut Params)
+    ensures { out.new.items ≡ [] }
+{
+    if out.len() == 1 {
+        let _ = out.pop();
+    } else {
+        out.clear();
     }
 }
 

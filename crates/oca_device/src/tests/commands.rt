@@ -2,6 +2,7 @@
 use super::*;
 use oca_pdu::{PduFault, PduFaultKind};
 
+/// A command is answered, and a repeated one gets its reply again, also after others.
 #[test]
 fn answers_and_repeats(rt: HostRuntime) -> Result<(), Fail> {
     let mut bench = Bench::new(rt.alloc())?;
@@ -17,6 +18,7 @@ fn answers_and_repeats(rt: HostRuntime) -> Result<(), Fail> {
     Ok(())
 }
 
+/// Settings from -600 to 600 are taken, 601 is refused, and the setting stays.
 #[test]
 fn refuses_out_of_range(rt: HostRuntime) -> Result<(), Fail> {
     let mut bench = Bench::new(rt.alloc())?;
@@ -46,6 +48,7 @@ fn refuses_out_of_range(rt: HostRuntime) -> Result<(), Fail> {
     Ok(())
 }
 
+/// Of commands that overtake one another the one that came last counts.
 #[test]
 fn executes_in_order_of_arrival(rt: HostRuntime) -> Result<(), Fail> {
     let mut bench = Bench::new(rt.alloc())?;
@@ -63,6 +66,7 @@ fn executes_in_order_of_arrival(rt: HostRuntime) -> Result<(), Fail> {
     Ok(())
 }
 
+/// A malformed datagram executes nothing, opens no session and gets nothing.
 #[test]
 fn ignores_malformed_datagrams(rt: HostRuntime) -> Result<(), Fail> {
     let mut bench = Bench::new(rt.alloc())?;
@@ -111,6 +115,7 @@ fn malformed_datagrams_move_the_clock(rt: HostRuntime) -> Result<(), Fail> {
     Ok(())
 }
 
+/// Keep-alives come back as they were sent, and the last sets the heartbeat, here to the least of 250 ms.
 #[test]
 fn returns_keep_alives(rt: HostRuntime) -> Result<(), Fail> {
     let mut bench = Bench::new(rt.alloc())?;

@@ -3,6 +3,7 @@ use super::*;
 use crate::{law_by_events, law_of_groups};
 use oca_pdu::{PduFault, PduFaultKind};
 
+/// Datagrams of as many commands, responses and keep-alives as fit, and one byte more.
 #[test]
 fn takes_full_datagrams(rt: HostRuntime) -> Result<(), Fail> {
     let mut bench = Bench::new(rt.alloc())?;
@@ -59,6 +60,7 @@ const TWO_STATES: [u8; 32] = [
     2, 0, 1, 1,
 ];
 
+/// Two responses leave in one PDU.
 #[test]
 fn neighbours_leave_in_one_pdu(rt: HostRuntime) -> Result<(), Fail> {
     let mut bench = Bench::new(rt.alloc())?;
@@ -67,6 +69,7 @@ fn neighbours_leave_in_one_pdu(rt: HostRuntime) -> Result<(), Fail> {
     Ok(())
 }
 
+/// A keep-alive between two responses leaves in a packet of its own, and so do they.
 #[test]
 fn a_keep_alive_leaves_alone(rt: HostRuntime) -> Result<(), Fail> {
     let mut bench = Bench::new(rt.alloc())?;
@@ -127,6 +130,7 @@ fn full_datagram(count: u8, size: [u8; 2]) -> Packet {
     packet
 }
 
+/// Responses of exactly 1,472 bytes are one packet, and one response more begins another.
 #[test]
 fn a_group_has_at_most_1472_bytes(rt: HostRuntime) -> Result<(), Fail> {
     let mut bench = Bench::new(rt.alloc())?;
@@ -143,6 +147,7 @@ fn a_group_has_at_most_1472_bytes(rt: HostRuntime) -> Result<(), Fail> {
     Ok(())
 }
 
+/// The laws can be called.
 #[test]
 fn the_laws_do_nothing() {
     law_by_events();

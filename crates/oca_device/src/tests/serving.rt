@@ -51,6 +51,7 @@ fn ends_at_closed(rt: HostRuntime) -> Result<(), Fail> {
     Ok(())
 }
 
+/// Three turns and then the rest, each reply to its sender.
 #[test]
 fn serves_an_end(rt: HostRuntime) -> Result<(), Fail> {
     let mut bench = Bench::new(rt.alloc())?;
@@ -75,6 +76,7 @@ fn serves_an_end(rt: HostRuntime) -> Result<(), Fail> {
     Ok(())
 }
 
+/// A failed send is counted, and the repeated command then gets its reply.
 #[test]
 fn goes_on_after_a_failed_send(rt: HostRuntime) -> Result<(), Fail> {
     let mut bench = Bench::new(rt.alloc())?;
@@ -110,40 +112,70 @@ fn from(alloc: Global, port: u16, bytes: &[u8]) -> Result<Scripted, Fail> {
     })
 }
 
-/// With windows of one command: two commands of A, the first again, another under the second's handle, no bytes, too many
-/// bytes, silence, 15 other peers, and one more.
+/// Adds these datagrams of A at the end of a script.
+fn add_all(alloc: Global, script: &mut Vec<Scripted>, datagrams: &[Packet]) -> Result<(), Fail> {
+    for bytes in datagrams {
+        script.push(from(alloc, A, bytes.as_slice())?)?;
+    }
+    Ok(())
+}
+
+/// Adds one datagram of each of these ports at the end of a script.
+fn add_peers(
+    alloc: Global,
+    script: &mut Vec<Scripted>,
+    first: u16,
+    after: u16,
+) -> Result<(), Fail> {
+    for port in first..after {
+        script.push(from(alloc, port, &GET)?)?;
+    }
+    Ok(())
+}
+
+/// Two commands of A, the first again, another under the second's handle, no bytes, too many bytes, silence, 15 other peers,
+/// and one more.
+fn all_that_comes(alloc: Global) -> Result<Vec<Scripted>, Fail> {
+    let mut script = Vec::new(alloc);
+    let commands = [
+        get_state(5),
+        get_state(6),
+        get_state(5),
+        set_state(6, 2),
+        Packet::new(),
+    ];
+    add_all(alloc, &mut script, &commands)?;
+    script.push(from(alloc, A, &[0; 1473])?)?;
+    script.push(Scripted::Quiet { now: 0 })?;
+    add_peers(alloc, &mut script, 9002, 9018)?;
+    Ok(script)
+}
+
+/// What is reported of them.
+const ALL_COUNTED: Report = Report {
+    turns: 23,
+    executed: 17,
+    kept: 0,
+    old: 1,
+    reused: 1,
+    malformed: 1,
+    no_room: 1,
+    oversize: 1,
+    quiet: 1,
+    failed_receives: 0,
+    failed_sends: 0,
+};
+
+/// With windows of one command everything that comes is counted as what it is.
 #[test]
 fn counts_all_that_comes(rt: HostRuntime) -> Result<(), Fail> {
-    let alloc = rt.alloc();
-    let mut bench = Bench::with_window(alloc, 1)?;
-    let mut entries = Vec::new(alloc);
-    entries.push(from(alloc, A, get_state(5).as_slice())?)?;
-    entries.push(from(alloc, A, get_state(6).as_slice())?)?;
-    entries.push(from(alloc, A, get_state(5).as_slice())?)?;
-    entries.push(from(alloc, A, set_state(6, 2).as_slice())?)?;
-    entries.push(from(alloc, A, &[])?)?;
-    entries.push(from(alloc, A, &[0; 1473])?)?;
-    entries.push(Scripted::Quiet { now: 0 })?;
-    for port in 9002..9017u16 {
-        entries.push(from(alloc, port, &GET)?)?;
-    }
-    entries.push(from(alloc, 9017, &GET)?)?;
-    let mut end = MemoryEnd::new(alloc, entries, 32, None).map_err(|_| "no memory")?;
+    let mut bench = Bench::with_window(rt.alloc(), 1)?;
+    let mut end = MemoryEnd::new(rt.alloc(), all_that_comes(rt.alloc())?, 32, None).map_err(
+        |_| "no memory",
+    )?;
     assert_eq!(rt;
         serve(&mut bench.device, &mut end, &mut bench.outbox, 100),
-        Report {
-            turns: 23,
-            executed: 17,
-            kept: 0,
-            old: 1,
-            reused: 1,
-            malformed: 1,
-            no_room: 1,
-            oversize: 1,
-            quiet: 1,
-            failed_receives: 0,
-            failed_sends: 0,
-        }
+        ALL_COUNTED
     );
     assert_eq!(rt; end.taken().len(), 17);
     Ok(())

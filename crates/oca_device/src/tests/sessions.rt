@@ -1,6 +1,7 @@
 //! Sessions, reply windows, locks and silence.
 use super::*;
 
+/// A window of 32 after 33 commands: the first is old, the second a duplicate; below the floor all is old.
 #[test]
 fn keeps_the_last_replies(rt: HostRuntime) -> Result<(), Fail> {
     let mut bench = Bench::new(rt.alloc())?;
@@ -34,6 +35,7 @@ fn keeps_the_last_replies(rt: HostRuntime) -> Result<(), Fail> {
     Ok(())
 }
 
+/// Windows of 1 and of 64 commands.
 #[test]
 fn keeps_as_many_as_was_chosen(rt: HostRuntime) -> Result<(), Fail> {
     let mut one = Bench::with_window(rt.alloc(), 1)?;
@@ -90,6 +92,7 @@ fn ignores_another_command_under_a_kept_handle(rt: HostRuntime) -> Result<(), Fa
     Ok(())
 }
 
+/// A lock goes after three heartbeats of silence, and the reply that took it stays.
 #[test]
 fn releases_locks_and_keeps_replies(rt: HostRuntime) -> Result<(), Fail> {
     let mut bench = Bench::new(rt.alloc())?;
@@ -138,6 +141,7 @@ fn releases_locks_and_keeps_replies(rt: HostRuntime) -> Result<(), Fail> {
     Ok(())
 }
 
+/// A session is forgotten after more than 120,000 ms of silence, and the command is then executed again.
 #[test]
 fn forgets_silent_sessions(rt: HostRuntime) -> Result<(), Fail> {
     let mut bench = Bench::new(rt.alloc())?;
@@ -151,6 +155,7 @@ fn forgets_silent_sessions(rt: HostRuntime) -> Result<(), Fail> {
     Ok(())
 }
 
+/// A 17th peer has room once one of 16 is forgotten.
 #[test]
 fn has_room_for_16_sessions(rt: HostRuntime) -> Result<(), Fail> {
     let mut bench = Bench::new(rt.alloc())?;
@@ -168,6 +173,7 @@ fn has_room_for_16_sessions(rt: HostRuntime) -> Result<(), Fail> {
     Ok(())
 }
 
+/// The reply of a command that asked for none is retained.
 #[test]
 fn retains_replies_that_were_not_sent(rt: HostRuntime) -> Result<(), Fail> {
     let mut bench = Bench::new(rt.alloc())?;

@@ -7,6 +7,7 @@ use oca_types::{Packet, Peer};
 use std::alloc::Global;
 use std::test::Fail;
 
+/// Two bytes from A, silence, a byte too many from B, a failure, and the largest datagram from B.
 fn script(alloc: Global) -> Result<Vec<Scripted>, Fail> {
     let mut script = Vec::new(alloc);
     script.push(Scripted::Datagram {
@@ -36,6 +37,7 @@ fn is_told<E: End>(_end: &E) -> bool
     true
 }
 
+/// Each entry is delivered once, in order, and then Closed for ever.
 #[test]
 fn delivers_its_script_in_order(rt: HostRuntime) -> Result<(), Fail> {
     let mut end = MemoryEnd::new(rt.alloc(), script(rt.alloc())?, 0, None).map_err(
@@ -72,6 +74,7 @@ fn delivers_its_script_in_order(rt: HostRuntime) -> Result<(), Fail> {
     Ok(())
 }
 
+/// What was delivered is shown in order.
 #[test]
 fn shows_what_it_delivered(rt: HostRuntime) -> Result<(), Fail> {
     let mut end = MemoryEnd::new(rt.alloc(), script(rt.alloc())?, 0, None).map_err(
@@ -101,6 +104,7 @@ fn is_datagram(entry: Option<&Scripted>, sender: Peer, wanted: &[u8], moment: u6
     }
 }
 
+/// The send that is to fail and those beyond the room fail, and are counted.
 #[test]
 fn takes_up_to_its_room(rt: HostRuntime) -> Result<(), Fail> {
     let mut end = MemoryEnd::new(rt.alloc(), Vec::new(rt.alloc()), 2, Some(1)).map_err(
@@ -119,6 +123,7 @@ fn takes_up_to_its_room(rt: HostRuntime) -> Result<(), Fail> {
     Ok(())
 }
 
+/// A send beyond the room is counted.
 #[test]
 fn counts_sends_beyond_the_room(rt: HostRuntime) -> Result<(), Fail> {
     let mut end = MemoryEnd::new(rt.alloc(), Vec::new(rt.alloc()), 1, Some(0)).map_err(

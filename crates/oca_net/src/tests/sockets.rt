@@ -35,6 +35,7 @@ fn datagram<E: End>(end: &mut E, packet: &mut Packet) -> Result<(Peer, u64), Fai
     }
 }
 
+/// Two ends exchange datagrams, each heard from the address of the other.
 #[test]
 fn two_ends_exchange_datagrams(rt: HostRuntime) -> Result<(), Fail> {
     let mut a = end_here(&rt)?;
@@ -54,6 +55,7 @@ fn two_ends_exchange_datagrams(rt: HostRuntime) -> Result<(), Fail> {
     Ok(())
 }
 
+/// 1,472 bytes are heard whole, and 1,473 are oversize.
 #[test]
 fn hears_1472_bytes_whole_and_1473_as_oversize(rt: HostRuntime) -> Result<(), Fail> {
     let mut end = end_here(&rt)?;
@@ -69,6 +71,7 @@ fn hears_1472_bytes_whole_and_1473_as_oversize(rt: HostRuntime) -> Result<(), Fa
     Ok(())
 }
 
+/// No bytes, and the most that a datagram of UDP holds.
 #[test]
 fn hears_empty_and_longest_datagrams(rt: HostRuntime) -> Result<(), Fail> {
     let mut end = end_here(&rt)?;
@@ -85,6 +88,7 @@ fn hears_empty_and_longest_datagrams(rt: HostRuntime) -> Result<(), Fail> {
     Ok(())
 }
 
+/// 1,472 bytes leave whole.
 #[test]
 fn sends_1472_bytes_whole(rt: HostRuntime) -> Result<(), Fail> {
     let mut end = end_here(&rt)?;
@@ -101,6 +105,7 @@ fn sends_1472_bytes_whole(rt: HostRuntime) -> Result<(), Fail> {
     Ok(())
 }
 
+/// A wait in which nothing comes ends after some 50 milliseconds.
 #[test]
 fn a_quiet_wait_takes_50_milliseconds(rt: HostRuntime) -> Result<(), Fail> {
     let mut end = end_here(&rt)?;
@@ -123,6 +128,7 @@ fn a_quiet_wait_takes_50_milliseconds(rt: HostRuntime) -> Result<(), Fail> {
     Ok(())
 }
 
+/// A port that is in use is refused.
 #[test]
 fn a_port_in_use_is_refused(rt: HostRuntime) -> Result<(), Fail> {
     let end = end_here(&rt)?;
@@ -147,6 +153,7 @@ fn a_port_in_use_is_refused(rt: HostRuntime) -> Result<(), Fail> {
     Ok(())
 }
 
+/// A send that the system refuses answers false.
 #[test]
 fn a_send_that_the_system_refuses_is_false(rt: HostRuntime) -> Result<(), Fail> {
     let mut end = end_here(&rt)?;
@@ -158,6 +165,7 @@ fn a_send_that_the_system_refuses_is_false(rt: HostRuntime) -> Result<(), Fail> 
     Ok(())
 }
 
+/// The words of the faults.
 #[test]
 fn faults_in_words(rt: HostRuntime) -> Result<(), Fail> {
     assert_eq!(rt;

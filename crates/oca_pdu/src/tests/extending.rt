@@ -25,6 +25,7 @@ fn one_more(packet: &mut Packet, handle: u32, reply: &Reply) -> Result<(), Write
     extend_response(packet, Handle(handle), reply)
 }
 
+/// A response joins the PDU before it.
 #[test]
 fn two_responses_in_one_pdu(rt: HostRuntime) {
     let mut packet = one_response(Handle(1), &reply(0, 1, &[1])).expect(&rt, "room");
@@ -36,6 +37,7 @@ fn two_responses_in_one_pdu(rt: HostRuntime) {
     assert_eq!(rt; packet.as_slice(), want.as_slice());
 }
 
+/// 146 responses without parameters fit, and no more.
 #[test]
 fn as_many_responses_as_fit(rt: HostRuntime) {
     let mut packet = one_response(Handle(0), &reply(0, 0, &[])).expect(&rt, "room");
@@ -57,6 +59,7 @@ fn as_many_responses_as_fit(rt: HostRuntime) {
     }
 }
 
+/// Responses fit up to exactly 1,472 bytes.
 #[test]
 fn responses_of_1472_bytes(rt: HostRuntime) {
     let mut packet = one_response(Handle(1), &reply(0, 1, &[7; 700])).expect(&rt, "room");

@@ -2,6 +2,7 @@
 use super::*;
 use std::test::Fail;
 
+/// Each malformed example has its first fault at its place.
 #[test]
 fn first_faults_of_the_worked_examples(rt: HostRuntime) {
     is_refused(&rt, &[], 1, 0);
@@ -33,6 +34,7 @@ fn first_faults_of_the_worked_examples(rt: HostRuntime) {
     );
 }
 
+/// The largest number in each field of a command.
 #[test]
 fn largest_numbers_in_each_field(rt: HostRuntime) {
     is_refused(&rt, &changed(GET_STATE, 8, &[0xFF, 0xFF]), 7, 8);
@@ -41,6 +43,7 @@ fn largest_numbers_in_each_field(rt: HostRuntime) {
     assert_eq!(rt; messages_in(&changed(GET_STATE, 26, &[5])), 1);
 }
 
+/// Each front of a datagram of one message is refused.
 #[test]
 fn datagrams_that_are_cut_off(rt: HostRuntime) {
     for bytes in SINGLE {
@@ -56,6 +59,7 @@ fn datagrams_that_are_cut_off(rt: HostRuntime) {
     is_refused(&rt, &joined(GET_STATE, &ONE_SECOND[..11]), 9, 30);
 }
 
+/// The words of a fault.
 #[test]
 fn faults_are_printed(rt: HostRuntime) -> Result<(), Fail> {
     let fault = check(&[0x3B, 0]).map(|_| ()).err().ok_or("accepted")?;

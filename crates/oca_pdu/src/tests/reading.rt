@@ -1,6 +1,7 @@
 //! What is accepted, and the messages that are read.
 use super::*;
 
+/// Each well-formed example is accepted, and writing its messages gives it back.
 #[test]
 fn worked_examples_are_accepted_and_written_again(rt: HostRuntime) {
     for bytes in SINGLE {
@@ -15,6 +16,7 @@ fn worked_examples_are_accepted_and_written_again(rt: HostRuntime) {
     assert_eq!(rt; messages_in(TWO_COMMANDS), 2);
 }
 
+/// The messages of the examples, in order.
 #[test]
 fn messages_of_the_worked_examples(rt: HostRuntime) {
     let handles = [1, 2];
@@ -79,6 +81,7 @@ fn messages_of_the_worked_examples(rt: HostRuntime) {
     }
 }
 
+/// The largest numbers of messages that fit into a datagram.
 #[test]
 fn as_many_messages_as_fit(rt: HostRuntime) {
     let mut responses = joined(&[0x3B, 0, 1, 0, 0, 0x05, 0xBD, 3, 0, 146], &[]);

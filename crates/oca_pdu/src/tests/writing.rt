@@ -1,6 +1,7 @@
 //! Packets that are full.
 use super::*;
 
+/// A packet without room is refused and unchanged.
 #[test]
 fn packets_that_are_full(rt: HostRuntime) {
     let target = Ono(4097);

@@ -9,4 +9,4 @@ returns-in_err-put_bool c =
     let p = err_from_is_err_and c.from_residual.result c.from_residual.ensures.1 in
     let x = get_or c.args.truths.now c.loop-truth.truth-index false in
     let here : x ≡ get_or c.args.truths.now c.loop-truth.truth-index x = search rules in
-    rw p.1 (put_full bool_encoding c.args.truths.now c.loop-truth.truth-index x c.loop-truth-test.true here _ _ _ c.loop-truth.invariant c.in_err-put_bool.ensures)
+    rw p.1 (put_full bool_encoding c.args.truths.now c.loop-truth.truth-index x c.loop-truth-test.true here _ _ _ c.loop-truth.invariant c.in_err-put_bool.ensures.puts)

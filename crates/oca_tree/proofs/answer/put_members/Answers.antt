@@ -19,5 +19,5 @@ returns c =
     let listed = is_listed c.args.objects.now c.args.block.0 c.args.deep in
     let count : c.marked_count.result ≡ length (filter listed c.args.objects.now) =
     c.marked_count.ensures.count ∙ ap (λ ms. length (filter (λ mark. mark) ms)) (c.deref.ensures.0 ∙ c.listed-marks.ensures) ∙ marks_counted listed c.args.objects.now in
-    puts_after c.put_items.result c.args.out.now.items c.put_u16.new.out.items c.put_items.new.out.items (unsigned_encoding w16 (length (filter listed c.args.objects.now))) _
-    (rw (← count) c.in_ok-put_u16.ensures) (c.put_items.ensures listed (c.deref-2.ensures.0 ∙ c.listed-marks.ensures))
+    puts_after c.put_items.result c.args.out.now.items c.put_u16.new.params.items c.put_items.new.out.items (unsigned_encoding w16 (length (filter listed c.args.objects.now))) _
+    (rw (← count) c.in_ok-put_u16.ensures.puts) (c.put_items.ensures listed (c.deref-2.ensures.0 ∙ c.listed-marks.ensures))
