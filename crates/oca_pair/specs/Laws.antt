@@ -92,8 +92,8 @@ AreConsecutive [] = Unit {0}
 AreConsecutive (h ∷ []) = Unit {0}
 AreConsecutive (h ∷ k ∷ more) = (k ≡ h + 1) × AreConsecutive (k ∷ more)
 
--- Of each answer that a link holds, and of each that was taken from it; and each command that it submitted has a handle of its own, the
--- one before it plus one.
+-- Of each answer that a link holds, and of each that was taken from it; and each command that it submitted has a handle of its
+-- own, the one before it plus one.
 pub record AnswersItsCommands (n : Network) : Type 0 where
   pub held : (i : ℕ) (l : PeerLink) (h : ℕ) (answer : AnswerFields) → slice_get n.links i ≡ Some l → answer_under h l.link.untaken ≡ Some answer →
       IsAnswerOfItsCommand l.peer h answer n
@@ -129,8 +129,8 @@ pub record IsAnswered (k now : ℕ) (n : Network) (d : SentDatagram) (c : Comman
   pub sent : (after_step (ToDevice k now) n).to_links
       ≡ n.to_links ++ (record { peer = d.peer; bytes = pdu_encoding (pdu_of (response c.handle execution.reply)) }) ∷ []
 
--- A delivery of a datagram that carries an untaken command is answered, where with it no session of the link's peer was forgotten, and the
--- datagrams that came to the device came from at most 16 peers.
+-- A delivery of a datagram that carries an untaken command is answered, where with it no session of the link's peer was
+-- forgotten, and the datagrams that came to the device came from at most 16 peers.
 abbrev pub AnswersUntaken : Network → Type 0
 AnswersUntaken n = (k now i : ℕ) (d : SentDatagram) (l : PeerLink) (c : CommandFields) (peers : List Peer) →
     slice_get n.to_device k ≡ Some d → slice_get n.links i ≡ Some l → CarriesUntaken d l c →

@@ -5,7 +5,8 @@ use oca_pdu::law_written_is_read_back;
 
 /// Over every schedule and for all sizes of window and span: each answer that a link holds or gave under a handle is what an
 /// execution gave, for that link's peer, of the very command that the link submitted under that handle. Where no session of the
-/// peer was forgotten, it is the only execution for the peer under that handle.
+/// peer was forgotten, it is the only execution for the peer under that handle. The handles of the commands that a link submitted
+/// rise by one.
 pub fn law_answers()
     ensures { EveryScheduleAnswersItsCommands }
 {

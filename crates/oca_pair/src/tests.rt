@@ -147,7 +147,7 @@ fn given_out_twice() -> [Step<'static>; 8] {
     ]
 }
 
-const TWO_COPIES: [Seen; 8] = [
+const OUTCOMES_OF_BOTH: [Seen; 8] = [
     Seen::Submitted(1),
     Seen::Sent(0),
     Seen::Sent(1),
@@ -172,7 +172,7 @@ const TWO_COPIES: [Seen; 8] = [
 #[test]
 fn a_duplicate_is_answered_once(rt: HostRuntime) -> Result<(), Fail> {
     let transcript = run(rt.alloc(), 32, 16, &[start(A, 1)], &given_out_twice())?;
-    expect_log(&rt, &transcript, &TWO_COPIES);
+    expect_log(&rt, &transcript, &OUTCOMES_OF_BOTH);
     assert_eq!(rt; transcript.to_device.len(), 2);
     assert_eq!(rt; transcript.to_links.len(), 2);
     law_answers();

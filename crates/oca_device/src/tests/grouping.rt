@@ -3,44 +3,72 @@ use super::*;
 use crate::{law_by_events, law_of_groups};
 use oca_pdu::{PduFault, PduFaultKind};
 
-/// Datagrams of as many commands, responses and keep-alives as fit, and one byte more.
-#[test]
-fn takes_full_datagrams(rt: HostRuntime) -> Result<(), Fail> {
-    let mut bench = Bench::new(rt.alloc())?;
-    let mut commands = Packet::new();
-    put(&mut commands, &[0x3b, 0, 1, 0, 0, 5, 0xbf, 1, 0, 86]);
+/// GetState of 4097 under handles 1 to 86 in one PDU, of 1,472 bytes.
+fn full_of_commands() -> Packet {
+    let mut packet = pack(&[0x3b, 0, 1, 0, 0, 5, 0xbf, 1, 0, 86]);
     for handle in 1..87u32 {
-        put(&mut commands, &[0, 0, 0, 17]);
-        put(&mut commands, &handle.to_be_bytes());
-        put(&mut commands, &[0, 0, 0x10, 1, 0, 4, 0, 1, 0]);
+        put(&mut packet, &[0, 0, 0, 17]);
+        put(&mut packet, &handle.to_be_bytes());
+        put(&mut packet, &[0, 0, 0x10, 1, 0, 4, 0, 1, 0]);
     }
+    packet
+}
+
+/// The responses to them.
+fn full_of_states() -> Packet {
+    let mut packet = pack(&[0x3b, 0, 1, 0, 0, 3, 0xbb, 3, 0, 86]);
+    for handle in 1..87u32 {
+        put(&mut packet, &[0, 0, 0, 11]);
+        put(&mut packet, &handle.to_be_bytes());
+        put(&mut packet, &[0, 1, 1]);
+    }
+    packet
+}
+
+/// As many commands as fit are answered in one packet.
+#[test]
+fn takes_a_datagram_full_of_commands(rt: HostRuntime) -> Result<(), Fail> {
+    let mut bench = Bench::new(rt.alloc())?;
+    let commands = full_of_commands();
     assert_eq!(rt; commands.len(), 1472);
     assert_eq!(rt; bench.answers(&rt, commands.as_slice(), served(86, 0)), 1);
-    let mut replies = Packet::new();
-    put(&mut replies, &[0x3b, 0, 1, 0, 0, 3, 0xbb, 3, 0, 86]);
-    for handle in 1..87u32 {
-        put(&mut replies, &[0, 0, 0, 11]);
-        put(&mut replies, &handle.to_be_bytes());
-        put(&mut replies, &[0, 1, 1]);
-    }
+    let replies = full_of_states();
     assert_eq!(rt; replies.len(), 956);
     bench.holds(&rt, 0, &replies);
-    let mut longer = commands.as_slice().to_vec(rt.alloc())?;
+    Ok(())
+}
+
+/// A full datagram with one byte more is too long.
+#[test]
+fn refuses_a_byte_too_many(rt: HostRuntime) -> Result<(), Fail> {
+    let mut bench = Bench::new(rt.alloc())?;
+    let mut longer = full_of_commands().as_slice().to_vec(rt.alloc())?;
     longer.push(0)?;
     let too_long = Verdict::Malformed(PduFault {
         kind: PduFaultKind::TooLong,
         at: 1472,
     });
     assert_eq!(rt; bench.answers(&rt, &longer, too_long), 0);
+    Ok(())
+}
 
-    let mut responses = Packet::new();
-    put(&mut responses, &[0x3b, 0, 1, 0, 0, 5, 0xbd, 3, 0, 146]);
+/// As many responses as fit are ignored.
+#[test]
+fn ignores_a_datagram_full_of_responses(rt: HostRuntime) -> Result<(), Fail> {
+    let mut bench = Bench::new(rt.alloc())?;
+    let mut responses = pack(&[0x3b, 0, 1, 0, 0, 5, 0xbd, 3, 0, 146]);
     for _ in 0..146 {
         put(&mut responses, &[0, 0, 0, 10, 0, 0, 0, 1, 0, 0]);
     }
     assert_eq!(rt; responses.len(), 1470);
     bench.takes(&rt, A, 0, responses, NOTHING, None);
+    Ok(())
+}
 
+/// As many keep-alives as fit come back, each in a packet of its own.
+#[test]
+fn returns_a_datagram_full_of_keep_alives(rt: HostRuntime) -> Result<(), Fail> {
+    let mut bench = Bench::new(rt.alloc())?;
     let mut keep_alives = Packet::new();
     for _ in 0..122 {
         put(&mut keep_alives, &ONE_SECOND);

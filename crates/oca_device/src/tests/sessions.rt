@@ -1,7 +1,7 @@
 //! Sessions, reply windows, locks and silence.
 use super::*;
 
-/// A window of 32 after 33 commands: the first is old, the second a duplicate; below the floor all is old.
+/// A window of 32 after 33 commands: the first is old, the second a duplicate, and a lower one is old.
 #[test]
 fn keeps_the_last_replies(rt: HostRuntime) -> Result<(), Fail> {
     let mut bench = Bench::new(rt.alloc())?;
@@ -18,7 +18,12 @@ fn keeps_the_last_replies(rt: HostRuntime) -> Result<(), Fail> {
     bench.takes(&rt, A, 0, get_state(1), OLD, None);
     bench.takes(&rt, A, 0, get_state(2), KEPT, Some(state(2, 1)));
     bench.takes(&rt, A, 0, get_state(0), OLD, None);
+    Ok(())
+}
 
+/// A handle that never came is old below the floor, and above the window one is fresh.
+#[test]
+fn executes_nothing_below_the_floor(rt: HostRuntime) -> Result<(), Fail> {
     let mut bench = Bench::new(rt.alloc())?;
     for handle in 6..39u32 {
         bench.takes(
