@@ -7,25 +7,23 @@ use oca_types::{Packet, Peer};
 use std::alloc::Global;
 use std::test::Fail;
 
+/// A datagram of a script.
+fn datagram(alloc: Global, from: Peer, bytes: &[u8], now: u64) -> Result<Scripted, Fail> {
+    Ok(Scripted::Datagram {
+        from,
+        bytes: bytes.to_vec(alloc)?,
+        now,
+    })
+}
+
+/// Datagrams of 2, 1,473 and 1,472 bytes, and between them silence and a receive that fails.
 fn script(alloc: Global) -> Result<Vec<Scripted>, Fail> {
     let mut script = Vec::new(alloc);
-    script.push(Scripted::Datagram {
-        from: A,
-        bytes: [0x3b, 0x00].to_vec(alloc)?,
-        now: 5,
-    })?;
+    script.push(datagram(alloc, A, &[0x3b, 0x00], 5)?)?;
     script.push(Scripted::Quiet { now: 7 })?;
-    script.push(Scripted::Datagram {
-        from: B,
-        bytes: [0; LARGEST + 1].to_vec(alloc)?,
-        now: 8,
-    })?;
+    script.push(datagram(alloc, B, &[0; LARGEST + 1], 8)?)?;
     script.push(Scripted::Failed)?;
-    script.push(Scripted::Datagram {
-        from: B,
-        bytes: [9; LARGEST].to_vec(alloc)?,
-        now: 6,
-    })?;
+    script.push(datagram(alloc, B, &[9; LARGEST], 6)?)?;
     Ok(script)
 }
 

@@ -7,6 +7,7 @@ use super::{A, LARGEST, LOCALHOST};
 use crate::{BindFault, End, Heard, UdpEnd};
 use oca_types::{Packet, Peer};
 use std::net::{Ipv4Addr, Net, UdpSocket};
+use std::process::Abort;
 use std::rt::Clock;
 use std::test::Fail;
 
@@ -35,23 +36,27 @@ fn datagram<E: End>(end: &mut E, packet: &mut Packet) -> Result<(Peer, u64), Fai
     }
 }
 
+/// The end hears a datagram of these bytes from this sender.
+fn hears<E: End>(rt: &impl Abort, end: &mut E, sender: Peer, bytes: &[u8]) -> Result<(), Fail> {
+    let mut packet = Packet::new();
+    assert_eq!(rt; datagram(end, &mut packet)?.0, sender);
+    assert_eq!(rt; packet.as_slice(), bytes);
+    Ok(())
+}
+
 #[test]
 fn two_ends_exchange_datagrams(rt: HostRuntime) -> Result<(), Fail> {
     let mut a = end_here(&rt)?;
     let mut b = end_here(&rt)?;
-    assert_eq!(rt; a.local().ip, LOCALHOST);
-    assert!(rt; a.local().port != 0 && a.local().port != b.local().port);
-    let mut packet = Packet::new();
-    assert!(rt; a.send(b.local(), &[1, 2, 3]));
-    assert!(rt; a.send(b.local(), &[4]));
-    assert_eq!(rt; datagram(&mut b, &mut packet)?.0, a.local());
-    assert_eq!(rt; packet.as_slice(), [1, 2, 3].as_slice());
-    assert!(rt; b.send(a.local(), &[5, 6]));
-    assert_eq!(rt; datagram(&mut a, &mut packet)?.0, b.local());
-    assert_eq!(rt; packet.as_slice(), [5, 6].as_slice());
-    assert_eq!(rt; datagram(&mut b, &mut packet)?.0, a.local());
-    assert_eq!(rt; packet.as_slice(), [4].as_slice());
-    Ok(())
+    let (at_a, at_b) = (a.local(), b.local());
+    assert_eq!(rt; at_a.ip, LOCALHOST);
+    assert!(rt; at_a.port != 0 && at_a.port != at_b.port);
+    assert!(rt; a.send(at_b, &[1, 2, 3]));
+    assert!(rt; a.send(at_b, &[4]));
+    hears(&rt, &mut b, at_a, &[1, 2, 3])?;
+    assert!(rt; b.send(at_a, &[5, 6]));
+    hears(&rt, &mut a, at_b, &[5, 6])?;
+    hears(&rt, &mut b, at_a, &[4])
 }
 
 #[test]
