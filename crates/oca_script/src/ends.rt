@@ -61,6 +61,7 @@ impl<R: Read> FromReader<R> {
 }
 
 impl<R: Drop> Drop for FromReader<R> {
+    /// Lets the reader go.
     fn drop(self) {
         let FromReader {
             reader: _,
@@ -74,6 +75,7 @@ impl<R: Read> Source for FromReader<R> {
 
     ghost failed = { λ s. s.failed };
 
+    /// Reads once, and raises the flag where that fails.
     fn read(&mut self, buf: &mut [u8]) -> Result<usize, ReadFailed> {
         match self.reader.read(buf) {
             Ok(count) => Ok(count),
@@ -106,6 +108,7 @@ impl<W: Write> ToWriter<W> {
 }
 
 impl<W: Drop> Drop for ToWriter<W> {
+    /// Lets the writer go.
     fn drop(self) {
         let ToWriter {
             writer: _,
@@ -119,6 +122,7 @@ impl<W: Write> Sink for ToWriter<W> {
 
     ghost failed = { λ s. s.failed };
 
+    /// Writes once, and raises the flag where that fails or takes nothing of some bytes.
     fn write(&mut self, bytes: &[u8]) -> Result<usize, WriteFailed> {
         match self.writer.write(bytes) {
             Ok(count) => {

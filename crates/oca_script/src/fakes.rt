@@ -37,6 +37,7 @@ impl Source for PieceReader<'_> {
 
     ghost failed = { λ r. r.failed };
 
+    /// Gives the next piece, or fails where all that comes before the fault was given.
     fn read(&mut self, buf: &mut [u8]) -> Result<usize, ReadFailed> {
         if self.before_fault == 0 {
             self.failed = true;
@@ -58,6 +59,7 @@ impl Source for PieceReader<'_> {
 impl Read for PieceReader<'_> {
     ghost remaining = { λ r. Some r.rest.now };
 
+    /// The same as a source.
     fn read(&mut self, buf: &mut [u8]) -> io::Result<usize> {
         match Source::read(self, buf) {
             Ok(count) => Ok(count),
@@ -79,6 +81,7 @@ impl Source for PatternReader<'_> {
 
     ghost failed = { λ _. false };
 
+    /// Gives what is left of the pattern, from its front again behind its end.
     fn read(&mut self, buf: &mut [u8]) -> Result<usize, ReadFailed> {
         if self.at >= self.pattern.len() {
             self.at = 0;
@@ -93,6 +96,7 @@ impl Source for PatternReader<'_> {
 }
 
 impl Read for PatternReader<'_> {
+    /// The same as a source.
     fn read(&mut self, buf: &mut [u8]) -> io::Result<usize> {
         match Source::read(self, buf) {
             Ok(count) => Ok(count),
@@ -130,6 +134,7 @@ impl Sink for ShortWriter {
 
     ghost failed = { λ w. w.failed };
 
+    /// Takes a front of the bytes, or fails where there is no room for one.
     fn write(&mut self, bytes: &[u8]) -> Result<usize, WriteFailed> {
         let count = self.most.min(self.room).min(bytes.len());
         if count == 0 && !bytes.is_empty() {
@@ -148,6 +153,7 @@ impl Sink for ShortWriter {
 impl Write for ShortWriter {
     ghost contents = { λ w. Some w.taken.items };
 
+    /// The same as a sink, but for a writer that takes nothing where a sink fails.
     fn write(&mut self, buf: &[u8]) -> io::Result<usize> {
         match Sink::write(self, buf) {
             Ok(count) => Ok(count),
@@ -160,6 +166,7 @@ impl Write for ShortWriter {
         }
     }
 
+    /// Does nothing: what was taken is kept at once.
     fn flush(&mut self) -> io::Result<()> {
         Ok(())
     }
@@ -174,6 +181,7 @@ impl Sink for Discard {
 
     ghost failed = { λ _. false };
 
+    /// Takes all of the bytes.
     fn write(&mut self, bytes: &[u8]) -> Result<usize, WriteFailed> {
         Ok(bytes.len())
     }

@@ -91,6 +91,7 @@ impl From<WriteFailed> for Stop {
 
     ghost from_gives = { λ _ r. r ≡ Write };
 
+    /// The write that failed is why the line was not served.
     fn from(_failed: WriteFailed) -> Stop {
         Stop::Write
     }

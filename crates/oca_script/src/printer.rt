@@ -27,6 +27,7 @@ impl<W: Sink> Model for Printer<W> {
 }
 
 impl<W: Sink + Drop> Drop for Printer<W> {
+    /// Lets the sink go. What is held is not handed to it.
     fn drop(self) {
         let Printer { sink: _, held: _ } = self;
     }

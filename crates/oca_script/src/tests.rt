@@ -25,6 +25,7 @@ impl Language for Echo {
 
     ghost serves = { λ _ _ _ _. Unit {0} };
 
+    /// Prints the line, and counts it.
     fn serve_line<W: Sink>(
         state: &mut u64,
         _room: &mut u8,
@@ -315,6 +316,7 @@ fn before_a_separator(rt: HostRuntime) {
     }
 }
 
+/// The text stands for these bytes.
 fn bytes_of(rt: &impl Abort, text: &[u8], bytes: &[u8]) {
     let mut room = [0u8; 2048];
     assert!(rt; text.len() <= 4096);

@@ -1,16 +1,16 @@
 -- How a command fares, and is printed.
-use Rattle.std.proofs.Common.{◌≡◌, ℕ, List, [], ◌++◌, Option, Some, None, Result, Ok, Err, refl, sym, ap, ◌∙◌, subst}
+use Rattle.std.proofs.Common.{◌≡◌, ℕ, Bool, ◌||◌, List, [], ◌++◌, Option, Some, None, Result, Ok, Err, refl, sym, ap, ◌∙◌, subst}
 use Rattle.oca_types.specs.declared.words.Handle.{Handle}
 use Rattle.oca_script.specs.declared.fault.WriteFailed.{WriteFailed}
 use Rattle.oca_script.specs.Ends.{Output}
 use Rattle.oca_script.specs.Printing.{Prints, PrintsAll, PrintsPart}
 use Rattle.oca_control.specs.declared.fault.ControlFault.{ControlFault}
-use Rattle.std.specs.Prelude.{is_some, if◌then◌else◌}
+use Rattle.std.specs.Prelude.{◌==◌, is_some, if◌then◌else◌}
 use Rattle.oca_control.specs.Answers.{AnswerFields}
 use Rattle.oca_control.specs.Untaken.{answer_under, without_handle}
 use Rattle.oca_control.specs.Links.{LinkState, Request, submission, submitted, after_submission, taken}
 use Rattle.ocactl.specs.declared.exchange.Outcome.{Outcome}
-use Rattle.ocactl.specs.Exchanges.{HasDriven, Waits, Sends, refused_by, outcome_text}
+use Rattle.ocactl.specs.Exchanges.{HasDriven, Waits, Sends, refused_by, outcome_text, outcome_status}
 use Rattle.ocactl.specs.PrivateExchanges.{ExchangesAndPrints}
 use Rattle.ocactl.proofs.PrintLemmas.{then-flushed, not-printed}
 
@@ -25,19 +25,21 @@ sends-refused old mid request answer fault o is e link by =
     let same : mid ≡ old = link ∙ ap (λ (z : Result Handle ControlFault). after_submission z request 0 old) (sym e ∙ is) in
     subst (λ (z : Result Handle ControlFault). Sends request z old o mid) (sym is ∙ e) (by, same)
 
-pub exchanged : (old new : LinkState) (request : Request) (o : Outcome) (r : Result Unit WriteFailed) (a b c : Output)
-    → Sends request (submission request old) old o new → PrintsAll a b (outcome_text o) → Prints r b c [] → ExchangesAndPrints old request new r a c
-exchanged old new request o r a b c h p q = record {
+pub exchanged : (old new : LinkState) (lost lost' : Bool) (request : Request) (o : Outcome) (r : Result Unit WriteFailed) (a b c : Output)
+    → lost' ≡ (lost || outcome_status o == 3) → Sends request (submission request old) old o new → PrintsAll a b (outcome_text o) → Prints r b c []
+    → ExchangesAndPrints old lost request new lost' r a c
+exchanged old new lost lost' request o r a b c l h p q = record {
   text = outcome_text o;
-  serves = (o, h, refl);
+  serves = (o, h, refl, l);
   prints = then-flushed r a b c (outcome_text o) p q;
 }
 
-pub exchanged-part : (old new : LinkState) (request : Request) (o : Outcome) (r : Result Unit WriteFailed) (e f : WriteFailed) (a b : Output)
-    → r ≡ Err e → Sends request (submission request old) old o new → Prints (Err f) a b (outcome_text o) → ExchangesAndPrints old request new r a b
-exchanged-part old new request o r e f a b is h p = record {
+pub exchanged-part : (old new : LinkState) (lost lost' : Bool) (request : Request) (o : Outcome) (r : Result Unit WriteFailed) (e f : WriteFailed) (a b : Output)
+    → r ≡ Err e → lost' ≡ (lost || outcome_status o == 3) → Sends request (submission request old) old o new → Prints (Err f) a b (outcome_text o)
+    → ExchangesAndPrints old lost request new lost' r a b
+exchanged-part old new lost lost' request o r e f a b is l h p = record {
   text = outcome_text o;
-  serves = (o, h, refl);
+  serves = (o, h, refl, l);
   prints = not-printed r e f a b (outcome_text o) is p;
 }
 

@@ -1,5 +1,5 @@
 -- How a command fares that is sent over a network (*profile*).
-use Rattle.std.specs.Prelude.{◌≡◌, ℕ, ◌==◌, true, if◌then◌else◌, List, codes, Option, Some, None, Result, Ok, Err}
+use Rattle.std.specs.Prelude.{◌≡◌, ℕ, ◌==◌, Bool, ◌||◌, true, if◌then◌else◌, List, codes, Option, Some, None, Result, Ok, Err}
 use Rattle.oca_types.specs.declared.words.Handle.{Handle}
 use Rattle.oca_control.specs.declared.fault.ControlFault.{ControlFault}
 use Rattle.oca_control.specs.declared.fault.ControlFault.TheVariants as faults
@@ -52,7 +52,7 @@ abbrev pub Sends : Request → Result Handle ControlFault → LinkState → Outc
 Sends request (Ok handle) old outcome new = Waits handle.0 (submitted request 0 old) outcome new
 Sends request (Err fault) old outcome new = (outcome ≡ refused_by fault) × (new ≡ old)
 
--- the command was sent, and how it fared is printed
-abbrev pub Exchanges : LinkState → Request → LinkState → List ℕ → Type 0
-Exchanges old request new text =
-    (outcome : Outcome) × Sends request (submission request old) old outcome new × (text ≡ outcome_text outcome)
+-- The command was sent, and how it fared is printed; `lost` says whether a command got no answer so far.
+abbrev pub Exchanges : LinkState → Bool → Request → LinkState → Bool → List ℕ → Type 0
+Exchanges old lost request new lost' text =
+    (outcome : Outcome) × Sends request (submission request old) old outcome new × (text ≡ outcome_text outcome) × (lost' ≡ (lost || outcome_status outcome == 3))

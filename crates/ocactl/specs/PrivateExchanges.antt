@@ -1,5 +1,5 @@
 -- For private contracts: a command is sent, and how it fared is printed.
-use Rattle.std.specs.Prelude.{◌≡◌, ℕ, List, Result}
+use Rattle.std.specs.Prelude.{◌≡◌, ℕ, Bool, List, Result}
 use Rattle.oca_script.specs.declared.fault.WriteFailed.{WriteFailed}
 use Rattle.oca_script.specs.Ends.{Output}
 use Rattle.oca_script.specs.Printing.{Prints}
@@ -7,7 +7,7 @@ use Rattle.oca_control.specs.Links.{LinkState, Request}
 use Rattle.ocactl.specs.Exchanges.{Exchanges}
 
 -- as far as the writes went
-pub record ExchangesAndPrints (old : LinkState) (request : Request) (new : LinkState) (result : Result Unit WriteFailed) (was is : Output) : Type 0 where
+pub record ExchangesAndPrints (old : LinkState) (lost : Bool) (request : Request) (new : LinkState) (lost' : Bool) (result : Result Unit WriteFailed) (was is : Output) : Type 0 where
   pub text : List ℕ
-  pub serves : Exchanges old request new text
+  pub serves : Exchanges old lost request new lost' text
   pub prints : Prints result was is text

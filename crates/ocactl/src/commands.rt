@@ -1,13 +1,15 @@
 //! Commands from lines, each sent and answered before the next is read.
-ghost use Rattle.std.specs.Prelude.{◌≡◌};
+ghost use Rattle.std.specs.Prelude.{◌≡◌, ◌||◌, ◌==◌, IfSome};
+ghost use Rattle.oca_script.specs.Ends.{input};
 ghost use Rattle.oca_script.specs.Printing.{Prints};
+ghost use Rattle.oca_script.specs.Replaying.{Outcome as ReplayOutcome, Replays};
 ghost use Rattle.oca_control.specs.Links.{Request};
 ghost use Rattle.ocactl.specs.Requests.{asked_command};
-ghost use Rattle.ocactl.specs.Exchanges.{Exchanges};
+ghost use Rattle.ocactl.specs.Exchanges.{Exchanges, outcome_status};
 ghost use Rattle.ocactl.specs.PrivateRequests.{request_in};
 ghost use Rattle.ocactl.specs.PrivateExchanges.{ExchangesAndPrints};
 
-use super::exchange::{print_outcome, send};
+use super::exchange::{Outcome, print_outcome, send};
 use super::request::{MOST_BYTES, Submission, command_by};
 use oca_control::Link;
 use oca_net::End;
@@ -17,7 +19,7 @@ use std::marker::PhantomData;
 /// How many turns a command of a line waits for its answer: the link is lost long before.
 const TURNS: u32 = u32::MAX;
 
-/// A link, the end that it is driven over, and the greatest exit status of a command so far.
+/// A link, the end that it is driven over, and whether a command got no answer so far.
 pub struct Session<E> {
     pub link: Link,
     pub end: E,
@@ -25,6 +27,7 @@ pub struct Session<E> {
 }
 
 impl<E: Drop> Drop for Session<E> {
+    /// Lets the link and the end go.
     fn drop(self) {
         let Session {
             link: _,
@@ -46,8 +49,9 @@ impl<E: End> Language for Commands<E> {
 
     ghost asked = { asked_command };
 
-    ghost serves = { λ old request new text. Exchanges old.link request new.link text };
+    ghost serves = { λ old request new text. Exchanges old.link old.lost request new.link new.lost text };
 
+    /// Reads the command of the line, sends it, and prints how it fared.
     fn serve_line<W: Sink>(
         session: &mut Session<E>,
         room: &mut [u8; MOST_BYTES],
@@ -70,12 +74,19 @@ fn exchange<E: End, W: Sink>(
     command: Submission<'_>,
     printer: &mut Printer<W>,
 ) -> Result<(), WriteFailed>
-    ensures { ExchangesAndPrints session.old.link (request_in command.entry) session.new.link result printer.old printer.new }
+    ensures { ExchangesAndPrints session.old.link session.old.lost (request_in command.entry) session.new.link session.new.lost result printer.old printer.new }
 {
     let outcome = send(&mut session.link, &mut session.end, command, TURNS);
-    session.lost = session.lost || outcome.status() == 3;
+    session.lost = gets_none(session.lost, &outcome);
     print_outcome(&outcome, printer)?;
     printer.flush()
+}
+
+/// Whether a command got no answer so far, this one included.
+fn gets_none(lost: bool, outcome: &Outcome) -> bool
+    ensures { result ≡ (lost || outcome_status outcome.now == 3) }
+{
+    lost || outcome.status() == 3
 }
 
 /// Sends the commands that the source has to give over the session, each once the one before was answered, and writes how each
@@ -84,7 +95,15 @@ pub fn send_all<E: End, R: Source, W: Sink>(
     session: &mut Session<E>,
     reader: &mut R,
     printer: &mut Printer<W>,
-) -> Result<(), ReplayFault> {
+) -> Result<(), ReplayFault>
+    // Where the bytes that the source had are known, the commands of their lines were sent, and how each fared was printed.
+    ensures known { IfSome (R.remaining reader.old) (λ given.
+        Replays asked_command (λ old request new text. Exchanges old.link old.lost request new.link new.lost text) session.old session.new printer.old printer.new result given) }
+    // Whatever source: there are bytes, those that it gave where it tells them, and the rest of what it had, and the same holds of
+    // these.
+    ensures reads { ReplayOutcome asked_command (λ old request new text. Exchanges old.link old.lost request new.link new.lost text) session.old session.new printer.old printer.new
+        (input (R.remaining reader.old) (R.failed reader.old)) (input (R.remaining reader.new) (R.failed reader.new)) result }
+{
     let mut room = [0; MOST_BYTES];
     oca_script::replay::replay::<Commands<E>, R, W>(session, &mut room, reader, printer)
 }

@@ -98,6 +98,12 @@ fn put_line_fault<F: Sink>(number: u64, fault: LineFault, faults: &mut Printer<F
 }
 
 impl From<ReplayFault> for RunFault {
+    ghost use Rattle.std.specs.Prelude.{◌≡◌};
+    ghost use Rattle.ocactl.specs.Faults.{run_fault};
+
+    ghost from_gives = { λ fault r. r ≡ run_fault fault };
+
+    /// Why a run fails whose replay ended before its script.
     fn from(fault: ReplayFault) -> RunFault {
         match fault {
             ReplayFault::Line(number, fault) => RunFault::Line(number, fault),
@@ -109,12 +115,24 @@ impl From<ReplayFault> for RunFault {
 }
 
 impl From<WriteFailed> for RunFault {
+    ghost use Rattle.std.specs.Prelude.{◌≡◌};
+    ghost use Rattle.ocactl.specs.declared.fault.RunFault.TheVariants.{Write};
+
+    ghost from_gives = { λ _ r. r ≡ Write };
+
+    /// Why a run fails that could not print.
     fn from(_fault: WriteFailed) -> RunFault {
         RunFault::Write
     }
 }
 
 impl From<BindFault> for RunFault {
+    ghost use Rattle.std.specs.Prelude.{◌≡◌};
+    ghost use Rattle.ocactl.specs.Faults.{bind_fault};
+
+    ghost from_gives = { λ fault r. r ≡ bind_fault fault };
+
+    /// Why a run fails that got no socket.
     fn from(fault: BindFault) -> RunFault {
         match fault {
             BindFault::Io => RunFault::Socket,

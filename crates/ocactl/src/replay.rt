@@ -43,6 +43,7 @@ impl Language for LinkScript {
 
     ghost serves = { Serves };
 
+    /// Reads the call of the line, makes it, and prints what it answers.
     fn serve_line<W: Sink>(
         link: &mut Link,
         room: &mut LinkRoom,

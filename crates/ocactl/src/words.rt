@@ -1,5 +1,8 @@
 //! The words of the command line.
-ghost use Rattle.std.specs.Prelude.{◌≤◌, IfSome};
+ghost use Rattle.std.specs.Prelude.{◌≡◌, ◌≤◌, IfSome};
+ghost use Rattle.oca_types.specs.Sizes.{span_size};
+ghost use Rattle.oca_control.specs.Links.{new_link};
+ghost use Rattle.ocactl.specs.PrivateRequests.{request_in};
 
 use super::fault::RunFault;
 use super::request::Submission;
@@ -28,7 +31,9 @@ pub struct Linking {
 
 impl Linking {
     /// A new link, made at moment 0.
-    pub fn link(&self) -> Link {
+    pub fn link(&self) -> Link
+        ensures { result ≡ new_link self.now.device self.now.first_handle.0 0 (span_size self.now.span) }
+    {
         Link::new(self.device, self.first_handle, 0, self.span)
     }
 }
@@ -45,7 +50,9 @@ pub struct Sending {
 
 impl Sending {
     /// The command.
-    pub fn command(&self) -> Submission<'_> {
+    pub fn command(&self) -> Submission<'_>
+        ensures { request_in result ≡ record { target = self.now.target.0; level = self.now.method.level; index = self.now.method.index; count = self.now.count; params = self.now.params.items } }
+    {
         Submission {
             target: self.target,
             method: self.method,
@@ -186,6 +193,7 @@ fn command<'a>(alloc: Global) -> Result<Command<'a>, AllocError> {
         .subcommand(run_command(alloc)?)
 }
 
+/// The words, matched with what the program takes.
 fn matches_of<'a, S: AsStr>(alloc: Global, words: &'a [S]) -> Result<ArgMatches<'a>, Error> {
     command(alloc)?.try_get_matches_from(words)
 }

@@ -54,6 +54,7 @@ impl From<ReplayFault> for RunFault {
 
     ghost from_gives = { λ fault r. r ≡ run_fault fault };
 
+    /// Why a run fails whose replay ended before its script.
     fn from(fault: ReplayFault) -> RunFault {
         match fault {
             ReplayFault::Line(number, fault) => RunFault::Line(number, fault),
@@ -70,6 +71,7 @@ impl From<WriteFailed> for RunFault {
 
     ghost from_gives = { λ _ r. r ≡ Write };
 
+    /// Why a run fails that could not print.
     fn from(_fault: WriteFailed) -> RunFault {
         RunFault::Write
     }
@@ -81,6 +83,7 @@ impl From<BindFault> for RunFault {
 
     ghost from_gives = { λ fault r. r ≡ bind_fault fault };
 
+    /// Why a run fails that got no socket.
     fn from(fault: BindFault) -> RunFault {
         match fault {
             BindFault::Io => RunFault::Socket,

@@ -18,6 +18,7 @@ use std::{env, io};
 #[cfg(test)]
 mod tests;
 
+/// Runs the program on its command line and the standard streams.
 fn main(rt: HostRuntime) -> ExitCode {
     let mut faults = rt.stderr();
     let args = match env::args(&rt) {

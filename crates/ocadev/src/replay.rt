@@ -21,6 +21,7 @@ pub struct DeviceScript<'a> {
 }
 
 impl Drop for DeviceScript<'_> {
+    /// Lets the outbox and the room go.
     fn drop(self) {
         let DeviceScript {
             outbox: _,
@@ -40,6 +41,7 @@ impl<'a> Language for DeviceScript<'a> {
 
     ghost serves = { Serves };
 
+    /// Reads what the line asks for, serves it, and prints what that gives.
     fn serve_line<W: Sink>(
         device: &mut Device,
         room: &mut DeviceScript<'a>,

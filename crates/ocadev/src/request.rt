@@ -34,6 +34,7 @@ pub enum Fields<'a> {
     Other,
 }
 
+/// The fields of a line.
 fn fields_of(line: &[u8]) -> Fields<'_>
     ensures value { AreFields result (fields line.now) }
     ensures within { FieldsWithin result (length line.now) }
@@ -53,18 +54,21 @@ fn fields_of(line: &[u8]) -> Fields<'_>
     }
 }
 
+/// Whether the word is `quiet`, which makes a line a clock reading.
 fn is_quiet(word: &[u8]) -> bool
     ensures { result ≡ quiet_word word.now }
 {
     word == b"quiet".as_slice()
 }
 
+/// A moment, or that it is none.
 fn moment(text: &[u8]) -> Result<u64, LineFault>
     ensures { result ≡ ok_or (moment_of text.now) LineFault.Moment }
 {
     oca_script::field::moment(text).ok_or(LineFault::Moment)
 }
 
+/// A clock reading at this moment.
 #[tactic(auto, unfolding(crate::specs::Requests::tick_of))]
 fn tick<'a>(now: &[u8]) -> Result<Request<'a>, LineFault>
     ensures { event_asked result ≡ tick_of now.now }
@@ -73,6 +77,7 @@ fn tick<'a>(now: &[u8]) -> Result<Request<'a>, LineFault>
     Ok(Request::Tick { now })
 }
 
+/// A datagram: its moment, its sender and its bytes, looked at in this order.
 #[tactic(auto, unfolding(crate::specs::Requests::datagram_of))]
 fn datagram<'a>(
     now: &[u8],

@@ -51,6 +51,7 @@ fn window_option<'a>(alloc: Global) -> Arg<'a> {
     )
 }
 
+/// The command `replay`.
 fn replay_command<'a>(alloc: Global) -> Result<Command<'a>, AllocError> {
     Command::new(alloc, "replay")
         .about("Runs the bench device over the script on standard input, and prints its answers")
@@ -58,6 +59,7 @@ fn replay_command<'a>(alloc: Global) -> Result<Command<'a>, AllocError> {
         .arg(window_option(alloc))
 }
 
+/// The command `serve`.
 fn serve_command<'a>(alloc: Global) -> Result<Command<'a>, AllocError> {
     let port = option(
         alloc,
@@ -86,12 +88,14 @@ fn serve_command<'a>(alloc: Global) -> Result<Command<'a>, AllocError> {
         .arg(window_option(alloc))
 }
 
+/// The command `show`.
 fn show_command<'a>(alloc: Global) -> Command<'a> {
     Command::new(alloc, "show")
         .about("Prints the objects of the bench device: ONo, class identifier, container and role")
         .after_help("Example: ocadev show")
 }
 
+/// The whole program.
 fn command<'a>(alloc: Global) -> Result<Command<'a>, AllocError> {
     Command::new(alloc, "ocadev")
         .about("The bench device of OCA (AES70) over UDP")
@@ -102,6 +106,7 @@ fn command<'a>(alloc: Global) -> Result<Command<'a>, AllocError> {
         .subcommand(show_command(alloc))
 }
 
+/// The words, matched with what the program takes.
 fn matches_of<'a, S: AsStr>(alloc: Global, words: &'a [S]) -> Result<ArgMatches<'a>, Error> {
     command(alloc)?.try_get_matches_from(words)
 }

@@ -7,26 +7,23 @@ use oca_types::{Packet, Peer};
 use std::alloc::Global;
 use std::test::Fail;
 
-/// Two bytes from A, silence, a byte too many from B, a failure, and the largest datagram from B.
+/// A datagram of a script.
+fn datagram(alloc: Global, from: Peer, bytes: &[u8], now: u64) -> Result<Scripted, Fail> {
+    Ok(Scripted::Datagram {
+        from,
+        bytes: bytes.to_vec(alloc)?,
+        now,
+    })
+}
+
+/// Datagrams of 2, 1,473 and 1,472 bytes, and between them silence and a receive that fails.
 fn script(alloc: Global) -> Result<Vec<Scripted>, Fail> {
     let mut script = Vec::new(alloc);
-    script.push(Scripted::Datagram {
-        from: A,
-        bytes: [0x3b, 0x00].to_vec(alloc)?,
-        now: 5,
-    })?;
+    script.push(datagram(alloc, A, &[0x3b, 0x00], 5)?)?;
     script.push(Scripted::Quiet { now: 7 })?;
-    script.push(Scripted::Datagram {
-        from: B,
-        bytes: [0; LARGEST + 1].to_vec(alloc)?,
-        now: 8,
-    })?;
+    script.push(datagram(alloc, B, &[0; LARGEST + 1], 8)?)?;
     script.push(Scripted::Failed)?;
-    script.push(Scripted::Datagram {
-        from: B,
-        bytes: [9; LARGEST].to_vec(alloc)?,
-        now: 6,
-    })?;
+    script.push(datagram(alloc, B, &[9; LARGEST], 6)?)?;
     Ok(script)
 }
 
@@ -37,7 +34,6 @@ fn is_told<E: End>(_end: &E) -> bool
     true
 }
 
-/// Each entry is delivered once, in order, and then Closed for ever.
 #[test]
 fn delivers_its_script_in_order(rt: HostRuntime) -> Result<(), Fail> {
     let mut end = MemoryEnd::new(rt.alloc(), script(rt.alloc())?, 0, None).map_err(
@@ -74,7 +70,6 @@ fn delivers_its_script_in_order(rt: HostRuntime) -> Result<(), Fail> {
     Ok(())
 }
 
-/// What was delivered is shown in order.
 #[test]
 fn shows_what_it_delivered(rt: HostRuntime) -> Result<(), Fail> {
     let mut end = MemoryEnd::new(rt.alloc(), script(rt.alloc())?, 0, None).map_err(
@@ -104,7 +99,6 @@ fn is_datagram(entry: Option<&Scripted>, sender: Peer, wanted: &[u8], moment: u6
     }
 }
 
-/// The send that is to fail and those beyond the room fail, and are counted.
 #[test]
 fn takes_up_to_its_room(rt: HostRuntime) -> Result<(), Fail> {
     let mut end = MemoryEnd::new(rt.alloc(), Vec::new(rt.alloc()), 2, Some(1)).map_err(
@@ -123,7 +117,6 @@ fn takes_up_to_its_room(rt: HostRuntime) -> Result<(), Fail> {
     Ok(())
 }
 
-/// A send beyond the room is counted.
 #[test]
 fn counts_sends_beyond_the_room(rt: HostRuntime) -> Result<(), Fail> {
     let mut end = MemoryEnd::new(rt.alloc(), Vec::new(rt.alloc()), 1, Some(0)).map_err(

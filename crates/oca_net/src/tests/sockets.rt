@@ -7,6 +7,7 @@ use super::{A, LARGEST, LOCALHOST};
 use crate::{BindFault, End, Heard, UdpEnd};
 use oca_types::{Packet, Peer};
 use std::net::{Ipv4Addr, Net, UdpSocket};
+use std::process::Abort;
 use std::rt::Clock;
 use std::test::Fail;
 
@@ -35,27 +36,29 @@ fn datagram<E: End>(end: &mut E, packet: &mut Packet) -> Result<(Peer, u64), Fai
     }
 }
 
-/// Two ends exchange datagrams, each heard from the address of the other.
+/// The end hears a datagram of these bytes from this sender.
+fn hears<E: End>(rt: &impl Abort, end: &mut E, sender: Peer, bytes: &[u8]) -> Result<(), Fail> {
+    let mut packet = Packet::new();
+    assert_eq!(rt; datagram(end, &mut packet)?.0, sender);
+    assert_eq!(rt; packet.as_slice(), bytes);
+    Ok(())
+}
+
 #[test]
 fn two_ends_exchange_datagrams(rt: HostRuntime) -> Result<(), Fail> {
     let mut a = end_here(&rt)?;
     let mut b = end_here(&rt)?;
-    assert_eq!(rt; a.local().ip, LOCALHOST);
-    assert!(rt; a.local().port != 0 && a.local().port != b.local().port);
-    let mut packet = Packet::new();
-    assert!(rt; a.send(b.local(), &[1, 2, 3]));
-    assert!(rt; a.send(b.local(), &[4]));
-    assert_eq!(rt; datagram(&mut b, &mut packet)?.0, a.local());
-    assert_eq!(rt; packet.as_slice(), [1, 2, 3].as_slice());
-    assert!(rt; b.send(a.local(), &[5, 6]));
-    assert_eq!(rt; datagram(&mut a, &mut packet)?.0, b.local());
-    assert_eq!(rt; packet.as_slice(), [5, 6].as_slice());
-    assert_eq!(rt; datagram(&mut b, &mut packet)?.0, a.local());
-    assert_eq!(rt; packet.as_slice(), [4].as_slice());
-    Ok(())
+    let (at_a, at_b) = (a.local(), b.local());
+    assert_eq!(rt; at_a.ip, LOCALHOST);
+    assert!(rt; at_a.port != 0 && at_a.port != at_b.port);
+    assert!(rt; a.send(at_b, &[1, 2, 3]));
+    assert!(rt; a.send(at_b, &[4]));
+    hears(&rt, &mut b, at_a, &[1, 2, 3])?;
+    assert!(rt; b.send(at_a, &[5, 6]));
+    hears(&rt, &mut a, at_b, &[5, 6])?;
+    hears(&rt, &mut b, at_a, &[4])
 }
 
-/// 1,472 bytes are heard whole, and 1,473 are oversize.
 #[test]
 fn hears_1472_bytes_whole_and_1473_as_oversize(rt: HostRuntime) -> Result<(), Fail> {
     let mut end = end_here(&rt)?;
@@ -71,7 +74,6 @@ fn hears_1472_bytes_whole_and_1473_as_oversize(rt: HostRuntime) -> Result<(), Fa
     Ok(())
 }
 
-/// No bytes, and the most that a datagram of UDP holds.
 #[test]
 fn hears_empty_and_longest_datagrams(rt: HostRuntime) -> Result<(), Fail> {
     let mut end = end_here(&rt)?;
@@ -88,7 +90,6 @@ fn hears_empty_and_longest_datagrams(rt: HostRuntime) -> Result<(), Fail> {
     Ok(())
 }
 
-/// 1,472 bytes leave whole.
 #[test]
 fn sends_1472_bytes_whole(rt: HostRuntime) -> Result<(), Fail> {
     let mut end = end_here(&rt)?;
@@ -105,7 +106,6 @@ fn sends_1472_bytes_whole(rt: HostRuntime) -> Result<(), Fail> {
     Ok(())
 }
 
-/// A wait in which nothing comes ends after some 50 milliseconds.
 #[test]
 fn a_quiet_wait_takes_50_milliseconds(rt: HostRuntime) -> Result<(), Fail> {
     let mut end = end_here(&rt)?;
@@ -128,7 +128,6 @@ fn a_quiet_wait_takes_50_milliseconds(rt: HostRuntime) -> Result<(), Fail> {
     Ok(())
 }
 
-/// A port that is in use is refused.
 #[test]
 fn a_port_in_use_is_refused(rt: HostRuntime) -> Result<(), Fail> {
     let end = end_here(&rt)?;
@@ -153,7 +152,6 @@ fn a_port_in_use_is_refused(rt: HostRuntime) -> Result<(), Fail> {
     Ok(())
 }
 
-/// A send that the system refuses answers false.
 #[test]
 fn a_send_that_the_system_refuses_is_false(rt: HostRuntime) -> Result<(), Fail> {
     let mut end = end_here(&rt)?;
@@ -165,7 +163,6 @@ fn a_send_that_the_system_refuses_is_false(rt: HostRuntime) -> Result<(), Fail> 
     Ok(())
 }
 
-/// The words of the faults.
 #[test]
 fn faults_in_words(rt: HostRuntime) -> Result<(), Fail> {
     assert_eq!(rt;

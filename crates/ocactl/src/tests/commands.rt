@@ -25,6 +25,7 @@ const GET: Submission<'static> = Submission {
     params: &[],
 };
 
+/// A new link, whose first handle is 1.
 fn link() -> Link {
     Link::new(DEVICE, Handle(1), 0, Span::default())
 }
@@ -42,6 +43,7 @@ fn answer(handle: u8, status: u8, now: u64, alloc: Global) -> Result<Scripted, F
     })
 }
 
+/// An end that delivers the script, and takes 30 datagrams.
 fn end(alloc: Global, script: Vec<Scripted>) -> Result<MemoryEnd, Fail> {
     Ok(MemoryEnd::new(alloc, script, 30, None).map_err(|_| "no memory")?)
 }

@@ -33,10 +33,12 @@ answer 0 1 01
 none
 ";
 
+/// A new link with this first handle.
 fn link(first_handle: u32) -> Link {
     Link::new(DEVICE, Handle(first_handle), 0, Span::default())
 }
 
+/// The script, replayed on a link with this first handle, gives the status, and prints just that.
 fn replays_from(
     rt: &(impl Abort + AllocGlobal + Net + Clock),
     first_handle: &str,
@@ -56,6 +58,7 @@ fn replays_from(
     runs_as(rt, &words, script, status, output, fault);
 }
 
+/// The same with the first handle 1.
 fn replays_as(
     rt: &(impl Abort + AllocGlobal + Net + Clock),
     script: &[u8],
