@@ -75,9 +75,9 @@ class Runs:
             if (got, fault, code) == (b"", b"no memory\n", 1):
                 self.refused += 1
             else:
-                self.without += 1
                 without += [n] if n <= requests else []
                 self.expect((got, fault, code) == (out, err, status), f"{words} with request {n} refused: {got!r} {fault!r} {code}")
+        self.without += len(without)
         return requests, without
 
     def after_building(self, words, script, requests):

@@ -16,6 +16,7 @@ transcript alone:
  second   the transcript is, byte for byte, that of the second implementation
  premises there are schedules within the premises that lose, double and overtake datagrams
  sizes    with W = 2 * S - 2 a schedule breaks 'in hand', at each of the 31 pairs; and random ones do at (2, 2) and (4, 3)
+ wrong    the laws alone refuse runs of wrong devices and links: the second implementation with one rule changed, each of seven
  altered  a transcript within the premises in which one answer, or what one copy led to, was altered is refused by the law that it breaks
 Some schedules end in a step that names what is not there, or start two links of one peer: these are refused by number, and by name.
 At the first break the schedule is printed, and the exit status is 1. The last line is 'N passed, M failed' over these checks."""
@@ -274,9 +275,9 @@ class Laws:
         for way in self.heard:
             self.count["losses"] += len(self.sent[way]) - len(self.heard[way])
             self.count["doubles"] += sum(n - 1 for n in self.heard[way].values())
-        if not self.forgotten and len(self.came) <= 16:
+        self.within = not self.forgotten and len(self.came) <= 16
+        if self.fit and self.within:
             self.count["premises met"] = 1
-            self.within = True
             self.count["premises met, with loss, double and overtaking"] = \
                 int(min(self.count["losses"], self.count["doubles"], self.count["overtakings"]) > 0)
         return self
@@ -459,7 +460,9 @@ def work(job):
         except Break as fault:
             return total, "\n".join(shown(schedule, lines, fault))
         total["schedules"] += 1
-        total[f"size {schedule.window} {schedule.span}"] += fits(schedule.window, schedule.span)
+        if fits(schedule.window, schedule.span):
+            total["of sizes that fit"] += 1
+            total[f"size {schedule.window} {schedule.span}"] += 1
         if walk is None:
             total["refused"] += 1
             continue
@@ -472,6 +475,70 @@ def work(job):
             except Break as fault:
                 total["altered, refused"] += fault.law == change[0]
     return total, None
+
+
+# ---- wrong devices and links
+
+
+def wrong_rules():
+    """Devices and links with one rule changed, each with the law that must refuse them and what is changed."""
+    judge, submit_to, serve = oca.Session.judge, oca.Link.submit, oca.Device.datagram
+
+    def no_floor(session, window, command):
+        kept = [reply for c, reply in session.accepted[-window:] if c.handle == command.handle]
+        return ("duplicate", kept[0]) if kept else ("fresh", None)
+
+    def latest_reply(session, window, command):
+        verdict, reply = judge(session, window, command)
+        return verdict, session.accepted[-1][1] if verdict == "duplicate" else reply
+
+    def wider(link, *fields):
+        link.span += 1
+        said = submit_to(link, *fields)
+        link.span -= 1
+        return said
+
+    def lowest(link, sender, data, now):
+        link.now = max(link.now, now)
+        waiting = [u for u in link.untaken if u[3] is None]
+        answers = [m for m in oca.check(data) if m[0] == "response"]
+        if not waiting or not answers:
+            return "nothing new"
+        waiting[0][3] = answers[0][2:]
+        return "answered 1"
+
+    def fewer_sessions(device, sender, data, now):
+        if len(device.sessions) >= 15 and all(s.peer != sender for s in device.sessions):
+            return "no-room", []
+        return serve(device, sender, data, now)
+
+    return {
+        "a window that is one smaller": ("in hand", oca.Session, "judge", lambda session, window, command: judge(session, window - 1, command)),
+        "copies are executed": ("once", oca.Session, "judge", lambda session, window, command: ("fresh", None)),
+        "no handle is too old": ("once", oca.Session, "judge", no_floor),
+        "a copy gets the latest reply": ("in hand", oca.Session, "judge", latest_reply),
+        "a span that is one larger": ("in hand", oca.Link, "submit", wider),
+        "an answer goes to the lowest command": ("answers", oca.Link, "datagram", lowest),
+        "room for 15 sessions": ("in hand", oca.Device, "datagram", fewer_sessions),
+    }
+
+
+def refuses(job):
+    """Whether the laws alone refuse a run of the wrong rule of this name, and how."""
+    seed, name = job
+    law, owner, method, changed = wrong_rules()[name]
+    kept = getattr(owner, method)
+    setattr(owner, method, changed)
+    try:
+        for number in range(len(PAIRS), len(PAIRS) + 4000):
+            for schedule in made(seed, number):
+                if schedule.refusal is None:
+                    Laws(schedule, schedule.expected(), fits(schedule.window, schedule.span)).walk()
+    except Break as fault:
+        return fault.law == law, f"{name}: '{fault.law}' breaks at schedule {number}"
+    finally:
+        setattr(owner, method, kept)
+    return False, f"{name}: no break"
 
 
 def broken(program, window, span, schedules):
@@ -530,9 +597,12 @@ def main():
                 print(f"world: seed {seed}: a break after {total['schedules']} schedules without one")
                 print("0 passed, 1 failed")
                 return 1
+        wrong = pool.map(refuses, [(seed, name) for name in wrong_rules()], chunksize=1)
+    for _, said in wrong:
+        print(said)
     good = sizes(program, seed)
     print(f"seed {seed}, {sum(name.startswith('size') for name in total)} of {len(PAIRS)} pairs of sizes that fit")
-    for name in ("schedules", "steps", "deliveries", "losses", "doubles", "overtakings", "executions", "duplicates answered",
+    for name in ("schedules", "of sizes that fit", "steps", "deliveries", "losses", "doubles", "overtakings", "executions", "duplicates answered",
                  "premises met", "premises met, with loss, double and overtaking"):
         print(f"{name:48}{total[name]:9}")
     print(f"held against the laws: {total['answers']} answers, {total['only']} of them of an only execution; {total['in hand']} copies in hand, "
@@ -542,7 +612,7 @@ def main():
     print(f"altered transcripts refused by the law that they break: {total['altered, refused']} of {total['altered']}")
     checks = {"answers": total["answers"], "only": total["only"], "in hand": total["in hand, the oldest of a full window"], "once": total["once"],
               "second": total["schedules"] >= count and total["refused"], "premises": total["premises met, with loss, double and overtaking"],
-              "sizes": good, "altered": total["altered"] and total["altered, refused"] == total["altered"]}
+              "sizes": good, "wrong": all(found for found, _ in wrong), "altered": total["altered"] and total["altered, refused"] == total["altered"]}
     for name, passed in checks.items():
         if not passed:
             print(f"FAILED: {name}")
