@@ -16,6 +16,7 @@ transcript alone:
  second   the transcript is, byte for byte, that of the second implementation
  premises there are schedules within the premises that lose, double and overtake datagrams
  sizes    with W = 2 * S - 2 a schedule breaks 'in hand', at each of the 31 pairs; and random ones do at (2, 2) and (4, 3)
+ lines    bad lines are refused with their number
  wrong    the laws alone refuse runs of wrong devices and links: the second implementation with one rule changed, each of seven
  altered  a transcript within the premises in which one answer, or what one copy led to, was altered is refused by the law that it breaks
 Some schedules end in a step that names what is not there, or start two links of one peer: these are refused by number, and by name.
@@ -580,6 +581,30 @@ def sizes(program, seed):
     return found == 31 and random_found == 2
 
 
+# a line that is refused, and the word for it; a step stands behind the line `schedule 1 1 127.0.0.1:1/1`
+BAD_LINES = [
+    ("schedule 0 1", "number"), ("schedule 65 1", "number"), ("schedule 1 33", "number"), ("schedule 1 0", "number"), ("schedule 1", "form"),
+    ("schedule 1 1 127.0.0.1:1", "form"), ("schedule 1 1 127.0.0.1/1", "peer"), ("schedule 1 1 127.0.0.1:1/4294967296", "number"),
+    ("schedule 1 1 ", "form"), ("0 due", "form"), ("0 due x", "number"), ("x due 0", "moment"), ("0 due 0 0", "form"), ("0 jump", "form"),
+    ("18446744073709551616 tick", "moment"), ("0 tick ", "form"), ("0 to-device -1", "number"), ("0 to-link 4294967296", "number"),
+    ("0 other 1.2.3 -", "peer"), ("0 other 1.2.3.4:5 0", "hex"), ("0 other 1.2.3.4:5 zz", "hex"), ("0 other 1.2.3.4:5 ", "hex"),
+    ("0 other 1.2.3.4:5", "form"), ("take 0", "form"), ("take 0 4294967296", "number"), ("0 submit 0 1 1 1 256 -", "number"),
+    ("0 submit 0 1 65536 1 0 -", "number"), ("0 submit 0 1 1 1 0", "form"), ("0  tick", "form")]
+
+
+def lines_refused(program):
+    """How many bad lines are refused with their number and their word, and status 2."""
+    refused = 0
+    for line, word in [("0 tick", "form")] + BAD_LINES:
+        before = [] if line == "0 tick" else ["# a comment", "", "schedule 1 1 127.0.0.1:1/1"]
+        done = subprocess.run([program, "world"], input="\n".join(before + [line]).encode(), capture_output=True, timeout=60)
+        if (done.stderr.decode(), done.returncode) == (f"line {len(before) + 1}: {word}\n", 2):
+            refused += 1
+        else:
+            print(f"WRONG: {line!r}: {done.stderr!r}, status {done.returncode}")
+    return refused
+
+
 def main():
     program = f"{sys.argv[1]}/trials"
     if sys.argv[2] == "broken":
@@ -609,10 +634,12 @@ def main():
           f"{total['in hand, the oldest of a full window']} of them of the oldest command of a full window; {total['once']} executions; 0 breaks")
     print(f"also met: {total['said too old']} old, {total['said no-room']} without room, {total['said refused']} refused submits, "
           f"{total['said lost']} lost, {total['refused']} refused schedules")
+    lines = lines_refused(program)
+    print(f"bad lines refused: {lines} of {len(BAD_LINES) + 1}")
     print(f"altered transcripts refused by the law that they break: {total['altered, refused']} of {total['altered']}")
     checks = {"answers": total["answers"], "only": total["only"], "in hand": total["in hand, the oldest of a full window"], "once": total["once"],
               "second": total["schedules"] >= count and total["refused"], "premises": total["premises met, with loss, double and overtaking"],
-              "sizes": good, "wrong": all(found for found, _ in wrong), "altered": total["altered"] and total["altered, refused"] == total["altered"]}
+              "sizes": good, "lines": lines == len(BAD_LINES) + 1, "wrong": all(found for found, _ in wrong), "altered": total["altered"] and total["altered, refused"] == total["altered"]}
     for name, passed in checks.items():
         if not passed:
             print(f"FAILED: {name}")

@@ -86,6 +86,17 @@ impl Bench {
         is_malformed(verdict, fault) && self.outbox.is_empty()
     }
 
+    /// The bytes have the fault of this number in this place.
+    fn expect(&mut self, bytes: &[u8], fault: (u8, u16)) {
+        let found = match check(bytes) {
+            Err(found) => (found.kind.number(), found.at),
+            Ok(_) => (0, 0),
+        };
+        if found != fault {
+            self.tally.wrong = self.tally.wrong.saturating_add(1);
+        }
+    }
+
     /// Tries one datagram.
     fn attempt(&mut self, bytes: &[u8]) {
         self.tally.tried = self.tally.tried.saturating_add(1);
@@ -234,6 +245,16 @@ fn set(packet: &mut Packet, at: usize, value: u8) {
 fn prefixes(bench: &mut Bench, bytes: &[u8]) {
     for end in 0..bytes.len() {
         bench.attempt(&bytes[..end]);
+        bench.expect(&bytes[..end], cut_fault(end));
+    }
+}
+
+/// The number and the place of the fault of a datagram of one PDU that is cut off after so many bytes.
+fn cut_fault(end: usize) -> (u8, u16) {
+    match end {
+        0 => (1, 0),
+        1 | 2 => (9, 1),
+        _ => (9, 3),
     }
 }
 
