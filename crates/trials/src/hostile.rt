@@ -44,6 +44,7 @@ struct Bench {
 }
 
 impl Bench {
+    /// Two bench devices with retained replies.
     fn new(alloc: Global) -> Result<Bench, NoMemory> {
         let mut bench = Bench {
             tried: device(alloc)?,
@@ -133,6 +134,7 @@ fn device(alloc: Global) -> Result<Device, NoMemory> {
     Device::new(alloc, tree, Window::default())
 }
 
+/// Whether the verdict is this fault.
 fn is_malformed(verdict: Verdict, fault: PduFault) -> bool {
     match verdict {
         Verdict::Malformed(other) => other == fault,
@@ -223,6 +225,7 @@ pub fn hostile(alloc: Global) -> Result<Tally, NoMemory> {
     Ok(bench.tally)
 }
 
+/// Each byte replaced by each other value.
 fn changed_bytes(bench: &mut Bench, bytes: &[u8]) {
     let mut packet = Packet::new();
     for at in 0..bytes.len() {
@@ -236,12 +239,14 @@ fn changed_bytes(bench: &mut Bench, bytes: &[u8]) {
     }
 }
 
+/// Sets a byte, where it is there.
 fn set(packet: &mut Packet, at: usize, value: u8) {
     if at < packet.len() {
         packet[at] = value;
     }
 }
 
+/// Each prefix, which has the fault of a datagram that is cut off.
 fn prefixes(bench: &mut Bench, bytes: &[u8]) {
     for end in 0..bytes.len() {
         bench.attempt(&bytes[..end]);
@@ -258,6 +263,7 @@ fn cut_fault(end: usize) -> (u8, u16) {
     }
 }
 
+/// One datagram behind another.
 fn followed(bench: &mut Bench, first: &[u8], second: &[u8]) {
     let mut packet = Packet::new();
     if packet.try_extend_from_slice(first).is_ok() && packet.try_extend_from_slice(second).is_ok() {
