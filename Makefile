@@ -3,12 +3,14 @@
 # make test    the gate: every proof from nothing, must-fail edits, tests, programs, and the steps of gate/steps
 # make lossy   both programs over a network that loses, doubles, delays and reorders: COMMANDS=200 SEED=1
 # make fuzz    both programs against a second implementation of the profile, on random scripts: SECONDS=60 SEED=1
+# make world   schedules for both ends, held against the laws and the second implementation: SCHEDULES=8000 SEED=1
 # make bench   instructions, memory, requests a second
 COMMANDS = 200
 SECONDS = 60
+SCHEDULES = 8000
 SEED = 1
 PROGRAMS = ocadev ocactl trials amplifier panel
-.PHONY: build demo test lossy fuzz bench clean
+.PHONY: build demo test lossy fuzz world bench clean
 
 demo:
 	@echo "Building by 'rt try' and running the examples; nothing is proved yet by that. This takes about a minute."
@@ -36,6 +38,10 @@ lossy:
 fuzz:
 	@test -x bin/ocactl || $(MAKE) build
 	@python3 tools/fuzz.py bin $(SECONDS) $(SEED)
+
+world:
+	@test -x bin/trials || $(MAKE) build
+	@python3 tools/world.py bin $(SCHEDULES) $(SEED)
 
 bench: build
 	python3 bench/run.py bin

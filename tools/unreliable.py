@@ -4,10 +4,12 @@
 Usage: unreliable.py BIN     BIN is the folder with `ocadev`, `ocactl` and `trials`
 
 - Memory: each request of a run is refused in turn, from the first to beyond the last. The run then says `no memory` with
-  status 1 and prints nothing, or it did without that request and prints what it prints with memory.
+  status 1 and prints nothing, or it did without that request and prints what it prints with memory. The calls of `trials calls` do
+  without none: beside what every run asks for, each answers NoMemory.
 - After building: a script asks for no more requests than an empty one, and runs to its end with every later one refused.
-- Ends: each read and each write fails in turn. The run then says `read failed` or `write failed` with status 1, and what
-  it printed is a front of what it prints otherwise. Pieces of 1, 7 and 100 bytes change nothing."""
+- Ends: each read and each write fails in turn, in pieces of 100 bytes and, of the short scripts, in single bytes. The run then says
+  `read failed` or `write failed` with status 1, and what it printed is a front of what it prints otherwise. Pieces of 1, 7 and 100
+  bytes change nothing."""
 import os
 import subprocess
 import sys
@@ -65,16 +67,18 @@ class Runs:
             print("WRONG:", what)
 
     def memory(self, words, script):
-        """Each request of a run refused in turn."""
+        """Each request of a run refused in turn. How many there are, and those that the run did without."""
         out, err, status, (requests, _, _) = self.run(words, script)
+        without = []
         for n in range(1, requests + 2):
             got, fault, code, _ = self.run(words, script, REFUSE=n)
             if (got, fault, code) == (b"", b"no memory\n", 1):
                 self.refused += 1
             else:
-                self.without += 1
+                without += [n] if n <= requests else []
                 self.expect((got, fault, code) == (out, err, status), f"{words} with request {n} refused: {got!r} {fault!r} {code}")
-        return requests
+        self.without += len(without)
+        return requests, without
 
     def after_building(self, words, script, requests):
         """No request after the last one of the start."""
@@ -82,13 +86,19 @@ class Runs:
         self.expect(counts[0] == requests, f"{words}: {counts[0]} requests for memory, and {requests} with an empty script")
         self.expect(self.run(words, script, REFUSE_FROM=requests + 1)[:3] == (out, err, status), f"{words} with no memory after its start")
 
-    def failing_ends(self, words, script):
-        out, err, status, (_, reads, writes) = self.run(words, script)
+    def failing_ends(self, words, script, piece):
+        """Each read and each write of a run in pieces fails in turn."""
+        out, err, status, (_, reads, writes) = self.run(words, script, PIECE=piece)
         for setting, number, fault in (("FAIL_READ", reads, b"read failed\n"), ("FAIL_WRITE", writes, b"write failed\n")):
             for n in range(1, number + 1):
-                got, said, code, _ = self.run(words, script, PIECE=100, **{setting: n})
+                got, said, code, _ = self.run(words, script, PIECE=piece, **{setting: n})
                 self.ends += 1
-                self.expect((said, code) == (fault, 1) and out.startswith(got), f"{words} with {setting} {n}: {got!r} {said!r} {code}")
+                written = piece == 1 and setting == "FAIL_WRITE"  # then n - 1 bytes were taken before
+                self.expect((said, code) == (fault, 1) and (got == out[:n - 1] if written else out.startswith(got)),
+                            f"{words} in pieces of {piece} with {setting} {n}: {got!r} {said!r} {code}")
+
+    def pieces_of(self, words, script):
+        out, err, status, _ = self.run(words, script)
         for size in (1, 7, 100):
             self.pieces += 1
             self.expect(self.run(words, script, PIECE=size)[:3] == (out, err, status), f"{words} in pieces of {size}")
@@ -104,18 +114,21 @@ def main():
         runs.memory(["ocadev", "show"], b"")
         for words, scripts, expected in ((device, list(device_scripts()), oca.device_replay),
                                          (link, list(link_scripts()), lambda s: oca.link_replay(s, (127, 0, 0, 1, 65000), 1))):
-            requests = runs.memory(words, b"")
-            for script in scripts:
+            requests, _ = runs.memory(words, b"")
+            for number, script in enumerate(scripts):
                 out, err, status, _ = runs.run(words, script)
                 runs.expect((out, err.decode().strip() or None, status) == expected(script), f"{words}: {out!r} {err!r}")
                 runs.after_building(words, script, requests)
-                runs.failing_ends(words, script)
-        start = runs.run(["trials", "call", "nothing"], b"")[3][0]
+                runs.failing_ends(words, script, 100)
+                runs.pieces_of(words, script)
+                if number < 2:  # the short ones, byte by byte
+                    runs.failing_ends(words, script, 1)
+        start, without = runs.memory(["trials", "call", "nothing"], b"")
         calls = runs.run(["trials", "calls"], b"")[0].decode().split()
         for name in calls:
-            requests = runs.run(["trials", "call", name], b"")[3][0]
+            requests, others = runs.memory(["trials", "call", name], b"")
             print(f"  {name}: {requests - start} requests for memory")
-            runs.memory(["trials", "call", name], b"")
+            runs.expect(len(others) == len(without), f"{name}: {len(others) - len(without)} requests are done without")
         print(f"unreliable: {runs.refused} requests for memory refused and answered, {runs.without} done without; "
               f"{runs.ends} failed reads and writes, {runs.pieces} runs in short pieces; {runs.wrong} wrong")
     return 1 if runs.wrong else 0

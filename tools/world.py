@@ -16,6 +16,8 @@ transcript alone:
  second   the transcript is, byte for byte, that of the second implementation
  premises there are schedules within the premises that lose, double and overtake datagrams
  sizes    with W = 2 * S - 2 a schedule breaks 'in hand', at each of the 31 pairs; and random ones do at (2, 2) and (4, 3)
+ lines    bad lines are refused with their number
+ wrong    the laws alone refuse runs of wrong devices and links: the second implementation with one rule changed, each of seven
  altered  a transcript within the premises in which one answer, or what one copy led to, was altered is refused by the law that it breaks
 Some schedules end in a step that names what is not there, or start two links of one peer: these are refused by number, and by name.
 At the first break the schedule is printed, and the exit status is 1. The last line is 'N passed, M failed' over these checks."""
@@ -274,9 +276,9 @@ class Laws:
         for way in self.heard:
             self.count["losses"] += len(self.sent[way]) - len(self.heard[way])
             self.count["doubles"] += sum(n - 1 for n in self.heard[way].values())
-        if not self.forgotten and len(self.came) <= 16:
+        self.within = not self.forgotten and len(self.came) <= 16
+        if self.fit and self.within:
             self.count["premises met"] = 1
-            self.within = True
             self.count["premises met, with loss, double and overtaking"] = \
                 int(min(self.count["losses"], self.count["doubles"], self.count["overtakings"]) > 0)
         return self
@@ -394,7 +396,7 @@ def transcripts(program, schedules):
     begins = [i for i, line in enumerate(lines) if line == "schedule"] + [len(lines)]
     runs = [lines[a:b] for a, b in zip(begins, begins[1:])]
     if done.returncode != 0 or len(runs) != len(schedules):
-        raise SystemExit(f"world: status {done.returncode}, {len(runs)} of {len(schedules)} schedules, {done.stderr.decode()!r}")
+        raise RuntimeError(f"status {done.returncode}, {len(runs)} of {len(schedules)} schedules, {done.stderr.decode()!r}")
     return runs
 
 
@@ -422,7 +424,7 @@ def made(seed, number):
     """The schedules of a number: first a directed one for each pair of sizes, then random ones."""
     r = random.Random(f"{seed} {number}")
     if number < len(PAIRS):
-        return [directed(*PAIRS[number])]
+        return [directed(*PAIRS[number]).take_all()]
     window, span = r.choice(PAIRS) if r.randrange(2) else (lambda s: (min(64, 2 * s - 1 + r.choice([0, 0, 1])), s))(r.choice([1, 2, 2, 3, 4, 8, 16, 32]))
     if r.randrange(12) == 0:  # sizes that do not fit
         window, span = r.randrange(1, 65), r.randrange(1, 33)
@@ -459,6 +461,9 @@ def work(job):
         except Break as fault:
             return total, "\n".join(shown(schedule, lines, fault))
         total["schedules"] += 1
+        if fits(schedule.window, schedule.span):
+            total["of sizes that fit"] += 1
+            total[f"size {schedule.window} {schedule.span}"] += 1
         if walk is None:
             total["refused"] += 1
             continue
@@ -471,6 +476,70 @@ def work(job):
             except Break as fault:
                 total["altered, refused"] += fault.law == change[0]
     return total, None
+
+
+# ---- wrong devices and links
+
+
+def wrong_rules():
+    """Devices and links with one rule changed, each with the law that must refuse them and what is changed."""
+    judge, submit_to, serve = oca.Session.judge, oca.Link.submit, oca.Device.datagram
+
+    def no_floor(session, window, command):
+        kept = [reply for c, reply in session.accepted[-window:] if c.handle == command.handle]
+        return ("duplicate", kept[0]) if kept else ("fresh", None)
+
+    def latest_reply(session, window, command):
+        verdict, reply = judge(session, window, command)
+        return verdict, session.accepted[-1][1] if verdict == "duplicate" else reply
+
+    def wider(link, *fields):
+        link.span += 1
+        said = submit_to(link, *fields)
+        link.span -= 1
+        return said
+
+    def lowest(link, sender, data, now):
+        link.now = max(link.now, now)
+        waiting = [u for u in link.untaken if u[3] is None]
+        answers = [m for m in oca.check(data) if m[0] == "response"]
+        if not waiting or not answers:
+            return "nothing new"
+        waiting[0][3] = answers[0][2:]
+        return "answered 1"
+
+    def fewer_sessions(device, sender, data, now):
+        if len(device.sessions) >= 15 and all(s.peer != sender for s in device.sessions):
+            return "no-room", []
+        return serve(device, sender, data, now)
+
+    return {
+        "a window that is one smaller": ("in hand", oca.Session, "judge", lambda session, window, command: judge(session, window - 1, command)),
+        "copies are executed": ("once", oca.Session, "judge", lambda session, window, command: ("fresh", None)),
+        "no handle is too old": ("once", oca.Session, "judge", no_floor),
+        "a copy gets the latest reply": ("in hand", oca.Session, "judge", latest_reply),
+        "a span that is one larger": ("in hand", oca.Link, "submit", wider),
+        "an answer goes to the lowest command": ("answers", oca.Link, "datagram", lowest),
+        "room for 15 sessions": ("in hand", oca.Device, "datagram", fewer_sessions),
+    }
+
+
+def refuses(job):
+    """Whether the laws alone refuse a run of the wrong rule of this name, and how."""
+    seed, name = job
+    law, owner, method, changed = wrong_rules()[name]
+    kept = getattr(owner, method)
+    setattr(owner, method, changed)
+    try:
+        for number in range(len(PAIRS), len(PAIRS) + 4000):
+            for schedule in made(seed, number):
+                if schedule.refusal is None:
+                    Laws(schedule, schedule.expected(), fits(schedule.window, schedule.span)).walk()
+    except Break as fault:
+        return fault.law == law, f"{name}: '{fault.law}' breaks at schedule {number}"
+    finally:
+        setattr(owner, method, kept)
+    return False, f"{name}: no break"
 
 
 def broken(program, window, span, schedules):
@@ -512,6 +581,30 @@ def sizes(program, seed):
     return found == 31 and random_found == 2
 
 
+# a line that is refused, and the word for it; a step stands behind the line `schedule 1 1 127.0.0.1:1/1`
+BAD_LINES = [
+    ("schedule 0 1", "number"), ("schedule 65 1", "number"), ("schedule 1 33", "number"), ("schedule 1 0", "number"), ("schedule 1", "form"),
+    ("schedule 1 1 127.0.0.1:1", "form"), ("schedule 1 1 127.0.0.1/1", "peer"), ("schedule 1 1 127.0.0.1:1/4294967296", "number"),
+    ("schedule 1 1 ", "form"), ("0 due", "form"), ("0 due x", "number"), ("x due 0", "moment"), ("0 due 0 0", "form"), ("0 jump", "form"),
+    ("18446744073709551616 tick", "moment"), ("0 tick ", "form"), ("0 to-device -1", "number"), ("0 to-link 4294967296", "number"),
+    ("0 other 1.2.3 -", "peer"), ("0 other 1.2.3.4:5 0", "hex"), ("0 other 1.2.3.4:5 zz", "hex"), ("0 other 1.2.3.4:5 ", "hex"),
+    ("0 other 1.2.3.4:5", "form"), ("take 0", "form"), ("take 0 4294967296", "number"), ("0 submit 0 1 1 1 256 -", "number"),
+    ("0 submit 0 1 65536 1 0 -", "number"), ("0 submit 0 1 1 1 0", "form"), ("0  tick", "form")]
+
+
+def lines_refused(program):
+    """How many bad lines are refused with their number and their word, and status 2."""
+    refused = 0
+    for line, word in [("0 tick", "form")] + BAD_LINES:
+        before = [] if line == "0 tick" else ["# a comment", "", "schedule 1 1 127.0.0.1:1/1"]
+        done = subprocess.run([program, "world"], input="\n".join(before + [line]).encode(), capture_output=True, timeout=60)
+        if (done.stderr.decode(), done.returncode) == (f"line {len(before) + 1}: {word}\n", 2):
+            refused += 1
+        else:
+            print(f"WRONG: {line!r}: {done.stderr!r}, status {done.returncode}")
+    return refused
+
+
 def main():
     program = f"{sys.argv[1]}/trials"
     if sys.argv[2] == "broken":
@@ -529,19 +622,24 @@ def main():
                 print(f"world: seed {seed}: a break after {total['schedules']} schedules without one")
                 print("0 passed, 1 failed")
                 return 1
+        wrong = pool.map(refuses, [(seed, name) for name in wrong_rules()], chunksize=1)
+    for _, said in wrong:
+        print(said)
     good = sizes(program, seed)
-    print(f"seed {seed}, {len(PAIRS)} pairs of sizes that fit")
-    for name in ("schedules", "steps", "deliveries", "losses", "doubles", "overtakings", "executions", "duplicates answered",
+    print(f"seed {seed}, {sum(name.startswith('size') for name in total)} of {len(PAIRS)} pairs of sizes that fit")
+    for name in ("schedules", "of sizes that fit", "steps", "deliveries", "losses", "doubles", "overtakings", "executions", "duplicates answered",
                  "premises met", "premises met, with loss, double and overtaking"):
         print(f"{name:48}{total[name]:9}")
     print(f"held against the laws: {total['answers']} answers, {total['only']} of them of an only execution; {total['in hand']} copies in hand, "
           f"{total['in hand, the oldest of a full window']} of them of the oldest command of a full window; {total['once']} executions; 0 breaks")
     print(f"also met: {total['said too old']} old, {total['said no-room']} without room, {total['said refused']} refused submits, "
           f"{total['said lost']} lost, {total['refused']} refused schedules")
+    lines = lines_refused(program)
+    print(f"bad lines refused: {lines} of {len(BAD_LINES) + 1}")
     print(f"altered transcripts refused by the law that they break: {total['altered, refused']} of {total['altered']}")
     checks = {"answers": total["answers"], "only": total["only"], "in hand": total["in hand, the oldest of a full window"], "once": total["once"],
-              "second": total["schedules"] > count and total["refused"], "premises": total["premises met, with loss, double and overtaking"],
-              "sizes": good, "altered": total["altered"] and total["altered, refused"] == total["altered"]}
+              "second": total["schedules"] >= count and total["refused"], "premises": total["premises met, with loss, double and overtaking"],
+              "sizes": good, "lines": lines == len(BAD_LINES) + 1, "wrong": all(found for found, _ in wrong), "altered": total["altered"] and total["altered, refused"] == total["altered"]}
     for name, passed in checks.items():
         if not passed:
             print(f"FAILED: {name}")

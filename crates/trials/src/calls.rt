@@ -50,6 +50,7 @@ pub fn call<R: Net + Clock>(alloc: Global, rt: &R, name: &str) -> Answered {
     }
 }
 
+/// Whether it was done, or memory was refused.
 fn said(done: bool) -> Answered {
     if done {
         Answered::Done
@@ -78,6 +79,7 @@ fn add(alloc: Global) -> Answered {
     }
 }
 
+/// A device over the bench objects.
 fn device_new(alloc: Global) -> Answered {
     let Ok(tree) = bench(alloc) else {
         return Answered::NoMemory;

@@ -64,6 +64,7 @@ fn datagram(commands: u32) -> Packet {
     packet
 }
 
+/// Sets a byte, where it is there.
 fn set(packet: &mut Packet, at: usize, value: u8) {
     if at < packet.len() {
         packet[at] = value;

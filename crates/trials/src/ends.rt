@@ -123,6 +123,17 @@ pub fn failing_ends(alloc: Global) -> Result<Tally, NoMemory> {
         tally.receives = tally.receives.saturating_add(1);
         tally.note(report == expected && are_alike(alloc, &mut plain, &mut device)?);
     }
+    failing_sends(alloc, whole, taken, &mut tally)?;
+    Ok(tally)
+}
+
+/// Each of so many sends failing in turn.
+fn failing_sends(
+    alloc: Global,
+    whole: Report,
+    taken: u64,
+    tally: &mut Tally,
+) -> Result<(), NoMemory> {
     for number in 0..taken {
         let (mut plain, _, _) = served(alloc, NOWHERE, None)?;
         let (mut device, report, fewer) = served(alloc, NOWHERE, Some(number))?;
@@ -134,7 +145,7 @@ pub fn failing_ends(alloc: Global) -> Result<Tally, NoMemory> {
         tally.sends = tally.sends.saturating_add(1);
         tally.note(counted && are_alike(alloc, &mut plain, &mut device)?);
     }
-    Ok(tally)
+    Ok(())
 }
 
 /// The device's address, for a link.
@@ -211,6 +222,16 @@ pub fn failing_ends_of_a_link(alloc: Global) -> Result<Tally, NoMemory> {
         tally.receives = tally.receives.saturating_add(1);
         tally.note(report == expected && answer_alike(&mut plain, &mut link));
     }
+    failing_sends_of_a_link(alloc, whole, &mut tally)?;
+    Ok(tally)
+}
+
+/// Each send of a link failing in turn.
+fn failing_sends_of_a_link(
+    alloc: Global,
+    whole: DriveReport,
+    tally: &mut Tally,
+) -> Result<(), NoMemory> {
     for number in 0..COMMANDS as u64 {
         let (mut plain, _) = driven(alloc, NOWHERE, None)?;
         let (mut link, report) = driven(alloc, NOWHERE, Some(number))?;
@@ -221,5 +242,5 @@ pub fn failing_ends_of_a_link(alloc: Global) -> Result<Tally, NoMemory> {
         tally.sends = tally.sends.saturating_add(1);
         tally.note(report == expected && answer_alike(&mut plain, &mut link));
     }
-    Ok(tally)
+    Ok(())
 }

@@ -44,6 +44,7 @@ struct Bench {
 }
 
 impl Bench {
+    /// Two bench devices with retained replies.
     fn new(alloc: Global) -> Result<Bench, NoMemory> {
         let mut bench = Bench {
             tried: device(alloc)?,
@@ -86,6 +87,17 @@ impl Bench {
         is_malformed(verdict, fault) && self.outbox.is_empty()
     }
 
+    /// The bytes have the fault of this number in this place.
+    fn expect(&mut self, bytes: &[u8], fault: (u8, u16)) {
+        let found = match check(bytes) {
+            Err(found) => (found.kind.number(), found.at),
+            Ok(_) => (0, 0),
+        };
+        if found != fault {
+            self.tally.wrong = self.tally.wrong.saturating_add(1);
+        }
+    }
+
     /// Tries one datagram.
     fn attempt(&mut self, bytes: &[u8]) {
         self.tally.tried = self.tally.tried.saturating_add(1);
@@ -122,6 +134,7 @@ fn device(alloc: Global) -> Result<Device, NoMemory> {
     Device::new(alloc, tree, Window::default())
 }
 
+/// Whether the verdict is this fault.
 fn is_malformed(verdict: Verdict, fault: PduFault) -> bool {
     match verdict {
         Verdict::Malformed(other) => other == fault,
@@ -212,6 +225,7 @@ pub fn hostile(alloc: Global) -> Result<Tally, NoMemory> {
     Ok(bench.tally)
 }
 
+/// Each byte replaced by each other value.
 fn changed_bytes(bench: &mut Bench, bytes: &[u8]) {
     let mut packet = Packet::new();
     for at in 0..bytes.len() {
@@ -225,18 +239,31 @@ fn changed_bytes(bench: &mut Bench, bytes: &[u8]) {
     }
 }
 
+/// Sets a byte, where it is there.
 fn set(packet: &mut Packet, at: usize, value: u8) {
     if at < packet.len() {
         packet[at] = value;
     }
 }
 
+/// Each prefix, which has the fault of a datagram that is cut off.
 fn prefixes(bench: &mut Bench, bytes: &[u8]) {
     for end in 0..bytes.len() {
         bench.attempt(&bytes[..end]);
+        bench.expect(&bytes[..end], cut_fault(end));
     }
 }
 
+/// The number and the place of the fault of a datagram of one PDU that is cut off after so many bytes.
+fn cut_fault(end: usize) -> (u8, u16) {
+    match end {
+        0 => (1, 0),
+        1 | 2 => (9, 1),
+        _ => (9, 3),
+    }
+}
+
+/// One datagram behind another.
 fn followed(bench: &mut Bench, first: &[u8], second: &[u8]) {
     let mut packet = Packet::new();
     if packet.try_extend_from_slice(first).is_ok() && packet.try_extend_from_slice(second).is_ok() {

@@ -51,6 +51,7 @@ struct Fields<'a> {
 }
 
 impl<'a> Fields<'a> {
+    /// All fields of a line.
     fn new(line: &'a [u8]) -> Fields<'a> {
         Fields { rest: Some(line) }
     }
