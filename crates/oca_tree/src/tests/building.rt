@@ -1,6 +1,7 @@
 //! What a builder refuses.
 use super::*;
 
+/// Each fault of an addition but want of memory, and what is added after it.
 #[test]
 fn a_builder_refuses(rt: HostRuntime) -> Result<(), Fail> {
     let mut builder = TreeBuilder::new(rt.alloc())?;
@@ -82,6 +83,7 @@ fn refuses_a_switch<'a>(
     assert_eq!(rt; added, Err(want), "{position} of {names:?}");
 }
 
+/// The faults of a switch: its names, their number and the position.
 #[test]
 fn a_switch_needs_its_positions(rt: HostRuntime) -> Result<(), Fail> {
     let mut builder = TreeBuilder::new(rt.alloc())?;

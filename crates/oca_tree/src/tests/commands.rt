@@ -1,6 +1,7 @@
 //! Commands of the bench device and their refusals.
 use super::*;
 
+/// A mute answers the state that it was set to.
 #[test]
 fn a_mute_is_set_and_read(rt: HostRuntime) -> Result<(), Fail> {
     let mut tree = bench(rt.alloc())?;
@@ -13,6 +14,7 @@ fn a_mute_is_set_and_read(rt: HostRuntime) -> Result<(), Fail> {
     Ok(())
 }
 
+/// A number takes its limits and refuses what is outside them.
 #[test]
 fn a_number_stays_in_its_range(rt: HostRuntime) -> Result<(), Fail> {
     let mut tree = bench(rt.alloc())?;
@@ -51,6 +53,7 @@ fn a_number_stays_in_its_range(rt: HostRuntime) -> Result<(), Fail> {
     Ok(())
 }
 
+/// A command is refused by the first status that applies, and changes nothing.
 #[test]
 fn refusals_of_the_worked_examples(rt: HostRuntime) -> Result<(), Fail> {
     let mut tree = bench(rt.alloc())?;
@@ -136,6 +139,7 @@ fn refusals_of_the_worked_examples(rt: HostRuntime) -> Result<(), Fail> {
     Ok(())
 }
 
+/// A text is counted in characters, and limited in bytes.
 #[test]
 fn a_label_counts_characters(rt: HostRuntime) -> Result<(), Fail> {
     let mut tree = bench(rt.alloc())?;
@@ -172,6 +176,7 @@ fn a_label_counts_characters(rt: HostRuntime) -> Result<(), Fail> {
     Ok(())
 }
 
+/// A position that is disabled does not become the current one.
 #[test]
 fn a_position_is_disabled(rt: HostRuntime) -> Result<(), Fail> {
     let mut tree = bench(rt.alloc())?;

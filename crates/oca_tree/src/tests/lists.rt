@@ -1,6 +1,7 @@
 //! Members and descendants, and what is read of each object.
 use super::*;
 
+/// What is listed of a block: its members, and all that lies in it.
 #[test]
 fn members_and_descendants(rt: HostRuntime) -> Result<(), Fail> {
     let mut builder = TreeBuilder::new(rt.alloc())?;
@@ -64,6 +65,7 @@ fn answer_of_many(alloc: Global, many: u32) -> Result<(Status, u8, usize), AddFa
     Ok((done.status, done.count, out.len()))
 }
 
+/// An answer of 1,432 bytes fits, and one object more does not.
 #[test]
 fn an_answer_has_its_limit(rt: HostRuntime) -> Result<(), Fail> {
     assert_eq!(rt; answer_of_many(rt.alloc(), 65)?, (Status::Ok, 1, 1432));
@@ -96,6 +98,7 @@ fn shows(
     }
 }
 
+/// What is read of each object of the bench device.
 #[test]
 fn the_objects_of_the_bench_device(rt: HostRuntime) -> Result<(), Fail> {
     let tree = bench(rt.alloc())?;

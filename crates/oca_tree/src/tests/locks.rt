@@ -1,6 +1,7 @@
 //! Locks of two peers.
 use super::*;
 
+/// What a lock of one peer keeps another from.
 #[test]
 fn locks_of_two_peers(rt: HostRuntime) -> Result<(), Fail> {
     let mut tree = bench(rt.alloc())?;
@@ -85,6 +86,7 @@ fn lock_after(
     Ok(())
 }
 
+/// Both kinds of lock against each access, for the holder and for another peer.
 #[test]
 fn each_lock_meets_each_access(rt: HostRuntime) -> Result<(), Fail> {
     let total = |holder: Peer| Lock {
@@ -190,6 +192,7 @@ fn each_lock_meets_each_access(rt: HostRuntime) -> Result<(), Fail> {
     Ok(())
 }
 
+/// A release takes one peer's locks off and leaves those of another.
 #[test]
 fn release_takes_the_peers_locks_off(rt: HostRuntime) -> Result<(), Fail> {
     let mut tree = bench(rt.alloc())?;

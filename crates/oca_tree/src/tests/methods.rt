@@ -41,6 +41,7 @@ fn can_be_locked(rt: &impl Abort, tree: &mut Tree, ono: u32) {
 
 const DESK: [u8; 4] = [0, 0, 0x10, 0];
 
+/// Each method of a block.
 #[test]
 fn methods_of_blocks(rt: HostRuntime) -> Result<(), Fail> {
     let mut tree = bench(rt.alloc())?;
@@ -90,6 +91,7 @@ fn methods_of_blocks(rt: HostRuntime) -> Result<(), Fail> {
     Ok(())
 }
 
+/// Each method of a mute and of a polarity.
 #[test]
 fn methods_of_mute_and_polarity(rt: HostRuntime) -> Result<(), Fail> {
     let mut tree = bench(rt.alloc())?;
@@ -166,6 +168,7 @@ fn methods_of_mute_and_polarity(rt: HostRuntime) -> Result<(), Fail> {
     Ok(())
 }
 
+/// Each method of a switch.
 #[test]
 fn methods_of_a_switch(rt: HostRuntime) -> Result<(), Fail> {
     let mut tree = bench(rt.alloc())?;
@@ -282,6 +285,7 @@ fn methods_of_a_switch(rt: HostRuntime) -> Result<(), Fail> {
     Ok(())
 }
 
+/// Each method of a Boolean and of an integer actuator.
 #[test]
 fn methods_of_basic_actuators(rt: HostRuntime) -> Result<(), Fail> {
     let mut tree = bench(rt.alloc())?;
@@ -349,6 +353,7 @@ fn methods_of_basic_actuators(rt: HostRuntime) -> Result<(), Fail> {
     Ok(())
 }
 
+/// An actuator of each integer type.
 #[test]
 fn every_integer_type(rt: HostRuntime) -> Result<(), Fail> {
     let mut builder = TreeBuilder::new(rt.alloc())?;
