@@ -122,6 +122,7 @@ fn names<R: Runtime + AllocGlobal>(rt: &R) -> ExitCode {
     ExitCode::SUCCESS
 }
 
+/// One call that takes memory.
 fn one_call<R: Runtime + AllocGlobal + Net>(rt: &R, name: &str) -> ExitCode {
     match call(rt.alloc(), rt, name) {
         Answered::Done => said(rt, "done", 0),
