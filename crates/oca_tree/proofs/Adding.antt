@@ -33,12 +33,10 @@ added_tree tree o few number free block shallow sound h = record {
   few = rw length-append (omega (arith, few));
 }
 
-root_sound : IsSound root
-unfolding IsSoundValue
-root_sound = record { value = tt; lock = tt }
-
-pub root_tree : IsTree (root ∷ [])
-root_tree = record { built = trees.root; objects = All-push IsSound [] root (λ k d h. absurd (omega arith)) root_sound; few = omega arith }
+-- a block alone that stands where the root does is a tree
+pub alone_tree : (before after : List Object) (o : Object) → before ≡ [] → after ≡ before ++ o ∷ [] → place_of o ≡ place_of root → IsSound o → IsTree after
+alone_tree before after o none more place sound =
+    rw (more, none) (record { built = rw place trees.root; objects = All-push IsSound [] o (λ k d h. absurd (omega arith)) sound; few = omega arith })
 
 pub first_object : (container ono : ℕ) (spec : Spec) (role label : List ℕ) (value : Value) → role ≡ spec.role.now → label ≡ [] → value ≡ value_of spec.kind
     → record (new_object ono container spec.lockable role value) { label = label } ≡ object_of_spec container ono spec
