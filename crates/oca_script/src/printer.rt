@@ -1,4 +1,4 @@
-//! What is printed is collected, and handed on in larger pieces.
+//! What is printed is held, and given to the sink in larger pieces.
 ghost use Rattle.std.specs.Prelude.{◌≡◌, ◌+◌, ◌*◌, ◌++◌, ◌≤◌, [], OnOk, decimal, length};
 ghost use Rattle.oca_script.specs.Ends.{output};
 ghost use Rattle.oca_script.specs.Fields.{hex_text};
