@@ -35,7 +35,7 @@ def response(handle, status, count, params):
 
 class Checks:
     def __init__(self, folder):
-        self.folder, self.passed, self.failed = folder, 0, 0
+        self.folder, self.passed, self.failed, self.started = folder, 0, 0, []
 
     def same(self, what, got, expected):
         if got == expected:
@@ -45,8 +45,10 @@ class Checks:
             print(f"{what}: {got!r} in place of {expected!r}")
 
     def start(self, *words):
-        return subprocess.Popen([f"{self.folder}/{words[0]}", *map(str, words[1:])], stdin=subprocess.PIPE, stdout=subprocess.PIPE,
-                                stderr=subprocess.PIPE, text=True)
+        run = subprocess.Popen([f"{self.folder}/{words[0]}", *map(str, words[1:])], stdin=subprocess.PIPE, stdout=subprocess.PIPE,
+                               stderr=subprocess.PIPE, text=True)
+        self.started.append(run)
+        return run
 
 
 def sends(checks):
@@ -130,10 +132,15 @@ def helps(checks):
 
 def main():
     checks = Checks(sys.argv[1])
-    sends(checks)
-    runs(checks)
-    serves(checks)
-    helps(checks)
+    for part in (sends, runs, serves, helps):
+        try:
+            part(checks)
+        except (OSError, TypeError, subprocess.TimeoutExpired) as fault:  # nothing came, or other words than those that were waited for
+            checks.failed += 1
+            print(f"{part.__name__}: {fault!r}")
+    for run in checks.started:
+        if run.poll() is None:
+            run.kill()
     print(f"{checks.passed} passed, {checks.failed} failed")
     return 1 if checks.failed else 0
 
