@@ -89,8 +89,8 @@ fn gets_none(lost: bool, outcome: &Outcome) -> bool
     lost || outcome.status() == 3
 }
 
-/// Sends the commands that the source has to give over the session, each once the one before was answered, and writes how each
-/// fared.
+/// Sends the commands that the source has to give over the session, each once it is known how the one before fared, and writes
+/// how each fared. Faults are those of a replay: the first bad line, too much input, a failed read or write.
 pub fn send_all<E: End, R: Source, W: Sink>(
     session: &mut Session<E>,
     reader: &mut R,
