@@ -131,7 +131,8 @@ Status: 0 where each command was answered, 3 where one was not.
 
 Example: echo '4097 4 1 0 -' | ocactl run --device 127.0.0.1:65000 --first-handle 1";
 
-const SEND_EXAMPLE: &str = "Status of send: 0 for an answer with status 0, 4 for another, 3 where none came.
+const SEND_EXAMPLE: &str =
+    "Status of send: 0 for an answer with status 0, 4 for another, 3 where none came.
 
 Example: ocactl send --device 127.0.0.1:65000 --first-handle 1 --target 4097 --level 4 --index 1 --count 0";
 
