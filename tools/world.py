@@ -7,15 +7,15 @@ Usage: world.py BIN COUNT [SEED]        COUNT schedules over every pair of sizes
 
 The checks, each written from the statement of the laws (docs/DEFINITIONS.md, section 8, and crates/oca_pair/specs) and made on a
 transcript alone:
- answers  an answer that a link holds or handed on is what an execution gave of the very command that this link submitted under that handle,
+ answers  an answer that a link holds or gave is what an execution gave of the very command that this link submitted under that handle,
           for that link's peer. (What a link holds at the end is taken by the last steps; short schedules are run to each of their steps.)
  only     where the peer's session was never forgotten, it is the only execution for that peer under that handle
- in hand  a delivered copy of a command that its link holds untaken is executed now or answered from the window, and gets one datagram with
+ untaken  a delivered command that its link holds untaken is executed now or answered from the window, and gets one datagram with
           the reply of an execution of that command: where 2 * S <= W + 1, the peer's session was never forgotten and at most 16 peers came
  once     no command is executed twice where the peer's session was never forgotten
  second   the transcript is, byte for byte, that of the second implementation
  premises there are schedules within the premises that lose, double and overtake datagrams
- sizes    with W = 2 * S - 2 a schedule breaks 'in hand', at each of the 31 pairs; and random ones do at (2, 2) and (4, 3)
+ sizes    with W = 2 * S - 2 a schedule breaks 'untaken', at each of the 31 pairs; and random ones do at (2, 2) and (4, 3)
  lines    bad lines are refused with their number
  wrong    the laws alone refuse runs of wrong devices and links: the second implementation with one rule changed, each of seven
  altered  a transcript within the premises in which one answer, or what one copy led to, was altered is refused by the law that it breaks
@@ -56,7 +56,7 @@ class Schedule:
         return self.add(kind, self.now, *fields)
 
     def take_all(self):
-        """What each link holds is handed on."""
+        """What each link holds is taken."""
         for i, (_, link) in enumerate(self.network.links):
             for untaken in list(link.untaken):
                 self.add("take", i, untaken[0].handle)
@@ -82,7 +82,7 @@ class Schedule:
         return ["schedule", self.refusal] if self.refusal else self.network.transcript(self.outcomes)
 
     def front(self, count):
-        """The first steps, and then all that links hold is handed on."""
+        """The first steps, and then all that links hold is taken."""
         short = Schedule(self.window, self.span, self.starts)
         for step in self.steps[:count]:
             short.add(*step)
@@ -177,7 +177,7 @@ def noise(r, schedule):
 
 
 def directed(window, span, r=None):
-    """The last command of a full span overtakes the others and stays in hand, while the others are answered and taken and as many more
+    """The last command of a full span overtakes the others and stays untaken, while the others are answered and taken and as many more
     follow; then a copy of it comes. With r in another order, with noise, and several times."""
     schedule = Schedule(window, span, [(peer(0), r.choice([1, 1, 1000]) if r else 1)])
     network, step = schedule.network, (lambda: noise(r, schedule)) if r else (lambda: None)
@@ -271,7 +271,7 @@ class Laws:
             self.count["said " + said.split(" ")[0]] += 1
             self.count["said too old"] += said == "served 0 0 1"
         if self.answers_sent != len(self.sent["to-link"]):
-            raise Break("in hand", len(self.steps) - 1, "datagrams were sent to links that answer nothing")
+            raise Break("untaken", len(self.steps) - 1, "datagrams were sent to links that answer nothing")
         self.count["steps"] = len(self.steps)
         for way in self.heard:
             self.count["losses"] += len(self.sent[way]) - len(self.heard[way])
@@ -342,30 +342,30 @@ class Laws:
         link = self.peers.index(p)
         held = self.untaken[link].get(command.handle)
         if held and data == oca.pdu(1, [held.body()]):
-            self.in_hand(p, command, said, reply)
+            self.untaken_came(p, command, said, reply)
 
     def next_answer(self, p):
         """The response that the device sent next."""
         if self.answers_sent == len(self.sent["to-link"]) or self.sent["to-link"][self.answers_sent][0] != p:
-            raise Break("in hand", 0, "no datagram was sent to the link")
+            raise Break("untaken", 0, "no datagram was sent to the link")
         messages = oca.check(self.sent["to-link"][self.answers_sent][1])
         self.answers_sent += 1
         return messages[0][1:] if len(messages) == 1 and messages[0][0] == "response" else None
 
-    def in_hand(self, p, command, said, reply):
+    def untaken_came(self, p, command, said, reply):
         """A copy came of a command that the link of p holds untaken."""
         if not self.fit or p in self.forgotten or len(self.came) > 16:
             return
-        self.count["in hand"] += 1
+        self.count["untaken"] += 1
         if said == "served 0 1 0":
-            self.places["in hand"].append(self.number)
+            self.places["untaken"].append(self.number)
             later = len(self.executions[p]) - 1 - max(i for i, (c, _) in enumerate(self.executions[p]) if c.handle == command.handle)
-            self.count["in hand, the oldest of a full window"] += later == self.window - 1
+            self.count["untaken, the oldest of a full window"] += later == self.window - 1
         if said not in ("served 1 0 0", "served 0 1 0"):
-            raise Break("in hand", 0, f"a copy of handle {command.handle}, which its link holds untaken: {said}")
+            raise Break("untaken", 0, f"a copy of handle {command.handle}, which its link holds untaken: {said}")
         if not any(c.handle == command.handle and c.asks() == command.asks() and r == reply for c, r in self.executions[p]) \
                 or reply[0] != command.handle:
-            raise Break("in hand", 0, f"a copy of handle {command.handle} gets a reply of no execution of it")
+            raise Break("untaken", 0, f"a copy of handle {command.handle} gets a reply of no execution of it")
 
     def take(self, step, said):
         _, link, handle = step
@@ -446,7 +446,7 @@ def altered(r, walk, lines):
     at = 1 + r.choice(walk.places[law])
     status, count, params = (lines[at].split(" ") + [""] * 4)[1:4]
     new = {"answers": f"answer {int(status) ^ 1} {count} {params}" if r.randrange(2) else lines[at].removesuffix("-") + "00",
-           "in hand": "served 0 0 1", "once": "served 1 0 0"}[law]
+           "untaken": "served 0 0 1", "once": "served 1 0 0"}[law]
     return law, lines[:at] + [new] + lines[at + 1:]
 
 
@@ -514,13 +514,13 @@ def wrong_rules():
         return serve(device, sender, data, now)
 
     return {
-        "a window that is one smaller": ("in hand", oca.Session, "judge", lambda session, window, command: judge(session, window - 1, command)),
+        "a window that is one smaller": ("untaken", oca.Session, "judge", lambda session, window, command: judge(session, window - 1, command)),
         "copies are executed": ("once", oca.Session, "judge", lambda session, window, command: ("fresh", None)),
         "no handle is too old": ("once", oca.Session, "judge", no_floor),
-        "a copy gets the latest reply": ("in hand", oca.Session, "judge", latest_reply),
-        "a span that is one larger": ("in hand", oca.Link, "submit", wider),
+        "a copy gets the latest reply": ("untaken", oca.Session, "judge", latest_reply),
+        "a span that is one larger": ("untaken", oca.Link, "submit", wider),
         "an answer goes to the lowest command": ("answers", oca.Link, "datagram", lowest),
-        "room for 15 sessions": ("in hand", oca.Device, "datagram", fewer_sessions),
+        "room for 15 sessions": ("untaken", oca.Device, "datagram", fewer_sessions),
     }
 
 
@@ -543,18 +543,18 @@ def refuses(job):
 
 
 def broken(program, window, span, schedules):
-    """The first of the schedules that breaks 'in hand' for sizes that do not fit, as text, and the break."""
+    """The first of the schedules that breaks 'untaken' for sizes that do not fit, as text, and the break."""
     for schedule, lines in zip(schedules, transcripts(program, schedules)):
         try:
             Laws(schedule, lines, True).walk()
         except Break as fault:
-            if fault.law == "in hand" and lines == schedule.expected():
+            if fault.law == "untaken" and lines == schedule.expected():
                 return "\n".join(shown(schedule, lines, fault)), fault
     return None
 
 
 def sizes(program, seed):
-    """Whether each pair of W = 2 * S - 2 breaks 'in hand'; prints what was found."""
+    """Whether each pair of W = 2 * S - 2 breaks 'untaken'; prints what was found."""
     found = 0
     for span in range(2, 33):
         window = 2 * span - 2
@@ -567,7 +567,7 @@ def sizes(program, seed):
         if span == 2:
             print("with a window of 2 and a span of 2, which do not fit, this breaks, as it must:")
             print(result[0])
-    print(f"windows of 2 * S - 2: {found} of 31 directed schedules break 'in hand'")
+    print(f"windows of 2 * S - 2: {found} of 31 directed schedules break 'untaken'")
     random_found = 0
     for window, span in ((2, 2), (4, 3)):
         r = random.Random(f"{seed} {window}")
@@ -630,14 +630,14 @@ def main():
     for name in ("schedules", "of sizes that fit", "steps", "deliveries", "losses", "doubles", "overtakings", "executions", "duplicates answered",
                  "premises met", "premises met, with loss, double and overtaking"):
         print(f"{name:48}{total[name]:9}")
-    print(f"held against the laws: {total['answers']} answers, {total['only']} of them of an only execution; {total['in hand']} copies in hand, "
-          f"{total['in hand, the oldest of a full window']} of them of the oldest command of a full window; {total['once']} executions; 0 breaks")
+    print(f"held against the laws: {total['answers']} answers, {total['only']} of them of an only execution; {total['untaken']} deliveries of untaken commands, "
+          f"{total['untaken, the oldest of a full window']} of them of the oldest command of a full window; {total['once']} executions; 0 breaks")
     print(f"also met: {total['said too old']} old, {total['said no-room']} without room, {total['said refused']} refused submits, "
           f"{total['said lost']} lost, {total['refused']} refused schedules")
     lines = lines_refused(program)
     print(f"bad lines refused: {lines} of {len(BAD_LINES) + 1}")
     print(f"altered transcripts refused by the law that they break: {total['altered, refused']} of {total['altered']}")
-    checks = {"answers": total["answers"], "only": total["only"], "in hand": total["in hand, the oldest of a full window"], "once": total["once"],
+    checks = {"answers": total["answers"], "only": total["only"], "untaken": total["untaken, the oldest of a full window"], "once": total["once"],
               "second": total["schedules"] >= count and total["refused"], "premises": total["premises met, with loss, double and overtaking"],
               "sizes": good, "lines": lines == len(BAD_LINES) + 1, "wrong": all(found for found, _ in wrong), "altered": total["altered"] and total["altered, refused"] == total["altered"]}
     for name, passed in checks.items():

@@ -35,7 +35,7 @@ pub fn number(digits: &[u8], most: usize, largest: u64) -> Option<u64>
 }
 
 /// The number that one to `most` digits at the front write, where the byte `end` follows them and the number is at most
-/// `largest`, and what stands after that byte. Digits of too large a number may be refused too.
+/// `largest`, and what stands after that byte. `None` says only that they were not seen to be there.
 #[tactic(auto, using(crate::proofs::PartLemmas::number_before_rules))]
 pub fn number_before(text: &[u8], end: u8, most: usize, largest: u64) -> Option<(u64, &[u8])>
     requires { (end < 48) ⊎ (57 < end) }
@@ -161,7 +161,7 @@ pub fn address(text: &[u8]) -> Option<u32>
     Some(((a * 256 + b) * 256 + c) * 256 + d)
 }
 
-/// A peer that a space follows, and what stands after that space.
+/// A peer that a space follows, and what stands after that space. `None` says only that they were not seen to be there.
 #[tactic(auto, using(crate::proofs::PartLemmas::peer_before_rules))]
 pub fn peer_before(text: &[u8]) -> Option<(Peer, &[u8])>
     ensures value { IfSome result (λ p. PeerBefore text.now p.0 p.1.now) }

@@ -25,7 +25,7 @@ pub trait Language {
     ghost serves: { Self.State → Self.Request → Self.State → List ℕ → Type 0 };
 
     /// Serves what the line asks for and prints its text; or answers the fault of its fields, and
-    /// then does nothing. Lines that are skipped or are not ASCII are not handed on.
+    /// then does nothing. Lines that are skipped or are not ASCII do not come here.
     fn serve_line<W: Sink>(
         state: &mut Self::State,
         room: &mut Self::Room,

@@ -1,4 +1,4 @@
-//! What is printed is collected, and handed on in larger pieces.
+//! What is printed is held, and given to the sink in larger pieces.
 ghost use Rattle.std.specs.Prelude.{◌≡◌, ◌+◌, ◌*◌, ◌++◌, ◌≤◌, [], OnOk, decimal, length};
 ghost use Rattle.oca_script.specs.Ends.{output};
 ghost use Rattle.oca_script.specs.Fields.{hex_text};
@@ -52,7 +52,8 @@ impl<W: Sink> Printer<W> {
         &self.sink
     }
 
-    /// Hands what is held to the sink.
+    /// Hands what is held to the sink. `WriteFailed` where a write failed: a front of it was written, and what is held then is not
+    /// said.
     pub fn flush(&mut self) -> Result<(), WriteFailed>
         ensures prints { Prints result self.old self.new [] }
         ensures empty { OnOk result (self.new.held ≡ []) }
@@ -60,7 +61,7 @@ impl<W: Sink> Printer<W> {
         hand_on(&mut self.sink, &mut self.held)
     }
 
-    /// Makes room for so many bytes: where fewer are free, what is held is handed to the sink.
+    /// Makes room for so many bytes: where fewer are free, what is held is handed to the sink. `WriteFailed` as for `flush`.
     pub fn make_room(&mut self, room: usize) -> Result<(), WriteFailed>
         requires { room ≤ 8192 }
         ensures prints { Prints result self.old self.new [] }
@@ -69,7 +70,8 @@ impl<W: Sink> Printer<W> {
         free(&mut self.sink, &mut self.held, room)
     }
 
-    /// Prints the bytes: they are held then, or handed to the sink.
+    /// Prints the bytes: they are held then, or handed to the sink. `WriteFailed` where a write failed: a front of what was held
+    /// and of the bytes was written, and what is held then is not said.
     pub fn print(&mut self, bytes: &[u8]) -> Result<(), WriteFailed>
         ensures { Prints result self.old self.new bytes.now }
     {
@@ -104,7 +106,7 @@ impl<W: Sink> Printer<W> {
     }
 }
 
-/// Writes all of the bytes, or a front of them where a write fails.
+/// Writes all of the bytes. `WriteFailed` where a write failed: a front of them was written.
 pub fn write_bytes<W: Sink>(sink: &mut W, bytes: &[u8]) -> Result<(), WriteFailed>
     ensures { WritesBytes result (output (W.contents sink.old) [] (W.failed sink.old)) (output (W.contents sink.new) [] (W.failed sink.new)) bytes.now }
 {

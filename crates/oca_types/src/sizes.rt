@@ -1,5 +1,5 @@
-//! The sizes that a program chooses: how many accepted commands a device keeps for each peer, and how many handles a
-//! controller has in hand.
+//! The sizes that a program chooses: how many accepted commands a device keeps for each peer, and how far a
+//! controller's new handle may lie above its lowest untaken one.
 ghost use Rattle.std.specs.Prelude.{◌≤◌};
 
 /// How many commands of one peer a device keeps with their replies: from 1 to 64 (*profile*). The default is 32.

@@ -1,16 +1,20 @@
 -- How a command fares, and is printed.
-use Rattle.std.proofs.Common.{◌≡◌, ℕ, Bool, ◌||◌, List, [], ◌++◌, Option, Some, None, Result, Ok, Err, refl, sym, ap, ◌∙◌, subst}
+use Rattle.std.proofs.Common.{◌≡◌, ℕ, zero, suc, ◌+◌, ◌<◌, ◌≤◌, Bool, true, false, ◌||◌, List, [], ◌++◌, Option, Some, None, Result, Ok, Err, refl, sym, ap, ◌∙◌, subst, arith}
 use Rattle.oca_types.specs.declared.words.Handle.{Handle}
 use Rattle.oca_script.specs.declared.fault.WriteFailed.{WriteFailed}
 use Rattle.oca_script.specs.Ends.{Output}
 use Rattle.oca_script.specs.Printing.{Prints, PrintsAll, PrintsPart}
 use Rattle.oca_control.specs.declared.fault.ControlFault.{ControlFault}
-use Rattle.std.specs.Prelude.{◌==◌, is_some, if◌then◌else◌}
+use Rattle.oca_control.specs.declared.fault.ControlFault.TheVariants as faults
+use Rattle.std.specs.Prelude.{◌==◌, is_some, if◌then◌else◌, nat_lt, ◌&&◌, not}
+use Rattle.oca_net.specs.Ends.{last_u64}
+use Rattle.oca_control.specs.declared.report.DriveReport.{DriveReport}
+use Rattle.oca_control.specs.Driving.{receives_of}
 use Rattle.oca_control.specs.Answers.{AnswerFields}
 use Rattle.oca_control.specs.Untaken.{answer_under, without_handle}
 use Rattle.oca_control.specs.Links.{LinkState, Request, submission, submitted, after_submission, taken}
 use Rattle.ocactl.specs.declared.exchange.Outcome.{Outcome}
-use Rattle.ocactl.specs.Exchanges.{HasDriven, Waits, Sends, refused_by, outcome_text, outcome_status}
+use Rattle.ocactl.specs.Exchanges.{HasDriven, Waits, AsksEnd, most_turns, Sends, refused_by, outcome_text, outcome_status}
 use Rattle.ocactl.specs.PrivateExchanges.{ExchangesAndPrints}
 use Rattle.ocactl.proofs.PrintLemmas.{then-flushed, not-printed}
 
@@ -25,21 +29,21 @@ sends-refused old mid request answer fault o is e link by =
     let same : mid ≡ old = link ∙ ap (λ (z : Result Handle ControlFault). after_submission z request 0 old) (sym e ∙ is) in
     subst (λ (z : Result Handle ControlFault). Sends request z old o mid) (sym is ∙ e) (by, same)
 
-pub exchanged : (old new : LinkState) (lost lost' : Bool) (request : Request) (o : Outcome) (r : Result Unit WriteFailed) (a b c : Output)
-    → lost' ≡ (lost || outcome_status o == 3) → Sends request (submission request old) old o new → PrintsAll a b (outcome_text o) → Prints r b c []
-    → ExchangesAndPrints old lost request new lost' r a c
-exchanged old new lost lost' request o r a b c l h p q = record {
+pub exchanged : (old new : LinkState) (lost lost' : Bool) (asked asked' : ℕ) (request : Request) (o : Outcome) (r : Result Unit WriteFailed) (a b c : Output)
+    → lost' ≡ (lost || outcome_status o == 3) → Sends request (submission request old) old o new → (asked' < last_u64 → AsksEnd most_turns o asked asked') → PrintsAll a b (outcome_text o) → Prints r b c []
+    → ExchangesAndPrints old lost asked request new lost' asked' r a c
+exchanged old new lost lost' asked asked' request o r a b c l h t p q = record {
   text = outcome_text o;
-  serves = (o, h, refl, l);
+  serves = (o, h, t, refl, l);
   prints = then-flushed r a b c (outcome_text o) p q;
 }
 
-pub exchanged-part : (old new : LinkState) (lost lost' : Bool) (request : Request) (o : Outcome) (r : Result Unit WriteFailed) (e f : WriteFailed) (a b : Output)
-    → r ≡ Err e → lost' ≡ (lost || outcome_status o == 3) → Sends request (submission request old) old o new → Prints (Err f) a b (outcome_text o)
-    → ExchangesAndPrints old lost request new lost' r a b
-exchanged-part old new lost lost' request o r e f a b is l h p = record {
+pub exchanged-part : (old new : LinkState) (lost lost' : Bool) (asked asked' : ℕ) (request : Request) (o : Outcome) (r : Result Unit WriteFailed) (e f : WriteFailed) (a b : Output)
+    → r ≡ Err e → lost' ≡ (lost || outcome_status o == 3) → Sends request (submission request old) old o new → (asked' < last_u64 → AsksEnd most_turns o asked asked') → Prints (Err f) a b (outcome_text o)
+    → ExchangesAndPrints old lost asked request new lost' asked' r a b
+exchanged-part old new lost lost' asked asked' request o r e f a b is l h t p = record {
   text = outcome_text o;
-  serves = (o, h, refl, l);
+  serves = (o, h, t, refl, l);
   prints = not-printed r e f a b (outcome_text o) is p;
 }
 
@@ -57,3 +61,45 @@ still-driven old l m h answer driven none e link = subst (HasDriven old) (sym (n
 pub still-none : (l m : LinkState) (h : ℕ) (answer : Option AnswerFields) → answer ≡ None → answer ≡ answer_under h l.untaken → m ≡ taken h l → answer_under h m.untaken ≡ None
 still-none l m h answer none e link =
     ap (λ (k : LinkState). answer_under h k.untaken) (not-taken l m h answer none e link) ∙ sym e ∙ none
+
+-- one turn of a link that is not lost asks the end once
+asked-once : (n : ℕ) → n ≤ 1 → n + (if nat_lt n 1 && not false then 1 else 0) ≡ 1
+asked-once zero le = refl
+asked-once (suc zero) le = refl
+asked-once (suc (suc n)) le = omega arith
+
+pub asked-further : (a b e i : ℕ) (r : DriveReport) → (b < last_u64 → b ≡ a + i) → (e < last_u64 → e ≡ b + receives_of r 1) → r.turns ≤ 1 → r.lost ≡ false
+    → e < last_u64 → e ≡ a + (i + 1)
+asked-further a b e i r before after few going below =
+    let once : receives_of r 1 ≡ 1 = ap (λ (l : Bool). r.turns + (if nat_lt r.turns 1 && not l then 1 else 0)) going ∙ asked-once r.turns few in
+    let grown : e ≡ b + 1 = after below ∙ ap (λ (n : ℕ). b + n) once in
+    let less : b < last_u64 = omega arith in
+    grown ∙ ap (λ (n : ℕ). n + 1) (before less) ∙ further a i
+  where
+    further : (a i : ℕ) → a + i + 1 ≡ a + (i + 1)
+    further a i = omega arith
+
+-- a turn in which the link is lost asks the end at most once
+pub asked-last : (a b e i turns : ℕ) (r : DriveReport) → (b < last_u64 → b ≡ a + i) → (e < last_u64 → e ≡ b + receives_of r 1) → r.turns ≤ 1 → r.lost ≡ true
+    → i < turns → e < last_u64 → e ≤ a + turns
+asked-last a b e i turns r before after few lost some below =
+    let once : receives_of r 1 ≡ r.turns + 0 = ap (λ (l : Bool). r.turns + (if nat_lt r.turns 1 && not l then 1 else 0)) lost ∙ never r.turns few in
+    let grown : e ≡ b + (r.turns + 0) = after below ∙ ap (λ (n : ℕ). b + n) once in
+    let less : b < last_u64 = omega arith in
+    let held : b ≡ a + i = before less in
+    omega arith
+  where
+    never : (n : ℕ) → n ≤ 1 → n + (if nat_lt n 1 && not true then 1 else 0) ≡ n + 0
+    never zero le = refl
+    never (suc zero) le = refl
+    never (suc (suc n)) le = omega arith
+
+-- a command that the link refuses asks the end nothing
+pub asks-nothing : (fault : ControlFault) (o : Outcome) (turns n : ℕ) → o ≡ refused_by fault → AsksEnd turns o n n
+asks-nothing fault o turns n e = subst (λ (z : Outcome). AsksEnd turns z n n) (sym e) (by_fault fault)
+  where
+    by_fault : (f : ControlFault) → AsksEnd turns (refused_by f) n n
+    by_fault faults.Lost = omega arith
+    by_fault faults.HandlesSpent = refl
+    by_fault faults.SpanFull = refl
+    by_fault faults.TooLong = refl

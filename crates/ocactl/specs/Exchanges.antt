@@ -1,6 +1,7 @@
 -- How a command fares that is sent over a network (*profile*).
-use Rattle.std.specs.Prelude.{◌≡◌, ℕ, ◌==◌, Bool, ◌||◌, true, if◌then◌else◌, List, codes, Option, Some, None, Result, Ok, Err}
+use Rattle.std.specs.Prelude.{◌≡◌, ℕ, ◌+◌, ◌≤◌, ◌<◌, ◌==◌, Bool, ◌||◌, true, if◌then◌else◌, List, codes, Option, Some, None, Result, Ok, Err}
 use Rattle.oca_types.specs.declared.words.Handle.{Handle}
+use Rattle.oca_net.specs.Ends.{last_u64}
 use Rattle.oca_control.specs.declared.fault.ControlFault.{ControlFault}
 use Rattle.oca_control.specs.declared.fault.ControlFault.TheVariants as faults
 use Rattle.oca_control.specs.declared.report.DriveReport.{DriveReport}
@@ -40,6 +41,13 @@ Waits h old (outcomes.Refused fault) new = ⊥
 Waits h old outcomes.Lost new = (l : LinkState) × (report : DriveReport) × HasDriven old l × DrivesAny l new report × (report.lost ≡ true)
 Waits h old outcomes.Unanswered new = HasDriven old new × (answer_under h new.untaken ≡ None)
 
+-- How often the end was asked meanwhile, where so many turns were allowed: at most so often, and just so often where no answer came.
+abbrev pub AsksEnd : ℕ → Outcome → ℕ → ℕ → Type 0
+AsksEnd turns (outcomes.Answered a) before after = after ≤ before + turns
+AsksEnd turns (outcomes.Refused fault) before after = after ≡ before
+AsksEnd turns outcomes.Lost before after = after ≤ before + turns
+AsksEnd turns outcomes.Unanswered before after = after ≡ before + turns
+
 -- how a command fares that the link refuses
 abbrev pub refused_by : ControlFault → Outcome
 refused_by faults.Lost = outcomes.Lost
@@ -52,7 +60,13 @@ abbrev pub Sends : Request → Result Handle ControlFault → LinkState → Outc
 Sends request (Ok handle) old outcome new = Waits handle.0 (submitted request 0 old) outcome new
 Sends request (Err fault) old outcome new = (outcome ≡ refused_by fault) × (new ≡ old)
 
--- The command was sent, and how it fared is printed; `lost` says whether a command got no answer so far.
-abbrev pub Exchanges : LinkState → Bool → Request → LinkState → Bool → List ℕ → Type 0
-Exchanges old lost request new lost' text =
-    (outcome : Outcome) × Sends request (submission request old) old outcome new × (text ≡ outcome_text outcome) × (lost' ≡ (lost || outcome_status outcome == 3))
+-- A command of a line waits for so many turns.
+abbrev pub most_turns : ℕ
+most_turns = 4294967295
+
+-- The command was sent, and how it fared is printed; `lost` says whether a command got no answer so far, and `asked` how often the
+-- end was asked.
+abbrev pub Exchanges : LinkState → Bool → ℕ → Request → LinkState → Bool → ℕ → List ℕ → Type 0
+Exchanges old lost asked request new lost' asked' text =
+    (outcome : Outcome) × Sends request (submission request old) old outcome new × (asked' < last_u64 → AsksEnd most_turns outcome asked asked')
+    × (text ≡ outcome_text outcome) × (lost' ≡ (lost || outcome_status outcome == 3))

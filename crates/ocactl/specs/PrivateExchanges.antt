@@ -7,7 +7,7 @@ use Rattle.oca_control.specs.Links.{LinkState, Request}
 use Rattle.ocactl.specs.Exchanges.{Exchanges}
 
 -- as far as the writes went
-pub record ExchangesAndPrints (old : LinkState) (lost : Bool) (request : Request) (new : LinkState) (lost' : Bool) (result : Result Unit WriteFailed) (was is : Output) : Type 0 where
+pub record ExchangesAndPrints (old : LinkState) (lost : Bool) (asked : ℕ) (request : Request) (new : LinkState) (lost' : Bool) (asked' : ℕ) (result : Result Unit WriteFailed) (was is : Output) : Type 0 where
   pub text : List ℕ
-  pub serves : Exchanges old lost request new lost' text
+  pub serves : Exchanges old lost asked request new lost' asked' text
   pub prints : Prints result was is text

@@ -49,7 +49,7 @@ impl<E: End> Language for Commands<E> {
 
     ghost asked = { asked_command };
 
-    ghost serves = { λ old request new text. Exchanges old.link old.lost request new.link new.lost text };
+    ghost serves = { λ old request new text. Exchanges old.link old.lost (E.receives old.end) request new.link new.lost (E.receives new.end) text };
 
     /// Reads the command of the line, sends it, and prints how it fared.
     fn serve_line<W: Sink>(
@@ -74,7 +74,7 @@ fn exchange<E: End, W: Sink>(
     command: Submission<'_>,
     printer: &mut Printer<W>,
 ) -> Result<(), WriteFailed>
-    ensures { ExchangesAndPrints session.old.link session.old.lost (request_in command.entry) session.new.link session.new.lost result printer.old printer.new }
+    ensures { ExchangesAndPrints session.old.link session.old.lost (E.receives session.old.end) (request_in command.entry) session.new.link session.new.lost (E.receives session.new.end) result printer.old printer.new }
 {
     let outcome = send(&mut session.link, &mut session.end, command, TURNS);
     session.lost = gets_none(session.lost, &outcome);
@@ -89,8 +89,8 @@ fn gets_none(lost: bool, outcome: &Outcome) -> bool
     lost || outcome.status() == 3
 }
 
-/// Sends the commands that the source has to give over the session, each once the one before was answered, and writes how each
-/// fared.
+/// Sends the commands that the source has to give over the session, each once it is known how the one before fared, and writes
+/// how each fared. Faults are those of a replay: the first bad line, too much input, a failed read or write.
 pub fn send_all<E: End, R: Source, W: Sink>(
     session: &mut Session<E>,
     reader: &mut R,
@@ -98,10 +98,10 @@ pub fn send_all<E: End, R: Source, W: Sink>(
 ) -> Result<(), ReplayFault>
     // Where the bytes that the source had are known, the commands of their lines were sent, and how each fared was printed.
     ensures known { IfSome (R.remaining reader.old) (λ given.
-        Replays asked_command (λ old request new text. Exchanges old.link old.lost request new.link new.lost text) session.old session.new printer.old printer.new result given) }
+        Replays asked_command (λ old request new text. Exchanges old.link old.lost (E.receives old.end) request new.link new.lost (E.receives new.end) text) session.old session.new printer.old printer.new result given) }
     // Whatever source: there are bytes, those that it gave where it tells them, and the rest of what it had, and the same holds of
     // these.
-    ensures reads { ReplayOutcome asked_command (λ old request new text. Exchanges old.link old.lost request new.link new.lost text) session.old session.new printer.old printer.new
+    ensures reads { ReplayOutcome asked_command (λ old request new text. Exchanges old.link old.lost (E.receives old.end) request new.link new.lost (E.receives new.end) text) session.old session.new printer.old printer.new
         (input (R.remaining reader.old) (R.failed reader.old)) (input (R.remaining reader.new) (R.failed reader.new)) result }
 {
     let mut room = [0; MOST_BYTES];

@@ -52,7 +52,7 @@ pub fn report<F: Sink>(fault: RunFault, faults: &mut Printer<F>) -> u8
     fault.status()
 }
 
-/// Prints a fault as one line, and hands it on.
+/// Prints a fault as one line, and writes it.
 fn write_fault<F: Sink>(fault: RunFault, faults: &mut Printer<F>) -> Result<(), WriteFailed>
     ensures { Prints result faults.old faults.new (fault_text fault) }
 {

@@ -142,9 +142,9 @@ fn take<W: Sink>(
 /// Moments N are in milliseconds. A line `N submit ONO LEVEL INDEX COUNT HEX` submits a command, and prints its handle or
 /// why it is refused; `N due` prints what is to be given out; `N from P HEX` is a datagram of the peer P, and prints what
 /// became of it; `take H` takes the answer under the handle H, and prints it. Faults: `Line` with the number of the first bad
-/// line, counted from 1; `TooMuch` beyond 16,777,216 bytes; `Read` and `Write` where a read or a write failed in this call,
-/// and nowhere else. What the lines before printed is written in each case, as far as the writes went. (The script's form is
-/// the profile's.)
+/// line, counted from 1; `TooMuch` beyond 16,777,216 bytes; `Read` and `Write` where a read or a write of ends that had not
+/// failed before failed in this call, and nowhere else. What the lines before printed is written in each case, as far as the
+/// writes went. (The script's form is the profile's.)
 pub fn replay<R: Source, W: Sink>(
     link: &mut Link,
     reader: &mut R,

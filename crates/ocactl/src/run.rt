@@ -18,7 +18,7 @@ const LOCALHOST: u32 = 0x7f00_0001;
 ///
 /// `replay` runs a link over the script that the source has to give. `send` sends a command and prints its answer: 0 for an
 /// answer with the status 0, 4 for another, 3 where the link is lost or no answer came. `run` sends the commands that the
-/// source has to give, one after another, and prints the answer of each: 3 where one got none. Else 0 where all was done, 2
+/// source has to give, one after another, and prints the answer of each, or why there is none: 3 where one got none. Else 0 where all was done, 2
 /// where the words or a line are bad, and 1 where something could not be done. A fault is printed on `faults` as one line.
 pub fn run<N: Net + Clock, S: AsStr, R: Source, W: Sink, F: Sink>(
     alloc: Global,

@@ -127,9 +127,12 @@ Example: printf '0 submit 4097 4 1 0 -\\n0 due\\n' | ocactl replay --device 127.
 
 const RUN_EXAMPLE: &str = "Lines: ONO LEVEL INDEX COUNT HEX; HEX is - for no parameters.
 
+Status: 0 where each command was answered, 3 where one was not.
+
 Example: echo '4097 4 1 0 -' | ocactl run --device 127.0.0.1:65000 --first-handle 1";
 
-const SEND_EXAMPLE: &str = "Status: 0 for an answer with status 0, 4 for another, 3 where none came.
+const SEND_EXAMPLE: &str =
+    "Status of send: 0 for an answer with status 0, 4 for another, 3 where none came.
 
 Example: ocactl send --device 127.0.0.1:65000 --first-handle 1 --target 4097 --level 4 --index 1 --count 0";
 

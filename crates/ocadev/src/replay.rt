@@ -99,9 +99,9 @@ fn datagram<W: Sink>(
 ///
 /// A line `N P HEX` is a datagram of the peer P at the moment N in milliseconds, and a line `N quiet` a clock reading. The
 /// outbox is emptied before each datagram, and what it held at first does not matter. Faults: `Line` with the number of
-/// the first bad line, counted from 1; `TooMuch` beyond 16,777,216 bytes; `Read` and `Write` where a read or a write failed
-/// in this call, and nowhere else. What the lines before printed is written in each case, as far as the writes went. Takes no
-/// memory. (The script's form is the profile's.)
+/// the first bad line, counted from 1; `TooMuch` beyond 16,777,216 bytes; `Read` and `Write` where a read or a write of ends
+/// that had not failed before failed in this call, and nowhere else. What the lines before printed is written in each case, as
+/// far as the writes went. Takes no memory. (The script's form is the profile's.)
 pub fn replay<R: Source, W: Sink>(
     device: &mut Device,
     outbox: &mut Outbox,

@@ -10,6 +10,7 @@ use std::net::{Ipv4Addr, Net, UdpSocket};
 use std::process::Abort;
 use std::rt::Clock;
 use std::test::Fail;
+use std::time::{Duration, Instant};
 
 /// An end on this machine.
 fn end_here<R: Net + Clock + AllocGlobal>(rt: &R) -> Result<UdpEnd<'_, R>, Fail> {
@@ -108,6 +109,7 @@ fn sends_1472_bytes_whole(rt: HostRuntime) -> Result<(), Fail> {
 
 #[test]
 fn a_quiet_wait_takes_50_milliseconds(rt: HostRuntime) -> Result<(), Fail> {
+    let before = Instant::now(&rt)?;
     let mut end = end_here(&rt)?;
     let mut packet = Packet::new();
     packet.try_extend_from_slice(&[1]).map_err(|_| "full")?;
@@ -125,6 +127,10 @@ fn a_quiet_wait_takes_50_milliseconds(rt: HostRuntime) -> Result<(), Fail> {
     let (from, now) = datagram(&mut end, &mut packet)?;
     assert_eq!(rt; from, local);
     assert!(rt; now >= last);
+    assert!(rt;
+        Duration::from_millis(now) <= before.elapsed(&rt)?,
+        "moments are milliseconds since `bind`"
+    );
     Ok(())
 }
 

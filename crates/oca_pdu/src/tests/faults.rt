@@ -67,10 +67,18 @@ fn faults_are_printed(rt: HostRuntime) -> Result<(), Fail> {
         fault.to_string(rt.alloc())?.as_str(),
         "the datagram ends within a field or a PDU, at offset 1"
     );
-    assert_eq!(rt;
-        PduFaultKind::Empty.to_string(rt.alloc())?.as_str(),
-        "no bytes"
-    );
+    for (kind, words) in [
+        (PduFaultKind::Empty, "no bytes"),
+        (PduFaultKind::TooLong, "more than 1,472 bytes"),
+        (PduFaultKind::Sync, "no sync byte 3B"),
+        (PduFaultKind::Version, "ProtocolVersion is not 1"),
+        (PduFaultKind::PduSize, "PduSize is below 11"),
+        (PduFaultKind::PduType, "PduType is not 0, 1, 3 or 4"),
+        (PduFaultKind::Count, "MessageCount is wrong"),
+        (PduFaultKind::MessageSize, "a message has a wrong size"),
+    ] {
+        assert_eq!(rt; kind.to_string(rt.alloc())?.as_str(), words);
+    }
     assert_eq!(rt;
         WriteFault::TooLong.to_string(rt.alloc())?.as_str(),
         "the packet would pass 1,472 bytes"

@@ -113,3 +113,27 @@ fn a_switch_needs_its_positions(rt: HostRuntime) -> Result<(), Fail> {
     assert_eq!(rt; tree.setting_of(Ono(4096)), Some(Setting::Position(1)));
     Ok(())
 }
+
+/// The words of each fault.
+#[test]
+fn faults_are_printed(rt: HostRuntime) -> Result<(), Fail> {
+    for (fault, words) in [
+        (AddFault::Full, "128 objects are there"),
+        (AddFault::Reserved, "the number is below 4096"),
+        (AddFault::Taken, "the number is taken"),
+        (
+            AddFault::NoSuchBlock,
+            "the container is no block of the tree",
+        ),
+        (AddFault::TooDeep, "the object would stand at depth 9"),
+        (
+            AddFault::BadText,
+            "a text is empty or has more than 64 bytes",
+        ),
+        (AddFault::BadRange, "the setting is outside its range"),
+        (AddFault::NoMemory, "no memory"),
+    ] {
+        assert_eq!(rt; fault.to_string(rt.alloc())?.as_str(), words);
+    }
+    Ok(())
+}

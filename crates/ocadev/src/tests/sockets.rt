@@ -1,8 +1,10 @@
 //! The device at a socket.
+use super::super::report::print_report;
 use super::super::run::run;
 use super::{bench_device, runs_as};
 use oca_device::{Outbox, Report, serve};
 use oca_net::{End, Heard, UdpEnd};
+use oca_script::Printer;
 use oca_script::fakes::{PieceReader, ShortWriter};
 use oca_types::{Packet, Peer};
 use std::process::Abort;
@@ -47,6 +49,29 @@ fn serves_nobody(rt: HostRuntime) {
         b"",
         b"socket failed\n",
     );
+}
+
+/// Each count stands behind its name.
+#[test]
+fn a_report_of_different_counts(rt: HostRuntime) {
+    let report = Report {
+        turns: 18_446_744_073_709_551_615,
+        executed: 2,
+        kept: 3,
+        old: 4,
+        reused: 5,
+        malformed: 6,
+        no_room: 7,
+        oversize: 8,
+        quiet: 9,
+        failed_receives: 10,
+        failed_sends: 11,
+    };
+    let mut to = Printer::new(ShortWriter::new(1000, usize::MAX));
+    assert_eq!(rt; print_report(&report, &mut to), Ok(()));
+    let text =
+        b"turns 18446744073709551615 executed 2 kept 3 old 4 reused 5 malformed 6 no-room 7 oversize 8 quiet 9 failed-receives 10 failed-sends 11\n";
+    assert!(rt; to.sink().taken.as_slice() == text.as_slice());
 }
 
 /// GetState of 4097 under handle 1.
