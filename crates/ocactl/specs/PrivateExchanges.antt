@@ -4,10 +4,10 @@ use Rattle.oca_script.specs.declared.fault.WriteFailed.{WriteFailed}
 use Rattle.oca_script.specs.Ends.{Output}
 use Rattle.oca_script.specs.Printing.{Prints}
 use Rattle.oca_control.specs.Links.{LinkState, Request}
-use Rattle.ocactl.specs.Exchanges.{Exchanges}
+use Rattle.ocactl.specs.Exchanges.{Exchanges, Told}
 
 -- as far as the writes went
-pub record ExchangesAndPrints (old : LinkState) (lost : Bool) (asked : ℕ) (request : Request) (new : LinkState) (lost' : Bool) (asked' : ℕ) (result : Result Unit WriteFailed) (was is : Output) : Type 0 where
+pub record ExchangesAndPrints (old : LinkState) (lost : Bool) (told : Told) (asked : ℕ) (request : Request) (new : LinkState) (lost' : Bool) (told' : Told) (asked' : ℕ) (result : Result Unit WriteFailed) (was is : Output) : Type 0 where
   pub text : List ℕ
-  pub serves : Exchanges old lost asked request new lost' asked' text
+  pub serves : Exchanges old lost told asked request new lost' told' asked' text
   pub prints : Prints result was is text

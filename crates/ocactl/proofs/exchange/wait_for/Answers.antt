@@ -11,9 +11,9 @@ loop-turn-init g c = record { driven = NotYet; receives = λ _. omega arith }
 pub loop-turn-preserved : goal.loop-turn-preserved
 loop-turn-preserved g c = record {
   driven = OnceMore c.drive.result
-      (still-driven c.args.link.now c.loop-turn.link c.take.new.self c.args.handle.0 (option_map answer_fields c.take.result) c.loop-turn.invariant.driven
+      (still-driven c.args.link.now c.loop-turn.link c.take.new.self _ _ c.args.handle.0 (option_map answer_fields c.take.result) c.loop-turn.invariant.driven
       (ap (option_map answer_fields) c.in_default.is) c.take.ensures.answer c.take.ensures.link)
-      c.drive.ensures.any_end;
+      (record { any = c.drive.ensures.any_end; telling = c.drive.ensures.telling; tells = c.drive.ensures.tells });
   receives = asked-further (g.E.End.receives c.args.end.now) (g.E.End.receives c.loop-turn.end) (g.E.End.receives c.drive.new.end) c.loop-turn._turn c.drive.result
       c.loop-turn.invariant.receives c.drive.ensures.receives c.drive.ensures.turns c.if-drive.false;
 }
@@ -25,10 +25,11 @@ returns-in-Some-clause-waits g c =
 pub returns-then-drive-clause-waits : goal.returns-then-drive-clause-waits
 returns-then-drive-clause-waits g c = (
   c.take.new.self,
+  _,
   c.drive.result,
-  still-driven c.args.link.now c.loop-turn.link c.take.new.self c.args.handle.0 (option_map answer_fields c.take.result) c.loop-turn.invariant.driven
+  still-driven c.args.link.now c.loop-turn.link c.take.new.self _ _ c.args.handle.0 (option_map answer_fields c.take.result) c.loop-turn.invariant.driven
       (ap (option_map answer_fields) c.in_default.is) c.take.ensures.answer c.take.ensures.link,
-  c.drive.ensures.any_end,
+  (record { any = c.drive.ensures.any_end; telling = c.drive.ensures.telling; tells = c.drive.ensures.tells }),
   c.if-drive.true,
 )
 
@@ -39,7 +40,7 @@ returns-in-Some-take-clause-waits g c =
 pub returns-in-None-clause-waits : goal.returns-in-None-clause-waits
 returns-in-None-clause-waits g c =
     let none = ap (option_map answer_fields) c.in-None.is in (
-      still-driven c.args.link.now c.loop-turn.link c.take-2.new.self c.args.handle.0 (option_map answer_fields c.take-2.result) c.loop-turn.invariant.driven
+      still-driven c.args.link.now c.loop-turn.link c.take-2.new.self _ _ c.args.handle.0 (option_map answer_fields c.take-2.result) c.loop-turn.invariant.driven
           none c.take-2.ensures.answer c.take-2.ensures.link,
       still-none c.loop-turn.link c.take-2.new.self c.args.handle.0 (option_map answer_fields c.take-2.result) none c.take-2.ensures.answer c.take-2.ensures.link,
     )
