@@ -104,6 +104,10 @@ class Runs:
             self.expect(self.run(words, script, PIECE=size)[:3] == (out, err, status), f"{words} in pieces of {size}")
 
 
+# the calls that take memory and can answer that there is none
+CALLS = ["tree-builder-new", "tree-builder-add", "bench", "sessions-new", "device-new", "outbox-new", "memory-end-new", "udp-end-bind", "run-pair"]
+
+
 def main():
     folder = os.path.abspath(sys.argv[1])
     here = os.path.dirname(os.path.abspath(__file__))
@@ -125,6 +129,7 @@ def main():
                     runs.failing_ends(words, script, 1)
         start, without = runs.memory(["trials", "call", "nothing"], b"")
         calls = runs.run(["trials", "calls"], b"")[0].decode().split()
+        runs.expect(calls == CALLS, f"trials calls: {calls}")
         for name in calls:
             requests, others = runs.memory(["trials", "call", name], b"")
             print(f"  {name}: {requests - start} requests for memory")

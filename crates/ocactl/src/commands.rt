@@ -16,7 +16,7 @@ use oca_net::End;
 use oca_script::{Language, Printer, ReplayFault, Sink, Source, Stop, WriteFailed};
 use std::marker::PhantomData;
 
-/// How many turns a command of a line waits for its answer: the link is lost long before.
+/// How many turns a command of a line waits for its answer: where not every receive fails, the link is lost long before.
 const TURNS: u32 = u32::MAX;
 
 /// A link, the end that it is driven over, and whether a command got no answer so far.
