@@ -52,10 +52,12 @@ pub fn number_before(text: &[u8], end: u8, most: usize, largest: u64) -> Option<
             }
             return Some((value, &text[i + 1..]));
         }
-        if value > MOST_TENTH {
-            return None;
-        }
-        value = value * 10 + (digit - b'0') as u64;
+        let add = (digit - b'0') as u64;
+        value = if value <= MOST_TENTH {
+            value * 10 + add
+        } else {
+            value.checked_mul(10)?.checked_add(add)?
+        };
     }
     None
 }
