@@ -18,6 +18,7 @@ use std::{env, io};
 /// 127.0.0.1
 const LOOPBACK: u32 = 0x7f00_0001;
 
+/// Serves the channels at the port and for the turns that the words say, and ends with 1 where that fails.
 fn main(rt: HostRuntime) -> ExitCode {
     let (port, turns) = words(&rt);
     match serve(&rt, port, turns) {
@@ -93,6 +94,7 @@ fn turn<E: End>(device: &mut Device, end: &mut E, outbox: &mut Outbox, packet: &
     }
 }
 
+/// Prints the mutes and the gains, in tenths of a decibel.
 fn show<R: Runtime>(rt: &R, channels: &Channels) -> io::Result<()> {
     let (first, second) = (channels.first, channels.second);
     println!(rt;

@@ -41,6 +41,7 @@ impl Default for Window {
 
     ghost is_default = { λ w. window_size w ≡ 32 };
 
+    /// A window of 32 commands.
     fn default() -> Self {
         Window { size: 32 }
     }
@@ -86,6 +87,7 @@ impl Default for Span {
 
     ghost is_default = { λ s. span_size s ≡ 16 };
 
+    /// A span of 16 commands.
     fn default() -> Self {
         Span { size: 16 }
     }

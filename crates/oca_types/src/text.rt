@@ -54,6 +54,7 @@ impl Default for Text {
 
     ghost is_default = { λ t. t ≡ [] };
 
+    /// The empty text.
     fn default() -> Self {
         Text {
             text: ArrayString::new(),

@@ -30,6 +30,7 @@ const SET_SETTING: MethodId = MethodId { level: 5, index: 2 };
 
 const GET_SETTING: MethodId = MethodId { level: 5, index: 1 };
 
+/// Sets a channel of the device at the port that the words say. Prints why where that fails; the status is 0 in either case.
 fn main(rt: HostRuntime) -> ExitCode {
     match set_channel(&rt, port(&rt)) {
         Ok(()) => ExitCode::SUCCESS,

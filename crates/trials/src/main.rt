@@ -23,6 +23,7 @@ use std::rt::Runtime;
 use std::{env, io};
 use world::{WorldFault, worlds};
 
+/// Runs the trial that the words name, with its status.
 fn main(rt: HostRuntime) -> ExitCode {
     let Ok(args) = env::args(&rt) else {
         return said(&rt, "no memory", 1);

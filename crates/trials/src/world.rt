@@ -90,6 +90,7 @@ fn run(alloc: Global, schedule: &Schedule) -> Result<Transcript, PairFault> {
 struct Full;
 
 impl From<std::alloc::AllocError> for Full {
+    /// A refused request, whatever it was for.
     fn from(_error: std::alloc::AllocError) -> Full {
         Full
     }
