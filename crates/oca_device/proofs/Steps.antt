@@ -183,15 +183,27 @@ message_now w s p (Command respond c) k now = by_judgement (judged_in w s p c)
 message_now w s p (KeepAlive form) k now = ap last_moment (run_goes_on (record { peer = p; at = s.moment; what = Heartbeat (time_of form) }) s.notes k)
 message_now w s p (Response r) k now = now
 
+-- the same numbers, sums taken
+sums : (a b c d a' b' c' d' : ℕ) → a ≡ a' → b ≡ b' → c ≡ c' → d ≡ d' → counts a b c d ≡ counts a' b' c' d'
+sums a b c d a' b' c' d' e f g h = cc
+
 plus_assoc : (a b c : Counts) → plus a (plus b c) ≡ plus (plus a b) c
-plus_assoc a b c =
-    ap (λ (n : ℕ). counts n (a.kept + (b.kept + c.kept)) (a.old + (b.old + c.old)) (a.reused + (b.reused + c.reused))) (turned a.executed b.executed c.executed)
-    ∙ ap (λ (n : ℕ). counts (a.executed + b.executed + c.executed) n (a.old + (b.old + c.old)) (a.reused + (b.reused + c.reused))) (turned a.kept b.kept c.kept)
-    ∙ ap (λ (n : ℕ). counts (a.executed + b.executed + c.executed) (a.kept + b.kept + c.kept) n (a.reused + (b.reused + c.reused))) (turned a.old b.old c.old)
-    ∙ ap (λ (n : ℕ). counts (a.executed + b.executed + c.executed) (a.kept + b.kept + c.kept) (a.old + b.old + c.old) n) (turned a.reused b.reused c.reused)
-  where
-    turned : (x y z : ℕ) → x + (y + z) ≡ x + y + z
-    turned x y z = omega arith
+plus_assoc a b c = sums _ _ _ _ _ _ _ _ (omega arith) (omega arith) (omega arith) (omega arith)
+
+pub none_more : (n : Counts) → n ≡ plus n (counts 0 0 0 0)
+none_more n = sums _ _ _ _ _ _ _ _ (omega arith) (omega arith) (omega arith) (omega arith)
+
+pub one_executed : (n : Counts) → counts (n.executed + 1) n.kept n.old n.reused ≡ plus n (counts 1 0 0 0)
+one_executed n = sums _ _ _ _ _ _ _ _ (omega arith) (omega arith) (omega arith) (omega arith)
+
+pub one_kept : (n : Counts) → counts n.executed (n.kept + 1) n.old n.reused ≡ plus n (counts 0 1 0 0)
+one_kept n = sums _ _ _ _ _ _ _ _ (omega arith) (omega arith) (omega arith) (omega arith)
+
+pub one_old : (n : Counts) → counts n.executed n.kept (n.old + 1) n.reused ≡ plus n (counts 0 0 1 0)
+one_old n = sums _ _ _ _ _ _ _ _ (omega arith) (omega arith) (omega arith) (omega arith)
+
+pub one_reused : (n : Counts) → counts n.executed n.kept n.old (n.reused + 1) ≡ plus n (counts 0 0 0 1)
+one_reused n = sums _ _ _ _ _ _ _ _ (omega arith) (omega arith) (omega arith) (omega arith)
 
 -- Part of the messages was served: the device is in a state from which the rest leads to where all lead from the first.
 pub record IsHalfway (w : ℕ) (p : Peer) (d : DeviceState) (rest ms : List Msg) (s : State) (before out : List (List ℕ)) (n : Counts) : Type 0 where
@@ -203,11 +215,11 @@ pub record IsHalfway (w : ℕ) (p : Peer) (d : DeviceState) (rest ms : List Msg)
       (so_far : List Pdu) × (out ≡ encodings so_far) × (with_answers so_far (answers_to_messages w p rest mid) ≡ with_answers groups (answers_to_messages w p ms s))
   pub counts_are : plus n (counts_of_messages w p rest mid) ≡ counts_of_messages w p ms s
 
-pub one_further : (w : ℕ) (p : Peer) (d d' : DeviceState) (m : Msg) (rest rest' ms : List Msg) (s : State) (before out out' : List (List ℕ)) (n k : Counts) →
+pub one_further : (w : ℕ) (p : Peer) (d d' : DeviceState) (m : Msg) (rest rest' ms : List Msg) (s : State) (before out out' : List (List ℕ)) (n n' : Counts) →
     (h : IsHalfway w p d rest ms s before out n) → rest ≡ m ∷ rest' → IsSome (session_of p d.sessions.sessions) →
-    Serves w d' p m h.mid out out' k →
-    IsHalfway w p d' rest' ms s before out' (plus n k)
-one_further w p d d' m rest rest' ms s before out out' n k h step has t =
+    Serves w d' p m h.mid out out' n n' →
+    IsHalfway w p d' rest' ms s before out' n'
+one_further w p d d' m rest rest' ms s before out out' n n' h step has t =
     let known = known_there w h.mid p d.sessions h.device.sessions has in
     let next = after_message w p m h.mid in
     record {
@@ -225,7 +237,7 @@ one_further w p d d' m rest rest' ms s before out out' n k h step has t =
                 ∙ x.2,
           );
       counts_are =
-          ap (λ x. plus (plus n x) (counts_of_messages w p rest' next)) t.counts
+          ap (λ x. plus x (counts_of_messages w p rest' next)) t.counts
           ∙ sym (plus_assoc n (count_of w p m h.mid) (counts_of_messages w p rest' next))
           ∙ sym (ap (λ xs. plus n (counts_of_messages w p xs h.mid)) step)
           ∙ h.counts_are;

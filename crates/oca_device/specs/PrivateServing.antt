@@ -8,7 +8,7 @@ use Rattle.oca_device.specs.declared.counts.Counts.{Counts}
 use Rattle.oca_device.specs.declared.verdict.Verdict.{Verdict}
 use Rattle.oca_device.specs.Groups.{pdu_of, last_with, with_answer, with_answers, encodings}
 use Rattle.oca_device.specs.States.{State, after_message, after_messages, after_reading}
-use Rattle.oca_device.specs.Answers.{answer_to, answers_to_messages, answers_to_reading, packets_of, count_of, counts_of_messages, verdict_of_reading}
+use Rattle.oca_device.specs.Answers.{answer_to, answers_to_messages, answers_to_reading, packets_of, plus, count_of, counts_of_messages, verdict_of_reading}
 use Rattle.oca_device.specs.Devices.{DeviceState, IsIn}
 
 -- the packets are those of some groups
@@ -44,11 +44,15 @@ IsShort (Command respond c) = length c.params ≤ 1445
 IsShort (Response r) = ⊤
 IsShort (KeepAlive form) = ⊤
 
--- one message
-pub record Serves (w : ℕ) (new : DeviceState) (p : Peer) (m : Msg) (s : State) (before after : List (List ℕ)) (n : Counts) : Type 0 where
+-- how many commands were counted
+abbrev pub commands_in : Counts → ℕ
+commands_in n = n.executed + n.kept + n.old + n.reused
+
+-- one message, where so many commands were counted before
+pub record Serves (w : ℕ) (new : DeviceState) (p : Peer) (m : Msg) (s : State) (before after : List (List ℕ)) (so_far n : Counts) : Type 0 where
   pub device : IsIn w new (after_message w p m s)
   pub packets : (groups : List Pdu) → before ≡ encodings groups → after ≡ encodings (with_answers groups (answer_to w p m s))
-  pub counts : n ≡ count_of w p m s
+  pub counts : n ≡ plus so_far (count_of w p m s)
 
 -- several messages
 pub record ServesAll (w : ℕ) (new : DeviceState) (p : Peer) (ms : List Msg) (s : State) (before after : List (List ℕ)) (n : Counts) : Type 0 where

@@ -17,32 +17,3 @@ pub const NONE: Counts = Counts {
     old: 0,
     reused: 0,
 };
-
-/// One command of each kind.
-pub const EXECUTED: Counts = Counts {
-    executed: 1,
-    kept: 0,
-    old: 0,
-    reused: 0,
-};
-
-pub const KEPT: Counts = Counts {
-    executed: 0,
-    kept: 1,
-    old: 0,
-    reused: 0,
-};
-
-pub const OLD: Counts = Counts {
-    executed: 0,
-    kept: 0,
-    old: 1,
-    reused: 0,
-};
-
-pub const REUSED: Counts = Counts {
-    executed: 0,
-    kept: 0,
-    old: 0,
-    reused: 1,
-};

@@ -13,7 +13,7 @@ ghost use Rattle.oca_device.specs.States.{State, state_after, known_after, noted
 ghost use Rattle.oca_tree.specs.Execution.{execution};
 ghost use Rattle.oca_device.specs.Answers.{packets, verdict};
 
-use crate::counts::{Counts, EXECUTED, KEPT, NONE, OLD, REUSED};
+use crate::counts::{Counts, NONE};
 use crate::outbox::Outbox;
 use crate::verdict::Verdict;
 use oca_pdu::{Form, Message, Messages, check};
@@ -45,7 +45,7 @@ impl Model for Device {
 
 impl Device {
     ghost use Rattle.oca_device.specs.Devices.{Represents, IsIn};
-    ghost use Rattle.oca_device.specs.PrivateServing.{Serves, ServesAll, Receives, AreGrouped, IsShort, may_answer, most_answers};
+    ghost use Rattle.oca_device.specs.PrivateServing.{Serves, ServesAll, Receives, AreGrouped, IsShort, may_answer, most_answers, commands_in};
 
     /// A device of these objects, with reply windows of this size, before any event. Takes all the memory that its sessions
     /// will need. Refusal: `NoMemory`.
@@ -172,77 +172,75 @@ impl Device {
     {
         let mut counts = NONE;
         for message in messages {
-            let more = self.serve(from, message, outbox);
-            counts.executed += more.executed;
-            counts.kept += more.kept;
-            counts.old += more.old;
-            counts.reused += more.reused;
+            self.serve(from, message, outbox, &mut counts);
         }
         counts
     }
 
-    /// Serves a message of a peer that was let in.
-    fn serve(&mut self, from: Peer, message: Message<'_>, outbox: &mut Outbox) -> Counts
+    /// Serves a message of a peer that was let in, and counts it.
+    fn serve(&mut self, from: Peer, message: Message<'_>, outbox: &mut Outbox, counts: &mut Counts)
         requires known { IsSome (session_of from self.old.sessions.sessions) }
         requires room { length outbox.old + may_answer (msg_of message) ≤ 122 }
         requires groups { AreGrouped outbox.old }
         requires short { IsShort (msg_of message) }
+        requires few { commands_in counts.now + may_answer (msg_of message) ≤ 122 }
         ensures serves { (w : ℕ) (s : State) → IsIn w self.old s → last_moment (run from s.notes) ≡ s.moment →
-            Serves w self.new from (msg_of message.entry) s outbox.old outbox.new result }
+            Serves w self.new from (msg_of message.entry) s outbox.old outbox.new counts.entry.now counts.exit.now }
         ensures known { IsSome (session_of from self.new.sessions.sessions) }
         ensures packets { length outbox.new ≤ length outbox.old + may_answer (msg_of message.entry) }
         ensures groups { AreGrouped outbox.new }
-        ensures commands { result.executed + result.kept + result.old + result.reused ≤ may_answer (msg_of message.entry) }
+        ensures few { commands_in counts.exit.now ≤ commands_in counts.entry.now + may_answer (msg_of message.entry) }
     {
         match message {
-            Message::Command { respond, command } => self.serve_command(
-                from, respond, &command, outbox,
-            ),
+            Message::Command { respond, command } => {
+                self.serve_command(from, respond, &command, outbox, counts);
+            }
             Message::KeepAlive { form } => {
                 self.sessions.beat(from, time_of(form));
                 outbox.return_keepalive(form);
-                NONE
             }
-            Message::Response { .. } => NONE,
+            Message::Response { .. } => {}
         }
     }
 
-    /// Serves a command of a peer that was let in.
+    /// Serves a command of a peer that was let in, and counts it.
     fn serve_command(
         &mut self,
         from: Peer,
         respond: bool,
         command: &Command,
         outbox: &mut Outbox,
-    ) -> Counts
+        counts: &mut Counts,
+    )
         requires known { IsSome (session_of from self.old.sessions.sessions) }
         requires room { length outbox.old < 122 }
         requires groups { AreGrouped outbox.old }
         requires short { length command.now.params.now ≤ 1445 }
+        requires few { commands_in counts.now < 122 }
         ensures serves { (w : ℕ) (s : State) → IsIn w self.old s → last_moment (run from s.notes) ≡ s.moment →
-            Serves w self.new from (Commands respond (fields_of command.now)) s outbox.old outbox.new result }
+            Serves w self.new from (Commands respond (fields_of command.now)) s outbox.old outbox.new counts.entry.now counts.exit.now }
         ensures known { IsSome (session_of from self.new.sessions.sessions) }
         ensures packets { length outbox.new ≤ length outbox.old + 1 }
         ensures groups { AreGrouped outbox.new }
-        ensures commands { result.executed + result.kept + result.old + result.reused ≡ 1 }
+        ensures few { commands_in counts.exit.now ≡ commands_in counts.entry.now + 1 }
     {
         match self.sessions.judge(from, command) {
             Judged::Fresh => {
+                counts.executed += 1;
                 execute(&mut self.tree, from, command, &mut self.reply);
+                self.sessions.keep(from, command, &self.reply);
                 if respond {
                     outbox.respond(command.handle, &self.reply);
                 }
-                self.sessions.keep(from, command, &self.reply);
-                EXECUTED
             }
             Judged::Kept(reply) => {
+                counts.kept += 1;
                 if respond {
                     outbox.respond(command.handle, reply);
                 }
-                KEPT
             }
-            Judged::Reused => REUSED,
-            Judged::Old => OLD,
+            Judged::Reused => counts.reused += 1,
+            Judged::Old => counts.old += 1,
         }
     }
 }

@@ -91,6 +91,7 @@ impl Outbox {
     }
 
     /// Adds a response: to the last packet where that holds responses and has room for it, and else in a packet of its own.
+    #[inline(always)]
     pub(crate) fn respond(&mut self, handle: Handle, reply: &Reply)
         requires room { length self.old < 122 }
         requires groups { AreGrouped self.old }

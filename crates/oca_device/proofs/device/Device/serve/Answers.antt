@@ -5,7 +5,7 @@ use Rattle.oca_device.specs.Devices.{DeviceState}
 use Rattle.oca_device.specs.States.{time_of}
 use Rattle.oca_device.proofs.Opened.{parts_in}
 use Rattle.oca_device.proofs.Peers.{still_has_session}
-use Rattle.oca_device.proofs.Steps.{heartbeat_there, known_there}
+use Rattle.oca_device.proofs.Steps.{heartbeat_there, known_there, none_more}
 use Rattle.oca_device.proofs.device.Device.serve.Goals as goal
 
 pub returns-in-KeepAlive-clause-serves : goal.returns-in-KeepAlive-clause-serves
@@ -22,7 +22,7 @@ returns-in-KeepAlive-clause-serves c = λ w s h now.
             (c.beat.ensures.heartbeat ∙ ap (λ (m : ℕ). with_sessions old (changed p (with_heartbeat m) old.sessions)) c.time_of.ensures);
       };
       packets = c.return_keepalive.ensures.groups;
-      counts = refl;
+      counts = none_more c.args.counts.now;
     })
 
 pub returns-in-KeepAlive-clause-known : goal.returns-in-KeepAlive-clause-known

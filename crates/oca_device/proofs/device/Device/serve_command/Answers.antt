@@ -1,27 +1,23 @@
-use Rattle.std.proofs.Common.{◌≡◌, ℕ, List, [], ◌∷◌, ◌++◌, Bool, true, false, cond, ap, ◌∙◌, refl, sym, subst}
+use Rattle.std.proofs.Common.{◌≡◌, ℕ, ◌+◌, List, [], ◌∷◌, ◌++◌, Bool, true, false, cond, ap, ◌∙◌, refl, sym, subst, arith}
 use Rattle.std.specs.Prelude.{IsSome}
+use Rattle.oca_types.specs.declared.words.Peer.{Peer}
 use Rattle.oca_types.specs.declared.words.Reply.{Reply}
-use Rattle.oca_types.specs.Peers.{fields_of}
-use Rattle.oca_pdu.specs.Messages.{Msg, Pdu}
+use Rattle.oca_types.specs.Peers.{CommandFields, fields_of}
+use Rattle.oca_pdu.specs.Messages.{Msg, Command, Pdu}
+use Rattle.oca_device.specs.declared.counts.Counts.{Counts}
 use Rattle.oca_device.specs.Groups.{with_answer, with_answers, encodings}
+use Rattle.oca_tree.specs.declared.object.Object.{Object}
 use Rattle.oca_tree.specs.Execution.{execution}
 use Rattle.oca_session.specs.Accepted.{Entry, Judgement, Fresh, Duplicate, Reused, Old}
-use Rattle.oca_session.specs.Table.{session_of, with_sessions, changed, with_accepted}
-use Rattle.oca_device.specs.Notes.{Executed, accepted, run}
-use Rattle.oca_device.specs.States.{judged_in, after_command, reply_of}
-use Rattle.oca_device.specs.Answers.{response, answer_to_command, count_of_command}
+use Rattle.oca_session.specs.Table.{session_of, with_sessions, changed, with_accepted, AgreesAt, Table}
+use Rattle.oca_device.specs.Notes.{Executed, accepted, run, is_known, last_moment}
+use Rattle.oca_device.specs.States.{State, judged_in, after_command, reply_of}
+use Rattle.oca_device.specs.Answers.{response, answer_to_command, counts, plus, count_of_command}
 use Rattle.oca_device.specs.Devices.{DeviceState, IsIn}
+use Rattle.oca_device.specs.PrivateServing.{Serves}
 use Rattle.oca_device.proofs.Opened.{device_with, parts_in}
-use Rattle.oca_device.proofs.Peers.{still_has_session}
-use Rattle.oca_device.proofs.Steps.{executed_there, agrees_there, known_there}
+use Rattle.oca_device.proofs.Steps.{executed_there, agrees_there, known_there, one_executed, one_kept, one_old, one_reused}
 use Rattle.oca_device.proofs.device.Device.serve_command.Goals as goal
-use Rattle.oca_device.proofs.device.Device.serve_command.Goals.{then-respond, else-respond, then-respond-2, else-respond-2}
-
-pub returns-after-respond-clause-known : goal.returns-after-respond-clause-known
-returns-after-respond-clause-known c =
-    let p = c.args.from in
-    let has = subst (λ (d : DeviceState). IsSome (session_of p d.sessions.sessions)) (sym c.self.view_is) c.requires.known in
-    still_has_session p c.self.inside.sessions.sessions c.keep.new.self.sessions c.keep.ensures.peers has
 
 -- the packets of groups became those of the groups with these answers
 abbrev Answered : List (List ℕ) → List (List ℕ) → List Msg → Type 0
@@ -33,8 +29,42 @@ answered : (b : Bool) (before after : List (List ℕ)) (ms : List Msg) → (b �
 answered true before after ms h k = h refl
 answered false before after ms h k = λ groups is. k refl ∙ is
 
-pub returns-after-respond-clause-serves : goal.returns-after-respond-clause-serves
-returns-after-respond-clause-serves c = λ w s h now.
+-- a command is served as it is judged
+by_judgement : (w : ℕ) (s : State) (p : Peer) (command : CommandFields) (respond : Bool) (new : DeviceState) (before after : List (List ℕ)) (n m : Counts)
+    (j : Judgement) → j ≡ judged_in w s p command → IsIn w new (after_command j p command s) →
+    (respond ≡ true → Answered before after (answer_to_command j p command s)) → (respond ≡ false → after ≡ before) →
+    m ≡ plus n (count_of_command j) → Serves w new p (Command respond command) s before after n m
+by_judgement w s p command respond new before after n m j is device with_response without counted = record {
+  device = subst (λ (x : Judgement). IsIn w new (after_command x p command s)) is device;
+  packets = subst (λ (x : Judgement). Answered before after (cond respond (answer_to_command x p command s) [])) is
+      (answered respond before after (answer_to_command j p command s) with_response without);
+  counts = counted ∙ ap (λ (x : Judgement). plus n (count_of_command x)) is;
+}
+
+-- the session of the peer retains what is that of its accepted commands
+agreed_in : (w : ℕ) (s : State) (p : Peer) (tree : List Object) (old : Table) (self : DeviceState) → device_with tree old ≡ self → IsIn w self s →
+    IsSome (session_of p self.sessions.sessions) → AgreesAt p w (accepted (run p s.notes)) old.sessions
+agreed_in w s p tree old self e h known =
+    let was = parts_in tree old self w s e h in
+    agrees_there w s p old was.sessions (known_there w s p old was.sessions (subst (λ (d : DeviceState). IsSome (session_of p d.sessions.sessions)) (sym e) known))
+
+-- a fresh command was executed, and retained with its reply
+fresh_served : (w : ℕ) (s : State) (p : Peer) (command : CommandFields) (tree : List Object) (old : Table) (new_tree : List Object) (new : Table) (reply : Reply) →
+    IsIn w (device_with tree old) s → is_known s.moment s.notes p ≡ true → last_moment (run p s.notes) ≡ s.moment →
+    new_tree ≡ (execution tree p command).tree → reply ≡ reply_of s.tree p command →
+    new ≡ with_sessions old (changed p (with_accepted w (accepted (run p s.notes) ++ (record { command = command; reply = reply }) ∷ [])) old.sessions) →
+    IsIn w (device_with new_tree new) (after_command Fresh p command s)
+fresh_served w s p command tree old new_tree new reply was known now executed replied kept =
+    let made : Entry = record { command = command; reply = reply_of s.tree p command } in
+    let A = accepted (run p s.notes) in
+    record {
+      tree = executed ∙ ap (λ t. (execution t p command).tree) was.tree;
+      sessions = executed_there w s p (Executed s.tree command (reply_of s.tree p command)) made old new was.sessions known now (λ own t. (refl, refl))
+          (kept ∙ ap (λ (r : Reply). with_sessions old (changed p (with_accepted w (A ++ (record { command = command; reply = r }) ∷ [])) old.sessions)) replied);
+    }
+
+pub returns-then-respond-clause-serves : goal.returns-then-respond-clause-serves
+returns-then-respond-clause-serves c = λ w s h now.
     let old = c.self.inside.sessions in
     let tree = c.self.inside.tree in
     let p = c.args.from in
@@ -44,79 +74,73 @@ returns-after-respond-clause-serves c = λ w s h now.
     let known = known_there w s p old was.sessions has in
     let A = accepted (run p s.notes) in
     let agreed = agrees_there w s p old was.sessions known in
-    let fresh : Fresh ≡ judged_in w s p command = c.in-Fresh.ensures.accepted w A agreed in
     let reply : c.execute.new.reply ≡ reply_of s.tree p command = c.execute.ensures.reply ∙ ap (λ t. reply_of t p command) was.tree in
-    let made : Entry = record { command = command; reply = reply_of s.tree p command } in
-    record {
-      device = subst (λ (j : Judgement). IsIn w (device_with c.execute.new.tree c.keep.new.self) (after_command j p command s)) fresh (record {
-        tree = c.execute.ensures.tree ∙ ap (λ t. (execution t p command).tree) was.tree;
-        sessions = executed_there w s p (Executed s.tree command (reply_of s.tree p command)) made old c.keep.new.self was.sessions known now (λ own t. (refl, refl))
-            (c.keep.ensures.accepted w A agreed
-            ∙ ap (λ (r : Reply). with_sessions old (changed p (with_accepted w (A ++ (record { command = command; reply = r }) ∷ [])) old.sessions)) reply);
-      });
-      packets = subst (λ (j : Judgement). Answered c.args.outbox.now c.if-respond.outbox (cond c.args.respond (answer_to_command j p command s) [])) fresh
-          (elim c.if-respond.branch [
-            | then-respond b ↦ answered c.args.respond c.args.outbox.now c.if-respond.outbox (response command.handle (reply_of s.tree p command) ∷ [])
-                (λ _ groups is. b.outbox-is ∙ b.respond.ensures.groups groups is ∙ ap (λ (r : Reply). encodings (with_answer groups (response command.handle r))) reply)
-                (λ q. cc)
-            | else-respond b ↦ answered c.args.respond c.args.outbox.now c.if-respond.outbox (response command.handle (reply_of s.tree p command) ∷ [])
-                (λ q. cc)
-                (λ _. b.outbox-is)
-          ]);
-      counts = ap count_of_command fresh;
-    }
+    by_judgement w s p command c.args.respond (device_with c.execute.new.tree c.keep.new.self) c.args.outbox.now c.respond.new.self c.args.counts.now _ Fresh
+        (c.in-Fresh.ensures.accepted w A agreed)
+        (fresh_served w s p command tree old c.execute.new.tree c.keep.new.self c.execute.new.reply was known now c.execute.ensures.tree reply (c.keep.ensures.accepted w A agreed))
+        (λ _ groups is. c.respond.ensures.groups groups is ∙ ap (λ (r : Reply). encodings (with_answer groups (response command.handle r))) reply)
+        (λ q. cc)
+        (one_executed c.args.counts.now)
 
-pub returns-after-respond-2-clause-serves : goal.returns-after-respond-2-clause-serves
-returns-after-respond-2-clause-serves c = λ w s h now.
+pub returns-else-respond-clause-serves : goal.returns-else-respond-clause-serves
+returns-else-respond-clause-serves c = λ w s h now.
     let old = c.self.inside.sessions in
+    let tree = c.self.inside.tree in
     let p = c.args.from in
     let command = fields_of c.args.command.now in
-    let was = parts_in c.self.inside.tree old c.args.self.now w s c.self.view_is h in
+    let was = parts_in tree old c.args.self.now w s c.self.view_is h in
     let has = subst (λ (d : DeviceState). IsSome (session_of p d.sessions.sessions)) (sym c.self.view_is) c.requires.known in
-    let agreed = agrees_there w s p old was.sessions (known_there w s p old was.sessions has) in
-    let duplicate : Duplicate c.in-Kept.reply.now ≡ judged_in w s p command = c.in-Kept.ensures.accepted w (accepted (run p s.notes)) agreed in
-    record {
-      device = subst (λ (j : Judgement). IsIn w c.args.self.now (after_command j p command s)) duplicate h;
-      packets = subst (λ (j : Judgement). Answered c.args.outbox.now c.if-respond-2.outbox (cond c.args.respond (answer_to_command j p command s) [])) duplicate
-          (elim c.if-respond-2.branch [
-            | then-respond-2 b ↦ answered c.args.respond c.args.outbox.now c.if-respond-2.outbox (response command.handle c.in-Kept.reply.now ∷ [])
-                (λ _ groups is. b.outbox-is ∙ b.respond-then-respond-2.ensures.groups groups is)
-                (λ q. cc)
-            | else-respond-2 b ↦ answered c.args.respond c.args.outbox.now c.if-respond-2.outbox (response command.handle c.in-Kept.reply.now ∷ [])
-                (λ q. cc)
-                (λ _. b.outbox-is)
-          ]);
-      counts = ap count_of_command duplicate;
-    }
+    let known = known_there w s p old was.sessions has in
+    let A = accepted (run p s.notes) in
+    let agreed = agrees_there w s p old was.sessions known in
+    let reply : c.execute.new.reply ≡ reply_of s.tree p command = c.execute.ensures.reply ∙ ap (λ t. reply_of t p command) was.tree in
+    by_judgement w s p command c.args.respond (device_with c.execute.new.tree c.keep.new.self) c.args.outbox.now c.args.outbox.now c.args.counts.now _ Fresh
+        (c.in-Fresh.ensures.accepted w A agreed)
+        (fresh_served w s p command tree old c.execute.new.tree c.keep.new.self c.execute.new.reply was known now c.execute.ensures.tree reply (c.keep.ensures.accepted w A agreed))
+        (λ q. cc)
+        (λ _. refl)
+        (one_executed c.args.counts.now)
 
-pub returns-in-Old-clause-serves : goal.returns-in-Old-clause-serves
-returns-in-Old-clause-serves c = λ w s h now.
-    let old = c.self.inside.sessions in
+pub returns-then-respond-2-clause-serves : goal.returns-then-respond-2-clause-serves
+returns-then-respond-2-clause-serves c = λ w s h now.
     let p = c.args.from in
     let command = fields_of c.args.command.now in
-    let was = parts_in c.self.inside.tree old c.args.self.now w s c.self.view_is h in
-    let has = subst (λ (d : DeviceState). IsSome (session_of p d.sessions.sessions)) (sym c.self.view_is) c.requires.known in
-    let agreed = agrees_there w s p old was.sessions (known_there w s p old was.sessions has) in
-    let too_old : Old ≡ judged_in w s p command = c.in-Old.ensures.accepted w (accepted (run p s.notes)) agreed in
-    record {
-      device = subst (λ (j : Judgement). IsIn w c.args.self.now (after_command j p command s)) too_old h;
-      packets = subst (λ (j : Judgement). Answered c.args.outbox.now c.args.outbox.now (cond c.args.respond (answer_to_command j p command s) [])) too_old
-          (answered c.args.respond c.args.outbox.now c.args.outbox.now [] (λ _ groups is. is) (λ _. refl));
-      counts = ap count_of_command too_old;
-    }
+    by_judgement w s p command c.args.respond c.args.self.now c.args.outbox.now c.respond-then-respond-2.new.self c.args.counts.now _ (Duplicate c.in-Kept.reply.now)
+        (c.in-Kept.ensures.accepted w (accepted (run p s.notes)) (agreed_in w s p c.self.inside.tree c.self.inside.sessions c.args.self.now c.self.view_is h c.requires.known))
+        h
+        (λ _ groups is. c.respond-then-respond-2.ensures.groups groups is)
+        (λ q. cc)
+        (one_kept c.args.counts.now)
+
+pub returns-else-respond-2-clause-serves : goal.returns-else-respond-2-clause-serves
+returns-else-respond-2-clause-serves c = λ w s h now.
+    let p = c.args.from in
+    let command = fields_of c.args.command.now in
+    by_judgement w s p command c.args.respond c.args.self.now c.args.outbox.now c.args.outbox.now c.args.counts.now _ (Duplicate c.in-Kept.reply.now)
+        (c.in-Kept.ensures.accepted w (accepted (run p s.notes)) (agreed_in w s p c.self.inside.tree c.self.inside.sessions c.args.self.now c.self.view_is h c.requires.known))
+        h
+        (λ q. cc)
+        (λ _. refl)
+        (one_kept c.args.counts.now)
 
 pub returns-in-Reused-clause-serves : goal.returns-in-Reused-clause-serves
 returns-in-Reused-clause-serves c = λ w s h now.
-    let old = c.self.inside.sessions in
     let p = c.args.from in
     let command = fields_of c.args.command.now in
-    let was = parts_in c.self.inside.tree old c.args.self.now w s c.self.view_is h in
-    let has = subst (λ (d : DeviceState). IsSome (session_of p d.sessions.sessions)) (sym c.self.view_is) c.requires.known in
-    let agreed = agrees_there w s p old was.sessions (known_there w s p old was.sessions has) in
-    let reuse : Reused ≡ judged_in w s p command = c.in-Reused.ensures.accepted w (accepted (run p s.notes)) agreed in
-    record {
-      device = subst (λ (j : Judgement). IsIn w c.args.self.now (after_command j p command s)) reuse h;
-      packets = subst (λ (j : Judgement). Answered c.args.outbox.now c.args.outbox.now (cond c.args.respond (answer_to_command j p command s) [])) reuse
-          (answered c.args.respond c.args.outbox.now c.args.outbox.now [] (λ _ groups is. is) (λ _. refl));
-      counts = ap count_of_command reuse;
-    }
+    by_judgement w s p command c.args.respond c.args.self.now c.args.outbox.now c.args.outbox.now c.args.counts.now _ Reused
+        (c.in-Reused.ensures.accepted w (accepted (run p s.notes)) (agreed_in w s p c.self.inside.tree c.self.inside.sessions c.args.self.now c.self.view_is h c.requires.known))
+        h
+        (λ _ groups is. is)
+        (λ _. refl)
+        (one_reused c.args.counts.now)
+
+pub returns-in-Old-clause-serves : goal.returns-in-Old-clause-serves
+returns-in-Old-clause-serves c = λ w s h now.
+    let p = c.args.from in
+    let command = fields_of c.args.command.now in
+    by_judgement w s p command c.args.respond c.args.self.now c.args.outbox.now c.args.outbox.now c.args.counts.now _ Old
+        (c.in-Old.ensures.accepted w (accepted (run p s.notes)) (agreed_in w s p c.self.inside.tree c.self.inside.sessions c.args.self.now c.self.view_is h c.requires.known))
+        h
+        (λ _ groups is. is)
+        (λ _. refl)
+        (one_old c.args.counts.now)
