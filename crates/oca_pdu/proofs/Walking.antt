@@ -379,6 +379,40 @@ step_behind bytes size pdu rest body count content all o p is e1 e2 e =
     let these : read_or_none (inside_at 0 pdu) ≡ read_or_none (content_at (Some content) count 0 body) = i.all ∙ ap read_or_none (sym (body_is pdu body count content e1 e2)) in
     all_of bytes size pdu rest o p ∙ ap (λ (l : List Msg). l ++ read_or_none (pdus_at (length rest) 0 rest)) these ∙ e
 
+-- a PDU of messages at the front, of which none is taken yet
+pub record Begins (bytes : List ℕ) (kind : Kind) (count : ℕ) (body rest : List ℕ) : Type 0 where
+  pub some : 0 < count
+  pub ok : is_ok (messages_at kind count 0 0 body) ≡ true
+  pub all : read_or_none (pdus_at (length bytes) 0 bytes) ≡ read_or_none (messages_at kind count 0 0 body) ++ read_or_none (pdus_at (length rest) 0 rest)
+
+pub begins : (bytes : List ℕ) (size : ℕ) (pdu rest body : List ℕ) (count : ℕ) (content : Content) (kind : Kind) → PdusOpen bytes → Parts bytes size pdu rest → content_of (slice_index pdu 7) ≡ Some content → content ≡ contents.Messages kind
+    → body ≡ drop 10 pdu → count ≡ number_at w16 8 pdu → Begins bytes kind count body rest
+begins bytes size pdu rest body count content kind o p is kind_is e1 e2 =
+    let is_messages = is ∙ ap (λ (c : Content). Some c) kind_is in
+    let i = content_is kind count body (content_ok bytes size pdu rest body count (contents.Messages kind) o p is_messages e1 e2) in
+    let others : List Msg = read_or_none (pdus_at (length rest) 0 rest) in
+    record {
+      some = i.some;
+      ok = i.ok;
+      all = step_behind bytes size pdu rest body count (contents.Messages kind) _ o p is_messages e1 e2 (ap (λ (l : List Msg). l ++ others) i.all);
+    }
+
+-- a keep-alive at the front
+pub record Passes (bytes body rest : List ℕ) : Type 0 where
+  pub ok : is_ok (keep_alive_at 0 body) ≡ true
+  pub all : (ms : List Msg) → keep_alive_at 0 body ≡ Ok ms → read_or_none (pdus_at (length bytes) 0 bytes) ≡ ms ++ read_or_none (pdus_at (length rest) 0 rest)
+
+pub passes : (bytes : List ℕ) (size : ℕ) (pdu rest body : List ℕ) (content : Content) → PdusOpen bytes → Parts bytes size pdu rest → content_of (slice_index pdu 7) ≡ Some content → content ≡ contents.KeepAlive → body ≡ drop 10 pdu → Passes bytes body rest
+passes bytes size pdu rest body content o p is kind_is e1 =
+    let is_keep_alive = is ∙ ap (λ (c : Content). Some c) kind_is in
+    let count : ℕ = number_at w16 8 pdu in
+    let i = keep_alive_is count body (content_ok bytes size pdu rest body count contents.KeepAlive o p is_keep_alive e1 refl) in
+    let others : List Msg = read_or_none (pdus_at (length rest) 0 rest) in
+    record {
+      ok = i.ok;
+      all = λ ms e. step_behind bytes size pdu rest body count contents.KeepAlive _ o p is_keep_alive e1 refl (ap (λ (r : Result (List Msg) PduFault). read_or_none r ++ others) (i.all ∙ e));
+    }
+
 none_begun : (kind : Kind) (bytes : List ℕ) → read_or_none (messages_at kind 0 0 0 bytes) ≡ []
 unfolding messages_at
 none_begun kind bytes = elim (eqb (length bytes) 0) as (λ b. read_or_none (cond b (Ok []) (fault Count (0 + 8))) ≡ []) [ true ↦ refl | false ↦ refl ]

@@ -10,7 +10,6 @@ use Rattle.oca_types.specs.Sizes.{largest_datagram}
 use Rattle.oca_pdu.specs.declared.fault.PduFault.{PduFault}
 use Rattle.oca_pdu.specs.declared.fault.PduFaultKind.TheVariants.{Empty, TooLong, Sync, Version, PduSize, PduType, Count, MessageSize, Truncated}
 use Rattle.oca_pdu.specs.Faults.{IsFaultAt}
-use Rattle.oca_pdu.specs.Messages.{Pdu}
 use Rattle.oca_pdu.specs.Encoding.{sync_value, command_head, response_head, command_encoding, response_encoding, pdu_frame, command_type, pdu_encoding, CommandFits, ResponseFits, PduFits}
 
 -- The bytes are the encodings of `before`, each of which holds, and then the rest.

@@ -24,7 +24,9 @@ pub use laws::{
 };
 pub use message::{Form, Message};
 pub use messages::Messages;
-pub use writing::{extend_response, write_command, write_keepalive, write_response};
+pub use writing::{
+    extend_response, replace_response, write_command, write_keepalive, write_response,
+};
 
 #[cfg(test)]
 mod tests;

@@ -3,7 +3,7 @@ ghost use Rattle.std.specs.Prelude.{IsTrue, is_ok, length};
 ghost use Rattle.oca_pdu.specs.Reading.{messages_at, pdus_at};
 
 use crate::fields;
-use crate::message::{Content, Kind, Message};
+use crate::message::{Content, Form, Kind, Message};
 
 /// The messages of a datagram that are still to come: those of the PDU that was begun, and the PDUs after it. No check is
 /// made again.
@@ -18,9 +18,9 @@ pub struct Messages<'a> {
 }
 
 impl<'a> Messages<'a> {
-    ghost use Rattle.std.specs.Prelude.{◌≡◌, ◌<◌, ◌∷◌, ◌++◌, [], IsTrue, is_ok, length, Some};
+    ghost use Rattle.std.specs.Prelude.{◌≡◌, ◌<◌, ◌∷◌, IfNone, IfSome, IsTrue, is_ok, length};
     ghost use Rattle.oca_pdu.specs.Messages.{msg_of};
-    ghost use Rattle.oca_pdu.specs.Reading.{messages_at, pdus_at, content_at, read_datagram};
+    ghost use Rattle.oca_pdu.specs.Reading.{pdus_at, read_datagram};
     ghost use Rattle.oca_pdu.specs.Datagrams.{messages_left, read_or_none};
     ghost use Rattle.oca_pdu.specs.Limits.{IsWithinLimits};
 
@@ -48,65 +48,41 @@ impl<'a> Messages<'a> {
         }
     }
 
-    /// The first message of the PDU that was begun, and what is left after it.
-    fn next_in_pdu(
-        kind: Kind,
-        left: u16,
-        inside: &'a [u8],
-        rest: &'a [u8],
-    ) -> (Message<'a>, Messages<'a>)
-        requires some { 0 < left }
-        requires messages { IsTrue (is_ok (messages_at kind left 0 0 inside.now)) }
-        requires pdus { IsTrue (is_ok (pdus_at (length rest.now) 0 rest.now)) }
-        ensures { read_or_none (messages_at kind left 0 0 inside.now) ++ read_or_none (pdus_at (length rest.now) 0 rest.now) ≡ msg_of result.0 ∷ messages_left result.1 }
+    /// Begins the next PDU. Of messages none is taken yet; a keep-alive is passed, and its time is the answer.
+    fn begin(&mut self) -> Option<Form>
+        requires ended { self.old.left ≡ 0 }
+        requires some { 0 < length self.old.rest.now }
+        ensures begun { IfNone result (0 < self.new.left) }
+        ensures messages { IfNone result (messages_left self.old ≡ messages_left self.new) }
+        ensures keep_alive { IfSome result (λ form. messages_left self.old ≡ msg_of (Message.KeepAlive form) ∷ messages_left self.new) }
     {
-        let size = fields::u32_in(&inside[..4]) as usize;
-        let (first, others) = inside.split_at(size);
-        (
-            fields::read_message(kind, first),
-            Messages {
-                kind,
-                left: left - 1,
-                inside: others,
-                rest,
-            },
-        )
-    }
-
-    /// The first message of a PDU's content, and what is left after it.
-    fn first_of_content(
-        content: Content,
-        count: u16,
-        body: &'a [u8],
-        rest: &'a [u8],
-    ) -> (Message<'a>, Messages<'a>)
-        requires content { IsTrue (is_ok (content_at (Some content) count 0 body.now)) }
-        requires pdus { IsTrue (is_ok (pdus_at (length rest.now) 0 rest.now)) }
-        ensures { read_or_none (content_at (Some content) count 0 body.now) ++ read_or_none (pdus_at (length rest.now) 0 rest.now) ≡ msg_of result.0 ∷ messages_left result.1 }
-    {
-        match content {
-            Content::Messages(kind) => Messages::next_in_pdu(kind, count, body, rest),
-            Content::KeepAlive => (
-                Message::KeepAlive {
-                    form: fields::read_form(body),
-                },
-                Messages::over(rest),
-            ),
-        }
-    }
-
-    /// The first message of the next PDU, and what is left after it.
-    fn first_of_pdus(bytes: &'a [u8]) -> (Message<'a>, Messages<'a>)
-        requires some { 0 < length bytes.now }
-        requires pdus { IsTrue (is_ok (pdus_at (length bytes.now) 0 bytes.now)) }
-        ensures { read_or_none (pdus_at (length bytes.now) 0 bytes.now) ≡ msg_of result.0 ∷ messages_left result.1 }
-    {
-        let size = fields::u32_in(&bytes[3..7]) as usize;
-        let (pdu, rest) = bytes.split_at(1 + size);
+        let size = fields::u32_in(&self.rest[3..7]) as usize;
+        let (pdu, rest) = self.rest.split_at(1 + size);
         let Some(content) = fields::content(pdu[7]) else {
             unreachable!()
         };
-        Messages::first_of_content(content, fields::u16_in(&pdu[8..10]), &pdu[10..], rest)
+        self.rest = rest;
+        match content {
+            Content::Messages(kind) => {
+                self.kind = kind;
+                self.left = fields::u16_in(&pdu[8..10]);
+                self.inside = &pdu[10..];
+                None
+            }
+            Content::KeepAlive => Some(fields::read_form(&pdu[10..])),
+        }
+    }
+
+    /// Takes the first message of the PDU that was begun.
+    fn take_first(&mut self) -> Message<'a>
+        requires some { 0 < self.old.left }
+        ensures { messages_left self.old ≡ msg_of result ∷ messages_left self.new }
+    {
+        let size = fields::u32_in(&self.inside[..4]) as usize;
+        let (first, others) = self.inside.split_at(size);
+        self.left -= 1;
+        self.inside = others;
+        fields::read_message(self.kind, first)
     }
 }
 
@@ -122,22 +98,16 @@ impl<'a> Iterator for Messages<'a> {
     ghost remaining = { item_count messages_left };
 
     /// The next message, or nothing after the last.
+    #[inline(always)]
     fn next(&mut self) -> Option<Message<'a>> {
-        if self.left != 0 {
-            let (message, after) = Messages::next_in_pdu(
-                self.kind,
-                self.left,
-                self.inside,
-                self.rest,
-            );
-            *self = after;
-            return Some(message);
+        if self.left == 0 {
+            if self.rest.is_empty() {
+                return None;
+            }
+            if let Some(form) = self.begin() {
+                return Some(Message::KeepAlive { form });
+            }
         }
-        if self.rest.is_empty() {
-            return None;
-        }
-        let (message, after) = Messages::first_of_pdus(self.rest);
-        *self = after;
-        Some(message)
+        Some(self.take_first())
     }
 }

@@ -117,6 +117,45 @@ pub fn write_response(packet: &mut Packet, handle: Handle, reply: &Reply) -> Res
     Ok(())
 }
 
+/// Writes a PDU of one response (AES70-3) in the place of all that the packet held. It always fits, since a reply has at most
+/// 1,452 bytes of parameters. Where the packet has as many bytes already, they are written over.
+pub fn replace_response(packet: &mut Packet, handle: Handle, reply: &Reply)
+    ensures bytes { packet.new.items ≡ pdu_encoding (Responses (response_with handle reply.now ∷ [])) }
+    ensures datagram { IsDatagram (Responses (response_with handle reply.now ∷ []) ∷ []) packet.new.items }
+{
+    let params = reply.params.as_slice();
+    let front = response_front(handle, reply);
+    if packet.len() == front.len() + params.len() {
+        write_over_parts(packet.as_mut_slice(), &front, params);
+    } else {
+        packet.clear();
+        put(packet, &front);
+        put(packet, params);
+    }
+}
+
+/// Writes the front of a PDU, and the rest of it, over as many bytes.
+fn write_over_parts(pdu: &mut [u8], front: &[u8], rest: &[u8])
+    requires { length pdu.old ≡ length front.now + length rest.now }
+    ensures { pdu.new ≡ front.now ++ rest.now }
+{
+    let (room, others) = pdu.split_at_mut(front.len());
+    room.copy_from_slice(front);
+    write_over(others, rest);
+}
+
+/// Writes bytes over as many others. A single one is written without a call.
+fn write_over(room: &mut [u8], bytes: &[u8])
+    requires { length room.old ≡ length bytes.now }
+    ensures { room.new ≡ bytes.now }
+{
+    if bytes.len() == 1 {
+        room[0] = bytes[0];
+    } else {
+        room.copy_from_slice(bytes);
+    }
+}
+
 /// A response up to its parameters.
 fn response_head(handle: Handle, reply: &Reply) -> [u8; 10]
     ensures bytes { result ++ reply.now.params.items ≡ response_encoding (response_with handle reply.now) }

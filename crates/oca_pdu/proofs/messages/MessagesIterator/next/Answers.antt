@@ -1,6 +1,6 @@
 use Rattle.std.proofs.Common.{arith, ◌≡◌, sym, ◌∙◌, length}
 use Rattle.std.proofs.lemmas.Bool.{eqb-true}
-use Rattle.oca_pdu.proofs.Walking.{only_pdus, nothing_left}
+use Rattle.oca_pdu.proofs.Walking.{nothing_left}
 use Rattle.oca_pdu.proofs.messages.MessagesIterator.next.Goals as goal
 
 pub returns-then-is_empty-clause-steps : goal.returns-then-is_empty-clause-steps
@@ -9,8 +9,3 @@ returns-then-is_empty-clause-steps c =
     let end : length c.args.self.now.rest.now ≡ 0 = eqb-true _ _ (sym c.is_empty.ensures ∙ c.if-is_empty.true) in
     let all = nothing_left c.args.self.now.kind c.args.self.now.left c.args.self.now.inside.now c.args.self.now.rest.now none end in
     (all, all)
-
-pub returns-clause-steps : goal.returns-clause-steps
-returns-clause-steps c =
-    let none : c.args.self.now.left ≡ 0 = omega arith in
-    only_pdus c.args.self.now.kind c.args.self.now.left c.args.self.now.inside.now c.args.self.now.rest.now none ∙ c.first_of_pdus.ensures
