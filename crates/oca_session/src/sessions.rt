@@ -118,14 +118,37 @@ impl Sessions {
         ensures staying { self.new ≡ with_moment_and_sessions self.old (present self.old now) (staying (present self.old now) self.old.sessions) }
         ensures forgotten { All (Contains result.items) (peers_of (forgotten (present self.old now) self.old.sessions)) }
     {
+        let mut peers = ArrayVec::new();
+        self.advance_into(now, &mut peers);
+        peers
+    }
+
+    /// As `advance`, but the peers whose silence passes three heartbeats are put into `peers`, in the place of what
+    /// it held.
+    pub fn advance_into(&mut self, now: u64, peers: &mut ArrayVec<Peer, 16>)
+        ensures lapsed { peers.new.items ≡ lapsed (present self.old now) self.old.sessions }
+        ensures staying { self.new ≡ with_moment_and_sessions self.old (present self.old now) (staying (present self.old now) self.old.sessions) }
+        ensures forgotten { All (Contains peers.new.items) (peers_of (forgotten (present self.old now) self.old.sessions)) }
+    {
         self.moment = self.moment.max(now);
-        if self.moment <= self.quiet_until {
-            return ArrayVec::new();
+        if self.moment > self.quiet_until {
+            self.lapse(peers);
+            return;
         }
-        let lapsed = lapsed_of(&self.slots[..self.count], self.moment);
+        empty(peers);
+    }
+
+    /// Puts the peers that are lapsed at the present moment into `peers`, in the place of what it held, and then
+    /// forgets. It stands apart so that the quiet case, which nearly all calls are, is inlined.
+    #[inline(never)]
+    fn lapse(&mut self, peers: &mut ArrayVec<Peer, 16>)
+        ensures lapsed { peers.new.items ≡ lapsed self.old.moment self.old.sessions }
+        ensures staying { self.new ≡ with_sessions self.old (staying self.old.moment self.old.sessions) }
+        ensures forgotten { All (Contains peers.new.items) (peers_of (forgotten self.old.moment self.old.sessions)) }
+    {
+        put_lapsed(&self.slots[..self.count], self.moment, peers);
         self.count = forget(&mut self.slots, self.count, self.moment);
         self.quiet_until = quiet_until(&self.slots[..self.count]);
-        lapsed
     }
 
     /// Notes that a peer was heard at a moment, in milliseconds. A known peer's silence ends. For another a
@@ -247,18 +270,27 @@ fn known_slot(slots: &[Slot], recent: usize, peer: Peer) -> &Slot
     &slots[index_of_known(slots, recent, peer)]
 }
 
-/// The peers of the sessions that are lapsed at a moment, in their order.
-fn lapsed_of(slots: &[Slot], moment: u64) -> ArrayVec<Peer, 16>
-    requires { length slots.now ≤ 16 }
-    ensures { result.items ≡ lapsed moment slots.now }
+/// Takes all peers out. Clearing is a call that overwrites the cells, so an empty list is left alone.
+fn empty(peers: &mut ArrayVec<Peer, 16>)
+    ensures { peers.new.items ≡ [] }
 {
-    let mut lapsed = ArrayVec::new();
+    if !peers.is_empty() {
+        peers.clear();
+    }
+}
+
+/// Puts the peers of the sessions that are lapsed at a moment into `peers`, in their order, in the place of what it
+/// held.
+fn put_lapsed(slots: &[Slot], moment: u64, peers: &mut ArrayVec<Peer, 16>)
+    requires { length slots.now ≤ 16 }
+    ensures { peers.new.items ≡ lapsed moment slots.now }
+{
+    peers.clear();
     for slot in slots {
         if slot.is_lapsed(moment) {
-            lapsed.push(slot.peer());
+            peers.push(slot.peer());
         }
     }
-    lapsed
 }
 
 /// A moment up to which none of the sessions lapses: that before the first lapse, or the latest.
