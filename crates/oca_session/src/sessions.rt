@@ -42,7 +42,8 @@ pub struct Sessions {
     /// Up to this moment no session lapses, and so none is forgotten.
     quiet_until: u64,
     count: usize,
-    /// Where the session that was heard last stood: it is looked at first.
+    /// Where a session stands, if there is one: that which was heard last, unless one was forgotten since. It is looked
+    /// at first.
     recent: usize,
     slots: Vec<Slot>,
 }
@@ -59,7 +60,7 @@ impl Model for Sessions {
 
     ghost invariant = { λ a. (0 < a.window) × (a.count ≤ 16) × (length a.slots.items ≡ 16)
         × All (IsSession a.window) a.slots.items × IsOnePerPeer (take a.count a.slots.items)
-        × IsQuietUntil a.quiet_until (take a.count a.slots.items) };
+        × IsQuietUntil a.quiet_until (take a.count a.slots.items) × (0 < a.count → a.recent < a.count) };
 }
 
 impl Sessions {
@@ -149,6 +150,7 @@ impl Sessions {
         put_lapsed(&self.slots[..self.count], self.moment, peers);
         self.count = forget(&mut self.slots, self.count, self.moment);
         self.quiet_until = quiet_until(&self.slots[..self.count]);
+        self.recent = 0;
     }
 
     /// Notes that a peer was heard at a moment, in milliseconds. A known peer's silence ends. For another a
@@ -244,20 +246,41 @@ fn index_of(slots: &[Slot], recent: usize, peer: Peer) -> Option<usize>
     if recent < slots.len() && slots[recent].is_of(peer) {
         return Some(recent);
     }
-    slots.iter().position(|slot| slot.is_of(peer))
+    search(slots, peer)
 }
 
-/// Where the session of a known peer stands.
-#[tactic(auto, using(crate::proofs::Tables::none_known))]
+/// Where the session of a known peer stands. The recent slot is looked at first.
 fn index_of_known(slots: &[Slot], recent: usize, peer: Peer) -> usize
     requires known { IsSome (session_of peer slots.now) }
     requires one { IsOnePerPeer slots.now }
+    requires recent { 0 < length slots.now → recent < length slots.now }
     ensures { position (is_of peer) slots.now ≡ Some result }
 {
-    match index_of(slots, recent, peer) {
+    if slots[recent].is_of(peer) {
+        return recent;
+    }
+    search_known(slots, peer)
+}
+
+/// Looks in all slots for the session of a known peer.
+#[inline(never)]
+#[tactic(auto, using(crate::proofs::Tables::none_known))]
+fn search_known(slots: &[Slot], peer: Peer) -> usize
+    requires { IsSome (session_of peer slots.now) }
+    ensures { position (is_of peer) slots.now ≡ Some result }
+{
+    match search(slots, peer) {
         Some(at) => at,
         None => unreachable!(),
     }
+}
+
+/// Looks in all slots for the session of a peer.
+#[inline(never)]
+fn search(slots: &[Slot], peer: Peer) -> Option<usize>
+    ensures { result ≡ position (is_of peer) slots.now }
+{
+    slots.iter().position(|slot| slot.is_of(peer))
 }
 
 /// The slot of a known peer.
@@ -265,6 +288,7 @@ fn index_of_known(slots: &[Slot], recent: usize, peer: Peer) -> usize
 fn known_slot(slots: &[Slot], recent: usize, peer: Peer) -> &Slot
     requires known { IsSome (session_of peer slots.now) }
     requires one { IsOnePerPeer slots.now }
+    requires recent { 0 < length slots.now → recent < length slots.now }
     ensures { session_of peer slots.now ≡ Some result.now }
 {
     &slots[index_of_known(slots, recent, peer)]
