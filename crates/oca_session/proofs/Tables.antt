@@ -1,6 +1,6 @@
 -- The sessions by their places, and what the calls leave of what holds of them.
 use Rattle.std.proofs.Common.{◌≡◌, ◌⊎◌, inl, inr, ℕ, ◌+◌, ◌*◌, ◌<◌, ◌≤◌, Bool, true, false, cond, List, [], ◌∷◌, ◌++◌, length, take, get_or, Option, Some, None, refl, sym, ap, ◌∙◌, arith, zero, suc, subst}
-use Rattle.std.specs.Prelude.{nat_lt, not, ◌||◌, is_some, IfSome, filter, position, All, Contains}
+use Rattle.std.specs.Prelude.{nat_lt, not, ◌||◌, is_some, IfSome, IsSome, filter, position, All, Contains}
 use Rattle.std.specs.List.{find, list_any, position_or_len}
 use Rattle.std.proofs.Math.ListN.{set}
 use Rattle.std.proofs.Math.Seq.{take-set-lt}
@@ -328,6 +328,18 @@ opened_in p w moment items count old new below all was is =
     let before : IsSession w old = subst (IsSession w) (sym was) (all count old below) in
     take_more_set items count new below
     ∙ ap (λ s. take count items ++ s ∷ []) (is ∙ ap (λ n. opened_session n p moment) before.size)
+
+-- the place of a peer's session is among those in use
+pub placed_within : (p : Peer) (items seen : List Session) (count at : ℕ) → seen ≡ items → position (is_of p) (take count seen) ≡ Some at → at < count
+placed_within p items seen count at same placed =
+    let some : Session = opened_session 0 p 0 in
+    let place = position-Some (is_of p) (take count seen) at some placed in
+    omega (arith, place.0, length-take count seen)
+
+-- a known peer's session is one of those in use
+pub some_known : (p : Peer) (ss : List Session) → IsSome (session_of p ss) → 0 < length ss
+some_known p [] known = cc
+some_known p (s ∷ ss) known = omega arith
 
 -- ---- where the recent slot is that of the peer
 

@@ -1,5 +1,5 @@
 //! What a reply window retains of one command.
-ghost use Rattle.std.specs.Prelude.{◌≡◌, ◌≤◌, length};
+ghost use Rattle.std.specs.Prelude.{◌≡◌, ◌≤◌, length, IsTrue};
 ghost use Rattle.oca_types.specs.Peers.{fields_of};
 ghost use Rattle.oca_session.specs.Accepted.{asks_the_same};
 ghost use Rattle.oca_session.specs.PrivateCells.{entry_in};
@@ -42,7 +42,8 @@ impl Cell {
         cell
     }
 
-    /// Writes a command and its reply over those that the cell held.
+    /// Writes a command and its reply over those that the cell held. Parameters of at most one byte over as many are
+    /// written without a call.
     pub fn set(&mut self, command: &Command<'_>, reply: &Reply)
         requires { length command.now.params.now ≤ 1445 }
         ensures { entry_in command.now.handle self.new ≡ record { command = fields_of command.now; reply = reply.now } }
@@ -50,10 +51,22 @@ impl Cell {
         self.target = command.target;
         self.method = command.method;
         self.count = command.count;
-        copy_bytes(&mut self.params, command.params);
-        self.reply.status = reply.status;
-        self.reply.count = reply.count;
-        copy_bytes(&mut self.reply.params, reply.params.as_slice());
+        // Both are read before one is written, so that they are one load and one store.
+        let (status, count) = (reply.status, reply.count);
+        self.reply.status = status;
+        self.reply.count = count;
+        let params = reply.params.as_slice();
+        if write_short(&mut self.params, command.params)
+            && write_short(&mut self.reply.params, params)
+        {
+            return;
+        }
+        write_both(
+            &mut self.params,
+            command.params,
+            &mut self.reply.params,
+            params,
+        );
     }
 
     /// Whether the command that it holds and this one ask the same. The bytes of the parameters are compared last,
@@ -76,6 +89,38 @@ impl Cell {
     }
 }
 
+/// Writes bytes over others where both are none, or both are one, and answers whether that is so.
+fn write_short<const N: usize>(room: &mut ArrayVec<u8, N>, bytes: &[u8]) -> bool
+    ensures { IsTrue result → room.new.items ≡ bytes.now }
+{
+    if bytes.is_empty() {
+        return room.is_empty();
+    }
+    if bytes.len() == 1 && room.len() == 1 {
+        room.as_mut_slice()[0] = bytes[0];
+        return true;
+    }
+    false
+}
+
+/// Writes the parameters of a command and those of its reply over others. It stands apart from `set`, since its calls
+/// would leave the callers of `set` few registers.
+#[inline(never)]
+fn write_both(
+    command_room: &mut ArrayVec<u8, COMMAND_BYTES>,
+    command_params: &[u8],
+    reply_room: &mut Params,
+    reply_params: &[u8],
+)
+    requires command { length command_params.now ≤ 1445 }
+    requires reply { length reply_params.now ≤ 1452 }
+    ensures command { command_room.new.items ≡ command_params.now }
+    ensures reply { reply_room.new.items ≡ reply_params.now }
+{
+    copy_bytes(command_room, command_params);
+    copy_bytes(reply_room, reply_params);
+}
+
 /// Writes bytes over others. Only the cells of others that were more are cleared, and bytes over as many are one copy.
 fn copy_bytes<const N: usize>(room: &mut ArrayVec<u8, N>, bytes: &[u8])
     requires { length bytes.now ≤ N }
@@ -84,24 +129,11 @@ fn copy_bytes<const N: usize>(room: &mut ArrayVec<u8, N>, bytes: &[u8])
     if room.len() > bytes.len() {
         room.truncate(bytes.len());
     }
-    if bytes.is_empty() {
-        return;
-    }
     let (front, rest) = bytes.split_at(room.len());
-    write_over(room.as_mut_slice(), front);
+    if !front.is_empty() {
+        room.as_mut_slice().copy_from_slice(front);
+    }
     if !rest.is_empty() {
         let _ = room.try_extend_from_slice(rest);
-    }
-}
-
-/// Writes bytes over as many others. A single one is written without a call.
-fn write_over(room: &mut [u8], bytes: &[u8])
-    requires { length room.old ≡ length bytes.now }
-    ensures { room.new ≡ bytes.now }
-{
-    if bytes.len() == 1 {
-        room[0] = bytes[0];
-    } else {
-        room.copy_from_slice(bytes);
     }
 }

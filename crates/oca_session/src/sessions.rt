@@ -42,7 +42,8 @@ pub struct Sessions {
     /// Up to this moment no session lapses, and so none is forgotten.
     quiet_until: u64,
     count: usize,
-    /// Where the session that was heard last stood: it is looked at first.
+    /// Where a session stands, if there is one: that which was heard last, unless one was forgotten since. It is looked
+    /// at first.
     recent: usize,
     slots: Vec<Slot>,
 }
@@ -59,7 +60,7 @@ impl Model for Sessions {
 
     ghost invariant = { λ a. (0 < a.window) × (a.count ≤ 16) × (length a.slots.items ≡ 16)
         × All (IsSession a.window) a.slots.items × IsOnePerPeer (take a.count a.slots.items)
-        × IsQuietUntil a.quiet_until (take a.count a.slots.items) };
+        × IsQuietUntil a.quiet_until (take a.count a.slots.items) × (0 < a.count → a.recent < a.count) };
 }
 
 impl Sessions {
@@ -118,14 +119,38 @@ impl Sessions {
         ensures staying { self.new ≡ with_moment_and_sessions self.old (present self.old now) (staying (present self.old now) self.old.sessions) }
         ensures forgotten { All (Contains result.items) (peers_of (forgotten (present self.old now) self.old.sessions)) }
     {
+        let mut peers = ArrayVec::new();
+        self.advance_into(now, &mut peers);
+        peers
+    }
+
+    /// As `advance`, but the peers whose silence passes three heartbeats are put into `peers`, in the place of what
+    /// it held.
+    pub fn advance_into(&mut self, now: u64, peers: &mut ArrayVec<Peer, 16>)
+        ensures lapsed { peers.new.items ≡ lapsed (present self.old now) self.old.sessions }
+        ensures staying { self.new ≡ with_moment_and_sessions self.old (present self.old now) (staying (present self.old now) self.old.sessions) }
+        ensures forgotten { All (Contains peers.new.items) (peers_of (forgotten (present self.old now) self.old.sessions)) }
+    {
         self.moment = self.moment.max(now);
-        if self.moment <= self.quiet_until {
-            return ArrayVec::new();
+        if self.moment > self.quiet_until {
+            self.lapse(peers);
+            return;
         }
-        let lapsed = lapsed_of(&self.slots[..self.count], self.moment);
+        empty(peers);
+    }
+
+    /// Puts the peers that are lapsed at the present moment into `peers`, in the place of what it held, and then
+    /// forgets. It stands apart so that the quiet case, which nearly all calls are, is inlined.
+    #[inline(never)]
+    fn lapse(&mut self, peers: &mut ArrayVec<Peer, 16>)
+        ensures lapsed { peers.new.items ≡ lapsed self.old.moment self.old.sessions }
+        ensures staying { self.new ≡ with_sessions self.old (staying self.old.moment self.old.sessions) }
+        ensures forgotten { All (Contains peers.new.items) (peers_of (forgotten self.old.moment self.old.sessions)) }
+    {
+        put_lapsed(&self.slots[..self.count], self.moment, peers);
         self.count = forget(&mut self.slots, self.count, self.moment);
         self.quiet_until = quiet_until(&self.slots[..self.count]);
-        lapsed
+        self.recent = 0;
     }
 
     /// Notes that a peer was heard at a moment, in milliseconds. A known peer's silence ends. For another a
@@ -221,20 +246,41 @@ fn index_of(slots: &[Slot], recent: usize, peer: Peer) -> Option<usize>
     if recent < slots.len() && slots[recent].is_of(peer) {
         return Some(recent);
     }
-    slots.iter().position(|slot| slot.is_of(peer))
+    search(slots, peer)
 }
 
-/// Where the session of a known peer stands.
-#[tactic(auto, using(crate::proofs::Tables::none_known))]
+/// Where the session of a known peer stands. The recent slot is looked at first.
 fn index_of_known(slots: &[Slot], recent: usize, peer: Peer) -> usize
     requires known { IsSome (session_of peer slots.now) }
     requires one { IsOnePerPeer slots.now }
+    requires recent { 0 < length slots.now → recent < length slots.now }
     ensures { position (is_of peer) slots.now ≡ Some result }
 {
-    match index_of(slots, recent, peer) {
+    if slots[recent].is_of(peer) {
+        return recent;
+    }
+    search_known(slots, peer)
+}
+
+/// Looks in all slots for the session of a known peer.
+#[inline(never)]
+#[tactic(auto, using(crate::proofs::Tables::none_known))]
+fn search_known(slots: &[Slot], peer: Peer) -> usize
+    requires { IsSome (session_of peer slots.now) }
+    ensures { position (is_of peer) slots.now ≡ Some result }
+{
+    match search(slots, peer) {
         Some(at) => at,
         None => unreachable!(),
     }
+}
+
+/// Looks in all slots for the session of a peer.
+#[inline(never)]
+fn search(slots: &[Slot], peer: Peer) -> Option<usize>
+    ensures { result ≡ position (is_of peer) slots.now }
+{
+    slots.iter().position(|slot| slot.is_of(peer))
 }
 
 /// The slot of a known peer.
@@ -242,23 +288,33 @@ fn index_of_known(slots: &[Slot], recent: usize, peer: Peer) -> usize
 fn known_slot(slots: &[Slot], recent: usize, peer: Peer) -> &Slot
     requires known { IsSome (session_of peer slots.now) }
     requires one { IsOnePerPeer slots.now }
+    requires recent { 0 < length slots.now → recent < length slots.now }
     ensures { session_of peer slots.now ≡ Some result.now }
 {
     &slots[index_of_known(slots, recent, peer)]
 }
 
-/// The peers of the sessions that are lapsed at a moment, in their order.
-fn lapsed_of(slots: &[Slot], moment: u64) -> ArrayVec<Peer, 16>
-    requires { length slots.now ≤ 16 }
-    ensures { result.items ≡ lapsed moment slots.now }
+/// Takes all peers out. Clearing is a call that overwrites the cells, so an empty list is left alone.
+fn empty(peers: &mut ArrayVec<Peer, 16>)
+    ensures { peers.new.items ≡ [] }
 {
-    let mut lapsed = ArrayVec::new();
+    if !peers.is_empty() {
+        peers.clear();
+    }
+}
+
+/// Puts the peers of the sessions that are lapsed at a moment into `peers`, in their order, in the place of what it
+/// held.
+fn put_lapsed(slots: &[Slot], moment: u64, peers: &mut ArrayVec<Peer, 16>)
+    requires { length slots.now ≤ 16 }
+    ensures { peers.new.items ≡ lapsed moment slots.now }
+{
+    peers.clear();
     for slot in slots {
         if slot.is_lapsed(moment) {
-            lapsed.push(slot.peer());
+            peers.push(slot.peer());
         }
     }
-    lapsed
 }
 
 /// A moment up to which none of the sessions lapses: that before the first lapse, or the latest.

@@ -1,6 +1,7 @@
 //! Lapses, forgetting and the present moment.
 use super::{A, B, Served, beat, serve, with_a};
 use crate::Admission;
+use arrayvec::ArrayVec;
 use std::test::Fail;
 
 // Three heartbeats of silence lapse a session and leave its window.
@@ -66,6 +67,22 @@ fn forgets_after_two_minutes(rt: HostRuntime) -> Result<(), Fail> {
     assert!(rt; sessions.is_empty());
     assert_eq!(rt; sessions.hear(A, 240_001), Admission::Opened);
     assert_eq!(rt; serve(&mut sessions, A, 1), Served::Executed);
+    Ok(())
+}
+
+// The list that `advance_into` is given holds those who are lapsed then: what it held before is gone.
+#[test]
+fn replaces_the_list_of_the_lapsed(rt: HostRuntime) -> Result<(), Fail> {
+    let mut sessions = with_a(rt.alloc())?;
+    let mut lapsed = ArrayVec::new();
+    assert_eq!(rt; sessions.hear(B, 110_000), Admission::Opened);
+    sessions.advance_into(120_001, &mut lapsed);
+    assert_eq!(rt; lapsed.as_slice(), [A].as_slice());
+    assert_eq!(rt; sessions.len(), 1);
+    sessions.advance_into(125_000, &mut lapsed);
+    assert_eq!(rt; lapsed.as_slice(), [].as_slice());
+    sessions.advance_into(125_001, &mut lapsed);
+    assert_eq!(rt; lapsed.as_slice(), [B].as_slice());
     Ok(())
 }
 

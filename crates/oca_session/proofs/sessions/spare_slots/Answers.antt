@@ -1,4 +1,4 @@
-use Rattle.std.proofs.Common.{◌≡◌, sym, ap, ◌∙◌, subst, arith, length-append, length, ◌+◌}
+use Rattle.std.proofs.Common.{sym, ap, ◌∙◌, subst, arith, length-append, length, ◌+◌}
 use Rattle.std.specs.Prelude.{All}
 use Rattle.oca_session.specs.Sound.{IsSession}
 use Rattle.oca_session.proofs.Tables.{All-push, opened_sound}

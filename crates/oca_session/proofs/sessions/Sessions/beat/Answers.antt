@@ -17,6 +17,7 @@ invariant_of-self c =
       one_in c.args.peer f (λ s. refl) a.slots.items c.deref.result.now a.count at.result _ _
           c.self.invariant.4 c.deref.ensures.value at.ensures c.index_mut-slot.ensures.value c.set_heartbeat.ensures,
       quiet_in a.quiet_until c.min-self-inside.result a.slots.items a.count at.result _ c.self.invariant.5 (omega arith) (omega (arith, c.quiet_until.ensures)),
+      c.self.invariant.6,
     )
 
 pub returns-clause-heartbeat : goal.returns-clause-heartbeat

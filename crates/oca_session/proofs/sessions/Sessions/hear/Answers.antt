@@ -4,7 +4,7 @@ use Rattle.std.proofs.Math.ListN.{length-set}
 use Rattle.std.proofs.lemmas.List.Elements.{All-set}
 use Rattle.oca_session.specs.Table.{Session, Table, is_of, session_of, heard_at, changed, opened_session}
 use Rattle.oca_session.specs.Sound.{IsSession, IsOnePerPeer}
-use Rattle.oca_session.proofs.Tables.{changed_in, one_in, sound_in, heard_sound, known_by_place, known_same, peers_of-changed, none_known, opened_in, opened_sound, known-push, same_peer-self, IsOnePerPeer-push, quiet_in, quiet_push}
+use Rattle.oca_session.proofs.Tables.{changed_in, one_in, sound_in, heard_sound, known_by_place, known_same, peers_of-changed, none_known, opened_in, opened_sound, known-push, same_peer-self, IsOnePerPeer-push, quiet_in, quiet_push, placed_within}
 use Rattle.oca_session.proofs.sessions.Sessions.hear.Goals as goal
 
 pub invariant_of-self : goal.invariant_of-self
@@ -22,6 +22,7 @@ invariant_of-self c =
       one_in c.args.peer f (λ s. refl) a.slots.items c.deref.result.now a.count at _ _
           c.self.invariant.4 c.deref.ensures.value placed c.index_mut-slot.ensures.value c.note.ensures,
       quiet_in a.quiet_until c.min-self-inside.result a.slots.items a.count at _ c.self.invariant.5 (omega arith) (omega (arith, c.quiet_until.ensures)),
+      λ some. placed_within c.args.peer a.slots.items c.deref.result.now a.count at c.deref.ensures.value placed,
     )
 
 pub returns-in-Some-clause-hears : goal.returns-in-Some-clause-hears
@@ -89,6 +90,7 @@ invariant_of-self-2 c =
       All-set (IsSession a.window) a.slots.items a.count _ (subst (IsSession a.window) (sym new) (opened_sound a.window c.args.peer m)) c.self.invariant.3,
       subst IsOnePerPeer (sym last) (IsOnePerPeer-push ss (opened_session a.window c.args.peer m) (none_known c.args.peer ss unplaced) c.self.invariant.4),
       quiet_push a.quiet_until c.min-self-inside-2.result ss _ (opened_session a.window c.args.peer m) last c.self.invariant.5 (omega arith) (omega (arith, quiet)),
+      λ some. omega arith,
     )
 
 pub returns-clause-hears : goal.returns-clause-hears

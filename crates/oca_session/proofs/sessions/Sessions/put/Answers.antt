@@ -37,6 +37,7 @@ invariant_of-self c =
           c.self.invariant.4 c.deref.ensures.value at.ensures c.index_mut.ensures.value c.keep.ensures,
       quiet_kept c.args.peer _ a.quiet_until a.slots.items c.deref.result.now a.count at.result _ _
           c.self.invariant.5 c.deref.ensures.value at.ensures c.index_mut.ensures.value c.keep.ensures,
+      c.self.invariant.6,
     )
 
 pub returns-clause-retained : goal.returns-clause-retained

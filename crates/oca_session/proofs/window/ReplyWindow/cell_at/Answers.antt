@@ -1,4 +1,4 @@
-use Rattle.std.proofs.Common.{◌≡◌, ◌<◌, ◌-◌, ◌+◌, length, sym, ap, ◌∙◌, arith, Some}
+use Rattle.std.proofs.Common.{◌≡◌, ◌<◌, length, sym, ap, ◌∙◌, arith, Some}
 use Rattle.oca_session.specs.declared.cell.Cell.{Cell}
 use Rattle.oca_session.specs.PrivateCells.{judge_cell}
 use Rattle.oca_session.proofs.Rings.{length-entries, oldest_within, cell_before, cell_past}

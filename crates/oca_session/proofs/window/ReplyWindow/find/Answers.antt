@@ -1,4 +1,4 @@
-use Rattle.std.proofs.Common.{◌≡◌, sym, ap, ◌∙◌, refl}
+use Rattle.std.proofs.Common.{ap, ◌∙◌, refl}
 use Rattle.std.specs.Prelude.{option_map}
 use Rattle.oca_session.specs.Accepted.{Entry, duplicate_or_reused}
 use Rattle.oca_session.proofs.Rings.{found_front, found_back, found_nowhere}

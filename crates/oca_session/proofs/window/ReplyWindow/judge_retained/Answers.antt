@@ -1,4 +1,4 @@
-use Rattle.std.proofs.Common.{sym, ap, ◌∙◌, ◌≡◌, arith, Some, true, false}
+use Rattle.std.proofs.Common.{sym, ap, ◌∙◌, arith, true, false}
 use Rattle.oca_types.specs.Peers.{fields_of}
 use Rattle.oca_session.specs.Accepted.{Retained}
 use Rattle.oca_session.proofs.Rings.{fresh_above, judged_by_cell, judged_by_floor, not_above, above_one, above_none}

@@ -1,6 +1,5 @@
-use Rattle.std.proofs.Common.{◌≡◌, ◌⊎◌, inl, inr, ℕ, ◌+◌, ◌-◌, ◌≤◌, ◌<◌, ◌∷◌, [], ◌++◌, length, drop, length-append, length-drop, sym, ap, ◌∙◌, arith, refl}
+use Rattle.std.proofs.Common.{◌≡◌, ◌⊎◌, inl, inr, ◌+◌, ◌-◌, ◌≤◌, ◌<◌, ◌∷◌, [], ◌++◌, length, drop, length-append, length-drop, sym, ap, ◌∙◌, arith, refl}
 use Rattle.std.proofs.lemmas.List.{length-set}
-use Rattle.std.specs.Prelude.{Some}
 use Rattle.std.specs.Prelude.{All, false}
 use Rattle.oca_types.specs.declared.words.Command.{Command}
 use Rattle.oca_types.specs.Peers.{fields_of}
