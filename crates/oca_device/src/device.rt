@@ -16,6 +16,7 @@ ghost use Rattle.oca_device.specs.Answers.{packets, verdict};
 use crate::counts::{Counts, NONE};
 use crate::outbox::Outbox;
 use crate::verdict::Verdict;
+use arrayvec::ArrayVec;
 use oca_pdu::{Form, Message, Messages, check};
 use oca_session::{Admission, Judged, Sessions};
 use oca_tree::Tree;
@@ -31,6 +32,8 @@ use std::marker::Model;
 pub struct Device {
     tree: Tree,
     sessions: Sessions,
+    /// The peers that had lapsed when the clock moved last: a place for them, which is not made anew at each datagram.
+    lapsed: ArrayVec<Peer, 16>,
     /// The room in which a command is executed: its reply is made here once, and read where it is needed.
     reply: Reply,
 }
@@ -56,6 +59,7 @@ impl Device {
         Ok(Device {
             tree,
             sessions,
+            lapsed: ArrayVec::new(),
             reply: Reply {
                 status: Status::Ok,
                 count: 0,
@@ -118,8 +122,8 @@ impl Device {
         ensures moved { (w : ℕ) (s : State) → IsIn w self.old s → IsIn w self.new (moved_to (max s.moment now) s) }
         ensures moment { now ≤ self.new.sessions.moment }
     {
-        let lapsed = self.sessions.advance(now);
-        release_all(&mut self.tree, lapsed.as_slice());
+        self.sessions.advance_into(now, &mut self.lapsed);
+        release_all(&mut self.tree, self.lapsed.as_slice());
     }
 
     /// Takes the datagram, at the present moment.

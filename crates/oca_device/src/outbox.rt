@@ -8,7 +8,7 @@ ghost use Rattle.oca_device.specs.Answers.{response};
 ghost use Rattle.oca_device.specs.Outboxes.{bytes_of_packets};
 ghost use Rattle.oca_device.specs.PrivateServing.{AreGrouped, IsGrouped, Joins, JoinsLast, is_of_responses};
 
-use oca_pdu::{Form, extend_response, write_keepalive, write_response};
+use oca_pdu::{Form, extend_response, replace_response, write_keepalive};
 use oca_types::{Handle, NoMemory, Packet, Reply};
 use std::alloc::Global;
 use std::marker::Model;
@@ -101,7 +101,7 @@ impl Outbox {
             return;
         }
         make_place(&mut self.places, self.count);
-        put_response(&mut self.places[self.count], handle, reply);
+        replace_response(&mut self.places[self.count], handle, reply);
         self.count += 1;
     }
 
@@ -161,18 +161,6 @@ fn make_place(places: &mut Vec<Packet>, count: usize)
 {
     if count == places.len() {
         places.push_reserved(Packet::new());
-    }
-}
-
-/// Writes a response in the place of what the packet held.
-fn put_response(packet: &mut Packet, handle: Handle, reply: &Reply)
-    ensures { packet.new.items ≡ pdu_encoding (pdu_of (response handle.0 reply.now)) }
-{
-    packet.clear();
-    let _params = reply.params.as_slice();
-    match write_response(packet, handle, reply) {
-        Ok(()) => {}
-        Err(_) => unreachable!(),
     }
 }
 

@@ -10,7 +10,7 @@ returns-clause-moved c = λ w s h.
     let tree = c.self.inside.tree in
     let old = c.self.inside.sessions in
     let was = parts_in tree old c.args.self.now w s c.self.view_is h in
-    let moved = clock_moved w c.args.now s old c.advance-lapsed.new.self c.advance-lapsed.result.items was.sessions c.advance-lapsed.ensures.lapsed c.advance-lapsed.ensures.staying in
+    let moved = clock_moved w c.args.now s old c.advance_into.new.self c.advance_into.new.peers.items was.sessions c.advance_into.ensures.lapsed c.advance_into.ensures.staying in
     record {
       tree = c.release_all.ensures
           ∙ ap (λ ps. released_all ps tree) (c.as_slice.ensures.value ∙ moved.0)

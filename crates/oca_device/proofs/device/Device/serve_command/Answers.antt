@@ -76,11 +76,11 @@ returns-then-respond-clause-serves c = λ w s h now.
     let agreed = agrees_there w s p old was.sessions known in
     let reply : c.execute.new.reply ≡ reply_of s.tree p command = c.execute.ensures.reply ∙ ap (λ t. reply_of t p command) was.tree in
     by_judgement w s p command c.args.respond (device_with c.execute.new.tree c.keep.new.self) c.args.outbox.now c.respond.new.self c.args.counts.now _ Fresh
-        (c.in-Fresh.ensures.accepted w A agreed)
-        (fresh_served w s p command tree old c.execute.new.tree c.keep.new.self c.execute.new.reply was known now c.execute.ensures.tree reply (c.keep.ensures.accepted w A agreed))
-        (λ _ groups is. c.respond.ensures.groups groups is ∙ ap (λ (r : Reply). encodings (with_answer groups (response command.handle r))) reply)
-        (λ q. cc)
-        (one_executed c.args.counts.now)
+    (c.in-Fresh.ensures.accepted w A agreed)
+    (fresh_served w s p command tree old c.execute.new.tree c.keep.new.self c.execute.new.reply was known now c.execute.ensures.tree reply (c.keep.ensures.accepted w A agreed))
+    (λ _ groups is. c.respond.ensures.groups groups is ∙ ap (λ (r : Reply). encodings (with_answer groups (response command.handle r))) reply)
+    (λ q. cc)
+    (one_executed c.args.counts.now)
 
 pub returns-else-respond-clause-serves : goal.returns-else-respond-clause-serves
 returns-else-respond-clause-serves c = λ w s h now.
@@ -95,52 +95,52 @@ returns-else-respond-clause-serves c = λ w s h now.
     let agreed = agrees_there w s p old was.sessions known in
     let reply : c.execute.new.reply ≡ reply_of s.tree p command = c.execute.ensures.reply ∙ ap (λ t. reply_of t p command) was.tree in
     by_judgement w s p command c.args.respond (device_with c.execute.new.tree c.keep.new.self) c.args.outbox.now c.args.outbox.now c.args.counts.now _ Fresh
-        (c.in-Fresh.ensures.accepted w A agreed)
-        (fresh_served w s p command tree old c.execute.new.tree c.keep.new.self c.execute.new.reply was known now c.execute.ensures.tree reply (c.keep.ensures.accepted w A agreed))
-        (λ q. cc)
-        (λ _. refl)
-        (one_executed c.args.counts.now)
+    (c.in-Fresh.ensures.accepted w A agreed)
+    (fresh_served w s p command tree old c.execute.new.tree c.keep.new.self c.execute.new.reply was known now c.execute.ensures.tree reply (c.keep.ensures.accepted w A agreed))
+    (λ q. cc)
+    (λ _. refl)
+    (one_executed c.args.counts.now)
 
 pub returns-then-respond-2-clause-serves : goal.returns-then-respond-2-clause-serves
 returns-then-respond-2-clause-serves c = λ w s h now.
     let p = c.args.from in
     let command = fields_of c.args.command.now in
     by_judgement w s p command c.args.respond c.args.self.now c.args.outbox.now c.respond-then-respond-2.new.self c.args.counts.now _ (Duplicate c.in-Kept.reply.now)
-        (c.in-Kept.ensures.accepted w (accepted (run p s.notes)) (agreed_in w s p c.self.inside.tree c.self.inside.sessions c.args.self.now c.self.view_is h c.requires.known))
-        h
-        (λ _ groups is. c.respond-then-respond-2.ensures.groups groups is)
-        (λ q. cc)
-        (one_kept c.args.counts.now)
+    (c.in-Kept.ensures.accepted w (accepted (run p s.notes)) (agreed_in w s p c.self.inside.tree c.self.inside.sessions c.args.self.now c.self.view_is h c.requires.known))
+    h
+    (λ _ groups is. c.respond-then-respond-2.ensures.groups groups is)
+    (λ q. cc)
+    (one_kept c.args.counts.now)
 
 pub returns-else-respond-2-clause-serves : goal.returns-else-respond-2-clause-serves
 returns-else-respond-2-clause-serves c = λ w s h now.
     let p = c.args.from in
     let command = fields_of c.args.command.now in
     by_judgement w s p command c.args.respond c.args.self.now c.args.outbox.now c.args.outbox.now c.args.counts.now _ (Duplicate c.in-Kept.reply.now)
-        (c.in-Kept.ensures.accepted w (accepted (run p s.notes)) (agreed_in w s p c.self.inside.tree c.self.inside.sessions c.args.self.now c.self.view_is h c.requires.known))
-        h
-        (λ q. cc)
-        (λ _. refl)
-        (one_kept c.args.counts.now)
+    (c.in-Kept.ensures.accepted w (accepted (run p s.notes)) (agreed_in w s p c.self.inside.tree c.self.inside.sessions c.args.self.now c.self.view_is h c.requires.known))
+    h
+    (λ q. cc)
+    (λ _. refl)
+    (one_kept c.args.counts.now)
 
 pub returns-in-Reused-clause-serves : goal.returns-in-Reused-clause-serves
 returns-in-Reused-clause-serves c = λ w s h now.
     let p = c.args.from in
     let command = fields_of c.args.command.now in
     by_judgement w s p command c.args.respond c.args.self.now c.args.outbox.now c.args.outbox.now c.args.counts.now _ Reused
-        (c.in-Reused.ensures.accepted w (accepted (run p s.notes)) (agreed_in w s p c.self.inside.tree c.self.inside.sessions c.args.self.now c.self.view_is h c.requires.known))
-        h
-        (λ _ groups is. is)
-        (λ _. refl)
-        (one_reused c.args.counts.now)
+    (c.in-Reused.ensures.accepted w (accepted (run p s.notes)) (agreed_in w s p c.self.inside.tree c.self.inside.sessions c.args.self.now c.self.view_is h c.requires.known))
+    h
+    (λ _ groups is. is)
+    (λ _. refl)
+    (one_reused c.args.counts.now)
 
 pub returns-in-Old-clause-serves : goal.returns-in-Old-clause-serves
 returns-in-Old-clause-serves c = λ w s h now.
     let p = c.args.from in
     let command = fields_of c.args.command.now in
     by_judgement w s p command c.args.respond c.args.self.now c.args.outbox.now c.args.outbox.now c.args.counts.now _ Old
-        (c.in-Old.ensures.accepted w (accepted (run p s.notes)) (agreed_in w s p c.self.inside.tree c.self.inside.sessions c.args.self.now c.self.view_is h c.requires.known))
-        h
-        (λ _ groups is. is)
-        (λ _. refl)
-        (one_old c.args.counts.now)
+    (c.in-Old.ensures.accepted w (accepted (run p s.notes)) (agreed_in w s p c.self.inside.tree c.self.inside.sessions c.args.self.now c.self.view_is h c.requires.known))
+    h
+    (λ _ groups is. is)
+    (λ _. refl)
+    (one_old c.args.counts.now)
