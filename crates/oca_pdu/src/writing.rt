@@ -1,4 +1,4 @@
-//! Appending PDUs of one message to a packet.
+//! Writing PDUs to a packet: behind what it holds, or in its place.
 ghost use Rattle.std.specs.Prelude.{◌≡◌, ◌+◌, ◌^◌, ◌≤◌, ◌<◌, List, ◌∷◌, ◌++◌, ◌↔◌, [], length, take, drop, slice_index, IsOk, OnOk, OnErr};
 ghost use Rattle.std.specs.Int.{w16, w32};
 ghost use Rattle.arrayvec.specs.ArrayVec.{array_vec_len};
@@ -130,8 +130,8 @@ pub fn replace_response(packet: &mut Packet, handle: Handle, reply: &Reply)
     }
 }
 
-/// Writes a PDU of one response behind nothing. It stands apart, since it is the rare case: `clear` overwrites what there was
-/// by a call.
+/// Writes a PDU of one response in the place of more bytes, or of fewer. It stands apart, since `clear` overwrites what there
+/// was by a call.
 #[inline(never)]
 fn write_anew(packet: &mut Packet, handle: Handle, reply: &Reply)
     ensures fits { ResponseFits (response_with handle reply.now) }
@@ -153,14 +153,14 @@ fn write_over_response(pdu: &mut [u8], handle: Handle, reply: &Reply)
     write_over(params, reply.params.as_slice());
 }
 
-/// Writes bytes over as many others. A single one is written without a call.
+/// Writes bytes over as many others. None, or a single one, needs no call.
 fn write_over(room: &mut [u8], bytes: &[u8])
     requires { length room.old ≡ length bytes.now }
     ensures { room.new ≡ bytes.now }
 {
     if bytes.len() == 1 {
         room[0] = bytes[0];
-    } else {
+    } else if bytes.len() > 1 {
         room.copy_from_slice(bytes);
     }
 }
