@@ -25,20 +25,11 @@ impl<'a> Messages<'a> {
     ghost use Rattle.oca_pdu.specs.Limits.{IsWithinLimits};
 
     /// At the first message of a well-formed datagram.
-    #[tactic(auto, unfolding(crate::specs::Reading::read_datagram))]
+    #[tactic(auto, unfolding(crate::specs::Reading::read_datagram, crate::specs::Reading::messages_at))]
     pub(crate) fn start(bytes: &'a [u8]) -> Messages<'a>
         requires { IsTrue (is_ok (read_datagram bytes.now)) }
         ensures all { messages_left result ≡ read_or_none (read_datagram bytes.now) }
         ensures limits { IsWithinLimits (read_or_none (read_datagram bytes.now)) }
-    {
-        Messages::over(bytes)
-    }
-
-    /// At the first of these PDUs.
-    #[tactic(auto, unfolding(crate::specs::Reading::messages_at))]
-    fn over(bytes: &'a [u8]) -> Messages<'a>
-        requires { IsTrue (is_ok (pdus_at (length bytes.now) 0 bytes.now)) }
-        ensures { messages_left result ≡ read_or_none (pdus_at (length bytes.now) 0 bytes.now) }
     {
         Messages {
             kind: Kind::Command,

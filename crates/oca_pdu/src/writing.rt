@@ -1,4 +1,4 @@
-//! Appending PDUs of one message to a packet.
+//! Writing PDUs to a packet: behind what it holds, or in its place.
 ghost use Rattle.std.specs.Prelude.{◌≡◌, ◌+◌, ◌^◌, ◌≤◌, ◌<◌, List, ◌∷◌, ◌++◌, ◌↔◌, [], length, take, drop, slice_index, IsOk, OnOk, OnErr};
 ghost use Rattle.std.specs.Int.{w16, w32};
 ghost use Rattle.arrayvec.specs.ArrayVec.{array_vec_len};
@@ -123,35 +123,44 @@ pub fn replace_response(packet: &mut Packet, handle: Handle, reply: &Reply)
     ensures bytes { packet.new.items ≡ pdu_encoding (Responses (response_with handle reply.now ∷ [])) }
     ensures datagram { IsDatagram (Responses (response_with handle reply.now ∷ []) ∷ []) packet.new.items }
 {
-    let params = reply.params.as_slice();
-    let front = response_front(handle, reply);
-    if packet.len() == front.len() + params.len() {
-        write_over_parts(packet.as_mut_slice(), &front, params);
+    if packet.len() == HEADER_BYTES + RESPONSE_BYTES + reply.params.len() {
+        write_over_response(packet.as_mut_slice(), handle, reply);
     } else {
-        packet.clear();
-        put(packet, &front);
-        put(packet, params);
+        write_anew(packet, handle, reply);
     }
 }
 
-/// Writes the front of a PDU, and the rest of it, over as many bytes.
-fn write_over_parts(pdu: &mut [u8], front: &[u8], rest: &[u8])
-    requires { length pdu.old ≡ length front.now + length rest.now }
-    ensures { pdu.new ≡ front.now ++ rest.now }
+/// Writes a PDU of one response in the place of more bytes, or of fewer. It stands apart, since `clear` overwrites what there
+/// was by a call.
+#[inline(never)]
+fn write_anew(packet: &mut Packet, handle: Handle, reply: &Reply)
+    ensures fits { ResponseFits (response_with handle reply.now) }
+    ensures bytes { packet.new.items ≡ pdu_encoding (Responses (response_with handle reply.now ∷ [])) }
 {
-    let (room, others) = pdu.split_at_mut(front.len());
-    room.copy_from_slice(front);
-    write_over(others, rest);
+    packet.clear();
+    put(packet, &response_front(handle, reply));
+    put(packet, reply.params.as_slice());
 }
 
-/// Writes bytes over as many others. A single one is written without a call.
+/// Writes a PDU of one response over as many bytes.
+fn write_over_response(pdu: &mut [u8], handle: Handle, reply: &Reply)
+    requires { length pdu.old ≡ 20 + array_vec_len reply.now.params }
+    ensures fits { ResponseFits (response_with handle reply.now) }
+    ensures bytes { pdu.new ≡ pdu_encoding (Responses (response_with handle reply.now ∷ [])) }
+{
+    let (front, params) = pdu.split_at_mut(HEADER_BYTES + RESPONSE_BYTES);
+    front.copy_from_slice(&response_front(handle, reply));
+    write_over(params, reply.params.as_slice());
+}
+
+/// Writes bytes over as many others. None, or a single one, needs no call.
 fn write_over(room: &mut [u8], bytes: &[u8])
     requires { length room.old ≡ length bytes.now }
     ensures { room.new ≡ bytes.now }
 {
     if bytes.len() == 1 {
         room[0] = bytes[0];
-    } else {
+    } else if bytes.len() > 1 {
         room.copy_from_slice(bytes);
     }
 }
