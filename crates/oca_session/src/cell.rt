@@ -55,18 +55,28 @@ impl Cell {
         let (status, count) = (reply.status, reply.count);
         self.reply.status = status;
         self.reply.count = count;
-        let params = reply.params.as_slice();
         if write_short(&mut self.params, command.params)
-            && write_short(&mut self.reply.params, params)
+            && write_short(&mut self.reply.params, reply.params.as_slice())
         {
             return;
         }
-        write_both(
-            &mut self.params,
-            command.params,
-            &mut self.reply.params,
-            params,
-        );
+        self.set_long(command, reply);
+    }
+
+    /// Writes a command and its reply over those that the cell held, whatever their lengths. It stands apart from `set`,
+    /// since its calls would leave the callers of `set` few registers.
+    #[inline(never)]
+    fn set_long(&mut self, command: &Command<'_>, reply: &Reply)
+        requires { length command.now.params.now ≤ 1445 }
+        ensures { entry_in command.now.handle self.new ≡ record { command = fields_of command.now; reply = reply.now } }
+    {
+        self.target = command.target;
+        self.method = command.method;
+        self.count = command.count;
+        copy_bytes(&mut self.params, command.params);
+        self.reply.status = reply.status;
+        self.reply.count = reply.count;
+        copy_bytes(&mut self.reply.params, reply.params.as_slice());
     }
 
     /// Whether the command that it holds and this one ask the same. The bytes of the parameters are compared last,
@@ -101,24 +111,6 @@ fn write_short<const N: usize>(room: &mut ArrayVec<u8, N>, bytes: &[u8]) -> bool
         return true;
     }
     false
-}
-
-/// Writes the parameters of a command and those of its reply over others. It stands apart from `set`, since its calls
-/// would leave the callers of `set` few registers.
-#[inline(never)]
-fn write_both(
-    command_room: &mut ArrayVec<u8, COMMAND_BYTES>,
-    command_params: &[u8],
-    reply_room: &mut Params,
-    reply_params: &[u8],
-)
-    requires command { length command_params.now ≤ 1445 }
-    requires reply { length reply_params.now ≤ 1452 }
-    ensures command { command_room.new.items ≡ command_params.now }
-    ensures reply { reply_room.new.items ≡ reply_params.now }
-{
-    copy_bytes(command_room, command_params);
-    copy_bytes(reply_room, reply_params);
 }
 
 /// Writes bytes over others. Only the cells of others that were more are cleared, and bytes over as many are one copy.
