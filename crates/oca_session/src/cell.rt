@@ -1,5 +1,6 @@
 //! What a reply window retains of one command.
-ghost use Rattle.std.specs.Prelude.{◌≡◌, ◌≤◌, length, IsTrue};
+ghost use Rattle.std.specs.Prelude.{◌≡◌, ◌≤◌, length, nat_eq, IsTrue};
+ghost use Rattle.std.specs.Cmp.Lexicographic.{pointwise};
 ghost use Rattle.oca_types.specs.Peers.{fields_of};
 ghost use Rattle.oca_session.specs.Accepted.{asks_the_same};
 ghost use Rattle.oca_session.specs.PrivateCells.{entry_in};
@@ -88,7 +89,7 @@ impl Cell {
             && self.method.level == command.method.level
             && self.method.index == command.method.index
             && self.count == command.count
-            && *self.params.as_slice() == *command.params
+            && are_same(self.params.as_slice(), command.params)
     }
 
     /// The reply.
@@ -97,6 +98,13 @@ impl Cell {
     {
         &self.reply
     }
+}
+
+/// Whether the bytes are the same. None beside none are so without a call.
+fn are_same(bytes: &[u8], others: &[u8]) -> bool
+    ensures { result ≡ pointwise nat_eq bytes.now others.now }
+{
+    (bytes.is_empty() && others.is_empty()) || *bytes == *others
 }
 
 /// Writes bytes over others where both are none, or both are one, and answers whether that is so.
