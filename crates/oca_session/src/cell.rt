@@ -1,5 +1,5 @@
 //! What a reply window retains of one command.
-ghost use Rattle.std.specs.Prelude.{◌≡◌, ◌≤◌, length, nat_eq, IsTrue};
+ghost use Rattle.std.specs.Prelude.{◌≡◌, ◌≤◌, length, nat_eq};
 ghost use Rattle.std.specs.Cmp.Lexicographic.{pointwise};
 ghost use Rattle.oca_types.specs.Peers.{fields_of};
 ghost use Rattle.oca_session.specs.Accepted.{asks_the_same};
@@ -43,12 +43,16 @@ impl Cell {
         cell
     }
 
-    /// Writes a command and its reply over those that the cell held. Parameters of at most one byte over as many are
-    /// written without a call.
+    /// Writes a command and its reply over those that the cell held. Parameters over as many are written here.
     pub fn set(&mut self, command: &Command<'_>, reply: &Reply)
         requires { length command.now.params.now ≤ 1445 }
         ensures { entry_in command.now.handle self.new ≡ record { command = fields_of command.now; reply = reply.now } }
     {
+        let params = reply.params.as_slice();
+        if self.reply.params.len() != params.len() || self.params.len() != command.params.len() {
+            self.set_other(command, reply);
+            return;
+        }
         self.target = command.target;
         self.method = command.method;
         self.count = command.count;
@@ -56,18 +60,14 @@ impl Cell {
         let (status, count) = (reply.status, reply.count);
         self.reply.status = status;
         self.reply.count = count;
-        if write_short(&mut self.params, command.params)
-            && write_short(&mut self.reply.params, reply.params.as_slice())
-        {
-            return;
-        }
-        self.set_long(command, reply);
+        write_over(self.reply.params.as_mut_slice(), params);
+        write_over(self.params.as_mut_slice(), command.params);
     }
 
     /// Writes a command and its reply over those that the cell held, whatever their lengths. It stands apart from `set`,
     /// since its calls would leave the callers of `set` few registers.
     #[inline(never)]
-    fn set_long(&mut self, command: &Command<'_>, reply: &Reply)
+    fn set_other(&mut self, command: &Command<'_>, reply: &Reply)
         requires { length command.now.params.now ≤ 1445 }
         ensures { entry_in command.now.handle self.new ≡ record { command = fields_of command.now; reply = reply.now } }
     {
@@ -107,21 +107,7 @@ fn are_same(bytes: &[u8], others: &[u8]) -> bool
     (bytes.is_empty() && others.is_empty()) || *bytes == *others
 }
 
-/// Writes bytes over others where both are none, or both are one, and answers whether that is so.
-fn write_short<const N: usize>(room: &mut ArrayVec<u8, N>, bytes: &[u8]) -> bool
-    ensures { IsTrue result → room.new.items ≡ bytes.now }
-{
-    if bytes.is_empty() {
-        return room.is_empty();
-    }
-    if bytes.len() == 1 && room.len() == 1 {
-        room.as_mut_slice()[0] = bytes[0];
-        return true;
-    }
-    false
-}
-
-/// Writes bytes over others. Only the cells of others that were more are cleared, and bytes over as many are one copy.
+/// Writes bytes over others. Only the cells of others that were more are cleared.
 fn copy_bytes<const N: usize>(room: &mut ArrayVec<u8, N>, bytes: &[u8])
     requires { length bytes.now ≤ N }
     ensures { room.new.items ≡ bytes.now }
@@ -130,10 +116,23 @@ fn copy_bytes<const N: usize>(room: &mut ArrayVec<u8, N>, bytes: &[u8])
         room.truncate(bytes.len());
     }
     let (front, rest) = bytes.split_at(room.len());
-    if !front.is_empty() {
-        room.as_mut_slice().copy_from_slice(front);
-    }
+    write_over(room.as_mut_slice(), front);
     if !rest.is_empty() {
         let _ = room.try_extend_from_slice(rest);
+    }
+}
+
+/// Writes bytes over as many others. One or none are written without a call.
+fn write_over(room: &mut [u8], bytes: &[u8])
+    requires { length room.old ≡ length bytes.now }
+    ensures { room.new ≡ bytes.now }
+{
+    if bytes.is_empty() {
+        return;
+    }
+    if bytes.len() == 1 {
+        room[0] = bytes[0];
+    } else {
+        room.copy_from_slice(bytes);
     }
 }
