@@ -1,5 +1,6 @@
 //! What a reply window retains of one command.
-ghost use Rattle.std.specs.Prelude.{◌≡◌, ◌≤◌, length, IsTrue};
+ghost use Rattle.std.specs.Prelude.{◌≡◌, ◌≤◌, length, nat_eq};
+ghost use Rattle.std.specs.Cmp.Lexicographic.{pointwise};
 ghost use Rattle.oca_types.specs.Peers.{fields_of};
 ghost use Rattle.oca_session.specs.Accepted.{asks_the_same};
 ghost use Rattle.oca_session.specs.PrivateCells.{entry_in};
@@ -42,12 +43,16 @@ impl Cell {
         cell
     }
 
-    /// Writes a command and its reply over those that the cell held. Parameters of at most one byte over as many are
-    /// written without a call.
+    /// Writes a command and its reply over those that the cell held. Parameters over as many are written here.
     pub fn set(&mut self, command: &Command<'_>, reply: &Reply)
         requires { length command.now.params.now ≤ 1445 }
         ensures { entry_in command.now.handle self.new ≡ record { command = fields_of command.now; reply = reply.now } }
     {
+        let params = reply.params.as_slice();
+        if self.reply.params.len() != params.len() || self.params.len() != command.params.len() {
+            self.set_other(command, reply);
+            return;
+        }
         self.target = command.target;
         self.method = command.method;
         self.count = command.count;
@@ -55,18 +60,24 @@ impl Cell {
         let (status, count) = (reply.status, reply.count);
         self.reply.status = status;
         self.reply.count = count;
-        let params = reply.params.as_slice();
-        if write_short(&mut self.params, command.params)
-            && write_short(&mut self.reply.params, params)
-        {
-            return;
-        }
-        write_both(
-            &mut self.params,
-            command.params,
-            &mut self.reply.params,
-            params,
-        );
+        write_over(self.reply.params.as_mut_slice(), params);
+        write_over(self.params.as_mut_slice(), command.params);
+    }
+
+    /// Writes a command and its reply over those that the cell held, whatever their lengths. It stands apart from `set`,
+    /// since its calls would leave the callers of `set` few registers.
+    #[inline(never)]
+    fn set_other(&mut self, command: &Command<'_>, reply: &Reply)
+        requires { length command.now.params.now ≤ 1445 }
+        ensures { entry_in command.now.handle self.new ≡ record { command = fields_of command.now; reply = reply.now } }
+    {
+        self.target = command.target;
+        self.method = command.method;
+        self.count = command.count;
+        copy_bytes(&mut self.params, command.params);
+        self.reply.status = reply.status;
+        self.reply.count = reply.count;
+        copy_bytes(&mut self.reply.params, reply.params.as_slice());
     }
 
     /// Whether the command that it holds and this one ask the same. The bytes of the parameters are compared last,
@@ -78,7 +89,7 @@ impl Cell {
             && self.method.level == command.method.level
             && self.method.index == command.method.index
             && self.count == command.count
-            && *self.params.as_slice() == *command.params
+            && are_same(self.params.as_slice(), command.params)
     }
 
     /// The reply.
@@ -89,39 +100,14 @@ impl Cell {
     }
 }
 
-/// Writes bytes over others where both are none, or both are one, and answers whether that is so.
-fn write_short<const N: usize>(room: &mut ArrayVec<u8, N>, bytes: &[u8]) -> bool
-    ensures { IsTrue result → room.new.items ≡ bytes.now }
+/// Whether the bytes are the same. None beside none are so without a call.
+fn are_same(bytes: &[u8], others: &[u8]) -> bool
+    ensures { result ≡ pointwise nat_eq bytes.now others.now }
 {
-    if bytes.is_empty() {
-        return room.is_empty();
-    }
-    if bytes.len() == 1 && room.len() == 1 {
-        room.as_mut_slice()[0] = bytes[0];
-        return true;
-    }
-    false
+    (bytes.is_empty() && others.is_empty()) || *bytes == *others
 }
 
-/// Writes the parameters of a command and those of its reply over others. It stands apart from `set`, since its calls
-/// would leave the callers of `set` few registers.
-#[inline(never)]
-fn write_both(
-    command_room: &mut ArrayVec<u8, COMMAND_BYTES>,
-    command_params: &[u8],
-    reply_room: &mut Params,
-    reply_params: &[u8],
-)
-    requires command { length command_params.now ≤ 1445 }
-    requires reply { length reply_params.now ≤ 1452 }
-    ensures command { command_room.new.items ≡ command_params.now }
-    ensures reply { reply_room.new.items ≡ reply_params.now }
-{
-    copy_bytes(command_room, command_params);
-    copy_bytes(reply_room, reply_params);
-}
-
-/// Writes bytes over others. Only the cells of others that were more are cleared, and bytes over as many are one copy.
+/// Writes bytes over others. Only the cells of others that were more are cleared.
 fn copy_bytes<const N: usize>(room: &mut ArrayVec<u8, N>, bytes: &[u8])
     requires { length bytes.now ≤ N }
     ensures { room.new.items ≡ bytes.now }
@@ -130,10 +116,23 @@ fn copy_bytes<const N: usize>(room: &mut ArrayVec<u8, N>, bytes: &[u8])
         room.truncate(bytes.len());
     }
     let (front, rest) = bytes.split_at(room.len());
-    if !front.is_empty() {
-        room.as_mut_slice().copy_from_slice(front);
-    }
+    write_over(room.as_mut_slice(), front);
     if !rest.is_empty() {
         let _ = room.try_extend_from_slice(rest);
+    }
+}
+
+/// Writes bytes over as many others. One or none are written without a call.
+fn write_over(room: &mut [u8], bytes: &[u8])
+    requires { length room.old ≡ length bytes.now }
+    ensures { room.new ≡ bytes.now }
+{
+    if bytes.is_empty() {
+        return;
+    }
+    if bytes.len() == 1 {
+        room[0] = bytes[0];
+    } else {
+        room.copy_from_slice(bytes);
     }
 }

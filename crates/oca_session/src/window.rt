@@ -159,12 +159,12 @@ impl ReplyWindow {
         };
         self.floor = Some(raised_floor(self.floor, pushed_out));
         let at = self.oldest;
-        self.cells[at].set(command, reply);
         self.oldest = if at + 1 == self.cells.len() {
             0
         } else {
             at + 1
         };
+        self.cells[at].set(command, reply);
     }
 }
 
