@@ -1,17 +1,25 @@
 -- What the tree's own functions say to one another. No public clause cites it.
-use Rattle.std.specs.Prelude.{◌≡◌, ℕ, ◌==◌, Bool, true, false, if◌then◌else◌, List, [], ◌∷◌, ◌++◌, length, ◌<◌, slice_set, slice_index_or, nat_lt, Option, Some, None, Result, Ok, Err}
+use Rattle.std.specs.Prelude.{◌≡◌, ℕ, ◌==◌, Bool, true, false, if◌then◌else◌, List, [], ◌∷◌, ◌++◌, length, ◌+◌, ◌<◌, nat_lt, Option, Some, None, Result, Ok, Err}
 use Rattle.oca_types.specs.declared.words.Peer.{Peer}
+use Rattle.oca_types.specs.declared.fault.PutFault.{PutFault}
+use Rattle.oca_types.specs.declared.class.Access.{Access}
+use Rattle.oca_types.specs.declared.class.Access.TheVariants.{Read}
+use Rattle.oca_types.specs.declared.class.Method.{Method}
+use Rattle.oca_types.specs.declared.class.MethodKind.TheVariants.{Known}
+use Rattle.oca_types.specs.Methods.{access}
 use Rattle.oca_types.specs.declared.status.Status.{Status}
 use Rattle.oca_types.specs.declared.status.Status.TheVariants as status
 use Rattle.oca_types.specs.Peers.{CommandFields}
 use Rattle.oca_tree.specs.declared.object.Object.{Object}
 use Rattle.oca_tree.specs.declared.object.Value.{Value}
+use Rattle.oca_tree.specs.declared.object.Value.TheVariants as values
 use Rattle.oca_tree.specs.declared.request.Request.{Request}
 use Rattle.oca_tree.specs.declared.builder.AddFault.{AddFault}
 use Rattle.oca_tree.specs.declared.builder.Spec.{Spec}
 use Rattle.oca_tree.specs.Places.{places, reaches}
-use Rattle.oca_tree.specs.Requests.{is_out_of_range, is_invalid}
-use Rattle.oca_tree.specs.Execution.{identification_encoding, block_member_encoding, answer, kind_at, request_at, status_of, by_status, refused, execution, changed, answer_count}
+use Rattle.oca_tree.specs.Locks.{lock_refuses}
+use Rattle.oca_tree.specs.Requests.{request_of, is_out_of_range, is_invalid}
+use Rattle.oca_tree.specs.Execution.{identification_encoding, block_member_encoding, joined, answer, kind_at, request_at, status_of, by_status, refused, execution}
 use Rattle.oca_tree.specs.Trees.{IsTree, IsSoundValue}
 use Rattle.oca_tree.specs.Building.{add_fault, object_of_spec, is_bad_value}
 
@@ -24,21 +32,43 @@ abbrev pub item_encoding : Bool → Object → List ℕ
 item_encoding true o = block_member_encoding o
 item_encoding false o = identification_encoding o
 
+-- what comes of a put of so many parameters
+abbrev pub counted_as : {X : Type 0} → ℕ → Result X PutFault → Result ℕ Status
+counted_as count (Ok _) = Ok count
+counted_as count (Err _) = Err status.BufferOverflow
+
+-- All parameters were appended, and there are so many of them; or there is no room for them.
+abbrev pub PutsAll : Result ℕ Status → List ℕ → List ℕ → List (List ℕ) → Type 0
+PutsAll (Ok count) old new parameters = (new ≡ old ++ joined parameters) × (count ≡ length parameters)
+PutsAll (Err s) old new parameters = (s ≡ status.BufferOverflow) × (1452 < length old + length (joined parameters))
+
+-- what a method asks that only reads and has no parameters (of any object: the root is one), or nothing
+abbrev pub only_reads : Access → Bool
+only_reads Read = true
+only_reads _ = false
+
+abbrev pub plain_request : Method → Option Request
+plain_request method = if only_reads (access method) then request_of values.Block method 0 [] else None
+
+-- The object has the method, and no lock keeps the peer from it.
+abbrev pub MayCall : Method → Object → Peer → CommandFields → Type 0
+MayCall method o peer c = (kind_at (Some o) c ≡ Known method (access method)) × (lock_refuses o.lock peer (access method) ≡ false)
+
+-- The command is refused at the object, whatever the tree.
+abbrev pub IsRefusedAt : Status → Object → Peer → CommandFields → Type 0
+IsRefusedAt s o peer c = (tree : List Object) → by_status tree peer (Some o) (request_at (Some o) (kind_at (Some o) c) c) (status_of tree peer (Some o) c) ≡ refused tree s
+
+abbrev pub IsMethodFor : Result Method Status → Object → Peer → CommandFields → Type 0
+IsMethodFor (Ok method) o peer c = MayCall method o peer c
+IsMethodFor (Err s) o peer c = IsRefusedAt s o peer c
+
 -- A command is understood at an object, and then only the answer can be too long, or it is refused whatever the tree.
 abbrev pub IsRequestFor : Result Request Status → Object → Peer → CommandFields → Type 0
 IsRequestFor (Ok r) o peer c =
     (request_at (Some o) (kind_at (Some o) c) c ≡ Some r)
     × (is_out_of_range o.value r ≡ false) × (is_invalid o.lockable o.lock r ≡ false)
     × ((tree : List Object) → status_of tree peer (Some o) c ≡ (if nat_lt 1452 (length (answer tree o r)) then status.BufferOverflow else status.Ok))
-IsRequestFor (Err s) o peer c =
-    (tree : List Object) → by_status tree peer (Some o) (request_at (Some o) (kind_at (Some o) c) c) (status_of tree peer (Some o) c) ≡ refused tree s
-
--- An object was found, and what is asked of it can be done and has this answer; or the command is refused.
-abbrev pub IsAnsweredAs : Result (ℕ × Request) Status → List Object → List ℕ → Peer → CommandFields → Type 0
-IsAnsweredAs (Ok found) tree out peer c = (found.0 < length tree) × ((d : Object) → let o = slice_index_or tree found.0 d in
-    (execution tree peer c ≡ record { tree = slice_set tree found.0 (changed o peer found.1); status = status.Ok; count = answer_count tree o found.1; parameters = out })
-    × (is_out_of_range o.value found.1 ≡ false) × IsTree (slice_set tree found.0 (changed o peer found.1)))
-IsAnsweredAs (Err s) tree out peer c = execution tree peer c ≡ refused tree s
+IsRequestFor (Err s) o peer c = IsRefusedAt s o peer c
 
 -- A command was carried out, or refused with nothing changed, as its execution says.
 abbrev pub Executes : Result ℕ Status → List Object → List Object → List ℕ → Peer → CommandFields → Type 0

@@ -1,16 +1,15 @@
 //! Writing the parameters of an answer.
-ghost use Rattle.std.specs.Prelude.{◌≡◌, ◌==◌, ◌≤◌, ◌<◌, Bool, length, map, take, slice_index_or, true, false};
+ghost use Rattle.std.specs.Prelude.{◌≡◌, ◌==◌, ◌≤◌, ◌<◌, Bool, [], length, map, take, slice_index_or, true, false, IfSome, IfNone};
 ghost use Rattle.std.specs.List.{flat_map, filter};
 ghost use Rattle.std.specs.Int.{w8};
-ghost use Rattle.oca_types.specs.Numbers.{bool_encoding};
+ghost use Rattle.oca_types.specs.Numbers.{bool_encoding, unsigned_encoding};
 ghost use Rattle.oca_types.specs.Putting.{Puts};
 ghost use Rattle.oca_types.specs.Texts.{text_encoding};
 ghost use Rattle.oca_tree.specs.Requests.{is_out_of_range};
-ghost use Rattle.oca_tree.specs.Execution.{list_encoding, state_encoding, position_parameters, switch_parameters, setting_parameters, joined, answer, answer_count, mute_number, polarity_number};
+ghost use Rattle.oca_tree.specs.Execution.{list_encoding, state_encoding, position_parameters, switch_parameters, setting_parameters, parameters, joined, mute_number, polarity_number};
 ghost use Rattle.oca_tree.specs.Requests.{is_bad_position};
 ghost use Rattle.oca_tree.specs.Trees.{IsTree, IsSoundValue, IsSoundSwitch, IsSoundRange};
-ghost use Rattle.oca_tree.specs.PrivateSteps.{is_listed, item_encoding};
-ghost use Rattle.std.specs.Prelude.{List};
+ghost use Rattle.oca_tree.specs.PrivateSteps.{is_listed, item_encoding, counted_as, PutsAll};
 ghost use Rattle.oca_tree.specs.declared.object.Object.{Object as AnObject};
 ghost use Rattle.oca_tree.specs.declared.object.Switch.{Switch};
 ghost use Rattle.oca_tree.specs.declared.object.Value.TheVariants.{Number};
@@ -23,8 +22,8 @@ use crate::put::put_number;
 use crate::request::{Request, SwitchRequest};
 use arrayvec::ArrayVec;
 use oca_types::{
-    Ono, Params, PutFault, Text, put_bool, put_class_identification, put_text, put_u8, put_u16,
-    put_u32,
+    Ono, Params, PutFault, Status, Text, put_bool, put_class_identification, put_text, put_u8,
+    put_u16, put_u32,
 };
 
 /// An object's number and class, and where all descendants are listed its container too.
@@ -132,14 +131,26 @@ pub(crate) fn polarity_number(state: PolarityState) -> u8
     state as u8
 }
 
+/// The number of the state of a mute or a polarity; nothing of any other value.
+fn state_number(value: &Value) -> Option<u8>
+    ensures state { IfSome result (λ number. state_encoding value.now ≡ unsigned_encoding w8 number) }
+    ensures other { IfNone result (state_encoding value.now ≡ []) }
+{
+    match value {
+        Value::Mute(state) => Some(mute_number(*state)),
+        Value::Polarity(state) => Some(polarity_number(*state)),
+        _ => None,
+    }
+}
+
 /// The state of a mute or a polarity.
+#[inline(always)]
 fn put_state(out: &mut Params, value: &Value) -> Result<(), PutFault>
     ensures { Puts result out.old.items out.new.items (state_encoding value.now) }
 {
-    match value {
-        Value::Mute(state) => put_u8(out, mute_number(*state)),
-        Value::Polarity(state) => put_u8(out, polarity_number(*state)),
-        _ => Ok(()),
+    match state_number(value) {
+        Some(number) => put_u8(out, number),
+        None => Ok(()),
     }
 }
 
@@ -191,44 +202,55 @@ fn put_bool_list(out: &mut Params, truths: &[bool]) -> Result<(), PutFault>
     put_bools(out, truths)
 }
 
+/// What a put of so many parameters gives: their number, or that the answer is too long.
+fn counted(count: u8, put: Result<(), PutFault>) -> Result<u8, Status>
+    ensures { result ≡ counted_as count put }
+{
+    match put {
+        Ok(()) => Ok(count),
+        Err(_) => Err(Status::BufferOverflow),
+    }
+}
+
 /// What a switch answers.
 fn put_switch_answer(
     out: &mut Params,
     switch: &Switch,
     request: &SwitchRequest<'_>,
-) -> Result<(), PutFault>
+) -> Result<u8, Status>
     requires sound { IsSoundSwitch switch.now }
     requires there { is_bad_position switch.now request.now ≡ false }
-    ensures { Puts result out.old.items out.new.items (joined (position_parameters switch.now request.now)) }
+    ensures { PutsAll result out.old.items out.new.items (position_parameters switch.now request.now) }
 {
     match request {
-        SwitchRequest::GetPosition => put_position(out, switch),
+        SwitchRequest::GetPosition => counted(3, put_position(out, switch)),
         SwitchRequest::GetPositionName(position) => {
-            put_text(out, &switch.names[usize::from(*position)])
+            counted(1, put_text(out, &switch.names[usize::from(*position)]))
         }
-        SwitchRequest::GetPositionNames => put_text_list(out, &switch.names),
+        SwitchRequest::GetPositionNames => counted(1, put_text_list(out, &switch.names)),
         SwitchRequest::GetPositionEnabled(position) => {
-            put_bool(out, switch.enableds[usize::from(*position)])
+            counted(1, put_bool(out, switch.enableds[usize::from(*position)]))
         }
-        SwitchRequest::GetPositionEnableds => put_bool_list(out, &switch.enableds),
-        _ => Ok(()),
+        SwitchRequest::GetPositionEnableds => counted(1, put_bool_list(out, &switch.enableds)),
+        _ => Ok(0),
     }
 }
 
 /// What a switch answers; any other value answers nothing to it.
+#[inline(never)]
 #[tactic(auto, unfolding(crate::specs::Requests::is_out_of_range, crate::specs::Trees::IsSoundValue))]
 fn put_position_answer(
     out: &mut Params,
     value: &Value,
     request: &SwitchRequest<'_>,
-) -> Result<(), PutFault>
+) -> Result<u8, Status>
     requires sound { IsSoundValue value.now }
     requires there { is_out_of_range value.now (AsSwitch request.now) ≡ false }
-    ensures { Puts result out.old.items out.new.items (joined (switch_parameters value.now request.now)) }
+    ensures { PutsAll result out.old.items out.new.items (switch_parameters value.now request.now) }
 {
     match value {
         Value::Switch(switch) => put_switch_answer(out, switch, request),
-        _ => Ok(()),
+        _ => Ok(0),
     }
 }
 
@@ -243,85 +265,47 @@ fn put_range(out: &mut Params, range: &Range) -> Result<(), PutFault>
 }
 
 /// The setting, and of a number its least and its greatest too.
+#[inline(never)]
 #[tactic(auto, unfolding(crate::specs::Trees::IsSoundValue))]
-fn put_setting(out: &mut Params, value: &Value) -> Result<(), PutFault>
+fn put_setting(out: &mut Params, value: &Value) -> Result<u8, Status>
     requires { IsSoundValue value.now }
-    ensures { Puts result out.old.items out.new.items (joined (setting_parameters value.now)) }
+    ensures { PutsAll result out.old.items out.new.items (setting_parameters value.now) }
 {
     match value {
-        Value::Boolean(truth) => put_bool(out, *truth),
-        Value::Number(range) => put_range(out, range),
-        _ => Ok(()),
+        Value::Boolean(truth) => counted(1, put_bool(out, *truth)),
+        Value::Number(range) => counted(3, put_range(out, range)),
+        _ => Ok(0),
     }
 }
 
-/// How many parameters a switch answers.
-fn switch_answer_count(request: &SwitchRequest<'_>) -> u8
-    ensures { (switch : Switch) → result ≡ length (position_parameters switch request.now) }
-{
-    match request {
-        SwitchRequest::GetPosition => 3,
-        SwitchRequest::GetPositionName(_)
-        | SwitchRequest::GetPositionNames
-        | SwitchRequest::GetPositionEnabled(_)
-        | SwitchRequest::GetPositionEnableds => 1,
-        _ => 0,
-    }
-}
-
-/// How many parameters the answer has.
-#[tactic(auto, unfolding(crate::specs::Execution::parameters))]
-pub(crate) fn answer_count(object: &Object, request: &Request<'_>) -> u8
-    ensures { (tree : List AnObject) → result ≡ answer_count tree object.now request.now }
-{
-    match request {
-        Request::GetClassIdentification
-        | Request::GetLockable
-        | Request::GetRole
-        | Request::GetEnabled
-        | Request::GetLabel
-        | Request::GetOwner
-        | Request::GetMembers
-        | Request::GetMembersRecursive
-        | Request::GetState => 1,
-        Request::Switch(request) => match &object.value {
-            Value::Switch(_) => switch_answer_count(request),
-            _ => 0,
-        },
-        Request::GetSetting => match &object.value {
-            Value::Number(_) => 3,
-            Value::Boolean(_) => 1,
-            _ => 0,
-        },
-        _ => 0,
-    }
-}
-
-/// The parameters of the answer.
+/// Appends the parameters of the answer, and says how many they are, unless it is too long.
+#[inline(always)]
 #[tactic(auto, unfolding(crate::specs::Execution::parameters))]
 pub(crate) fn put_answer(
     out: &mut Params,
     objects: &Objects,
     object: &Object,
     request: &Request<'_>,
-) -> Result<(), PutFault>
+) -> Result<u8, Status>
     requires sound { IsSoundValue object.now.value }
     requires range { is_out_of_range object.now.value request.now ≡ false }
     requires tree { IsTree objects.now }
-    ensures { Puts result out.old.items out.new.items (answer objects.now object.now request.now) }
+    ensures { PutsAll result out.old.items out.new.items (parameters objects.now object.now request.now) }
 {
     match request {
-        Request::GetClassIdentification => put_class_identification(out, object.class()),
-        Request::GetLockable => put_bool(out, object.lockable),
-        Request::GetRole => put_text(out, &object.role),
-        Request::GetEnabled => put_bool(out, object.enabled),
-        Request::GetLabel => put_text(out, &object.label),
-        Request::GetOwner => put_u32(out, object.container.0),
-        Request::GetMembers => put_members(out, objects, object.ono, false),
-        Request::GetMembersRecursive => put_members(out, objects, object.ono, true),
-        Request::GetState => put_state(out, &object.value),
+        Request::GetClassIdentification => {
+            counted(1, put_class_identification(out, object.class()))
+        }
+        Request::GetLockable => counted(1, put_bool(out, object.lockable)),
+        Request::GetRole => counted(1, put_text(out, &object.role)),
+        Request::GetEnabled => counted(1, put_bool(out, object.enabled)),
+        Request::GetLabel => counted(1, put_text(out, &object.label)),
+        Request::GetOwner => counted(1, put_u32(out, object.container.0)),
+        Request::GetMembers => counted(1, put_members(out, objects, object.ono, false)),
+        Request::GetMembersRecursive => counted(1, put_members(out, objects, object.ono, true)),
+        Request::GetState => counted(1, put_state(out, &object.value)),
         Request::Switch(request) => put_position_answer(out, &object.value, request),
         Request::GetSetting => put_setting(out, &object.value),
-        _ => Ok(()),
+        _ => Ok(0),
     }
 }

@@ -1,35 +1,45 @@
 //! Executing a command: whether it is refused, what it answers and what it changes.
-ghost use Rattle.std.specs.Prelude.{◌≡◌, [], ◌≤◌, length};
+ghost use Rattle.std.specs.Prelude.{◌≡◌, [], slice_index_or, Some};
+ghost use Rattle.std.specs.List.{position};
 ghost use Rattle.oca_types.specs.Peers.{fields_of};
-ghost use Rattle.oca_types.specs.Methods.{method_kind};
-ghost use Rattle.oca_types.specs.declared.class.MethodKind.TheVariants.{Known};
-ghost use Rattle.oca_tree.specs.Objects.{class_of};
+ghost use Rattle.oca_tree.specs.Objects.{has_number};
 ghost use Rattle.oca_tree.specs.Locks.{lock_count};
 ghost use Rattle.oca_tree.specs.Trees.{IsTree, IsSound};
-ghost use Rattle.oca_tree.specs.PrivateSteps.{IsRequestFor, IsAnsweredAs, Executes};
+ghost use Rattle.oca_tree.specs.PrivateSteps.{MayCall, IsMethodFor, IsRequestFor, Executes};
+ghost use Rattle.oca_tree.specs.declared.object.Object.{Object as AnObject};
 
-use crate::answer::{answer_count, put_answer};
+use crate::answer::put_answer;
 use crate::object::Object;
 use crate::objects::Objects;
 use crate::place::index_of;
 use crate::request::Request;
-use oca_types::{Access, Command, Method, MethodKind, Params, Peer, Status, method_of};
+use oca_types::{Command, Method, MethodKind, Params, Peer, Status, method_of};
+
+/// The method that a command calls, or why the peer cannot call it.
+fn method_for(object: &Object, peer: Peer, command: &Command<'_>) -> Result<Method, Status>
+    ensures { IsMethodFor result object.now peer (fields_of command.now) }
+{
+    match method_of(object.class(), command.method) {
+        MethodKind::Known(method, access) => {
+            if object.is_locked_for(peer, access) {
+                return Err(Status::Locked);
+            }
+            Ok(method)
+        }
+        MethodKind::LeftOut => Err(Status::NotImplemented),
+        MethodKind::Unknown => Err(Status::BadMethod),
+    }
+}
 
 /// What a command asks by this method of an object, or why it is refused.
 fn check_request<'a>(
     object: &Object,
-    peer: Peer,
     command: &Command<'a>,
     method: Method,
-    access: Access,
 ) -> Result<Request<'a>, Status>
-    requires sound { IsSound object.now }
-    requires known { method_kind (class_of object.now.value) command.now.method ≡ Known method access }
-    ensures { IsRequestFor result object.now peer (fields_of command.now) }
+    requires { IsSound object.now }
+    ensures { (peer : Peer) → MayCall method object.now peer (fields_of command.now) → IsRequestFor result object.now peer (fields_of command.now) }
 {
-    if object.is_locked_for(peer, access) {
-        return Err(Status::Locked);
-    }
     let Some(request) = Request::read(&object.value, method, command.count, command.params) else {
         return Err(Status::ParameterError);
     };
@@ -42,46 +52,36 @@ fn check_request<'a>(
     Ok(request)
 }
 
-/// What a command asks of an object, or why it is refused.
-fn request_for<'a>(
-    object: &Object,
+/// Carries out any method of the object at this index, which the peer may call.
+#[inline(always)]
+fn carry_out_at(
+    objects: &mut Objects,
+    at: usize,
+    method: Method,
+    locks: &mut usize,
     peer: Peer,
-    command: &Command<'a>,
-) -> Result<Request<'a>, Status>
-    requires { IsSound object.now }
-    ensures { IsRequestFor result object.now peer (fields_of command.now) }
-{
-    match method_of(object.class(), command.method) {
-        MethodKind::Known(method, access) => check_request(object, peer, command, method, access),
-        MethodKind::LeftOut => Err(Status::NotImplemented),
-        MethodKind::Unknown => Err(Status::BadMethod),
-    }
-}
-
-/// Finds what a command asks and answers it, or refuses it. It changes no object.
-fn find_and_answer<'a>(
-    objects: &Objects,
-    peer: Peer,
-    command: &Command<'a>,
+    command: &Command<'_>,
     out: &mut Params,
-) -> Result<(usize, Request<'a>), Status>
+) -> Result<u8, Status>
+    requires place { position (has_number command.now.target.0) objects.old ≡ Some at }
+    requires method { (d : AnObject) → MayCall method (slice_index_or objects.old at d) peer (fields_of command.now) }
     requires empty { out.old.items ≡ [] }
-    requires tree { IsTree objects.now }
-    ensures { IsAnsweredAs result objects.now out.new.items peer (fields_of command.now) }
+    requires tree { IsTree objects.old }
+    requires count { locks.old ≡ lock_count objects.old }
+    ensures done { Executes result objects.old objects.new out.new.items peer (fields_of command.now) }
+    ensures tree { IsTree objects.new }
+    ensures count { locks.new ≡ lock_count objects.new }
 {
-    let Some(at) = index_of(objects, command.target) else {
-        return Err(Status::BadOno);
-    };
     let object = objects.object_at(at);
-    let request = request_for(object, peer, command)?;
-    if put_answer(out, objects, object, &request).is_err() {
-        return Err(Status::BufferOverflow);
-    }
+    let request = check_request(object, command, method)?;
+    let count = put_answer(out, objects, object, &request)?;
     prove!(out.len() <= 1452);
-    Ok((at, request))
+    objects.change_at(at, locks, peer, request);
+    Ok(count)
 }
 
-/// Carries out a command, if it is not refused, and puts the answer into empty parameters. `locks` counts the locks that are held.
+/// Carries out a command, if it is not refused, and puts the answer into empty parameters. `locks` counts the locks that are
+/// held. What only reads and has no parameters is answered at once.
 pub(crate) fn carry_out(
     objects: &mut Objects,
     locks: &mut usize,
@@ -96,8 +96,18 @@ pub(crate) fn carry_out(
     ensures tree { IsTree objects.new }
     ensures count { locks.new ≡ lock_count objects.new }
 {
-    let (at, request) = find_and_answer(objects, peer, command, out)?;
-    let count = answer_count(objects.object_at(at), &request);
-    objects.change_at(at, locks, peer, request);
-    Ok(count)
+    let Some(at) = index_of(objects, command.target) else {
+        return Err(Status::BadOno);
+    };
+    let object = objects.object_at(at);
+    let method = method_for(object, peer, command)?;
+    if command.count == 0
+        && command.params.is_empty()
+        && let Some(request) = Request::plain(method)
+    {
+        let answered = put_answer(out, objects, object, &request);
+        prove!(out.len() <= 1452);
+        return answered;
+    }
+    carry_out_at(objects, at, method, locks, peer, command, out)
 }

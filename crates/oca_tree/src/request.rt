@@ -2,6 +2,7 @@
 ghost use Rattle.std.specs.Prelude.{◌≡◌, ◌==◌, ◌≤◌, length};
 ghost use Rattle.oca_tree.specs.Requests.{request_of, positions, is_out_of_range, is_invalid};
 ghost use Rattle.oca_tree.specs.Trees.{IsSoundValue};
+ghost use Rattle.oca_tree.specs.PrivateSteps.{plain_request};
 
 use crate::held::{HeldText, HeldTexts};
 use crate::object::{Object, Range, Switch, Value};
@@ -173,6 +174,31 @@ fn is_outside(range: &Range, request: &Request<'_>) -> bool
 }
 
 impl<'a> Request<'a> {
+    /// What a method asks that only reads and has no parameters; nothing for any other.
+    #[tactic(auto, unfolding(crate::specs::Requests::request_of))]
+    pub(crate) fn plain(method: Method) -> Option<Request<'a>>
+        ensures { result ≡ plain_request method }
+    {
+        match method {
+            Method::GetClassIdentification => Some(Request::GetClassIdentification),
+            Method::GetLockable => Some(Request::GetLockable),
+            Method::GetRole => Some(Request::GetRole),
+            Method::GetEnabled => Some(Request::GetEnabled),
+            Method::GetLabel => Some(Request::GetLabel),
+            Method::GetOwner => Some(Request::GetOwner),
+            Method::GetMembers => Some(Request::GetMembers),
+            Method::GetMembersRecursive => Some(Request::GetMembersRecursive),
+            Method::GetState => Some(Request::GetState),
+            Method::GetPosition => Some(Request::Switch(SwitchRequest::GetPosition)),
+            Method::GetPositionNames => Some(Request::Switch(SwitchRequest::GetPositionNames)),
+            Method::GetPositionEnableds => Some(Request::Switch(
+                SwitchRequest::GetPositionEnableds,
+            )),
+            Method::GetSetting => Some(Request::GetSetting),
+            _ => None,
+        }
+    }
+
     /// Reads what a method with these parameters asks of an object with this value; nothing where
     /// they are not the method's.
     #[tactic(auto, unfolding(crate::specs::Requests::request_of))]
@@ -185,34 +211,12 @@ impl<'a> Request<'a> {
         ensures { result ≡ request_of value.now method count params.now }
     {
         match method {
-            Method::GetClassIdentification => without_parameters(
-                Request::GetClassIdentification,
-                count,
-                params,
-            ),
-            Method::GetLockable => without_parameters(Request::GetLockable, count, params),
             Method::LockTotal => without_parameters(Request::LockTotal, count, params),
             Method::Unlock => without_parameters(Request::Unlock, count, params),
-            Method::GetRole => without_parameters(Request::GetRole, count, params),
             Method::LockReadonly => without_parameters(Request::LockReadonly, count, params),
-            Method::GetEnabled => without_parameters(Request::GetEnabled, count, params),
             Method::SetEnabled => Some(Request::SetEnabled(take::one_bool(count, params)?)),
-            Method::GetLabel => without_parameters(Request::GetLabel, count, params),
             Method::SetLabel => Some(Request::SetLabel(take::one_text(count, params)?)),
-            Method::GetOwner => without_parameters(Request::GetOwner, count, params),
-            Method::GetMembers => without_parameters(Request::GetMembers, count, params),
-            Method::GetMembersRecursive => without_parameters(
-                Request::GetMembersRecursive,
-                count,
-                params,
-            ),
-            Method::GetState => without_parameters(Request::GetState, count, params),
             Method::SetState => Some(Request::SetState(take::one_u8(count, params)?)),
-            Method::GetPosition => without_parameters(
-                Request::Switch(SwitchRequest::GetPosition),
-                count,
-                params,
-            ),
             Method::SetPosition => Some(Request::Switch(SwitchRequest::SetPosition(take::one_u16(
                 count, params,
             )?))),
@@ -220,11 +224,6 @@ impl<'a> Request<'a> {
                 Some(Request::Switch(SwitchRequest::GetPositionName(take::one_u16(count, params)?)))
             }
             Method::SetPositionName => position_name_request(count, params),
-            Method::GetPositionNames => without_parameters(
-                Request::Switch(SwitchRequest::GetPositionNames),
-                count,
-                params,
-            ),
             Method::SetPositionNames => position_names_request(value, count, params),
             Method::GetPositionEnabled => {
                 Some(Request::Switch(SwitchRequest::GetPositionEnabled(take::one_u16(
@@ -232,14 +231,9 @@ impl<'a> Request<'a> {
                 )?)))
             }
             Method::SetPositionEnabled => position_enabled_request(count, params),
-            Method::GetPositionEnableds => without_parameters(
-                Request::Switch(SwitchRequest::GetPositionEnableds),
-                count,
-                params,
-            ),
             Method::SetPositionEnableds => position_enableds_request(value, count, params),
-            Method::GetSetting => without_parameters(Request::GetSetting, count, params),
             Method::SetSetting => setting_request(value, count, params),
+            _ => without_parameters(Request::plain(method)?, count, params),
         }
     }
 

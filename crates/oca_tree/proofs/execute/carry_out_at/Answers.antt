@@ -1,0 +1,45 @@
+use Rattle.std.proofs.Common.{sym, ap, ◌∙◌, refl, arith, set}
+use Rattle.std.proofs.lemmas.Result.{err_from_is_err_and}
+use Rattle.oca_types.specs.Peers.{fields_of}
+use Rattle.oca_tree.specs.Execution.{changed}
+use Rattle.oca_tree.proofs.Executing.{exec_refused, found_at, full_at, done_at, tree_at}
+use Rattle.oca_tree.proofs.execute.carry_out_at.Goals as goal
+
+pub returns-in_err-request-clause-done : goal.returns-in_err-request-clause-done
+returns-in_err-request-clause-done c =
+    let p = err_from_is_err_and c.from_residual.result c.from_residual.ensures.1 in
+    let o = c.object_at-object.result.now in
+    let here = c.object_at-object.ensures in
+    let may = rw (← here) at (c.requires.method o) in
+    let found = found_at c.args.objects.now c.args.peer (fields_of c.args.command.now) c.args.at o (sym c.requires.place) here in
+    rw (p.1, p.2) (exec_refused c.args.objects.now c.args.peer (fields_of c.args.command.now) o found _ (c.in_err-request.ensures c.args.peer may), refl)
+
+pub returns-in_err-count-clause-done : goal.returns-in_err-count-clause-done
+returns-in_err-count-clause-done c =
+    let p = err_from_is_err_and c.from_residual-in_err-count.result c.from_residual-in_err-count.ensures.1 in
+    let o = c.object_at-object.result.now in
+    let here = c.object_at-object.ensures in
+    let may = rw (← here) at (c.requires.method o) in
+    let asked = c.in_ok-request.ensures c.args.peer may in
+    let puts = rw c.requires.empty at c.in_err-count.ensures in
+    rw (p.1, p.2) (full_at c.args.objects.now c.args.peer (fields_of c.args.command.now) c.args.at o (sym c.requires.place) here c.in_ok-request.request asked c.put_answer.new.out.items _ puts, refl)
+
+pub returns-clause-done : goal.returns-clause-done
+returns-clause-done c =
+    let o = c.object_at-object.result.now in
+    let here = c.object_at-object.ensures in
+    let may = rw (← here) at (c.requires.method o) in
+    let asked = c.in_ok-request.ensures c.args.peer may in
+    let puts = rw c.requires.empty at c.in_ok-count.ensures in
+    let new = c.change_at.ensures.objects o ∙ ap (λ x. set c.args.objects.now c.args.at (changed x c.args.peer c.in_ok-request.request)) (sym here) in
+    let done = done_at c.args.objects.now c.args.peer (fields_of c.args.command.now) c.args.at o (sym c.requires.place) here c.in_ok-request.request asked c.put_answer.new.out.items c.in_ok-count.count puts (omega arith) in
+    rw new done
+
+pub returns-clause-tree : goal.returns-clause-tree
+returns-clause-tree c =
+    let o = c.object_at-object.result.now in
+    let here = c.object_at-object.ensures in
+    let may = rw (← here) at (c.requires.method o) in
+    let asked = c.in_ok-request.ensures c.args.peer may in
+    let new = c.change_at.ensures.objects o ∙ ap (λ x. set c.args.objects.now c.args.at (changed x c.args.peer c.in_ok-request.request)) (sym here) in
+    rw new (tree_at c.args.objects.now c.args.peer (fields_of c.args.command.now) c.args.at o (sym c.requires.place) here c.in_ok-request.request asked c.put_answer.new.out.items c.requires.tree)
