@@ -1,5 +1,6 @@
 pub mod FieldLemmas
 pub mod PartLemmas
+pub mod NumberLemmas
 pub mod SearchLemmas
 pub mod TextLemmas
 pub mod HexLemmas
