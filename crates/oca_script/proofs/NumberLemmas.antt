@@ -1,5 +1,5 @@
 -- Numbers and addresses that stand before a separator.
-use Rattle.std.proofs.Common.{◌≡◌, ◌⊎◌, ℕ, suc, ◌+◌, ◌-◌, ◌*◌, ◌<◌, ◌≤◌, ◌==◌, Bool, true, false, ◌||◌, inl, inr, List, [], ◌∷◌, ◌++◌, length, take, drop, get_or, Option, Some, None, refl, sym, ap, ◌∙◌, arith, cond, leb, ltb, add-one, append_assoc, append-nil, length-append}
+use Rattle.std.proofs.Common.{◌≡◌, ◌⊎◌, ℕ, ◌+◌, ◌-◌, ◌*◌, ◌<◌, ◌≤◌, ◌==◌, Bool, true, false, ◌||◌, inl, inr, List, [], ◌∷◌, ◌++◌, length, take, drop, get_or, Option, Some, None, refl, sym, ap, ◌∙◌, arith, cond, leb, ltb, add-one, append_assoc, length-append}
 use Rattle.std.proofs.lemmas.Bool.{cases_lt, eqb-true}
 use Rattle.std.proofs.lemmas.Bool.Decides.{nat_tests}
 use Rattle.std.proofs.lemmas.List.{take-append-drop, take_more, length-take}
@@ -134,6 +134,7 @@ module _ (end most largest : ℕ) (other : (end < 48) ⊎ (57 < end)) (text : Li
     where
       free : Free end (take i text)
       free = digits-free end 0 v (take i text) other e
+
       by_test : (t : Bool) → (get_or text i 0 == end) ≡ t → read_before (number_of most largest) end text ≡ None
       by_test true is =
           let same : get_or text i 0 ≡ end = eqb-true (get_or text i 0) end is in

@@ -49,6 +49,7 @@ pub record Before {A : Type 0} (read : List ℕ → Option A) (s : ℕ) (text : 
   pub front : List ℕ
   pub whole : text ≡ front ++ s ∷ rest
   pub free : Free s front
+  pub parted : split_at s text ≡ Some (front, rest)
   pub reads : read front ≡ Some value
 
 module _ {A : Type 0} (read : List ℕ → Option A) (s : ℕ) where
@@ -71,7 +72,15 @@ module _ {A : Type 0} (read : List ℕ → Option A) (s : ℕ) where
           let pairs : (y, h.rest) ≡ (x, rest) = cc shown in
           let values : y ≡ x = ap (λ (p : A × List ℕ). p.0) pairs in
           let rests : h.rest ≡ rest = ap (λ (p : A × List ℕ). p.1) pairs in
-          record { front = h.front; whole = h.whole ∙ ap (λ (r : List ℕ). h.front ++ s ∷ r) rests; free = h.free; reads = q ∙ ap Some values }
+          let whole : text ≡ h.front ++ s ∷ rest = h.whole ∙ ap (λ (r : List ℕ). h.front ++ s ∷ r) rests in
+          record {
+            front = h.front;
+            whole = whole;
+            free = h.free;
+            parted = ap (split_at s) whole ∙ free-after s h.front rest h.free;
+            reads = q ∙ ap Some values;
+          }
+
       by_parts : Free s text ⊎ Parts s text → Before read s text x rest
       by_parts (inl free) = let none = before-free text free in cc (none, e)
       by_parts (inr h) = by_reading h (read h.front) refl
@@ -99,6 +108,7 @@ before-map {A} {B} read h s text = by_split (split_at s text)
     by_value : (rest : List ℕ) (o : Option A) → option_map {U = B × List ℕ} (λ y. (y, rest)) (then_in o (λ x. Some (h x))) ≡ then_in (option_map {U = A × List ℕ} (λ x. (x, rest)) o) (λ q. Some (h q.0, q.1))
     by_value rest None = refl
     by_value rest (Some x) = refl
+
     by_split : (o : Option (List ℕ × List ℕ)) → then_in o (λ p. option_map {U = B × List ℕ} (λ y. (y, p.1)) (then_in (read p.0) (λ x. Some (h x))))
         ≡ then_in (then_in o (λ p. option_map {U = A × List ℕ} (λ x. (x, p.1)) (read p.0))) (λ q. Some (h q.0, q.1))
     by_split None = refl
@@ -106,7 +116,7 @@ before-map {A} {B} read h s text = by_split (split_at s text)
 
 -- What is read in two parts, of which the first has no `e`: the first is read before its own separator, the second before `e`.
 module _ {A B : Type 0} (read : List ℕ → Option A) (more : A → List ℕ → Option B) (s e : ℕ) (apart : (s == e) ≡ false)
-  (free-read : (front : List ℕ) (x : A) → read front ≡ Some x → Free e front) where
+    (free-read : (front : List ℕ) (x : A) → read front ≡ Some x → Free e front) where
   abbrev both : List ℕ → Option B
   both text = then_in (read_before read s text) (λ p. more p.0 p.1)
 
@@ -142,6 +152,7 @@ module _ {A B : Type 0} (read : List ℕ → Option A) (more : A → List ℕ �
           (h.whole ∙ ap (λ (f : List ℕ). f ++ e ∷ h.rest) k.whole ∙ append_assoc k.front (s ∷ p.1) (e ∷ h.rest)) k.free
           ∙ ap (option_map (λ y. (y, p.1 ++ e ∷ h.rest))) k.reads in
           cc (none, some)
+
       by_parts : Free e text ⊎ Parts e text → read_before both e text ≡ None
       by_parts (inl f) = before-free both e text f
       by_parts (inr h) = by_first h (read_before read s h.front) refl

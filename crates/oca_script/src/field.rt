@@ -141,6 +141,7 @@ pub fn address(text: &[u8]) -> Option<u32>
 
 /// The address that stands before the first byte `end`, and what stands after that byte. `None` where the byte does not stand there, or
 /// what stands before it is no address.
+#[tactic(auto, using(crate::proofs::AddressLemmas::address_rules))]
 fn address_before(text: &[u8], end: u8) -> Option<(u64, &[u8])>
     requires { (end < 46) ⊎ (57 < end) }
     ensures value { read_view result ≡ read_before address_of end text.now }
@@ -170,6 +171,7 @@ pub fn peer(text: &[u8]) -> Option<Peer>
 
 /// The peer that stands before the first space, and what stands after that space. `None` where there is no space, or what stands before
 /// it is no peer.
+#[tactic(auto, using(crate::proofs::AddressLemmas::peer_rules))]
 pub fn peer_before(text: &[u8]) -> Option<(Peer, &[u8])>
     ensures value { read_view result ≡ read_before peer_of 32 text.now }
     ensures within { IfSome result (λ p. length p.1.now ≤ length text.now) }

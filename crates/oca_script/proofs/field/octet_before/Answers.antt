@@ -1,4 +1,4 @@
-use Rattle.std.proofs.Common.{◌≡◌, ◌≤◌, ◌<◌, ◌⊎◌, ◌+◌, ◌*◌, ◌-◌, ℕ, List, inl, inr, sym, arith, get_or, refl}
+use Rattle.std.proofs.Common.{◌+◌, ◌*◌, ◌-◌, inl, inr, sym, arith, get_or, refl}
 use Rattle.std.proofs.lemmas.List.{take_rest}
 use Rattle.oca_script.proofs.NumberLemmas.{Digit, front-one, front-two, front-three, octet-four, number_before-found, number_before-other, number_before-over}
 use Rattle.oca_script.proofs.field.octet_before.Goals as goal
