@@ -62,11 +62,11 @@ unfolding datagram_of
 two m p f [] now peer at_m at_p = let no = not_quiet p peer at_p in rw (no, at_m, at_p) refl
 two m p f (g ∷ gs) now peer at_m at_p = refl
 
-pub line-datagram : (line rest after : List ℕ) (now : ℕ) (peer : Peer) → read_before moment_of 32 line ≡ Some (now, rest) → read_before peer_of 32 rest ≡ Some (peer, after)
+pub line-datagram : (line rest after : List ℕ) (now : ℕ) (peer : Peer) → Some (now, rest) ≡ read_before moment_of 32 line → Some (peer, after) ≡ read_before peer_of 32 rest
     → asked_event (fields line) ≡ datagram_after now peer (fields after)
 line-datagram line rest after now peer h k =
-    let m = before-value moment_of 32 line now rest h in
-    let p = before-value peer_of 32 rest peer after k in
+    let m = before-value moment_of 32 line now rest (sym h) in
+    let p = before-value peer_of 32 rest peer after (sym k) in
     let first : fields line ≡ m.front ∷ fields rest = fields-more line m.front rest m.parted in
     let second : fields rest ≡ p.front ∷ fields after = fields-more rest p.front after p.parted in
     let third = fields-some after in
