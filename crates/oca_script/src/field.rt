@@ -141,6 +141,7 @@ pub fn address(text: &[u8]) -> Option<u32>
 
 /// The address that stands before the first byte `end`, and what stands after that byte. `None` where the byte does not stand there, or
 /// what stands before it is no address.
+#[inline(always)]
 #[tactic(auto, using(crate::proofs::AddressLemmas::address_rules))]
 fn address_before(text: &[u8], end: u8) -> Option<(u64, &[u8])>
     requires { (end < 46) ⊎ (57 < end) }
