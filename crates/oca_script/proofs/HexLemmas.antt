@@ -1,11 +1,10 @@
 -- Hexadecimal digits are one field of a line.
-use Rattle.std.proofs.Common.{◌≡◌, ℕ, ◌+◌, ◌*◌, ◌==◌, Bool, true, false, List, [], ◌∷◌, length, Option, Some, None, refl, sym, ap, ◌∙◌, arith, cond}
-use Rattle.std.specs.Prelude.{codes, Result, Ok, Err}
-use Rattle.std.specs.Str.{bytes_eq}
+use Rattle.std.proofs.Common.{◌≡◌, ℕ, ◌+◌, ◌*◌, ◌==◌, Bool, true, false, List, [], ◌∷◌, refl, sym, ap, ◌∙◌, arith}
+use Rattle.std.specs.Prelude.{Result, Ok, Err}
 use Rattle.std.proofs.lemmas.Bool.Decides.{nat_tests}
 use Rattle.hex.specs.Hex.{value_at, pair_value, decode_pairs, ◌>>=◌}
 use Rattle.hex.specs.declared.error.FromHexError.{FromHexError}
-use Rattle.oca_script.specs.Fields.{fields, hex_of}
+use Rattle.oca_script.specs.Fields.{fields}
 use Rattle.oca_script.proofs.FieldLemmas.{fields-one}
 use Rattle.oca_script.proofs.PartLemmas.{Free, free-nowhere}
 

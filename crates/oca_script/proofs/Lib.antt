@@ -1,5 +1,7 @@
 pub mod FieldLemmas
 pub mod PartLemmas
+pub mod NumberLemmas
+pub mod AddressLemmas
 pub mod SearchLemmas
 pub mod TextLemmas
 pub mod HexLemmas

@@ -1,13 +1,9 @@
--- What stands before a separator, found in one pass.
-use Rattle.std.proofs.Common.{◌≡◌, ◌⊎◌, ℕ, suc, ◌+◌, ◌-◌, ◌*◌, ◌<◌, ◌≤◌, ◌==◌, Bool, true, false, ◌||◌, inl, inr, List, [], ◌∷◌, ◌++◌, length, take, drop, get_or, Option, Some, None, refl, sym, ap, ◌∙◌, arith, cond, leb, ltb, add-one, append_assoc}
-use Rattle.std.proofs.lemmas.Bool.{cases_lt}
+-- What stands before a separator.
+use Rattle.std.proofs.Common.{◌≡◌, ◌⊎◌, ℕ, ◌==◌, Bool, true, false, inl, inr, List, [], ◌∷◌, ◌++◌, Option, Some, None, refl, sym, ap, ◌∙◌, arith, append_assoc}
+use Rattle.std.proofs.lemmas.Bool.{eqb-true}
 use Rattle.std.proofs.lemmas.Bool.Decides.{nat_tests}
-use Rattle.std.proofs.lemmas.List.{take-append-drop, take_more, length-take}
-use Rattle.std.proofs.Math.Seq.{drop-cons}
 use Rattle.std.specs.Option.{option_map}
-use Rattle.oca_types.specs.declared.words.Peer.{Peer}
-use Rattle.oca_script.specs.Fields.{value_after, at_most, number_of, split_at, peer_of, NumberBefore, PeerBefore}
-use Rattle.oca_script.proofs.FieldLemmas.{value_after-digit, value_after-low, value_after-high}
+use Rattle.oca_script.specs.Fields.{split_at, then_in, read_before}
 
 -- ---- splitting
 
@@ -28,146 +24,142 @@ pub free-nowhere : (s : ℕ) (text : List ℕ) → Free s text → split_at s te
 free-nowhere s [] h = refl
 free-nowhere s (b ∷ bs) h = rw h.0 (ap (option_map (λ p. (b ∷ p.0, p.1))) (free-nowhere s bs h.1))
 
--- ---- numbers
+-- the first such byte, and what stands before and after it
+record Parts (s : ℕ) (text : List ℕ) : Type 0 where
+  front : List ℕ
+  rest : List ℕ
+  whole : text ≡ front ++ s ∷ rest
+  free : Free s front
 
--- digits are no separators
-digits-free : (s n v : ℕ) (ds : List ℕ) → (s < 48) ⊎ (57 < s) → value_after n ds ≡ Some v → Free s ds
-digits-free s n v [] other e = tt
-digits-free s n v (c ∷ cs) other e = elim (cases_lt c 48) [
-  | inl low ↦ let no = value_after-low n c cs low in cc (no, e)
-  | inr above ↦ elim (cases_lt 57 c) [
-    | inl high ↦ let no = value_after-high n c cs high in cc (no, e)
-    | inr digit ↦ (differ other above digit, digits-free s (n * 10 + (c - 48)) v cs other (sym (value_after-digit n c cs above digit) ∙ e))
-  ]
-]
+-- the byte stands in the text, or it does not
+parts : (s : ℕ) (text : List ℕ) → Free s text ⊎ Parts s text
+parts s [] = inl tt
+parts s (b ∷ bs) = by_test (b == s) refl (parts s bs)
   where
-    differ : (s < 48) ⊎ (57 < s) → 48 ≤ c → c ≤ 57 → (c == s) ≡ false
-    differ (inl low) above digit = grind (arith, nat_tests)
-    differ (inr high) above digit = grind (arith, nat_tests)
+    by_test : (t : Bool) → (b == s) ≡ t → Free s bs ⊎ Parts s bs → Free s (b ∷ bs) ⊎ Parts s (b ∷ bs)
+    by_test true is h = inr (record { front = []; rest = bs; whole = ap (λ (c : ℕ). c ∷ bs) (eqb-true b s is); free = tt })
+    by_test false is (inl h) = inl (is, h)
+    by_test false is (inr h) =
+        inr (record { front = b ∷ h.front; rest = h.rest; whole = ap (λ (r : List ℕ). b ∷ r) h.whole; free = (is, h.free) })
 
-number-value : (most largest n : ℕ) (ds : List ℕ) → number_of most largest ds ≡ Some n → (v : ℕ) × (value_after 0 ds ≡ Some v)
-unfolding number_of at_most
-number-value most largest n ds e = by_test ((length ds == 0) || ltb most (length ds)) (value_after 0 ds) refl e
+-- ---- reading
+
+-- what is read of the text before the first separator
+pub record Before {A : Type 0} (read : List ℕ → Option A) (s : ℕ) (text : List ℕ) (value : A) (rest : List ℕ) : Type 0 where
+  pub front : List ℕ
+  pub whole : text ≡ front ++ s ∷ rest
+  pub free : Free s front
+  pub parted : split_at s text ≡ Some (front, rest)
+  pub reads : read front ≡ Some value
+
+module _ {A : Type 0} (read : List ℕ → Option A) (s : ℕ) where
+  pub before-parts : (text front rest : List ℕ) → text ≡ front ++ s ∷ rest → Free s front → read_before read s text ≡ option_map (λ x. (x, rest)) (read front)
+  before-parts text front rest e free = ap (read_before read s) e ∙ ap (λ o. then_in o (λ p. option_map (λ x. (x, p.1)) (read p.0))) (free-after s front rest free)
+
+  pub before-free : (text : List ℕ) → Free s text → read_before read s text ≡ None
+  before-free text free = ap (λ o. then_in o (λ p. option_map (λ x. (x, p.1)) (read p.0))) (free-nowhere s text free)
+
+  pub before-value : (text : List ℕ) (x : A) (rest : List ℕ) → read_before read s text ≡ Some (x, rest) → Before read s text x rest
+  before-value text x rest e = by_parts (parts s text)
+    where
+      by_reading : (h : Parts s text) (o : Option A) → read h.front ≡ o → Before read s text x rest
+      by_reading h None q =
+          let none : read_before read s text ≡ None = before-parts text h.front h.rest h.whole h.free ∙ ap (option_map (λ z. (z, h.rest))) q in
+          cc (none, e)
+      by_reading h (Some y) q =
+          let some : read_before read s text ≡ Some (y, h.rest) = before-parts text h.front h.rest h.whole h.free ∙ ap (option_map (λ z. (z, h.rest))) q in
+          let shown : Some (y, h.rest) ≡ Some (x, rest) = sym some ∙ e in
+          let pairs : (y, h.rest) ≡ (x, rest) = cc shown in
+          let values : y ≡ x = ap (λ (p : A × List ℕ). p.0) pairs in
+          let rests : h.rest ≡ rest = ap (λ (p : A × List ℕ). p.1) pairs in
+          let whole : text ≡ h.front ++ s ∷ rest = h.whole ∙ ap (λ (r : List ℕ). h.front ++ s ∷ r) rests in
+          record {
+            front = h.front;
+            whole = whole;
+            free = h.free;
+            parted = ap (split_at s) whole ∙ free-after s h.front rest h.free;
+            reads = q ∙ ap Some values;
+          }
+
+      by_parts : Free s text ⊎ Parts s text → Before read s text x rest
+      by_parts (inl free) = let none = before-free text free in cc (none, e)
+      by_parts (inr h) = by_reading h (read h.front) refl
+
+  -- nothing is read of a text that begins so
+  pub before-none : (front rest : List ℕ) → Free s front → ((more : List ℕ) → read (front ++ more) ≡ None) → read_before read s (front ++ rest) ≡ None
+  before-none front rest free none = by_parts (parts s rest)
+    where
+      by_parts : Free s rest ⊎ Parts s rest → read_before read s (front ++ rest) ≡ None
+      by_parts (inl f) = before-free (front ++ rest) (free-append s front rest free f)
+      by_parts (inr h) =
+          before-parts (front ++ rest) (front ++ h.front) h.rest (ap (λ (r : List ℕ). front ++ r) h.whole ∙ sym (append_assoc front h.front (s ∷ h.rest)))
+          (free-append s front h.front free h.free)
+          ∙ ap (option_map (λ x. (x, h.rest))) (none h.front)
+
+pub then-ap : {A B : Type 0} (o : Option A) (f g : A → Option B) → ((x : A) → f x ≡ g x) → then_in o f ≡ then_in o g
+then-ap None f g h = refl
+then-ap (Some x) f g h = h x
+
+-- a value of what is read
+pub before-map : {A B : Type 0} (read : List ℕ → Option A) (h : A → B) (s : ℕ) (text : List ℕ)
+    → read_before (λ t. then_in (read t) (λ x. Some (h x))) s text ≡ then_in (read_before read s text) (λ q. Some (h q.0, q.1))
+before-map {A} {B} read h s text = by_split (split_at s text)
   where
-    by_test : (t : Bool) (o : Option ℕ) → value_after 0 ds ≡ o → cond t None (at_most largest o) ≡ Some n → (v : ℕ) × (value_after 0 ds ≡ Some v)
-    by_test true o p e = cc e
-    by_test false None p e = cc e
-    by_test false (Some v) p e = (v, p)
+    by_value : (rest : List ℕ) (o : Option A) → option_map {U = B × List ℕ} (λ y. (y, rest)) (then_in o (λ x. Some (h x))) ≡ then_in (option_map {U = A × List ℕ} (λ x. (x, rest)) o) (λ q. Some (h q.0, q.1))
+    by_value rest None = refl
+    by_value rest (Some x) = refl
 
-pub number-free : (s most largest n : ℕ) (ds : List ℕ) → (s < 48) ⊎ (57 < s) → number_of most largest ds ≡ Some n → Free s ds
-number-free s most largest n ds other e = let h = number-value most largest n ds e in digits-free s 0 h.0 ds other h.1
+    by_split : (o : Option (List ℕ × List ℕ)) → then_in o (λ p. option_map {U = B × List ℕ} (λ y. (y, p.1)) (then_in (read p.0) (λ x. Some (h x))))
+        ≡ then_in (then_in o (λ p. option_map {U = A × List ℕ} (λ x. (x, p.1)) (read p.0))) (λ q. Some (h q.0, q.1))
+    by_split None = refl
+    by_split (Some p) = by_value p.1 (read p.0)
 
--- a digit more
-value_after-more : (n v d : ℕ) (ds : List ℕ) → 48 ≤ d → d ≤ 57 → value_after n ds ≡ Some v → value_after n (ds ++ d ∷ []) ≡ Some (v * 10 + (d - 48))
-value_after-more n v d [] low high e = value_after-digit n d [] low high ∙ cc e
-value_after-more n v d (c ∷ cs) low high e = elim (cases_lt c 48) [
-  | inl below ↦ let no = value_after-low n c cs below in cc (no, e)
-  | inr above ↦ elim (cases_lt 57 c) [
-    | inl over ↦ let no = value_after-high n c cs over in cc (no, e)
-    | inr digit ↦ value_after-digit n c (cs ++ d ∷ []) above digit
-        ∙ value_after-more (n * 10 + (c - 48)) v d cs low high (sym (value_after-digit n c cs above digit) ∙ e)
-  ]
-]
+-- What is read in two parts, of which the first has no `e`: the first is read before its own separator, the second before `e`.
+module _ {A B : Type 0} (read : List ℕ → Option A) (more : A → List ℕ → Option B) (s e : ℕ) (apart : (s == e) ≡ false)
+    (free-read : (front : List ℕ) (x : A) → read front ≡ Some x → Free e front) where
+  abbrev both : List ℕ → Option B
+  both text = then_in (read_before read s text) (λ p. more p.0 p.1)
 
-pub number_before-on : (text : List ℕ) (i v : ℕ) → i < length text → 48 ≤ get_or text i 0 → get_or text i 0 ≤ 57 → value_after 0 (take i text) ≡ Some v
-    → value_after 0 (take (i + 1) text) ≡ Some (v * 10 + (get_or text i 0 - 48))
-number_before-on text i v within low high e =
-    ap (value_after 0) (take_more text i 0 within) ∙ value_after-more 0 v (get_or text i 0) (take i text) low high e
+  abbrev second : Option (A × List ℕ) → Option (B × List ℕ)
+  second o = then_in o (λ p. read_before (more p.0) e p.1)
 
-pub number_before-found : (end most largest : ℕ) (text : List ℕ) (i v : ℕ) → i < length text → get_or text i 0 ≡ end → 0 < i → i ≤ most → v ≤ largest
-    → value_after 0 (take i text) ≡ Some v → NumberBefore end most largest text v (drop (i + 1) text)
-unfolding number_of at_most
-number_before-found end most largest text i v within is some few small e =
-    let len : length (take i text) ≡ i = omega (arith, length-take {A = ℕ}) in
-    let counted : ((i == 0) || ltb most i) ≡ false = grind (arith, nat_tests) in
-    let bounded : leb v largest ≡ true = grind (arith, nat_tests) in
-    record {
-      digits = take i text;
-      whole = sym (take-append-drop i text)
-          ∙ ap (λ (r : List ℕ). take i text ++ r) (drop-cons text i 0 within ∙ rw (is, add-one) refl);
-      value = rw (len, counted, e, bounded) refl;
-    }
+  both-found : (text : List ℕ) (x : A) (rest : List ℕ) → Before read s text x rest → read_before both e text ≡ read_before (more x) e rest
+  both-found text x rest h = by_parts (parts e rest)
+    where
+      by_parts : Free e rest ⊎ Parts e rest → read_before both e text ≡ read_before (more x) e rest
+      by_parts (inl f) =
+          let none : read_before both e (h.front ++ s ∷ rest) ≡ None = before-free both e (h.front ++ s ∷ rest) (free-append e h.front (s ∷ rest) (free-read h.front x h.reads) (apart, f)) in
+          ap (read_before both e) h.whole ∙ none ∙ sym (before-free (more x) e rest f)
+      by_parts (inr k) =
+          let one : read_before read s (h.front ++ s ∷ k.front) ≡ Some (x, k.front) =
+          before-parts read s (h.front ++ s ∷ k.front) h.front k.front refl h.free ∙ ap (option_map (λ y. (y, k.front))) h.reads in
+          before-parts both e text (h.front ++ s ∷ k.front) k.rest
+          (h.whole ∙ ap (λ (r : List ℕ). h.front ++ s ∷ r) k.whole ∙ sym (append_assoc h.front (s ∷ k.front) (e ∷ k.rest)))
+          (free-append e h.front (s ∷ k.front) (free-read h.front x h.reads) (apart, k.free))
+          ∙ ap (λ o. option_map (λ y. (y, k.rest)) (then_in o (λ p. more p.0 p.1))) one
+          ∙ sym (before-parts (more x) e rest k.front k.rest k.whole k.free)
 
--- one, two and three digits at the front
-front-one : (text : List ℕ) → 0 < length text → 48 ≤ get_or text 0 0 → get_or text 0 0 ≤ 57 → value_after 0 (take 1 text) ≡ Some (get_or text 0 0 - 48)
-front-one text within low high = number_before-on text 0 0 within low high refl ∙ ap Some (omega arith)
+  both-nothing : (text : List ℕ) → read_before read s text ≡ None → read_before both e text ≡ None
+  both-nothing text none = by_parts (parts e text)
+    where
+      by_first : (h : Parts e text) (o : Option (A × List ℕ)) → read_before read s h.front ≡ o → read_before both e text ≡ None
+      by_first h None q =
+          before-parts both e text h.front h.rest h.whole h.free ∙ ap (λ o. option_map (λ y. (y, h.rest)) (then_in o (λ p. more p.0 p.1))) q
+      by_first h (Some p) q =
+          let k = before-value read s h.front p.0 p.1 q in
+          let some : read_before read s text ≡ Some (p.0, p.1 ++ e ∷ h.rest) =
+          before-parts read s text k.front (p.1 ++ e ∷ h.rest)
+          (h.whole ∙ ap (λ (f : List ℕ). f ++ e ∷ h.rest) k.whole ∙ append_assoc k.front (s ∷ p.1) (e ∷ h.rest)) k.free
+          ∙ ap (option_map (λ y. (y, p.1 ++ e ∷ h.rest))) k.reads in
+          cc (none, some)
 
-front-two : (text : List ℕ) → 1 < length text → 48 ≤ get_or text 0 0 → get_or text 0 0 ≤ 57 → 48 ≤ get_or text 1 0 → get_or text 1 0 ≤ 57
-    → value_after 0 (take 2 text) ≡ Some ((get_or text 0 0 - 48) * 10 + (get_or text 1 0 - 48))
-front-two text within low high low1 high1 =
-    number_before-on text 1 (get_or text 0 0 - 48) within low1 high1 (front-one text (omega arith) low high)
+      by_parts : Free e text ⊎ Parts e text → read_before both e text ≡ None
+      by_parts (inl f) = before-free both e text f
+      by_parts (inr h) = by_first h (read_before read s h.front) refl
 
-pub octet-one : (end : ℕ) (text : List ℕ) → 4 ≤ length text → 48 ≤ get_or text 0 0 → get_or text 0 0 ≤ 57
-    → get_or text 1 0 ≡ end → NumberBefore end 3 255 text (get_or text 0 0 - 48) (drop 2 text)
-octet-one end text long low high is =
-    number_before-found end 3 255 text 1 (get_or text 0 0 - 48) (omega arith) is (omega arith) (omega arith) (omega arith) (front-one text (omega arith) low high)
-
-pub octet-two : (end : ℕ) (text : List ℕ) → 4 ≤ length text → 48 ≤ get_or text 0 0 → get_or text 0 0 ≤ 57
-    → 48 ≤ get_or text 1 0 → get_or text 1 0 ≤ 57
-    → get_or text 2 0 ≡ end → NumberBefore end 3 255 text ((get_or text 0 0 - 48) * 10 + (get_or text 1 0 - 48)) (drop 3 text)
-octet-two end text long low high low1 high1 is =
-    number_before-found end 3 255 text 2 ((get_or text 0 0 - 48) * 10 + (get_or text 1 0 - 48)) (omega arith) is (omega arith) (omega arith) (omega arith)
-    (front-two text (omega arith) low high low1 high1)
-
-pub octet-three : (end : ℕ) (text : List ℕ) → 4 ≤ length text → 48 ≤ get_or text 0 0 → get_or text 0 0 ≤ 57
-    → 48 ≤ get_or text 1 0 → get_or text 1 0 ≤ 57 → 48 ≤ get_or text 2 0 → get_or text 2 0 ≤ 57
-    → ((get_or text 0 0 - 48) * 10 + (get_or text 1 0 - 48)) * 10 + (get_or text 2 0 - 48) ≤ 255 → get_or text 3 0 ≡ end
-    → NumberBefore end 3 255 text (((get_or text 0 0 - 48) * 10 + (get_or text 1 0 - 48)) * 10 + (get_or text 2 0 - 48)) (drop 4 text)
-octet-three end text long low high low1 high1 low2 high2 small is =
-    number_before-found end 3 255 text 3 (((get_or text 0 0 - 48) * 10 + (get_or text 1 0 - 48)) * 10 + (get_or text 2 0 - 48))
-    (omega arith) is (omega arith) (omega arith) small
-    (number_before-on text 2 ((get_or text 0 0 - 48) * 10 + (get_or text 1 0 - 48)) (omega arith) low2 high2 (front-two text (omega arith) low high low1 high1))
-
--- ---- peers
-
--- one part more
-longer : (separator : ℕ) (p q r t u : List ℕ) → t ≡ p ++ separator ∷ u → u ≡ q ++ r → t ≡ (p ++ separator ∷ q) ++ r
-longer separator p q r t u e f = e ∙ ap (λ (x : List ℕ). p ++ separator ∷ x) f ∙ sym (append_assoc p (separator ∷ q) r)
-
-pub peer_before-found : (t r1 r2 r3 r4 rest : List ℕ) (a b c d port : ℕ)
-    → NumberBefore 46 3 255 t a r1 → NumberBefore 46 3 255 r1 b r2 → NumberBefore 46 3 255 r2 c r3 → NumberBefore 58 3 255 r3 d r4 → NumberBefore 32 5 65535 r4 port rest
-    → PeerBefore t (record { ip = ((a * 256 + b) * 256 + c) * 256 + d; port = port }) rest
-unfolding peer_of
-peer_before-found t r1 r2 r3 r4 rest a b c d port ha hb hc hd hp =
-    let D : List ℕ = hd.digits ++ 58 ∷ hp.digits in
-    let C : List ℕ = hc.digits ++ 46 ∷ D in
-    let B : List ℕ = hb.digits ++ 46 ∷ C in
-    let A : List ℕ = ha.digits ++ 46 ∷ B in
-    let low : (32 < 48) ⊎ (57 < 32) = inl (omega arith) in
-    let dot : (46 < 48) ⊎ (57 < 46) = inl (omega arith) in
-    let colon : (58 < 48) ⊎ (57 < 58) = inr (omega arith) in
-    let whole : t ≡ A ++ 32 ∷ rest =
-    longer 46 ha.digits B (32 ∷ rest) t r1 ha.whole
-    (longer 46 hb.digits C (32 ∷ rest) r1 r2 hb.whole
-    (longer 46 hc.digits D (32 ∷ rest) r2 r3 hc.whole (longer 58 hd.digits hp.digits (32 ∷ rest) r3 r4 hd.whole hp.whole))) in
-    let free : Free 32 A =
-    free-append 32 ha.digits (46 ∷ B) (number-free 32 3 255 a ha.digits low ha.value) (
-      refl,
-      free-append 32 hb.digits (46 ∷ C) (number-free 32 3 255 b hb.digits low hb.value) (
-        refl,
-        free-append 32 hc.digits (46 ∷ D) (number-free 32 3 255 c hc.digits low hc.value) (
-          refl,
-          free-append 32 hd.digits (58 ∷ hp.digits) (number-free 32 3 255 d hd.digits low hd.value)
-              (refl, number-free 32 5 65535 port hp.digits low hp.value),
-        ),
-      ),
-    ) in
-    record {
-      field = A;
-      parted = rw whole (free-after 32 A rest free);
-      value = rw (
-        free-after 46 ha.digits B (number-free 46 3 255 a ha.digits dot ha.value),
-        free-after 46 hb.digits C (number-free 46 3 255 b hb.digits dot hb.value),
-        free-after 46 hc.digits D (number-free 46 3 255 c hc.digits dot hc.value),
-        free-after 58 hd.digits hp.digits (number-free 58 3 255 d hd.digits colon hd.value),
-        ha.value,
-        hb.value,
-        hc.value,
-        hd.value,
-        hp.value,
-      ) refl;
-    }
-
-pub ruleset number_before_rules = (number_before-on, number_before-found)
-
-pub ruleset peer_before_rules = (peer_before-found)
+  pub before-both : (text : List ℕ) → read_before both e text ≡ second (read_before read s text)
+  before-both text = by_first (read_before read s text) refl
+    where
+      by_first : (o : Option (A × List ℕ)) → read_before read s text ≡ o → read_before both e text ≡ second (read_before read s text)
+      by_first None q = both-nothing text q ∙ ap second (sym q)
+      by_first (Some p) q = both-found text p.0 p.1 (before-value read s text p.0 p.1 q) ∙ ap second (sym q)

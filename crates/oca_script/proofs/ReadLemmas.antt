@@ -8,10 +8,10 @@ use Rattle.oca_script.specs.declared.fault.ReplayFault.{ReplayFault}
 use Rattle.oca_script.specs.declared.fault.ReplayFault.TheVariants.{Line, Read, Write, TooMuch}
 use Rattle.oca_script.specs.declared.progress.Progress.{Progress}
 use Rattle.oca_script.specs.Ends.{Input, Output}
-use Rattle.oca_script.specs.Printing.{Emits, AppendsFront, PrintsAll, PrintsPart, WritesWhole, WritesFront}
+use Rattle.oca_script.specs.Printing.{PrintsAll, PrintsPart, WritesWhole, WritesFront}
 use Rattle.oca_script.specs.PrivateScript.{script_from}
 use Rattle.oca_script.specs.Script.{Script, script, behind, ends_by, line_then, parsed}
-use Rattle.oca_script.specs.Replaying.{Runs, BeginsWith, Ends, known_bytes, Outcome, Replays, Reads, ReadFails, Writes}
+use Rattle.oca_script.specs.Replaying.{Runs, BeginsWith, Ends, known_bytes, Outcome, Replays, ReadFails, Writes}
 use Rattle.oca_script.specs.PrivateSteps.{Printed, PrintedAtEnd, AccountsFor, Step, Performs, Performance, is_end_failure}
 use Rattle.oca_script.proofs.PrintLemmas.{PrintsAll-nil, PrintsAll-then, PrintsPart-then}
 use Rattle.oca_script.proofs.ScriptLemmas.{script-from, script_from-end, script_from-too_much}

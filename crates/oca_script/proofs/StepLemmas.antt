@@ -1,5 +1,5 @@
 -- Steps of a replay, one after another.
-use Rattle.std.proofs.Common.{◌≡◌, ℕ, ◌<◌, Bool, true, false, List, [], ◌∷◌, ◌++◌, length, Option, Result, Ok, Err, refl, sym, ap, ◌∙◌, append_assoc, append-nil, subst}
+use Rattle.std.proofs.Common.{◌≡◌, ℕ, ◌<◌, Bool, true, false, List, [], ◌∷◌, ◌++◌, length, Result, Ok, Err, refl, sym, ap, ◌∙◌, append_assoc, append-nil, subst}
 use Rattle.oca_script.specs.declared.fault.LineFault.{LineFault}
 use Rattle.oca_script.specs.declared.fault.LineFault.TheVariants.{TooLong}
 use Rattle.oca_script.specs.declared.fault.ReplayFault.{ReplayFault}
@@ -7,7 +7,7 @@ use Rattle.oca_script.specs.declared.fault.ReplayFault.TheVariants.{Line, Read, 
 use Rattle.oca_script.specs.declared.fault.Stop.{Stop}
 use Rattle.oca_script.specs.declared.fault.Stop.TheVariants as stop
 use Rattle.oca_script.specs.Ends.{Output}
-use Rattle.oca_script.specs.Printing.{PrintsAll, PrintsPart}
+use Rattle.oca_script.specs.Printing.{PrintsAll}
 use Rattle.oca_script.specs.Script.{Script, behind, ends_by, line_then, parsed, parsed_by}
 use Rattle.oca_script.specs.Replaying.{Runs, ServesLine}
 use Rattle.oca_script.specs.PrivateSteps.{Printed, AccountsFor, Step}

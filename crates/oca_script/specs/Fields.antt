@@ -1,5 +1,5 @@
 -- The fields of a script's line, and the values that they encode (profile).
-use Rattle.std.specs.Prelude.{◌≡◌, ℕ, ◌+◌, ◌++◌, ◌-◌, ◌*◌, ◌^◌, ◌==◌, ◌&&◌, ◌||◌, nat_le, nat_lt, if◌then◌else◌, List, [], ◌∷◌, length, codes, Option, Some, None}
+use Rattle.std.specs.Prelude.{ℕ, ◌+◌, ◌-◌, ◌*◌, ◌^◌, ◌==◌, ◌&&◌, ◌||◌, nat_le, nat_lt, if◌then◌else◌, List, [], ◌∷◌, length, codes, Option, Some, None}
 use Rattle.std.specs.Option.{option_map}
 use Rattle.std.specs.Result.{result_ok}
 use Rattle.std.specs.Str.{bytes_eq}
@@ -32,6 +32,15 @@ abbrev pub split_at : ℕ → List ℕ → Option (List ℕ × List ℕ)
 split_at separator [] = None
 split_at separator (b ∷ bs) = if b == separator then Some ([], bs) else option_map (λ p. (b ∷ p.0, p.1)) (split_at separator bs)
 
+abbrev pub then_in : {A B : Type 0} → Option A → (A → Option B) → Option B
+then_in None f = None
+then_in (Some x) f = f x
+
+-- what the text before the first separator writes, and what stands after that separator; nothing where there is no separator,
+-- or where the text before it writes nothing
+abbrev pub read_before : {A : Type 0} → (List ℕ → Option A) → ℕ → List ℕ → Option (A × List ℕ)
+read_before written separator text = then_in (split_at separator text) (λ p. option_map (λ x. (x, p.1)) (written p.0))
+
 -- ---- numbers
 
 -- the number that decimal digits write behind those of n; none where a byte is no digit
@@ -50,53 +59,31 @@ number_of most largest digits =
     if (length digits == 0) || nat_lt most (length digits) then None
     else at_most largest (value_after 0 digits)
 
--- n is the number that the digits before a separator write, and `rest` is what stands after it
-pub record NumberBefore (separator most largest : ℕ) (text : List ℕ) (n : ℕ) (rest : List ℕ) : Type 0 where
-  pub digits : List ℕ
-  pub whole : text ≡ digits ++ separator ∷ rest
-  pub value : number_of most largest digits ≡ Some n
-
 -- a moment in milliseconds: one to twenty digits, in 64 bits
 abbrev pub moment_of : List ℕ → Option ℕ
 moment_of text = number_of 20 (2 ^ 64 - 1) text
 
 -- ---- peers
 
-abbrev pub then_in : {A B : Type 0} → Option A → (A → Option B) → Option B
-then_in None f = None
-then_in (Some x) f = f x
+-- one of an address's four numbers
+abbrev pub octet_of : List ℕ → Option ℕ
+octet_of text = number_of 3 255 text
 
 -- an address: a.b.c.d, each number in decimal digits
 unfoldable pub address_of : List ℕ → Option ℕ
 address_of text =
-    then_in (split_at 46 text) (λ p.
-    then_in (split_at 46 p.1) (λ q.
-    then_in (split_at 46 q.1) (λ r.
-    then_in (number_of 3 255 p.0) (λ a.
-    then_in (number_of 3 255 q.0) (λ b.
-    then_in (number_of 3 255 r.0) (λ c.
-    then_in (number_of 3 255 r.1) (λ d.
-    Some (((a * 256 + b) * 256 + c) * 256 + d))))))))
+    then_in (read_before octet_of 46 text) (λ a.
+    then_in (read_before octet_of 46 a.1) (λ b.
+    then_in (read_before octet_of 46 b.1) (λ c.
+    then_in (octet_of c.1) (λ d.
+    Some (((a.0 * 256 + b.0) * 256 + c.0) * 256 + d)))))
 
--- a peer: a.b.c.d:port, each number in decimal digits
+-- a peer: an address, a colon, and a port in decimal digits
 unfoldable pub peer_of : List ℕ → Option Peer
 peer_of text =
-    then_in (split_at 46 text) (λ p.
-    then_in (split_at 46 p.1) (λ q.
-    then_in (split_at 46 q.1) (λ r.
-    then_in (split_at 58 r.1) (λ s.
-    then_in (number_of 3 255 p.0) (λ a.
-    then_in (number_of 3 255 q.0) (λ b.
-    then_in (number_of 3 255 r.0) (λ c.
-    then_in (number_of 3 255 s.0) (λ d.
-    then_in (number_of 5 65535 s.1) (λ port.
-    Some (record { ip = ((a * 256 + b) * 256 + c) * 256 + d; port = port }))))))))))
-
--- the peer that the text before the first space writes, and `rest` is what stands after it
-pub record PeerBefore (text : List ℕ) (peer : Peer) (rest : List ℕ) : Type 0 where
-  pub field : List ℕ
-  pub parted : split_at 32 text ≡ Some (field, rest)
-  pub value : peer_of field ≡ Some peer
+    then_in (read_before address_of 58 text) (λ p.
+    then_in (number_of 5 65535 p.1) (λ port.
+    Some (record { ip = p.0; port = port })))
 
 -- ---- bytes
 

@@ -1,5 +1,5 @@
 -- What is printed through a buffer (profile).
-use Rattle.std.specs.Prelude.{◌≡◌, ℕ, List, [], ◌++◌, Bool, true, Option, Result, Ok, Err}
+use Rattle.std.specs.Prelude.{◌≡◌, ℕ, List, [], ◌++◌, true, Option, Result, Ok, Err}
 use Rattle.std.specs.Io.KnownBytes.{Appends}
 use Rattle.oca_script.specs.declared.fault.WriteFailed.{WriteFailed}
 use Rattle.oca_script.specs.Ends.{Output}

@@ -6,5 +6,8 @@ use denote.Ref.{Bor}
 abbrev pub split_view : Option (Bor (List ℕ) × Bor (List ℕ)) → Option (List ℕ × List ℕ)
 split_view r = option_map (λ p. (p.0.now, p.1.now)) r
 
+abbrev pub read_view : {A : Type 0} → Option (A × Bor (List ℕ)) → Option (A × List ℕ)
+read_view r = option_map (λ p. (p.0, p.1.now)) r
+
 abbrev pub given_bytes : Option (Bor (List ℕ)) → Option (List ℕ)
 given_bytes r = option_map (λ bytes. bytes.now) r

@@ -6,9 +6,8 @@ use Rattle.oca_script.specs.declared.fault.Stop.{Stop}
 use Rattle.oca_script.specs.declared.fault.Stop.TheVariants as stop
 use Rattle.oca_script.specs.declared.fault.ReplayFault.{ReplayFault}
 use Rattle.oca_script.specs.declared.fault.ReplayFault.TheVariants.{Line, Read, Write, TooMuch}
-use Rattle.oca_script.specs.declared.fault.WriteFailed.{WriteFailed}
 use Rattle.oca_script.specs.Ends.{Input, Output}
-use Rattle.oca_script.specs.Printing.{Prints, PrintsAll, PrintsPart, WritesWhole, WritesFront}
+use Rattle.oca_script.specs.Printing.{PrintsAll, PrintsPart, WritesWhole, WritesFront}
 use Rattle.oca_script.specs.Script.{Script, script, behind}
 
 -- ---- a line

@@ -1,8 +1,8 @@
 //! The fields of a line.
 ghost use Rattle.std.specs.Prelude.{◌≡◌, ◌+◌, ◌*◌, ◌≤◌, ◌<◌, ◌⊎◌, IfSome, OnSome, [], ◌∷◌, length};
 ghost use Rattle.std.specs.Option.{option_copied};
-ghost use Rattle.oca_script.specs.Fields.{number_of, moment_of, split_at, address_of, peer_of, fields, fields_after, hex_of, NumberBefore, PeerBefore};
-ghost use Rattle.oca_script.specs.PrivateSplitting.{split_view, given_bytes};
+ghost use Rattle.oca_script.specs.Fields.{number_of, moment_of, split_at, read_before, octet_of, address_of, peer_of, fields, fields_after, hex_of};
+ghost use Rattle.oca_script.specs.PrivateSplitting.{split_view, read_view, given_bytes};
 
 use oca_types::Peer;
 
@@ -34,12 +34,12 @@ pub fn number(digits: &[u8], most: usize, largest: u64) -> Option<u64>
     if value <= largest { Some(value) } else { None }
 }
 
-/// The number that one to `most` digits at the front write, where the byte `end` follows them and the number is at most
-/// `largest`, and what stands after that byte. `None` says only that they were not seen to be there.
-#[tactic(auto, using(crate::proofs::PartLemmas::number_before_rules))]
+/// The number of one to `most` digits, at most `largest`, that stands before the first byte `end`, and what stands after that byte. `None`
+/// where the byte does not stand there, or what stands before it is no such number.
+#[tactic(auto, using(crate::proofs::NumberLemmas::number_before_rules))]
 pub fn number_before(text: &[u8], end: u8, most: usize, largest: u64) -> Option<(u64, &[u8])>
     requires { (end < 48) ⊎ (57 < end) }
-    ensures value { IfSome result (λ p. NumberBefore end most largest text.now p.0 p.1.now) }
+    ensures value { read_view result ≡ read_before (number_of most largest) end text.now }
     ensures bound { IfSome result (λ p. p.0 ≤ largest) }
     ensures within { IfSome result (λ p. length p.1.now ≤ length text.now) }
 {
@@ -53,20 +53,18 @@ pub fn number_before(text: &[u8], end: u8, most: usize, largest: u64) -> Option<
             return Some((value, &text[i + 1..]));
         }
         let add = (digit - b'0') as u64;
-        value = if value <= MOST_TENTH {
-            value * 10 + add
-        } else {
-            value.checked_mul(10)?.checked_add(add)?
-        };
+        if value > MOST_TENTH && value > (u64::MAX - add) / 10 {
+            return None;
+        }
+        value = value * 10 + add;
     }
     None
 }
 
-/// The number that one to three digits at the front write, where the byte `end` follows them and the number is at most 255,
-/// and what stands after that byte.
+/// The same for a number of an address.
 fn octet_before(text: &[u8], end: u8) -> Option<(u64, &[u8])>
     requires { (end < 48) ⊎ (57 < end) }
-    ensures value { IfSome result (λ p. NumberBefore end 3 255 text.now p.0 p.1.now) }
+    ensures value { read_view result ≡ read_before octet_of end text.now }
     ensures bound { IfSome result (λ p. p.0 ≤ 255) }
     ensures within { IfSome result (λ p. length p.1.now ≤ length text.now) }
 {
@@ -129,52 +127,58 @@ pub fn first_field(text: &[u8]) -> (&[u8], Option<&[u8]>)
     }
 }
 
+/// An address: `a.b.c.d` in decimal numbers of at most 255, one to three digits each, the first in the highest byte.
+#[tactic(auto, unfolding(crate::specs::Fields::address_of))]
+pub fn address(text: &[u8]) -> Option<u32>
+    ensures { result ≡ address_of text.now }
+{
+    let (a, rest) = octet_before(text, b'.')?;
+    let (b, rest) = octet_before(rest, b'.')?;
+    let (c, rest) = octet_before(rest, b'.')?;
+    let d = number(rest, 3, 255)?;
+    Some((((a * 256 + b) * 256 + c) * 256 + d) as u32)
+}
+
+/// The address that stands before the first byte `end`, and what stands after that byte. `None` where the byte does not stand there, or
+/// what stands before it is no address.
+#[inline(always)]
+#[tactic(auto, using(crate::proofs::AddressLemmas::address_rules))]
+fn address_before(text: &[u8], end: u8) -> Option<(u64, &[u8])>
+    requires { (end < 46) ⊎ (57 < end) }
+    ensures value { read_view result ≡ read_before address_of end text.now }
+    ensures bound { IfSome result (λ p. p.0 ≤ 4294967295) }
+    ensures within { IfSome result (λ p. length p.1.now ≤ length text.now) }
+{
+    let (a, rest) = octet_before(text, b'.')?;
+    let (b, rest) = octet_before(rest, b'.')?;
+    let (c, rest) = octet_before(rest, b'.')?;
+    let (d, rest) = octet_before(rest, end)?;
+    Some((((a * 256 + b) * 256 + c) * 256 + d, rest))
+}
+
 /// A peer: `a.b.c.d:port` in decimal numbers of at most 255 and 65,535, one to three and one to
 /// five digits.
 #[tactic(auto, unfolding(crate::specs::Fields::peer_of))]
 pub fn peer(text: &[u8]) -> Option<Peer>
     ensures { result ≡ peer_of text.now }
 {
-    let (a, rest) = split_at_byte(text, b'.')?;
-    let (b, rest) = split_at_byte(rest, b'.')?;
-    let (c, rest) = split_at_byte(rest, b'.')?;
-    let (d, port) = split_at_byte(rest, b':')?;
-    let a = number(a, 3, 255)? as u32;
-    let b = number(b, 3, 255)? as u32;
-    let c = number(c, 3, 255)? as u32;
-    let d = number(d, 3, 255)? as u32;
-    let port = number(port, 5, 65535)? as u16;
-    let ip = ((a * 256 + b) * 256 + c) * 256 + d;
-    Some(Peer { ip, port })
+    let (ip, rest) = address_before(text, b':')?;
+    let port = number(rest, 5, 65535)?;
+    Some(Peer {
+        ip: ip as u32,
+        port: port as u16,
+    })
 }
 
-/// An address: `a.b.c.d` in decimal numbers of at most 255, one to three digits each, the first in the highest byte.
-#[tactic(auto, unfolding(crate::specs::Fields::address_of))]
-pub fn address(text: &[u8]) -> Option<u32>
-    ensures { result ≡ address_of text.now }
-{
-    let (a, rest) = split_at_byte(text, b'.')?;
-    let (b, rest) = split_at_byte(rest, b'.')?;
-    let (c, d) = split_at_byte(rest, b'.')?;
-    let a = number(a, 3, 255)? as u32;
-    let b = number(b, 3, 255)? as u32;
-    let c = number(c, 3, 255)? as u32;
-    let d = number(d, 3, 255)? as u32;
-    Some(((a * 256 + b) * 256 + c) * 256 + d)
-}
-
-/// A peer that a space follows, and what stands after that space. `None` says only that they were not seen to be there.
-#[tactic(auto, using(crate::proofs::PartLemmas::peer_before_rules))]
+/// The peer that stands before the first space, and what stands after that space. `None` where there is no space, or what stands before
+/// it is no peer.
+#[tactic(auto, using(crate::proofs::AddressLemmas::peer_rules))]
 pub fn peer_before(text: &[u8]) -> Option<(Peer, &[u8])>
-    ensures value { IfSome result (λ p. PeerBefore text.now p.0 p.1.now) }
+    ensures value { read_view result ≡ read_before peer_of 32 text.now }
     ensures within { IfSome result (λ p. length p.1.now ≤ length text.now) }
 {
-    let (a, rest) = octet_before(text, b'.')?;
-    let (b, rest) = octet_before(rest, b'.')?;
-    let (c, rest) = octet_before(rest, b'.')?;
-    let (d, rest) = octet_before(rest, b':')?;
+    let (ip, rest) = address_before(text, b':')?;
     let (port, rest) = number_before(rest, b' ', 5, 65535)?;
-    let ip = ((a * 256 + b) * 256 + c) * 256 + d;
     let peer = Peer {
         ip: ip as u32,
         port: port as u16,

@@ -1,11 +1,11 @@
 -- Facts on the fields of a line.
-use Rattle.std.proofs.Common.{◌≡◌, ◌⊎◌, ◌<◌, inl, arith, ℕ, List, [], ◌∷◌, ◌++◌, Option, Some, None, Err, refl, sym, ap, ◌∙◌, ◌==◌, Bool, true, false, cond}
+use Rattle.std.proofs.Common.{◌≡◌, arith, ℕ, List, [], ◌∷◌, ◌++◌, Option, Some, None, Err, refl, sym, ap, ◌∙◌, ◌==◌, Bool, true, false, cond}
 use Rattle.std.specs.Prelude.{codes}
 use Rattle.std.proofs.lemmas.Slice.Eq.{bytes_eq-Decides}
 use Rattle.oca_types.specs.declared.words.Peer.{Peer}
-use Rattle.oca_script.specs.Fields.{fields, fields_after, onto_first, split_at, hex_of, moment_of, peer_of, NumberBefore, PeerBefore}
+use Rattle.oca_script.specs.Fields.{fields, fields_after, onto_first, split_at, hex_of, moment_of, peer_of, read_before}
 use Rattle.oca_script.proofs.FieldLemmas.{fields-one, fields-more}
-use Rattle.oca_script.proofs.PartLemmas.{free-after, number-free}
+use Rattle.oca_script.proofs.PartLemmas.{before-value}
 use Rattle.oca_script.specs.declared.fault.LineFault.TheVariants.{Form, Hex}
 use Rattle.ocadev.specs.Requests.{asked_event, is_quiet, datagram_of}
 use Rattle.ocadev.specs.PrivateRequests.{datagram_after}
@@ -62,16 +62,16 @@ unfolding datagram_of
 two m p f [] now peer at_m at_p = let no = not_quiet p peer at_p in rw (no, at_m, at_p) refl
 two m p f (g ∷ gs) now peer at_m at_p = refl
 
-pub line-datagram : (line rest after : List ℕ) (now : ℕ) (peer : Peer) → NumberBefore 32 20 18446744073709551615 line now rest → PeerBefore rest peer after
+pub line-datagram : (line rest after : List ℕ) (now : ℕ) (peer : Peer) → Some (now, rest) ≡ read_before moment_of 32 line → Some (peer, after) ≡ read_before peer_of 32 rest
     → asked_event (fields line) ≡ datagram_after now peer (fields after)
 line-datagram line rest after now peer h k =
-    let low : (32 < 48) ⊎ (57 < 32) = inl (omega arith) in
-    let first : fields line ≡ h.digits ∷ fields rest =
-    ap fields h.whole ∙ fields-more (h.digits ++ 32 ∷ rest) h.digits rest (free-after 32 h.digits rest (number-free 32 20 18446744073709551615 now h.digits low h.value)) in
-    let second : fields rest ≡ k.field ∷ fields after = fields-more rest k.field after k.parted in
+    let m = before-value moment_of 32 line now rest (sym h) in
+    let p = before-value peer_of 32 rest peer after (sym k) in
+    let first : fields line ≡ m.front ∷ fields rest = fields-more line m.front rest m.parted in
+    let second : fields rest ≡ p.front ∷ fields after = fields-more rest p.front after p.parted in
     let third = fields-some after in
-    ap asked_event (first ∙ ap (λ (fs : List (List ℕ)). h.digits ∷ fs) (second ∙ ap (λ (fs : List (List ℕ)). k.field ∷ fs) third.are))
-    ∙ two h.digits k.field third.first third.others now peer h.value k.value
+    ap asked_event (first ∙ ap (λ (fs : List (List ℕ)). m.front ∷ fs) (second ∙ ap (λ (fs : List (List ℕ)). p.front ∷ fs) third.are))
+    ∙ two m.front p.front third.first third.others now peer m.reads p.reads
     ∙ ap (datagram_after now peer) (sym third.are)
 
 -- more than one field is left

@@ -4,7 +4,7 @@ ghost use Rattle.std.specs.Option.{ok_or};
 ghost use Rattle.oca_types.specs.declared.words.Peer.{Peer as PeerFields};
 ghost use Rattle.oca_script.specs.Fields.{fields, moment_of, hex_of};
 ghost use Rattle.ocadev.specs.Requests.{is_quiet as quiet_word, tick_of, datagram_of, asked_event};
-ghost use Rattle.ocadev.specs.PrivateRequests.{AreFields, FieldsWithin, datagram_after, event_asked};
+ghost use Rattle.ocadev.specs.PrivateRequests.{AreFields, FieldsWithin, begun, moment_and_peer_of, datagram_after, event_asked};
 
 use oca_script::LineFault;
 use oca_script::field::{first_field, hex_bytes, number_before, peer, peer_before, split_at_byte};
@@ -96,9 +96,10 @@ fn datagram<'a>(
     Ok(Request::Datagram { now, from, bytes })
 }
 
-/// The moment and the peer of a datagram's line, and what stands after them, read in one pass. `None` says only that they
-/// are not seen to be there.
+/// The moment and the peer of a datagram's line, and what stands after them, read in one pass. `None` where the line does not begin with
+/// them.
 fn moment_and_peer(line: &[u8]) -> Option<(u64, Peer, &[u8])>
+    ensures read { begun result ≡ moment_and_peer_of line.now }
     ensures value { IfSome result (λ p. asked_event (fields line.now) ≡ datagram_after p.0 p.1 (fields p.2.now)) }
     ensures within { IfSome result (λ p. length p.2.now ≤ length line.now) }
 {

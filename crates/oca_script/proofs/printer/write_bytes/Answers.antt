@@ -1,4 +1,4 @@
-use Rattle.std.proofs.Common.{arith, ◌+◌, ◌∙◌, ℕ, length-take, length-drop}
+use Rattle.std.proofs.Common.{arith, ◌∙◌, ℕ, length-take, length-drop}
 use Rattle.std.proofs.lemmas.Result.{err_from_is_err_and}
 use Rattle.oca_script.proofs.PrintLemmas.{Appends-more, writes-failed}
 use Rattle.oca_script.proofs.printer.write_bytes.Goals as goal
