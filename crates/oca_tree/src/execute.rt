@@ -52,8 +52,9 @@ fn check_request<'a>(
     Ok(request)
 }
 
-/// Carries out any method of the object at this index, which the peer may call.
-#[inline(always)]
+/// Carries out any method of the object at this index, which the peer may call. It stands apart, so that `Tree::execute` is
+/// short enough to be inlined.
+#[inline(never)]
 fn carry_out_at(
     objects: &mut Objects,
     at: usize,

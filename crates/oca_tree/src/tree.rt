@@ -89,7 +89,7 @@ impl Tree {
     /// Executes a command of the peer (AES70-2; the order of the statuses is the profile's). `out` is
     /// emptied first; then it holds the answer's parameters, and none where the status is not OK. A
     /// refusal changes no object.
-    #[inline(never)]
+    #[inline(always)]
     pub fn execute(&mut self, peer: Peer, command: &Command<'_>, out: &mut Params) -> Done
         ensures tree { self.new ≡ (execution self.old peer (fields_of command.now)).tree }
         ensures status { result.status ≡ (execution self.old peer (fields_of command.now)).status }
