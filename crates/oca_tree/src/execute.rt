@@ -53,7 +53,6 @@ fn check_request<'a>(
 }
 
 /// Carries out any method of the object at this index, which the peer may call.
-#[inline(always)]
 fn carry_out_at(
     objects: &mut Objects,
     at: usize,
