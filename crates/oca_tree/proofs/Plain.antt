@@ -57,34 +57,37 @@ module _ (r : Request) (h : IsHarmless r) where
 abbrev IsPlain : Method → Request → Type 0
 IsPlain method r = ((v : Value) (count : ℕ) (params : List ℕ) → request_of v method count params ≡ without_parameters r count params) × IsHarmless r
 
+asks_this : (method : Method) (q r : Request) → Some q ≡ Some r → IsPlain method q → IsPlain method r
+asks_this method q r e plain = let same : q ≡ r = cc in subst (IsPlain method) same plain
+
 plain : (method : Method) (r : Request) → plain_request method ≡ Some r → IsPlain method r
 unfolding request_of is_invalid changed
-plain methods.GetClassIdentification r e = let same : requests.GetClassIdentification ≡ r = cc in subst (IsPlain methods.GetClassIdentification) same (λ v count params. refl, record { listed = refl; there = λ s. refl; inside = λ s. refl; valid = λ s t. refl; value = λ s t. refl; mute = λ s. refl; polarity = λ s. refl; switch = λ s. refl; truth = λ s. refl; range = λ s. refl })
-plain methods.GetLockable r e = let same : requests.GetLockable ≡ r = cc in subst (IsPlain methods.GetLockable) same (λ v count params. refl, record { listed = refl; there = λ s. refl; inside = λ s. refl; valid = λ s t. refl; value = λ s t. refl; mute = λ s. refl; polarity = λ s. refl; switch = λ s. refl; truth = λ s. refl; range = λ s. refl })
+plain methods.GetClassIdentification r e = asks_this methods.GetClassIdentification requests.GetClassIdentification r e (λ v count params. refl, record { listed = refl; there = λ s. refl; inside = λ s. refl; valid = λ s t. refl; value = λ s t. refl; mute = λ s. refl; polarity = λ s. refl; switch = λ s. refl; truth = λ s. refl; range = λ s. refl })
+plain methods.GetLockable r e = asks_this methods.GetLockable requests.GetLockable r e (λ v count params. refl, record { listed = refl; there = λ s. refl; inside = λ s. refl; valid = λ s t. refl; value = λ s t. refl; mute = λ s. refl; polarity = λ s. refl; switch = λ s. refl; truth = λ s. refl; range = λ s. refl })
 plain methods.LockTotal r e = cc
 plain methods.Unlock r e = cc
-plain methods.GetRole r e = let same : requests.GetRole ≡ r = cc in subst (IsPlain methods.GetRole) same (λ v count params. refl, record { listed = refl; there = λ s. refl; inside = λ s. refl; valid = λ s t. refl; value = λ s t. refl; mute = λ s. refl; polarity = λ s. refl; switch = λ s. refl; truth = λ s. refl; range = λ s. refl })
+plain methods.GetRole r e = asks_this methods.GetRole requests.GetRole r e (λ v count params. refl, record { listed = refl; there = λ s. refl; inside = λ s. refl; valid = λ s t. refl; value = λ s t. refl; mute = λ s. refl; polarity = λ s. refl; switch = λ s. refl; truth = λ s. refl; range = λ s. refl })
 plain methods.LockReadonly r e = cc
-plain methods.GetEnabled r e = let same : requests.GetEnabled ≡ r = cc in subst (IsPlain methods.GetEnabled) same (λ v count params. refl, record { listed = refl; there = λ s. refl; inside = λ s. refl; valid = λ s t. refl; value = λ s t. refl; mute = λ s. refl; polarity = λ s. refl; switch = λ s. refl; truth = λ s. refl; range = λ s. refl })
+plain methods.GetEnabled r e = asks_this methods.GetEnabled requests.GetEnabled r e (λ v count params. refl, record { listed = refl; there = λ s. refl; inside = λ s. refl; valid = λ s t. refl; value = λ s t. refl; mute = λ s. refl; polarity = λ s. refl; switch = λ s. refl; truth = λ s. refl; range = λ s. refl })
 plain methods.SetEnabled r e = cc
-plain methods.GetLabel r e = let same : requests.GetLabel ≡ r = cc in subst (IsPlain methods.GetLabel) same (λ v count params. refl, record { listed = refl; there = λ s. refl; inside = λ s. refl; valid = λ s t. refl; value = λ s t. refl; mute = λ s. refl; polarity = λ s. refl; switch = λ s. refl; truth = λ s. refl; range = λ s. refl })
+plain methods.GetLabel r e = asks_this methods.GetLabel requests.GetLabel r e (λ v count params. refl, record { listed = refl; there = λ s. refl; inside = λ s. refl; valid = λ s t. refl; value = λ s t. refl; mute = λ s. refl; polarity = λ s. refl; switch = λ s. refl; truth = λ s. refl; range = λ s. refl })
 plain methods.SetLabel r e = cc
-plain methods.GetOwner r e = let same : requests.GetOwner ≡ r = cc in subst (IsPlain methods.GetOwner) same (λ v count params. refl, record { listed = refl; there = λ s. refl; inside = λ s. refl; valid = λ s t. refl; value = λ s t. refl; mute = λ s. refl; polarity = λ s. refl; switch = λ s. refl; truth = λ s. refl; range = λ s. refl })
-plain methods.GetMembers r e = let same : requests.GetMembers ≡ r = cc in subst (IsPlain methods.GetMembers) same (λ v count params. refl, record { listed = refl; there = λ s. refl; inside = λ s. refl; valid = λ s t. refl; value = λ s t. refl; mute = λ s. refl; polarity = λ s. refl; switch = λ s. refl; truth = λ s. refl; range = λ s. refl })
-plain methods.GetMembersRecursive r e = let same : requests.GetMembersRecursive ≡ r = cc in subst (IsPlain methods.GetMembersRecursive) same (λ v count params. refl, record { listed = refl; there = λ s. refl; inside = λ s. refl; valid = λ s t. refl; value = λ s t. refl; mute = λ s. refl; polarity = λ s. refl; switch = λ s. refl; truth = λ s. refl; range = λ s. refl })
-plain methods.GetState r e = let same : requests.GetState ≡ r = cc in subst (IsPlain methods.GetState) same (λ v count params. refl, record { listed = refl; there = λ s. refl; inside = λ s. refl; valid = λ s t. refl; value = λ s t. refl; mute = λ s. refl; polarity = λ s. refl; switch = λ s. refl; truth = λ s. refl; range = λ s. refl })
+plain methods.GetOwner r e = asks_this methods.GetOwner requests.GetOwner r e (λ v count params. refl, record { listed = refl; there = λ s. refl; inside = λ s. refl; valid = λ s t. refl; value = λ s t. refl; mute = λ s. refl; polarity = λ s. refl; switch = λ s. refl; truth = λ s. refl; range = λ s. refl })
+plain methods.GetMembers r e = asks_this methods.GetMembers requests.GetMembers r e (λ v count params. refl, record { listed = refl; there = λ s. refl; inside = λ s. refl; valid = λ s t. refl; value = λ s t. refl; mute = λ s. refl; polarity = λ s. refl; switch = λ s. refl; truth = λ s. refl; range = λ s. refl })
+plain methods.GetMembersRecursive r e = asks_this methods.GetMembersRecursive requests.GetMembersRecursive r e (λ v count params. refl, record { listed = refl; there = λ s. refl; inside = λ s. refl; valid = λ s t. refl; value = λ s t. refl; mute = λ s. refl; polarity = λ s. refl; switch = λ s. refl; truth = λ s. refl; range = λ s. refl })
+plain methods.GetState r e = asks_this methods.GetState requests.GetState r e (λ v count params. refl, record { listed = refl; there = λ s. refl; inside = λ s. refl; valid = λ s t. refl; value = λ s t. refl; mute = λ s. refl; polarity = λ s. refl; switch = λ s. refl; truth = λ s. refl; range = λ s. refl })
 plain methods.SetState r e = cc
-plain methods.GetPosition r e = let same : requests.Switch switches.GetPosition ≡ r = cc in subst (IsPlain methods.GetPosition) same (λ v count params. refl, record { listed = refl; there = λ s. refl; inside = λ s. refl; valid = λ s t. refl; value = λ s t. refl; mute = λ s. refl; polarity = λ s. refl; switch = λ s. refl; truth = λ s. refl; range = λ s. refl })
+plain methods.GetPosition r e = asks_this methods.GetPosition (requests.Switch switches.GetPosition) r e (λ v count params. refl, record { listed = refl; there = λ s. refl; inside = λ s. refl; valid = λ s t. refl; value = λ s t. refl; mute = λ s. refl; polarity = λ s. refl; switch = λ s. refl; truth = λ s. refl; range = λ s. refl })
 plain methods.SetPosition r e = cc
 plain methods.GetPositionName r e = cc
 plain methods.SetPositionName r e = cc
-plain methods.GetPositionNames r e = let same : requests.Switch switches.GetPositionNames ≡ r = cc in subst (IsPlain methods.GetPositionNames) same (λ v count params. refl, record { listed = refl; there = λ s. refl; inside = λ s. refl; valid = λ s t. refl; value = λ s t. refl; mute = λ s. refl; polarity = λ s. refl; switch = λ s. refl; truth = λ s. refl; range = λ s. refl })
+plain methods.GetPositionNames r e = asks_this methods.GetPositionNames (requests.Switch switches.GetPositionNames) r e (λ v count params. refl, record { listed = refl; there = λ s. refl; inside = λ s. refl; valid = λ s t. refl; value = λ s t. refl; mute = λ s. refl; polarity = λ s. refl; switch = λ s. refl; truth = λ s. refl; range = λ s. refl })
 plain methods.SetPositionNames r e = cc
 plain methods.GetPositionEnabled r e = cc
 plain methods.SetPositionEnabled r e = cc
-plain methods.GetPositionEnableds r e = let same : requests.Switch switches.GetPositionEnableds ≡ r = cc in subst (IsPlain methods.GetPositionEnableds) same (λ v count params. refl, record { listed = refl; there = λ s. refl; inside = λ s. refl; valid = λ s t. refl; value = λ s t. refl; mute = λ s. refl; polarity = λ s. refl; switch = λ s. refl; truth = λ s. refl; range = λ s. refl })
+plain methods.GetPositionEnableds r e = asks_this methods.GetPositionEnableds (requests.Switch switches.GetPositionEnableds) r e (λ v count params. refl, record { listed = refl; there = λ s. refl; inside = λ s. refl; valid = λ s t. refl; value = λ s t. refl; mute = λ s. refl; polarity = λ s. refl; switch = λ s. refl; truth = λ s. refl; range = λ s. refl })
 plain methods.SetPositionEnableds r e = cc
-plain methods.GetSetting r e = let same : requests.GetSetting ≡ r = cc in subst (IsPlain methods.GetSetting) same (λ v count params. refl, record { listed = refl; there = λ s. refl; inside = λ s. refl; valid = λ s t. refl; value = λ s t. refl; mute = λ s. refl; polarity = λ s. refl; switch = λ s. refl; truth = λ s. refl; range = λ s. refl })
+plain methods.GetSetting r e = asks_this methods.GetSetting requests.GetSetting r e (λ v count params. refl, record { listed = refl; there = λ s. refl; inside = λ s. refl; valid = λ s t. refl; value = λ s t. refl; mute = λ s. refl; polarity = λ s. refl; switch = λ s. refl; truth = λ s. refl; range = λ s. refl })
 plain methods.SetSetting r e = cc
 
 module _ (method : Method) (r : Request) (e : plain_request method ≡ Some r) where

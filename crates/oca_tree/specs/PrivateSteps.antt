@@ -42,11 +42,12 @@ abbrev pub PutsAll : Result ℕ Status → List ℕ → List ℕ → List (List 
 PutsAll (Ok count) old new parameters = (new ≡ old ++ joined parameters) × (count ≡ length parameters)
 PutsAll (Err s) old new parameters = (s ≡ status.BufferOverflow) × (1452 < length old + length (joined parameters))
 
--- what a method asks that only reads and has no parameters (of any object: the root is one), or nothing
+-- whether a method of this access only reads
 abbrev pub only_reads : Access → Bool
 only_reads Read = true
 only_reads _ = false
 
+-- what a method asks that only reads and has no parameters, the same of every object, or nothing
 abbrev pub plain_request : Method → Option Request
 plain_request method = if only_reads (access method) then request_of values.Block method 0 [] else None
 

@@ -144,7 +144,7 @@ fn state_number(value: &Value) -> Option<u8>
 }
 
 /// The state of a mute or a polarity.
-#[inline(always)]
+#[inline]
 fn put_state(out: &mut Params, value: &Value) -> Result<(), PutFault>
     ensures { Puts result out.old.items out.new.items (state_encoding value.now) }
 {
@@ -237,7 +237,6 @@ fn put_switch_answer(
 }
 
 /// What a switch answers; any other value answers nothing to it.
-#[inline(never)]
 #[tactic(auto, unfolding(crate::specs::Requests::is_out_of_range, crate::specs::Trees::IsSoundValue))]
 fn put_position_answer(
     out: &mut Params,
@@ -265,7 +264,6 @@ fn put_range(out: &mut Params, range: &Range) -> Result<(), PutFault>
 }
 
 /// The setting, and of a number its least and its greatest too.
-#[inline(never)]
 #[tactic(auto, unfolding(crate::specs::Trees::IsSoundValue))]
 fn put_setting(out: &mut Params, value: &Value) -> Result<u8, Status>
     requires { IsSoundValue value.now }
@@ -278,7 +276,8 @@ fn put_setting(out: &mut Params, value: &Value) -> Result<u8, Status>
     }
 }
 
-/// Appends the parameters of the answer, and says how many they are, unless it is too long.
+/// Appends the parameters of the answer, and says how many they are, unless it is too long. Inlined, it is one jump table with
+/// the one that made the request.
 #[inline(always)]
 #[tactic(auto, unfolding(crate::specs::Execution::parameters))]
 pub(crate) fn put_answer(
