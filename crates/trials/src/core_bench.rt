@@ -15,39 +15,47 @@ const SENDER: Peer = Peer {
 /// What is measured.
 #[derive(Clone, Copy, Debug, PartialEq, Eq)]
 pub enum Kind {
-    /// One new command a datagram.
+    /// One new GetState a datagram.
     Single,
-    /// Eighty-six new commands a datagram.
+    /// Eighty-six new GetState a datagram.
     Packed,
-    /// The same command again and again.
+    /// The same GetState again and again.
     Copies,
+    /// One new SetState a datagram.
+    Setting,
 }
 
 /// How many commands a datagram of this kind has.
 pub fn commands_in(kind: Kind) -> u32 {
     match kind {
         Kind::Packed => 86,
-        Kind::Single | Kind::Copies => 1,
+        Kind::Single | Kind::Copies | Kind::Setting => 1,
     }
 }
 
-/// GetState of 4097 under a handle, in a packet of its own.
-fn get_state(handle: u32) -> Packet {
+/// A command of 4097 of this kind, in a packet of its own: GetState, or SetState to Muted.
+fn command_of(kind: Kind) -> Packet {
+    let sets = kind == Kind::Setting;
+    let params: &[u8] = if sets { &[1] } else { &[] };
     let mut packet = Packet::new();
     let command = Command {
-        handle: Handle(handle),
+        handle: Handle(1),
         target: Ono(4097),
-        method: MethodId { level: 4, index: 1 },
-        count: 0,
-        params: &[],
+        method: MethodId {
+            level: 4,
+            index: if sets { 2 } else { 1 },
+        },
+        count: u8::from(sets),
+        params,
     };
     let _ = write_command(&mut packet, true, &command);
     packet
 }
 
-/// A datagram of one PDU with this many GetState commands, whose handles are still to be set.
-fn datagram(commands: u32) -> Packet {
-    let one = get_state(1);
+/// A datagram of one PDU with the commands of this kind, whose handles are still to be set.
+fn datagram(kind: Kind) -> Packet {
+    let commands = commands_in(kind);
+    let one = command_of(kind);
     let mut packet = Packet::new();
     if let Some(header) = one.as_slice().get(..10) {
         let _ = packet.try_extend_from_slice(header);
@@ -132,7 +140,7 @@ pub fn run(
     let mut device = Device::new(alloc, tree, Window::default())?;
     let mut outbox = Outbox::new(alloc)?;
     open_sessions(&mut device, &mut outbox, size.sessions);
-    let mut packet = datagram(commands_in(kind));
+    let mut packet = datagram(kind);
     let mut handle = 0u32;
     let mut packets = 0u64;
     for _ in 0..datagrams {

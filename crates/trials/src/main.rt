@@ -153,6 +153,7 @@ fn measured<R: Runtime + AllocGlobal>(
         "single" => Kind::Single,
         "packed" => Kind::Packed,
         "copies" => Kind::Copies,
+        "setting" => Kind::Setting,
         _ => return said(rt, "bad words", 2),
     };
     let (Ok(count), true) = (count.parse::<u32>(), way == "served" || way == "made") else {
