@@ -119,6 +119,7 @@ impl Outbox {
 
 /// Adds a response to the last of the first `count` packets where that holds responses and has room for it, and answers whether
 /// it did.
+#[inline(always)]
 fn join_last(places: &mut Vec<Packet>, count: usize, handle: Handle, reply: &Reply) -> bool
     requires within { count ≤ length places.old.items }
     requires groups { AreGrouped (bytes_of_packets (take count places.old.items)) }
@@ -133,6 +134,7 @@ fn join_last(places: &mut Vec<Packet>, count: usize, handle: Handle, reply: &Rep
 }
 
 /// Adds a response to the PDU of a packet where that is of responses and has room for it, and answers whether it did.
+#[inline(always)]
 fn join(packet: &mut Packet, handle: Handle, reply: &Reply) -> bool
     requires { (p : Pdu) × (packet.old.items ≡ pdu_encoding p) }
     ensures { (p : Pdu) → packet.old.items ≡ pdu_encoding p → Joins result p (response handle.0 reply.now) packet.old.items packet.new.items }

@@ -119,6 +119,7 @@ pub fn write_response(packet: &mut Packet, handle: Handle, reply: &Reply) -> Res
 
 /// Writes a PDU of one response (AES70-3) in the place of all that the packet held. It always fits, since a reply has at most
 /// 1,452 bytes of parameters. Where the packet has as many bytes already, they are written over.
+#[inline(always)]
 pub fn replace_response(packet: &mut Packet, handle: Handle, reply: &Reply)
     ensures bytes { packet.new.items ≡ pdu_encoding (Responses (response_with handle reply.now ∷ [])) }
     ensures datagram { IsDatagram (Responses (response_with handle reply.now ∷ []) ∷ []) packet.new.items }
@@ -210,6 +211,7 @@ fn raise_header(pdu: &mut [u8], size: u32)
 /// Appends a response to the PDU of responses that the packet holds (AES70-3): the response, PduSize and MessageCount
 /// are those of one PDU with all of them, the new one last. Refusal: `TooLong` where the packet would pass 1,472 bytes,
 /// and the packet is unchanged.
+#[inline(always)]
 pub fn extend_response(packet: &mut Packet, handle: Handle, reply: &Reply) -> Result<(), WriteFault>
     requires { HoldsResponses packet.old.items }
     ensures room { IsOk result ↔ (length packet.old.items + length (response_encoding (response_with handle reply.now)) ≤ 1472) }
@@ -223,7 +225,7 @@ pub fn extend_response(packet: &mut Packet, handle: Handle, reply: &Reply) -> Re
 {
     let params = reply.params.as_slice();
     let room = MOST_BYTES - packet.len();
-    if room < RESPONSE_BYTES || room - RESPONSE_BYTES < params.len() {
+    if room < RESPONSE_BYTES + params.len() {
         return Err(WriteFault::TooLong);
     }
     let size = packet.len() + 9 + params.len();
