@@ -62,6 +62,7 @@ pub fn number_before(text: &[u8], end: u8, most: usize, largest: u64) -> Option<
 }
 
 /// The same for a number of an address.
+#[inline(always)]
 fn octet_before(text: &[u8], end: u8) -> Option<(u64, &[u8])>
     requires { (end < 48) ⊎ (57 < end) }
     ensures value { read_view result ≡ read_before octet_of end text.now }

@@ -1,5 +1,5 @@
 -- What serving an event, and a run of events, does to a device.
-use Rattle.std.proofs.Common.{◌≡◌, ℕ, ◌+◌, List, [], ◌∷◌, ◌++◌, Option, Some, None, Result, Ok, Err, refl, sym, ap, ◌∙◌, append_assoc, append-nil, subst}
+use Rattle.std.proofs.Common.{◌≡◌, ℕ, List, [], ◌∷◌, ◌++◌, Option, Some, None, Result, Ok, Err, refl, sym, ap, ◌∙◌, subst}
 use Rattle.std.specs.Prelude.{codes, IfSome}
 use Rattle.std.specs.List.{flat_map}
 use Rattle.oca_types.specs.declared.words.Peer.{Peer}
@@ -11,18 +11,17 @@ use Rattle.oca_device.specs.Answers.{packets, verdict}
 use Rattle.oca_script.specs.declared.fault.LineFault.{LineFault}
 use Rattle.oca_script.specs.declared.fault.ReplayFault.{ReplayFault}
 use Rattle.oca_script.specs.declared.fault.ReplayFault.TheVariants.{Line, Read, Write, TooMuch}
-use Rattle.oca_script.specs.declared.fault.Stop.{Stop}
 use Rattle.oca_script.specs.declared.fault.Stop.TheVariants as stop
 use Rattle.oca_script.specs.declared.fault.WriteFailed.{WriteFailed}
 use Rattle.oca_script.specs.Ends.{Input, Output}
 use Rattle.oca_script.specs.Printing.{Prints, PrintsAll, PrintsPart, WritesWhole}
-use Rattle.oca_script.specs.Script.{Script, script}
-use Rattle.oca_script.specs.Replaying.{Runs, ServesLine, Served, Writes, Reads, Ends, BeginsWith, known_bytes, Replays as ReplaysScript, Outcome as ScriptOutcome}
+use Rattle.oca_script.specs.Script.{Script}
+use Rattle.oca_script.specs.Replaying.{Runs, ServesLine, Writes, BeginsWith, known_bytes, Replays as ReplaysScript, Outcome as ScriptOutcome}
 use Rattle.ocadev.specs.declared.request.Request.{Request}
 use Rattle.ocadev.specs.declared.request.Request.TheVariants as asks
 use Rattle.ocadev.proofs.PacketLemmas.{prints-then, prints-less}
 use Rattle.ocadev.specs.Requests.{asked_event}
-use Rattle.ocadev.specs.PrivateRequests.{event_of, event_asked}
+use Rattle.ocadev.specs.PrivateRequests.{event_of}
 use Rattle.ocadev.specs.Printing.{verdict_text, packet_text, event_text, events_text, events_then}
 use Rattle.ocadev.specs.Replaying.{Serves, ServesAndPrints, Whole, Part, Replays, Outcome, device_script}
 

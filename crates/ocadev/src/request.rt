@@ -149,6 +149,7 @@ pub fn asked_by<'a>(line: &[u8], room: &'a mut [u8; MOST_BYTES]) -> Result<Reque
 }
 
 /// The same field by field, for clock readings and for lines with a fault.
+#[inline(never)]
 fn asked_by_fields<'a>(
     line: &[u8],
     room: &'a mut [u8; MOST_BYTES],

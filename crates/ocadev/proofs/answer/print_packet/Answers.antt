@@ -1,4 +1,3 @@
-use Rattle.std.proofs.Common.{[]}
 use Rattle.std.proofs.lemmas.Result.{err_from_is_err_and}
 use Rattle.oca_script.proofs.PrintLemmas.{prints-err}
 use Rattle.ocadev.proofs.PacketLemmas.{printed-held}
