@@ -58,41 +58,43 @@ fn command_front(respond: bool, command: &Command) -> [u8; 27]
     ensures fits { CommandFits (fields_of command.now) }
 {
     let size = COMMAND_BYTES as u32 + command.params.len() as u32;
-    let [p0, p1, p2, p3] = (9 + size).to_be_bytes();
-    let [s0, s1, s2, s3] = size.to_be_bytes();
-    let [h0, h1, h2, h3] = command.handle.0.to_be_bytes();
-    let [t0, t1, t2, t3] = command.target.0.to_be_bytes();
-    let [l0, l1] = command.method.level.to_be_bytes();
-    let [i0, i1] = command.method.index.to_be_bytes();
-    [
+    let mut front = [
         SYNC,
         0,
         1,
-        p0,
-        p1,
-        p2,
-        p3,
+        0,
+        0,
+        0,
+        0,
         respond as u8,
         0,
         1,
-        s0,
-        s1,
-        s2,
-        s3,
-        h0,
-        h1,
-        h2,
-        h3,
-        t0,
-        t1,
-        t2,
-        t3,
-        l0,
-        l1,
-        i0,
-        i1,
-        command.count,
-    ]
+        0,
+        0,
+        0,
+        0,
+        0,
+        0,
+        0,
+        0,
+        0,
+        0,
+        0,
+        0,
+        0,
+        0,
+        0,
+        0,
+        0,
+    ];
+    front[3..7].copy_from_slice(&(9 + size).to_be_bytes());
+    front[10..14].copy_from_slice(&size.to_be_bytes());
+    front[14..18].copy_from_slice(&command.handle.0.to_be_bytes());
+    front[18..22].copy_from_slice(&command.target.0.to_be_bytes());
+    front[22..24].copy_from_slice(&command.method.level.to_be_bytes());
+    front[24..26].copy_from_slice(&command.method.index.to_be_bytes());
+    front[26] = command.count;
+    front
 }
 
 /// Appends a PDU of one response (AES70-3). Refusal: `TooLong` where the packet would pass 1,472 bytes, and the packet is
@@ -171,12 +173,14 @@ fn response_head(handle: Handle, reply: &Reply) -> [u8; 10]
     ensures bytes { result ++ reply.now.params.items ≡ response_encoding (response_with handle reply.now) }
     ensures fits { ResponseFits (response_with handle reply.now) }
 {
-    let Handle(handle) = handle;
     let (status, count) = (reply.status.number(), reply.count);
     let size = RESPONSE_BYTES as u32 + reply.params.len() as u32;
-    let [s0, s1, s2, s3] = size.to_be_bytes();
-    let [h0, h1, h2, h3] = handle.to_be_bytes();
-    [s0, s1, s2, s3, h0, h1, h2, h3, status, count]
+    let mut head = [0u8; 10];
+    head[..4].copy_from_slice(&size.to_be_bytes());
+    head[4..8].copy_from_slice(&handle.0.to_be_bytes());
+    head[8] = status;
+    head[9] = count;
+    head
 }
 
 /// The header of a PDU of this response, and the response up to its parameters.
@@ -185,11 +189,12 @@ fn response_front(handle: Handle, reply: &Reply) -> [u8; 20]
     ensures fits { ResponseFits (response_with handle reply.now) }
 {
     let size = 19 + reply.params.len() as u32;
-    let [p0, p1, p2, p3] = size.to_be_bytes();
-    let [s0, s1, s2, s3, h0, h1, h2, h3, status, count] = response_head(handle, reply);
-    [
-        SYNC, 0, 1, p0, p1, p2, p3, 3, 0, 1, s0, s1, s2, s3, h0, h1, h2, h3, status, count,
-    ]
+    let mut front = [
+        SYNC, 0, 1, 0, 0, 0, 0, 3, 0, 1, 0, 0, 0, 0, 0, 0, 0, 0, 0, 0,
+    ];
+    front[3..7].copy_from_slice(&size.to_be_bytes());
+    front[10..].copy_from_slice(&response_head(handle, reply));
+    front
 }
 
 /// Sets PduSize in the header of a PDU, and raises its MessageCount by one.
@@ -198,14 +203,9 @@ fn raise_header(pdu: &mut [u8], size: u32)
     requires count { number_at w16 8 pdu.old + 1 < 2 ^ 16 }
     ensures { pdu.new ≡ take 3 pdu.old ++ unsigned_encoding w32 size ++ slice_index pdu.old 7 ∷ unsigned_encoding w16 (number_at w16 8 pdu.old + 1) ++ drop 10 pdu.old }
 {
-    let [s0, s1, s2, s3] = size.to_be_bytes();
-    let [c0, c1] = (fields::u16_in(&pdu[8..10]) + 1).to_be_bytes();
-    pdu[3] = s0;
-    pdu[4] = s1;
-    pdu[5] = s2;
-    pdu[6] = s3;
-    pdu[8] = c0;
-    pdu[9] = c1;
+    let count = fields::u16_in(&pdu[8..10]) + 1;
+    pdu[3..7].copy_from_slice(&size.to_be_bytes());
+    pdu[8..10].copy_from_slice(&count.to_be_bytes());
 }
 
 /// Appends a response to the PDU of responses that the packet holds (AES70-3): the response, PduSize and MessageCount
