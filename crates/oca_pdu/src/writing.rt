@@ -58,35 +58,11 @@ fn command_front(respond: bool, command: &Command) -> [u8; 27]
     ensures fits { CommandFits (fields_of command.now) }
 {
     let size = COMMAND_BYTES as u32 + command.params.len() as u32;
-    let mut front = [
-        SYNC,
-        0,
-        1,
-        0,
-        0,
-        0,
-        0,
-        respond as u8,
-        0,
-        1,
-        0,
-        0,
-        0,
-        0,
-        0,
-        0,
-        0,
-        0,
-        0,
-        0,
-        0,
-        0,
-        0,
-        0,
-        0,
-        0,
-        0,
-    ];
+    let mut front = [0u8; 27];
+    front[0] = SYNC;
+    front[2] = 1;
+    front[7] = respond as u8;
+    front[9] = 1;
     front[3..7].copy_from_slice(&(9 + size).to_be_bytes());
     front[10..14].copy_from_slice(&size.to_be_bytes());
     front[14..18].copy_from_slice(&command.handle.0.to_be_bytes());
