@@ -42,8 +42,8 @@ pub struct Sessions {
     /// Up to this moment no session lapses, and so none is forgotten.
     quiet_until: u64,
     count: usize,
-    /// Where a session stands, if there is one: that which was heard last, unless one was forgotten since. It is looked
-    /// at first.
+    /// Where a session stands, if there is one: that which was heard last, unless one was forgotten since. It
+    /// is looked at first.
     recent: usize,
     slots: Vec<Slot>,
 }
@@ -140,7 +140,7 @@ impl Sessions {
     }
 
     /// Puts the peers that are lapsed at the present moment into `peers`, in the place of what it held, and then
-    /// forgets. It stands apart so that the quiet case, which nearly all calls are, is inlined.
+    /// forgets. It stands apart so that the quiet case is inlined.
     #[inline(never)]
     fn lapse(&mut self, peers: &mut ArrayVec<Peer, 16>)
         ensures lapsed { peers.new.items ≡ lapsed self.old.moment self.old.sessions }
@@ -150,7 +150,7 @@ impl Sessions {
         put_lapsed(&self.slots[..self.count], self.moment, peers);
         self.count = forget(&mut self.slots, self.count, self.moment);
         self.quiet_until = quiet_until(&self.slots[..self.count]);
-        self.recent = 0;
+        self.recent = self.recent.min(self.count.saturating_sub(1));
     }
 
     /// Notes that a peer was heard at a moment, in milliseconds. A known peer's silence ends. For another a

@@ -96,8 +96,8 @@ fn datagram<'a>(
     Ok(Request::Datagram { now, from, bytes })
 }
 
-/// The moment and the peer of a datagram's line, and what stands after them, read in one pass. `None` where the line does not begin with
-/// them.
+/// The moment and the peer of a datagram's line, and what stands after them, read in one pass. `None` where the line does not
+/// begin with both, each before a space.
 fn moment_and_peer(line: &[u8]) -> Option<(u64, Peer, &[u8])>
     ensures read { begun result ≡ moment_and_peer_of line.now }
     ensures value { IfSome result (λ p. asked_event (fields line.now) ≡ datagram_after p.0 p.1 (fields p.2.now)) }

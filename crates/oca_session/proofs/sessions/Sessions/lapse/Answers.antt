@@ -19,7 +19,7 @@ invariant_of-self c =
       subst IsOnePerPeer (sym after.front)
           (AllPairs-filter (λ s t. same_peer s.peer t.peer ≡ false) (stays c.self.inside.moment) (take c.self.inside.count c.self.inside.slots.items) c.self.invariant.4),
       subst (IsQuietUntil c.quiet_until-self-inside.result) (ap (take c.forget-self-inside.result) c.deref-2.ensures.value) c.quiet_until-self-inside.ensures,
-      λ some. some,
+      λ some. (omega (arith, some)),
     )
 
 pub returns-clause-forgotten : goal.returns-clause-forgotten
