@@ -4,7 +4,7 @@
 Usage: core.py BIN     BIN is the folder with `trials`
 
 single: one GetState a datagram. packed: 86 of them. copies: the same command again and again. setting: one SetState a
-datagram. What making the datagrams costs is taken off."""
+datagram. others: one GetState a datagram, of another object each time. What making the datagrams costs is taken off."""
 import re
 import subprocess
 import sys
@@ -22,7 +22,7 @@ def instructions(program, kind, objects, sessions, count, way):
 def main():
     program = f"{sys.argv[1]}/trials"
     print("kind    objects sessions instructions-a-command")
-    for kind, objects, sessions in (("single", 8, 1), ("single", 128, 1), ("single", 8, 16), ("single", 128, 16), ("packed", 8, 1), ("copies", 8, 1), ("setting", 8, 1)):
+    for kind, objects, sessions in (("single", 8, 1), ("single", 128, 1), ("single", 8, 16), ("single", 128, 16), ("packed", 8, 1), ("copies", 8, 1), ("setting", 8, 1), ("others", 128, 1)):
         commands, count = (86, 100) if kind == "packed" else (1, 4000)
         # from 100 datagrams on, so that the first use of the window's places is left out
         cost = [instructions(program, kind, objects, sessions, n, "served") - instructions(program, kind, objects, sessions, n, "made")

@@ -1,19 +1,20 @@
 -- Where the containers of objects stand.
-use Rattle.std.proofs.Common.{◌≡◌, ℕ, zero, suc, ◌<◌, ◌≤◌, Bool, true, false, cond, List, [], ◌∷◌, ◌++◌, length, get_or, take, drop, refl, sym, ap, ◌∙◌, arith, inl, inr, append_assoc, append-nil, length-append, eqb-true, eq-eqb}
+use Rattle.std.proofs.Common.{◌≡◌, ℕ, zero, suc, ◌<◌, ◌≤◌, Bool, true, false, cond, List, [], ◌∷◌, ◌++◌, length, get_or, take, drop, refl, sym, ap, ◌∙◌, arith, inl, inr, append_assoc, append-nil, length-append, eqb-true, eq-eqb, one-add}
 use Rattle.std.specs.Prelude.{Option, Some, None, is_some, ◌==◌, ◌||◌, ◌⊎◌}
 use Rattle.std.specs.Option.{option_or}
-use Rattle.std.specs.List.{position}
+use Rattle.std.specs.List.{position, position_or_len, find}
 use Rattle.std.proofs.lemmas.List.{take-append-drop, take-append-le, get_or-take, get_or-map}
 use Rattle.std.proofs.Math.ListN.{get_or-append, length-take}
 use Rattle.std.proofs.Math.Seq.{take-append_seam, get_or-append_seam}
-use Rattle.std.proofs.lemmas.List.Folds.{find-append}
+use Rattle.std.proofs.lemmas.List.Folds.{find-append, position_or_len_push}
 use Rattle.std.proofs.lemmas.Bool.{cases_lt}
 use Rattle.oca_tree.specs.declared.object.Object.{Object}
+use Rattle.oca_tree.specs.Objects.{has_number}
 use Rattle.oca_tree.specs.Places.{Place, place_of, places, place_at, depth, reaches}
 use Rattle.oca_tree.specs.Trees.{IsBuilt, IsFree, IsTree}
 use Rattle.oca_tree.specs.Trees as trees
 use Rattle.oca_tree.specs.PrivateObjects.{containers_behind, containers}
-use Rattle.oca_tree.proofs.Chains.{length_places}
+use Rattle.oca_tree.proofs.Chains.{length_places, position_places}
 use Rattle.oca_tree.proofs.Positions.{place_found, find_none, find_some, find_passes}
 use Rattle.oca_tree.proofs.Endings.{looked_up, block_there, depth_absent, depth_there, reaches_absent, reaches_there}
 
@@ -97,6 +98,38 @@ itself _ (trees.next ps p built free) i d h = by (cases_lt i (length ps)) (itsel
         let same : (p.number == p.number) ≡ true = eq-eqb p.number p.number refl in
         rw (last, get_or-append_seam ps p [] d) (looked_up ps p p.number ∙ (rw (free.untaken, same) refl))
 
+-- and it stands first where its number is looked for
+module _ (p : Place → Bool) where
+  nothing_before : (ps : List Place) → find p ps ≡ None → position_or_len p ps ≡ length ps
+  nothing_before [] e = refl
+  nothing_before (q ∷ qs) e = by (p q) refl (nothing_before qs)
+    where
+      by : (b : Bool) → p q ≡ b → (find p qs ≡ None → position_or_len p qs ≡ length qs) → position_or_len p (q ∷ qs) ≡ length (q ∷ qs)
+      by true t rest = let e' = rw t at e in absurd (cc)
+      by false t rest = rw (t, one-add) (ap suc (rest (rw t at e)))
+
+  pushed_before : (ps : List Place) (q : Place) (i : ℕ) → position_or_len p ps ≡ i → i < length ps → position_or_len p (ps ++ q ∷ []) ≡ i
+  pushed_before ps q i e within = let other : (i == length ps) ≡ false = grind (arith, within) in position_or_len_push p ps q ∙ (rw (e, other) refl)
+
+  pushed_last : (ps : List Place) (q : Place) → position_or_len p ps ≡ length ps → p q ≡ true → position_or_len p (ps ++ q ∷ []) ≡ length ps
+  pushed_last ps q e passes = let same : (length ps == length ps) ≡ true = eq-eqb (length ps) (length ps) refl in position_or_len_push p ps q ∙ (rw (e, same, passes) (omega arith))
+
+stands_first : (p : Place → Bool) (ps : List Place) (i : ℕ) → position_or_len p ps ≡ i → i < length ps → Some i ≡ position p ps
+stands_first p ps i e within = grind arith
+
+itself_first : (ps : List Place) → IsBuilt ps → (i : ℕ) (d : Place) → i < length ps → position_or_len (λ q. q.number == (get_or ps i d).number) ps ≡ i
+itself_first _ trees.root zero d h = refl
+itself_first _ trees.root (suc i) d h = absurd (omega arith)
+itself_first _ (trees.next ps p built free) i d h = by (cases_lt i (length ps)) (itself_first ps built i d)
+  where
+    by : (i < length ps) ⊎ (length ps ≤ i) → (i < length ps → position_or_len (λ q. q.number == (get_or ps i d).number) ps ≡ i)
+        → position_or_len (λ q. q.number == (get_or (ps ++ p ∷ []) i d).number) (ps ++ p ∷ []) ≡ i
+    by (inl lt) earlier = rw (get_or-append ps (p ∷ []) d i lt) (pushed_before (λ q. q.number == (get_or ps i d).number) ps p i (earlier lt) lt)
+    by (inr le) earlier =
+        let last : i ≡ length ps = omega (arith, h, le, length-append ps (p ∷ [])) in
+        rw (last, get_or-append_seam ps p [] d)
+        (pushed_last (λ q. q.number == p.number) ps p (nothing_before (λ q. q.number == p.number) ps free.untaken) (eq-eqb p.number p.number refl))
+
 -- ---- of an object at an index
 
 abbrev nowhere : Place
@@ -117,6 +150,12 @@ module _ (tree : List Object) (sound : IsTree tree) (i : ℕ) (d : Object) (with
 
   own : place_at ps (get_or tree i d).ono.0 ≡ Some (place_of (get_or tree i d))
   own = rw place at (itself ps sound.built i (place_of d) long)
+
+  -- the index of an object is where its number stands first
+  pub index_itself : Some i ≡ position (has_number (get_or tree i d).ono.0) tree
+  index_itself =
+      let first : position_or_len (λ q. q.number == (get_or tree i d).ono.0) ps ≡ i = rw place at (itself_first ps sound.built i (place_of d) long) in
+      stands_first (λ q. q.number == (get_or tree i d).ono.0) ps i first long ∙ sym (position_places tree (get_or tree i d).ono.0)
 
   pub container_absent : None ≡ get_or (containers ps) i None → place_at ps (get_or tree i d).container.0 ≡ None
   container_absent e = rw place at (absent ps sound.built i (place_of d) long e)

@@ -11,7 +11,7 @@ ghost use Rattle.oca_tree.specs.declared.object.Object.{Object as AnObject};
 use crate::answer::put_answer;
 use crate::object::Object;
 use crate::objects::Objects;
-use crate::place::index_of;
+use crate::place::index_from;
 use crate::request::Request;
 use oca_types::{Command, Method, MethodKind, Params, Peer, Status, method_of};
 
@@ -82,10 +82,11 @@ fn carry_out_at(
 }
 
 /// Carries out a command, if it is not refused, and puts the answer into empty parameters. `locks` counts the locks that are
-/// held. What only reads and has no parameters is answered at once.
+/// held, and `recent` is where an object was found last. What only reads and has no parameters is answered at once.
 pub(crate) fn carry_out(
     objects: &mut Objects,
     locks: &mut usize,
+    recent: &mut usize,
     peer: Peer,
     command: &Command<'_>,
     out: &mut Params,
@@ -97,7 +98,7 @@ pub(crate) fn carry_out(
     ensures tree { IsTree objects.new }
     ensures count { locks.new ≡ lock_count objects.new }
 {
-    let Some(at) = index_of(objects, command.target) else {
+    let Some(at) = index_from(objects, recent, command.target) else {
         return Err(Status::BadOno);
     };
     let object = objects.object_at(at);

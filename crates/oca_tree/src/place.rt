@@ -19,6 +19,42 @@ pub(crate) fn index_of(objects: &Objects, ono: Ono) -> Option<usize>
     objects.index_of(ono)
 }
 
+/// As `index_of`. The object at `recent` is looked at first, since commands often come in runs for one object; the index that
+/// is found is the next `recent`.
+pub(crate) fn index_from(objects: &Objects, recent: &mut usize, ono: Ono) -> Option<usize>
+    requires { IsTree objects.now }
+    ensures index { result ≡ position (has_number ono.0) objects.now }
+    ensures within { IfSome result (λ at. at < length objects.now) }
+    ensures absent { IfNone result (object_of objects.now ono.0 ≡ None) }
+    ensures found { IfSome result (λ at. (d : Object) → object_of objects.now ono.0 ≡ Some (slice_index_or objects.now at d)) }
+{
+    search_from(objects, recent, ono)
+}
+
+/// Looks for the number at `recent`, and then among all.
+#[tactic(auto, using(crate::proofs::Containers::index_itself))]
+fn search_from(objects: &Objects, recent: &mut usize, ono: Ono) -> Option<usize>
+    requires { IsTree objects.now }
+    ensures { result ≡ position (has_number ono.0) objects.now }
+{
+    if *recent < objects.len() && objects.object_at(*recent).ono == ono {
+        return Some(*recent);
+    }
+    let found = search(objects, ono);
+    if let Some(at) = found {
+        *recent = at;
+    }
+    found
+}
+
+/// Looks for the number among all.
+#[inline(never)]
+fn search(objects: &Objects, ono: Ono) -> Option<usize>
+    ensures { result ≡ position (has_number ono.0) objects.now }
+{
+    objects.index_of(ono)
+}
+
 /// Whether there is an object with this number.
 pub(crate) fn contains(objects: &Objects, ono: Ono) -> bool
     ensures { result ≡ is_some (object_of objects.now ono.0) }

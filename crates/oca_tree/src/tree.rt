@@ -61,6 +61,8 @@ pub struct Tree {
     objects: Objects,
     /// How many of the objects are locked.
     locks: usize,
+    /// Where the object of a command was found last: it is looked at first.
+    recent: usize,
 }
 
 impl Model for Tree {
@@ -83,7 +85,11 @@ impl Tree {
         ensures { result ≡ objects }
     {
         let locks = count_locks(objects.as_slice());
-        Tree { objects, locks }
+        Tree {
+            objects,
+            locks,
+            recent: 0,
+        }
     }
 
     /// Executes a command of the peer (AES70-2; the order of the statuses is the profile's). `out` is
@@ -97,7 +103,14 @@ impl Tree {
         ensures parameters { out.new.items ≡ (execution self.old peer (fields_of command.now)).parameters }
     {
         empty(out);
-        match carry_out(&mut self.objects, &mut self.locks, peer, command, out) {
+        match carry_out(
+            &mut self.objects,
+            &mut self.locks,
+            &mut self.recent,
+            peer,
+            command,
+            out,
+        ) {
             Ok(count) => Done {
                 status: Status::Ok,
                 count,

@@ -23,13 +23,15 @@ pub enum Kind {
     Copies,
     /// One new SetState a datagram.
     Setting,
+    /// One new GetState a datagram, of another object each time.
+    Others,
 }
 
 /// How many commands a datagram of this kind has.
 pub fn commands_in(kind: Kind) -> u32 {
     match kind {
         Kind::Packed => 86,
-        Kind::Single | Kind::Copies | Kind::Setting => 1,
+        Kind::Single | Kind::Copies | Kind::Setting | Kind::Others => 1,
     }
 }
 
@@ -84,6 +86,15 @@ fn set_handle(packet: &mut Packet, number: u32, handle: u32) {
     let at = 14usize.saturating_add(17usize.saturating_mul(number as usize));
     for (k, byte) in handle.to_be_bytes().iter().enumerate() {
         set(packet, at.saturating_add(k), *byte);
+    }
+}
+
+/// Gives the one command in the packet another target: the mutes from 4097 on, in turn.
+fn set_target(packet: &mut Packet, objects: u32, turn: u32) {
+    let mutes = objects.saturating_sub(1).max(1);
+    let target = 4097u32.saturating_add(turn % mutes);
+    for (k, byte) in target.to_be_bytes().iter().enumerate() {
+        set(packet, 18usize.saturating_add(k), *byte);
     }
 }
 
@@ -149,6 +160,9 @@ pub fn run(
                 handle = handle.wrapping_add(1);
             }
             set_handle(&mut packet, number, handle);
+        }
+        if kind == Kind::Others {
+            set_target(&mut packet, size.objects, handle);
         }
         outbox.clear();
         if served {

@@ -154,6 +154,7 @@ fn measured<R: Runtime + AllocGlobal>(
         "packed" => Kind::Packed,
         "copies" => Kind::Copies,
         "setting" => Kind::Setting,
+        "others" => Kind::Others,
         _ => return said(rt, "bad words", 2),
     };
     let (Ok(count), true) = (count.parse::<u32>(), way == "served" || way == "made") else {
