@@ -40,19 +40,11 @@ fn search_from(objects: &Objects, recent: &mut usize, ono: Ono) -> Option<usize>
     if *recent < objects.len() && objects.object_at(*recent).ono == ono {
         return Some(*recent);
     }
-    let found = search(objects, ono);
+    let found = objects.index_of(ono);
     if let Some(at) = found {
         *recent = at;
     }
     found
-}
-
-/// Looks for the number among all.
-#[inline(never)]
-fn search(objects: &Objects, ono: Ono) -> Option<usize>
-    ensures { result ≡ position (has_number ono.0) objects.now }
-{
-    objects.index_of(ono)
 }
 
 /// Whether there is an object with this number.
