@@ -1,19 +1,18 @@
--- Handles in order, and what is kept for each in places that are used in turn.
-use Rattle.std.proofs.Common.{subst, ◌≡◌, ◌⊎◌, inl, inr, ℕ, zero, suc, ◌+◌, ◌-◌, ◌<◌, ◌≤◌, ◌==◌, Bool, true, false, cond, List, [], ◌∷◌, ◌++◌, length, take, drop, get_or, slice_get, slice_set, Option, Some, None, refl, sym, ap, ◌∙◌, arith, append_assoc, append-nil, length-append}
+-- Handles and cells in places that are used in turn.
+use Rattle.std.proofs.Common.{◌≡◌, ◌⊎◌, inl, inr, ℕ, zero, suc, ◌+◌, ◌-◌, ◌<◌, ◌≤◌, ◌==◌, Bool, true, false, cond, List, [], ◌∷◌, ◌++◌, length, take, drop, get_or, slice_get, slice_set, Option, Some, None, refl, sym, ap, ◌∙◌, arith, append_assoc, append-nil, length-append}
 use Rattle.std.proofs.lemmas.Bool.Decides.{nat_tests}
 use Rattle.std.proofs.lemmas.List.{get_or_default, length-drop, length-take, drop_more, take_more_set, drop-set-lt, drop_all, take_all, length-set, get_or-drop, get_or_append_left, get_or-append_right, get_or-take}
-use Rattle.std.proofs.lemmas.List.Elements.{All-append, All-cons, All-tail, All-drop}
+use Rattle.std.proofs.lemmas.List.Elements.{All-append, All-cons, All-tail, All-drop, All-take}
 use Rattle.std.proofs.lemmas.List.Quantifiers.{all_pairs_push}
-use Rattle.std.proofs.lemmas.Option.{get_or_from_slice_get}
+use Rattle.std.proofs.lemmas.Option.{get_or_from_slice_get, slice_get_cases, none-some}
 use Rattle.std.specs.List.{All, find, position_or_len}
-use Rattle.std.specs.Option.{IfSome}
-use Rattle.std.specs.Prelude.{nat_lt, not, max, option_map}
+use Rattle.std.specs.Prelude.{not, max, option_map}
 use Rattle.oca_types.specs.declared.words.Handle.{Handle}
 use Rattle.oca_session.specs.declared.cell.Cell.{Cell}
 use Rattle.oca_types.specs.Peers.{CommandFields}
 use Rattle.oca_session.specs.Accepted.{Entry, Fresh, Duplicate, Reused, Old, asks_the_same, duplicate_or_reused, Retained, entry_under, has_handle, higher_of, greatest}
 use Rattle.oca_session.specs.Judging.{judgement_by_window, judge_entry, is_above, retained_after}
-use Rattle.oca_session.specs.PrivateCells.{AreBelow, AreDistinct, judge_cell, turned, paired, entry_in, entries_of, is_handle}
+use Rattle.oca_session.specs.PrivateCells.{AreBelow, AreDistinct, judge_cell, turned, paired, entry_in, entries_of, floor_before, is_handle}
 
 -- ---- places that are used in turn
 
@@ -52,9 +51,19 @@ turned_next xs o n x within next = elim next [
   | inr e ↦ rw e (turned_on xs o x within)
 ]
 
--- one more, where none was used again
-pub turned_more : {X : Type 0} (xs : List X) (x : X) → turned 0 (xs ++ x ∷ []) ≡ turned 0 xs ++ x ∷ []
-turned_more xs x = append-nil (xs ++ x ∷ []) ∙ sym (ap (λ ys. ys ++ x ∷ []) (append-nil xs))
+-- one more behind all others, and what is next is the place behind it or the first
+pub turned_more : {X : Type 0} (xs : List X) (x : X) (o n : ℕ) → o ≡ length xs → (n ≡ 0) ⊎ (n ≡ length xs + 1) → turned n (xs ++ x ∷ []) ≡ turned o xs ++ x ∷ []
+turned_more xs x o n all next = elim next [
+  | inl e ↦ rw e (append-nil (xs ++ x ∷ [])) ∙ before
+  | inr e ↦ turned_whole (xs ++ x ∷ []) n (rw length-append (sym e)) ∙ append-nil (xs ++ x ∷ []) ∙ before
+]
+  where
+    before : xs ++ x ∷ [] ≡ turned o xs ++ x ∷ []
+    before = ap (λ ys. ys ++ x ∷ []) (sym (turned_whole xs o (sym all) ∙ append-nil xs))
+
+-- of each item, where it holds of each
+pub All-turned : {X : Type 0} (P : X → Type 0) (o : ℕ) (xs : List X) → All P xs → All P (turned o xs)
+All-turned P o xs all = All-append P (drop o xs) (take o xs) (All-drop P o xs all) (All-take P o xs all)
 
 -- ---- pairs
 
@@ -147,70 +156,82 @@ distinct_drop k xs distinct = λ i j d before within.
     rw (get_or-drop k xs i d, get_or-drop k xs j d) (distinct (k + i) (k + j) d (omega (arith, before)) (omega (arith, within, length-drop k xs)))
 
 -- one more handle that none had
-pub distinct_more : (k : ℕ) (xs : List Handle) (x : Handle) → AreDistinct xs → All (λ y. is_handle x.0 y ≡ false) xs → AreDistinct (drop k (xs ++ x ∷ []))
-distinct_more k xs x distinct none =
-    distinct_drop k (xs ++ x ∷ []) (all_pairs_push (λ x y. is_handle x.0 y ≡ false) xs x distinct (λ i d within. swapped (get_or xs i d).0 x.0 (none i d within)))
+distinct_push : (xs : List Handle) (x : Handle) → AreDistinct xs → All (λ y. is_handle x.0 y ≡ false) xs → AreDistinct (xs ++ x ∷ [])
+distinct_push xs x distinct none = all_pairs_push (λ x y. is_handle x.0 y ≡ false) xs x distinct (λ i d within. swapped (get_or xs i d).0 x.0 (none i d within))
   where
     swapped : (a b : ℕ) → (a == b) ≡ false → (b == a) ≡ false
     swapped a b other = grind (arith, nat_tests)
 
+pub distinct_more : (o n : ℕ) (xs : List Handle) (x : Handle) → AreDistinct (turned o xs) → All (λ y. is_handle x.0 y ≡ false) (turned o xs) → o ≡ length xs → (n ≡ 0) ⊎ (n ≡ length xs + 1)
+    → AreDistinct (turned n (xs ++ x ∷ []))
+distinct_more o n xs x distinct none all next = rw (turned_more xs x o n all next) (distinct_push (turned o xs) x distinct none)
+
+pub distinct_next : (o n : ℕ) (xs : List Handle) (x : Handle) → AreDistinct (turned o xs) → All (λ y. is_handle x.0 y ≡ false) (turned o xs) → o < length xs
+    → ((o + 1 ≡ length xs) × (n ≡ 0)) ⊎ (n ≡ o + 1) → AreDistinct (turned n (slice_set xs o x))
+distinct_next o n xs x distinct none within next = rw (turned_next xs o n x within next) (distinct_drop 1 (turned o xs ++ x ∷ []) (distinct_push (turned o xs) x distinct none))
+
+-- a handle of the second part, in the whole
+pub in_back : (h k : ℕ) (front back xs : List Handle) → front ++ back ≡ xs → (k < length back) × ((d : Handle) → is_handle h (get_or back k d) ≡ true)
+    → (length front + k < length xs) × ((d : Handle) → is_handle h (get_or xs (length front + k) d) ≡ true)
+in_back h k front back xs all there =
+    let long : length xs ≡ length front + length back = sym (ap length all) ∙ length-append front back in (
+      omega (arith, long, there.0),
+      λ d. rw (← all, get_or-append_right front back (length front) (length front + k) d refl (omega arith)) (let at : length front + k - length front ≡ k = omega arith in rw at (there.1 d)),
+    )
+
 -- ---- the commands of a window
 
 module _ (o : ℕ) (xs : List Handle) (rs : List Cell) (same : length rs ≡ length xs) where
-  as_many : length xs ≡ length (turned o rs)
-  as_many = sym (length-turned o rs ∙ same)
+  as_many : length (turned o xs) ≡ length (turned o rs)
+  as_many = length-turned o xs ∙ sym same ∙ sym (length-turned o rs)
 
-  pub length-entries : length (entries_of xs o rs) ≡ length xs
-  length-entries = length-paired entry_in xs (turned o rs) as_many
+  length-entries : length (entries_of xs o rs) ≡ length xs
+  length-entries = length-paired entry_in (turned o xs) (turned o rs) as_many ∙ length-turned o xs
 
-  -- what the command at k says of another under its handle, by its cell
-  pub cell_before : (c : CommandFields) (k : ℕ) (d : Cell) → k < length xs → o + k < length rs
-      → option_map (λ e. duplicate_or_reused e c) (slice_get (entries_of xs o rs) k) ≡ Some (judge_cell (get_or rs (o + k) d) c)
-  cell_before c k d within before =
-      paired_right entry_in (λ e. duplicate_or_reused e c) (λ a. judge_cell a c) (λ x r. refl) xs (turned o rs) k d as_many within
-      ∙ ap (λ (a : Cell). Some (judge_cell a c)) (turned_at o rs k d before)
+  -- what the command of a handle that stands at k in the order says of another, by its cell
+  found_at_index : (h k : ℕ) (d : Handle) (a : Cell) → AreDistinct (turned o xs) → k < length xs → is_handle h (get_or (turned o xs) k d) ≡ true → (c : CommandFields)
+      → option_map (λ e. duplicate_or_reused e c) (entry_under h (entries_of xs o rs)) ≡ Some (judge_cell (get_or (turned o rs) k a) c)
+  found_at_index h k d a distinct within here c =
+      let long = length-turned o xs in
+      let is = only_place h (turned o xs) k d distinct (omega (arith, long, within)) here in
+      let there : entry_under h (entries_of xs o rs) ≡ slice_get (entries_of xs o rs) k =
+      found_at entry_in (has_handle h) (is_handle h) (λ x r. refl) (turned o xs) (turned o rs) as_many (omega (arith, is, long, within)) ∙ ap (slice_get (entries_of xs o rs)) is in
+      ap (option_map (λ (e : Entry). duplicate_or_reused e c)) there
+      ∙ paired_right entry_in (λ e. duplicate_or_reused e c) (λ a. judge_cell a c) (λ x r. refl) (turned o xs) (turned o rs) k a as_many (omega (arith, long, within))
 
-  pub cell_past : (c : CommandFields) (k : ℕ) (d : Cell) → o ≤ length rs → k < length xs → length rs - o ≤ k
-      → option_map (λ e. duplicate_or_reused e c) (slice_get (entries_of xs o rs) k) ≡ Some (judge_cell (get_or rs (k - (length rs - o)) d) c)
-  cell_past c k d small within past =
-      paired_right entry_in (λ e. duplicate_or_reused e c) (λ a. judge_cell a c) (λ x r. refl) xs (turned o rs) k d as_many within
-      ∙ ap (λ (a : Cell). Some (judge_cell a c)) (turned_past o rs k d small past (omega (arith, same, within)))
+  -- and of a handle that stands at this place
+  pub found_there : (h p : ℕ) (d : Handle) (a : Cell) → o ≤ length xs → AreDistinct (turned o xs) → p < length xs → is_handle h (get_or xs p d) ≡ true → (c : CommandFields)
+      → option_map (λ e. duplicate_or_reused e c) (entry_under h (entries_of xs o rs)) ≡ Some (judge_cell (get_or rs p a) c)
+  found_there h p d a small distinct within here c = elim (before_or_from p o) [
+    | inl before ↦
+        let k : ℕ = p + (length xs - o) in
+        let back : k - (length xs - o) ≡ p = omega arith in
+        let back_too : k - (length rs - o) ≡ p = omega (arith, same) in
+        let past : length xs - o ≤ k = omega arith in
+        let inside : k < length xs = omega (arith, before, small, within) in
+        let handle : get_or (turned o xs) k d ≡ get_or xs p d = turned_past o xs k d small past inside ∙ ap (λ i. get_or xs i d) back in
+        let cell : get_or (turned o rs) k a ≡ get_or rs p a =
+        turned_past o rs k a (omega (arith, same, small)) (omega (arith, same)) (omega (arith, same, inside)) ∙ ap (λ i. get_or rs i a) back_too in
+        found_at_index h k d a distinct inside (ap (is_handle h) handle ∙ here) c ∙ ap (λ (r : Cell). Some (judge_cell r c)) cell
+    | inr from ↦
+        let k : ℕ = p - o in
+        let on : o + k ≡ p = omega (arith, from) in
+        let handle : get_or (turned o xs) k d ≡ get_or xs p d = turned_at o xs k d (omega (arith, on, within)) ∙ ap (λ i. get_or xs i d) on in
+        let cell : get_or (turned o rs) k a ≡ get_or rs p a = turned_at o rs k a (omega (arith, on, within, same)) ∙ ap (λ i. get_or rs i a) on in
+        found_at_index h k d a distinct (omega (arith, from, within)) (ap (is_handle h) handle ∙ here) c ∙ ap (λ (r : Cell). Some (judge_cell r c)) cell
+  ]
+    where
+      before_or_from : (p o : ℕ) → (p < o) ⊎ (o ≤ p)
+      before_or_from p o = grind arith
 
-  -- the command of a handle, by where the handle stands
-  pub found_here : (h k : ℕ) (d : Handle) → AreDistinct xs → k < length xs → is_handle h (get_or xs k d) ≡ true
-      → (k < length (entries_of xs o rs)) × (entry_under h (entries_of xs o rs) ≡ slice_get (entries_of xs o rs) k)
-  found_here h k d distinct within here =
-      let is = only_place h xs k d distinct within here in (
-        rw length-entries within,
-        found_at entry_in (has_handle h) (is_handle h) (λ x r. refl) xs (turned o rs) as_many (omega (arith, is, within)) ∙ ap (slice_get (entries_of xs o rs)) is,
-      )
-
-  pub found_front : (h k : ℕ) (front back : List Handle) (d : Handle) → AreDistinct xs → front ++ back ≡ xs → k < length front → is_handle h (get_or front k d) ≡ true
-      → (k < length (entries_of xs o rs)) × (entry_under h (entries_of xs o rs) ≡ slice_get (entries_of xs o rs) k)
-  found_front h k front back d distinct all within here =
-      let long : length xs ≡ length front + length back = sym (ap length all) ∙ length-append front back in
-      let there : get_or xs k d ≡ get_or front k d = ap (λ zs. get_or zs k d) (sym all) ∙ get_or_append_left front back d k within in
-      found_here h k d distinct (omega (arith, long, within)) (ap (is_handle h) there ∙ here)
-
-  pub found_back : (h k : ℕ) (front back : List Handle) (d : Handle) → AreDistinct xs → front ++ back ≡ xs → k < length back → is_handle h (get_or back k d) ≡ true
-      → (length front + k < length (entries_of xs o rs)) × (entry_under h (entries_of xs o rs) ≡ slice_get (entries_of xs o rs) (length front + k))
-  found_back h k front back d distinct all within here =
-      let long : length xs ≡ length front + length back = sym (ap length all) ∙ length-append front back in
-      let back_at : length front + k - length front ≡ k = omega arith in
-      let there : get_or xs (length front + k) d ≡ get_or back k d =
-      ap (λ zs. get_or zs (length front + k) d) (sym all)
-      ∙ get_or-append_right front back (length front) (length front + k) d refl (omega arith) ∙ ap (λ n. get_or back n d) back_at in
-      found_here h (length front + k) d distinct (omega (arith, long, within)) (ap (is_handle h) there ∙ here)
-
-  pub found_nowhere : (h : ℕ) (front back : List Handle) → front ++ back ≡ xs → All (λ x. is_handle h x ≡ false) front → All (λ x. is_handle h x ≡ false) back
-      → entry_under h (entries_of xs o rs) ≡ None
-  found_nowhere h front back all none none' =
-      let whole = subst (All (λ x. is_handle h x ≡ false)) all (All-append (λ x. is_handle h x ≡ false) front back none none') in
-      found_none entry_in (has_handle h) (is_handle h) (λ x r. refl) xs (turned o rs) (no_place h xs whole)
+  pub found_nowhere : (h : ℕ) → All (λ x. is_handle h x ≡ false) xs → entry_under h (entries_of xs o rs) ≡ None
+  found_nowhere h none =
+      found_none entry_in (has_handle h) (is_handle h) (λ x r. refl) (turned o xs) (turned o rs)
+      (no_place h (turned o xs) (All-turned (λ x. is_handle h x ≡ false) o xs none))
 
   -- no handle is that of a command that is not found
-  pub not_retained : (h : ℕ) → entry_under h (entries_of xs o rs) ≡ None → All (λ x. is_handle h x ≡ false) xs
-  not_retained h none = by_pairs xs (turned o rs) as_many none
+  pub not_retained : (h : ℕ) → entry_under h (entries_of xs o rs) ≡ None → All (λ x. is_handle h x ≡ false) (turned o xs)
+  not_retained h none = by_pairs (turned o xs) (turned o rs) as_many none
     where
       by_pairs : (xs : List Handle) (ys : List Cell) → length xs ≡ length ys → entry_under h (paired entry_in xs ys) ≡ None → All (λ x. is_handle h x ≡ false) xs
       by_pairs [] ys same none = λ k d within. absurd (omega (arith, within))
@@ -224,21 +245,23 @@ module _ (o : ℕ) (xs : List Handle) (rs : List Cell) (same : length rs ≡ len
           by_test false e = (refl, e)
 
   -- one more command, where the first k go
-  entries_push : (k n : ℕ) (qs : List Cell) (x : Handle) (r : Cell) → turned n qs ≡ drop k (turned o rs ++ r ∷ [])
-      → entries_of (drop k (xs ++ x ∷ [])) n qs ≡ drop k (entries_of xs o rs ++ entry_in x r ∷ [])
-  entries_push k n qs x r turns =
-      ap (paired entry_in (drop k (xs ++ x ∷ []))) turns
-      ∙ paired_drop entry_in k (xs ++ x ∷ []) (turned o rs ++ r ∷ []) (rw (length-append, length-append) (ap (λ n. n + 1) as_many))
-      ∙ ap (drop k) (paired_push entry_in xs (turned o rs) x r as_many)
+  entries_push : (k n : ℕ) (ys : List Handle) (qs : List Cell) (x : Handle) (r : Cell) → turned n ys ≡ drop k (turned o xs ++ x ∷ []) → turned n qs ≡ drop k (turned o rs ++ r ∷ [])
+      → entries_of ys n qs ≡ drop k (entries_of xs o rs ++ entry_in x r ∷ [])
+  entries_push k n ys qs x r handles turns =
+      ap (λ zs. paired entry_in zs (turned n qs)) handles
+      ∙ ap (paired entry_in (drop k (turned o xs ++ x ∷ []))) turns
+      ∙ paired_drop entry_in k (turned o xs ++ x ∷ []) (turned o rs ++ r ∷ []) (length-append (turned o xs) (x ∷ []) ∙ ap (λ n. n + 1) as_many ∙ sym (length-append (turned o rs) (r ∷ [])))
+      ∙ ap (drop k) (paired_push entry_in (turned o xs) (turned o rs) x r as_many)
 
-  kept : (size n : ℕ) (qs : List Cell) (floor new : Option ℕ) (x : Handle) (r : Cell) → turned n qs ≡ drop (length (xs ++ x ∷ []) - size) (turned o rs ++ r ∷ [])
-      → new ≡ higher_of floor (greatest (take (length (xs ++ x ∷ []) - size) (entries_of xs o rs ++ entry_in x r ∷ [])))
-      → record { size = size; entries = entries_of (drop (length (xs ++ x ∷ []) - size) (xs ++ x ∷ [])) n qs; floor = new }
+  kept : (size k n : ℕ) (ys : List Handle) (qs : List Cell) (floor new : Option ℕ) (x : Handle) (r : Cell) → length xs + 1 - size ≡ k
+      → turned n ys ≡ drop k (turned o xs ++ x ∷ []) → turned n qs ≡ drop k (turned o rs ++ r ∷ [])
+      → new ≡ higher_of floor (greatest (take k (entries_of xs o rs ++ entry_in x r ∷ [])))
+      → record { size = size; entries = entries_of ys n qs; floor = new }
       ≡ retained_after (record { size = size; entries = entries_of xs o rs; floor = floor }) (entry_in x r)
-  kept size n qs floor new x r turns raised =
+  kept size k n ys qs floor new x r out handles turns raised =
       let all : List Entry = entries_of xs o rs ++ entry_in x r ∷ [] in
-      let long : length all - size ≡ length (xs ++ x ∷ []) - size = rw (length-append, length-append, length-entries) refl in
-      let entries = entries_push (length (xs ++ x ∷ []) - size) n qs x r turns ∙ ap (λ k. drop k all) (sym long) in
+      let long : length all - size ≡ k = rw (length-append, length-entries) out in
+      let entries = entries_push k n ys qs x r handles turns ∙ ap (λ k. drop k all) (sym long) in
       let high = raised ∙ ap (λ k. higher_of floor (greatest (take k all))) (sym long) in
       ap (λ (p : List Entry × Option ℕ). the size p.0 p.1) (pair entries high)
     where
@@ -253,31 +276,36 @@ no_higher None = refl
 no_higher (Some f) = refl
 
 -- A window that is not full takes one more.
-pub kept_more : (xs : List Handle) (o : ℕ) (rs : List Cell) → length rs ≡ length xs → (size : ℕ) (floor : Option ℕ) (x : Handle) (r : Cell) → length xs < size → o ≡ 0
-    → record { size = size; entries = entries_of (drop (length (xs ++ x ∷ []) - size) (xs ++ x ∷ [])) o (rs ++ r ∷ []); floor = floor }
+pub kept_more : (xs : List Handle) (o n : ℕ) (rs : List Cell) → length rs ≡ length xs → (size : ℕ) (floor : Option ℕ) (x : Handle) (r : Cell) → length xs < size → o ≡ length xs
+    → (n ≡ 0) ⊎ (n ≡ length xs + 1)
+    → record { size = size; entries = entries_of (xs ++ x ∷ []) n (rs ++ r ∷ []); floor = floor }
     ≡ retained_after (record { size = size; entries = entries_of xs o rs; floor = floor }) (entry_in x r)
-kept_more xs o rs same size floor x r room first =
-    let none : length (xs ++ x ∷ []) - size ≡ 0 = rw length-append (omega (arith, room)) in
-    let turns : turned o (rs ++ r ∷ []) ≡ turned o rs ++ r ∷ [] = rw first (turned_more rs r) in
-    kept o xs rs same size o (rs ++ r ∷ []) floor floor x r (rw none turns) (rw none (no_higher floor))
+kept_more xs o n rs same size floor x r room all next =
+    kept o xs rs same size 0 n (xs ++ x ∷ []) (rs ++ r ∷ []) floor floor x r (omega (arith, room))
+    (turned_more xs x o n all next) (turned_more rs r o n (all ∙ sym same) (rw same next)) (no_higher floor)
 
-first_out : (xs : List Handle) (rs : List Cell) (y : Handle) → length xs ≡ length rs → slice_get xs 0 ≡ Some y → greatest (take 1 (paired entry_in xs rs)) ≡ Some y.0
-first_out [] rs y same is = cc
-first_out (x ∷ xs) [] y same is = absurd (omega (arith, same))
-first_out (x ∷ xs) (r ∷ rs) y same is = let e : x ≡ y = cc in ap (λ (z : Handle). Some z.0) e
+first_out : (xs : List Handle) (rs : List Cell) (x d : Handle) (r : Cell) → length xs ≡ length rs → 0 < length xs → greatest (take 1 (paired entry_in xs rs ++ entry_in x r ∷ [])) ≡ Some (get_or xs 0 d).0
+first_out [] rs x d r same some = absurd (omega (arith, some))
+first_out (y ∷ xs) [] x d r same some = absurd (omega (arith, same))
+first_out (y ∷ xs) (q ∷ rs) x d r same some = refl
+
+-- the floor rises to the handle that goes
+pub floor_raised : (end h : ℕ) → floor_before (max end (h + 1)) ≡ higher_of (floor_before end) (Some h)
+floor_raised zero h = let e : max zero (h + 1) ≡ suc h = omega arith in ap floor_before e
+floor_raised (suc f) h = let e : max (suc f) (h + 1) ≡ suc (max f h) = omega arith in ap floor_before e
 
 -- A full window takes one more: the oldest goes out, may raise the floor, and leaves its place.
-pub kept_full : (xs : List Handle) (o n : ℕ) (rs : List Cell) → length rs ≡ length xs → (size : ℕ) (floor : Option ℕ) (f : ℕ) (x y : Handle) (r : Cell) → length xs ≡ size → o < length rs
-    → ((o + 1 ≡ length rs) × (n ≡ 0)) ⊎ (n ≡ o + 1) → slice_get (xs ++ x ∷ []) 0 ≡ Some y → higher_of floor (Some y.0) ≡ Some f
-    → record { size = size; entries = entries_of (drop (length (xs ++ x ∷ []) - size) (xs ++ x ∷ [])) n (slice_set rs o r); floor = Some f }
-    ≡ retained_after (record { size = size; entries = entries_of xs o rs; floor = floor }) (entry_in x r)
-kept_full xs o n rs same size floor f x y r full within next out raised =
-    let one : length (xs ++ x ∷ []) - size ≡ 1 = rw length-append (omega (arith, full)) in
-    let many = as_many o xs rs same in
-    let first : greatest (take 1 (entries_of xs o rs ++ entry_in x r ∷ [])) ≡ Some y.0 =
-    ap (λ es. greatest (take 1 es)) (sym (paired_push entry_in xs (turned o rs) x r many))
-    ∙ first_out (xs ++ x ∷ []) (turned o rs ++ r ∷ []) y (rw (length-append, length-append) (ap (λ n. n + 1) many)) out in
-    kept o xs rs same size n (slice_set rs o r) floor (Some f) x r (rw one (turned_next rs o n r within next)) (rw (one, first) (sym raised))
+pub kept_full : (xs : List Handle) (o n : ℕ) (rs : List Cell) → length rs ≡ length xs → (size end : ℕ) (x y : Handle) (r : Cell) → length xs ≡ size → o < length xs
+    → ((o + 1 ≡ length xs) × (n ≡ 0)) ⊎ (n ≡ o + 1) → get_or xs o y ≡ y
+    → record { size = size; entries = entries_of (slice_set xs o x) n (slice_set rs o r); floor = floor_before (max end (y.0 + 1)) }
+    ≡ retained_after (record { size = size; entries = entries_of xs o rs; floor = floor_before end }) (entry_in x r)
+kept_full xs o n rs same size end x y r full within next out =
+    let long = length-turned o xs in
+    let first : get_or (turned o xs) 0 y ≡ y = turned_at o xs 0 y (omega (arith, within)) ∙ (let e : o + 0 ≡ o = omega arith in ap (λ i. get_or xs i y) e) ∙ out in
+    let gone : greatest (take 1 (entries_of xs o rs ++ entry_in x r ∷ [])) ≡ Some y.0 =
+    first_out (turned o xs) (turned o rs) x y r (as_many o xs rs same) (omega (arith, long, within)) ∙ ap (λ (z : Handle). Some z.0) first in
+    kept o xs rs same size 1 n (slice_set xs o x) (slice_set rs o r) (floor_before end) (floor_before (max end (y.0 + 1))) x r (omega (arith, full))
+    (turned_next xs o n x within next) (turned_next rs o n r (omega (arith, same, within)) (rw same next)) (rw gone (floor_raised end y.0))
 
 -- ---- above all handles
 
@@ -289,14 +317,19 @@ none_under a h (x ∷ xs) (r ∷ rs) below high =
     let no : (x.0 == h) ≡ false = grind (arith, nat_tests) in
     rw no (none_under a h xs rs (All-tail (λ x. x.0 < a) x xs below) high)
 
-above_floor : (a h : ℕ) (floor : Option ℕ) → IfSome floor (λ f. f < a) → a ≤ h → is_above floor h ≡ true
-above_floor a h None below high = refl
-above_floor a h (Some f) below high = grind (arith, nat_tests)
+-- a handle is above the floor where it is not before its end
+pub from_end : (end h : ℕ) → end ≤ h → is_above (floor_before end) h ≡ true
+from_end zero h le = refl
+from_end (suc f) h le = grind (arith, nat_tests)
+
+pub before_end : (end h : ℕ) → h < end → is_above (floor_before end) h ≡ false
+before_end zero h lt = absurd (omega (arith, lt))
+before_end (suc f) h lt = grind (arith, nat_tests)
 
 -- a handle above all is fresh
-pub fresh_above : (a size o : ℕ) (c : CommandFields) (xs : List Handle) (rs : List Cell) (floor : Option ℕ) → AreBelow a xs floor → a ≤ c.handle
-    → judgement_by_window (record { size = size; entries = entries_of xs o rs; floor = floor }) c ≡ Fresh
-fresh_above a size o c xs rs floor below high = rw (none_under a c.handle xs (turned o rs) below.0 high, above_floor a c.handle floor below.1 high) refl
+pub fresh_above : (a size o : ℕ) (c : CommandFields) (xs : List Handle) (rs : List Cell) (end : ℕ) → AreBelow a (turned o xs) end → a ≤ c.handle
+    → judgement_by_window (record { size = size; entries = entries_of xs o rs; floor = floor_before end }) c ≡ Fresh
+fresh_above a size o c xs rs end below high = rw (none_under a c.handle (turned o xs) (turned o rs) below.0 high, from_end end c.handle (omega (arith, below.1, high))) refl
 
 all_below_more : (a b : ℕ) (xs : List Handle) (x : Handle) → All (λ x. x.0 < a) xs → a ≤ b → x.0 < b → All (λ x. x.0 < b) (xs ++ x ∷ [])
 all_below_more a b [] x below le lt = All-cons (λ x. x.0 < b) x [] lt (λ k d within. absurd (omega (arith, within)))
@@ -304,56 +337,54 @@ all_below_more a b (y ∷ xs) x below le lt =
     let low : y.0 < a = below 0 y (omega arith) in
     All-cons (λ x. x.0 < b) y (xs ++ x ∷ []) (omega arith) (all_below_more a b xs x (All-tail (λ x. x.0 < a) y xs below) le lt)
 
-floor_more : (a b : ℕ) (floor : Option ℕ) → IfSome floor (λ f. f < a) → a ≤ b → IfSome floor (λ f. f < b)
-floor_more a b None below le = below
-floor_more a b (Some f) below le = omega arith
+-- one more handle is below too, and where one goes the floor that it raises
+pub below_more : (a b o n : ℕ) (xs : List Handle) (end : ℕ) (x : Handle) → AreBelow a (turned o xs) end → a ≤ b → x.0 < b → o ≡ length xs → (n ≡ 0) ⊎ (n ≡ length xs + 1)
+    → AreBelow b (turned n (xs ++ x ∷ [])) end
+below_more a b o n xs end x below le lt all next = rw (turned_more xs x o n all next) (all_below_more a b (turned o xs) x below.0 le lt, omega (arith, below.1, le))
 
-floor_raised : (a b : ℕ) (floor : Option ℕ) (k f : ℕ) → IfSome floor (λ f. f < a) → a ≤ b → k < b → higher_of floor (Some k) ≡ Some f → f < b
-floor_raised a b None k f below le lt is = let e : k ≡ f = cc in omega (arith, e)
-floor_raised a b (Some g) k f below le lt is = let e : max g k ≡ f = cc in omega (arith, e)
+pub below_raised : (a b o n : ℕ) (xs : List Handle) (end : ℕ) (x y : Handle) → AreBelow a (turned o xs) end → a ≤ b → x.0 < b → o < length xs
+    → ((o + 1 ≡ length xs) × (n ≡ 0)) ⊎ (n ≡ o + 1) → get_or xs o y ≡ y → AreBelow b (turned n (slice_set xs o x)) (max end (y.0 + 1))
+below_raised a b o n xs end x y below le lt within next out =
+    let long = length-turned o xs in
+    let there = turned_at o xs 0 y (omega (arith, within)) in
+    let on : o + 0 ≡ o = omega arith in
+    let low : y.0 < a = rw (there ∙ ap (λ i. get_or xs i y) on ∙ out) at (below.0 0 y (omega (arith, long, within))) in
+    (rw (turned_next xs o n x within next) (All-drop (λ x. x.0 < b) 1 (turned o xs ++ x ∷ []) (all_below_more a b (turned o xs) x below.0 le lt)), omega (arith, below.1, le, low))
 
--- one more handle is below too, and the floor that it raises
-pub below_more : (a b k : ℕ) (xs : List Handle) (floor : Option ℕ) (x : Handle) → AreBelow a xs floor → a ≤ b → x.0 < b → AreBelow b (drop k (xs ++ x ∷ [])) floor
-below_more a b k xs floor x below le lt =
-    (All-drop (λ x. x.0 < b) k (xs ++ x ∷ []) (all_below_more a b xs x below.0 le lt), floor_more a b floor below.1 le)
+-- ---- what a place tells
 
-pub below_raised : (a b k : ℕ) (xs : List Handle) (floor : Option ℕ) (x y : Handle) (f : ℕ) → AreBelow a xs floor → a ≤ b → x.0 < b
-    → slice_get (xs ++ x ∷ []) 0 ≡ Some y → higher_of floor (Some y.0) ≡ Some f → AreBelow b (drop k (xs ++ x ∷ [])) (Some f)
-below_raised a b k xs floor x y f below le lt out raised =
-    let all = all_below_more a b xs x below.0 le lt in
-    let low : y.0 < b = rw (get_or_from_slice_get (xs ++ x ∷ []) 0 y x out) at (all 0 x (rw length-append (omega arith))) in
-    (All-drop (λ x. x.0 < b) k (xs ++ x ∷ []) all, floor_raised a b floor y.0 f below.1 le low raised)
+pub none_there : {X : Type 0} (xs : List X) (i : ℕ) → slice_get xs i ≡ None → length xs ≤ i
+none_there xs i none = elim (slice_get_cases xs i).1 [
+  | inl e ↦ absurd (none-some _ (sym none ∙ e.2))
+  | inr e ↦ e.0
+]
 
--- ---- what pushing a handle tells
+pub some_there : {X : Type 0} (xs : List X) (i : ℕ) (x : X) → slice_get xs i ≡ Some x → (i < length xs) × (get_or xs i x ≡ x)
+some_there xs i x is = elim (slice_get_cases xs i).1 [
+  | inl e ↦ (e.1, get_or_from_slice_get xs i x x is)
+  | inr e ↦ absurd (none-some _ (sym e.1 ∙ is))
+]
 
 room_or_full : (n size : ℕ) → (n < size) ⊎ (size ≤ n)
 room_or_full n size = grind arith
 
--- the oldest stands within the places, or both are 0
-pub oldest_within : (o n size : ℕ) → o < size → (n < size → o ≡ 0) → o ≤ n
-oldest_within o n size lt first = elim (room_or_full n size) [
-  | inl room ↦ rw (first room) (omega arith)
+-- the next place is one of those that are taken, or the first behind them
+pub next_within : (o n size : ℕ) → o < size → (n < size → o ≡ n) → o ≤ n
+next_within o n size lt next = elim (room_or_full n size) [
+  | inl room ↦ omega (arith, next room)
   | inr full ↦ omega (arith, lt, full)
 ]
 
-pub pushed_full : (xs : List Handle) (x y : Handle) (size : ℕ) → cond (nat_lt (length xs) size) None (slice_get (xs ++ x ∷ []) 0) ≡ Some y
-    → (size ≤ length xs) × (slice_get (xs ++ x ∷ []) 0 ≡ Some y)
-pushed_full xs x y size out = by_test (nat_lt (length xs) size) refl out
-  where
-    by_test : (b : Bool) → nat_lt (length xs) size ≡ b → cond b None (slice_get (xs ++ x ∷ []) 0) ≡ Some y → (size ≤ length xs) × (slice_get (xs ++ x ∷ []) 0 ≡ Some y)
-    by_test true t e = cc
-    by_test false t e = (grind (arith, nat_tests), e)
+-- the next place is taken where all are
+pub all_taken : (o n size : ℕ) → o < n → n ≤ size → (n < size → o ≡ n) → n ≡ size
+all_taken o n size taken le next = elim (room_or_full n size) [
+  | inl room ↦ absurd (omega (arith, next room, taken))
+  | inr full ↦ omega (arith, full, le)
+]
 
-pub pushed_room : (xs : List Handle) (x : Handle) (size : ℕ) → cond (nat_lt (length xs) size) None (slice_get (xs ++ x ∷ []) 0) ≡ None → length xs < size
-pushed_room xs x size out = by_test (nat_lt (length xs) size) refl out
-  where
-    some : (xs : List Handle) → slice_get (xs ++ x ∷ []) 0 ≡ None → ⊥
-    some [] e = cc
-    some (y ∷ xs) e = cc
-
-    by_test : (b : Bool) → nat_lt (length xs) size ≡ b → cond b None (slice_get (xs ++ x ∷ []) 0) ≡ None → length xs < size
-    by_test true t e = grind (arith, nat_tests)
-    by_test false t e = absurd (some xs e)
+-- one more, where there is room
+pub keep_all : {X : Type 0} (xs : List X) (x : X) (size : ℕ) → length xs < size → drop (length (xs ++ x ∷ []) - size) (xs ++ x ∷ []) ≡ xs ++ x ∷ []
+keep_all xs x size room = let none : length (xs ++ x ∷ []) - size ≡ 0 = rw length-append (omega (arith, room)) in ap (λ k. drop k (xs ++ x ∷ [])) none
 
 -- ---- a command by what its handle has in the window
 
@@ -374,21 +405,6 @@ judged_by_floor k c above h is = by_found (entry_under c.handle k.entries) h ∙
         → judge_entry o (is_above k.floor c.handle) c ≡ cond (is_above k.floor c.handle) Fresh Old
     by_found None e = refl
     by_found (Some e) is = cc
-
-pub not_above : (floor : Option ℕ) (f h : ℕ) → floor ≡ Some f → h ≤ f → is_above floor h ≡ false
-not_above floor f h is le = rw is not_lt
-  where
-    not_lt : nat_lt f h ≡ false
-    not_lt = grind (arith, nat_tests)
-
-pub above_one : (floor : Option ℕ) (f h : ℕ) → floor ≡ Some f → f < h → is_above floor h ≡ true
-above_one floor f h is lt = rw is is_lt
-  where
-    is_lt : nat_lt f h ≡ true
-    is_lt = grind (arith, nat_tests)
-
-pub above_none : (floor : Option ℕ) (h : ℕ) → floor ≡ None → is_above floor h ≡ true
-above_none floor h is = rw is refl
 
 -- a fresh command's handle is not retained
 pub fresh_not_retained : (k : Retained) (c : CommandFields) → judgement_by_window k c ≡ Fresh → entry_under c.handle k.entries ≡ None

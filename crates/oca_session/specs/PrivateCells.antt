@@ -1,6 +1,5 @@
--- What a window keeps (private contracts alone cite it): the handles in order, and a cell for each, found by counting from the
--- oldest (profile).
-use Rattle.std.specs.Prelude.{◌≡◌, ℕ, ◌<◌, ◌==◌, Bool, false, List, [], ◌∷◌, ◌++◌, take, drop, Option, IfSome, All, AllPairs}
+-- What a window keeps (private contracts alone cite it): handles and cells, in places that are used in turn (profile).
+use Rattle.std.specs.Prelude.{◌≡◌, ℕ, zero, suc, ◌<◌, ◌≤◌, ◌==◌, Bool, false, List, [], ◌∷◌, ◌++◌, take, drop, Option, Some, None, All, AllPairs}
 use Rattle.oca_types.specs.declared.words.Handle.{Handle}
 use Rattle.oca_session.specs.declared.cell.Cell.{Cell}
 use Rattle.oca_types.specs.Peers.{CommandFields}
@@ -10,7 +9,7 @@ use Rattle.oca_session.specs.Accepted.{Entry, Judgement, duplicate_or_reused}
 abbrev pub is_handle : ℕ → Handle → Bool
 is_handle h x = x.0 == h
 
--- cells that are used in turn, in order: those from o on, and then those before it (profile)
+-- places that are used in turn, in order: those from o on, and then those before it (profile)
 abbrev pub turned : {X : Type 0} → ℕ → List X → List X
 turned o xs = drop o xs ++ take o xs
 
@@ -28,9 +27,14 @@ entry_in x a =
       reply = a.reply;
     }
 
--- the accepted commands whose handles are these, where the cell of the first is at o (profile)
+-- the accepted commands whose handles and cells stand in the same places, in order, where the first is at o (profile)
 abbrev pub entries_of : List Handle → ℕ → List Cell → List Entry
-entries_of xs o cs = paired entry_in xs (turned o cs)
+entries_of xs o cs = paired entry_in (turned o xs) (turned o cs)
+
+-- the floor that this number is one above; 0 is above none (profile)
+abbrev pub floor_before : ℕ → Option ℕ
+floor_before zero = None
+floor_before (suc floor) = Some floor
 
 -- a cell of this handle, with this accepted command, was added after the others (profile)
 pub record AddsCell (x : Handle) (e : Entry) (old new : List Cell) : Type 0 where
@@ -42,9 +46,9 @@ pub record AddsCell (x : Handle) (e : Entry) (old new : List Cell) : Type 0 wher
 abbrev pub AreDistinct : List Handle → Type 0
 AreDistinct xs = AllPairs (λ x y. is_handle x.0 y ≡ false) xs
 
--- each handle, and the floor, is below this number (profile)
-abbrev pub AreBelow : ℕ → List Handle → Option ℕ → Type 0
-AreBelow above xs floor = All (λ x. x.0 < above) xs × IfSome floor (λ f. f < above)
+-- each handle is below this number, and so is the floor, which is below its end (profile)
+abbrev pub AreBelow : ℕ → List Handle → ℕ → Type 0
+AreBelow above xs end = All (λ x. x.0 < above) xs × (end ≤ above)
 
 -- what a cell says of a command under its handle (profile)
 abbrev pub judge_cell : Cell → CommandFields → Judgement

@@ -188,7 +188,7 @@ impl Sessions {
         ensures peers { peers_of self.new.sessions ≡ peers_of self.old.sessions }
         ensures known { (p : Peer) → is_some (session_of p self.new.sessions) ≡ is_some (session_of p self.old.sessions) }
     {
-        let at = index_of_known(&self.slots[..self.count], self.recent, peer);
+        let at = self.index_of_known(peer);
         let slot = &mut self.slots[at];
         slot.set_heartbeat(ms);
         self.quiet_until = self.quiet_until.min(slot.quiet_until());
@@ -203,7 +203,7 @@ impl Sessions {
         ensures accepted { (w : ℕ) (A : List Entry) → AgreesAt peer w A self.now.sessions →
             as_judgement result ≡ judgement w A (fields_of command.now) }
     {
-        known_slot(&self.slots[..self.count], self.recent, peer).judge(command)
+        self.slots[self.index_of_known(peer)].judge(command)
     }
 
     /// Adds a fresh command of a known peer, with its reply, to the accepted commands of the session. A full
@@ -224,6 +224,32 @@ impl Sessions {
         self.put(peer, command, reply);
     }
 
+    /// Where the session of a known peer stands. The recent slot is looked at first.
+    fn index_of_known(&self, peer: Peer) -> usize
+        requires { IsSome (session_of peer self.now.sessions) }
+        ensures place { position (is_of peer) self.now.sessions ≡ Some result }
+        ensures within { result < 16 }
+    {
+        if self.slots[self.recent].is_of(peer) {
+            return self.recent;
+        }
+        self.search_known(peer)
+    }
+
+    /// Looks in all slots for the session of a known peer. It takes no slice, whose length would be read at each look at
+    /// the recent slot.
+    #[inline(never)]
+    fn search_known(&self, peer: Peer) -> usize
+        requires { IsSome (session_of peer self.now.sessions) }
+        ensures place { position (is_of peer) self.now.sessions ≡ Some result }
+        ensures within { result < 16 }
+    {
+        match search(&self.slots[..self.count], peer) {
+            Some(at) => at,
+            None => unreachable!(),
+        }
+    }
+
     /// Adds a fresh command of a known peer, with its reply.
     fn put(&mut self, peer: Peer, command: &Command<'_>, reply: &Reply)
         requires known { IsSome (session_of peer self.old.sessions) }
@@ -233,7 +259,7 @@ impl Sessions {
             (changed peer (with_entry (record { command = fields_of command.now; reply = reply.now })) self.old.sessions) }
         ensures one { IsTable self.old }
     {
-        let at = index_of_known(&self.slots[..self.count], self.recent, peer);
+        let at = self.index_of_known(peer);
         self.slots[at].keep(command, reply);
     }
 }
@@ -249,49 +275,12 @@ fn index_of(slots: &[Slot], recent: usize, peer: Peer) -> Option<usize>
     search(slots, peer)
 }
 
-/// Where the session of a known peer stands. The recent slot is looked at first.
-fn index_of_known(slots: &[Slot], recent: usize, peer: Peer) -> usize
-    requires known { IsSome (session_of peer slots.now) }
-    requires one { IsOnePerPeer slots.now }
-    requires recent { 0 < length slots.now → recent < length slots.now }
-    ensures { position (is_of peer) slots.now ≡ Some result }
-{
-    if slots[recent].is_of(peer) {
-        return recent;
-    }
-    search_known(slots, peer)
-}
-
-/// Looks in all slots for the session of a known peer.
-#[inline(never)]
-#[tactic(auto, using(crate::proofs::Tables::none_known))]
-fn search_known(slots: &[Slot], peer: Peer) -> usize
-    requires { IsSome (session_of peer slots.now) }
-    ensures { position (is_of peer) slots.now ≡ Some result }
-{
-    match search(slots, peer) {
-        Some(at) => at,
-        None => unreachable!(),
-    }
-}
-
 /// Looks in all slots for the session of a peer.
 #[inline(never)]
 fn search(slots: &[Slot], peer: Peer) -> Option<usize>
     ensures { result ≡ position (is_of peer) slots.now }
 {
     slots.iter().position(|slot| slot.is_of(peer))
-}
-
-/// The slot of a known peer.
-#[tactic(auto, using(crate::proofs::Tables::found_at))]
-fn known_slot(slots: &[Slot], recent: usize, peer: Peer) -> &Slot
-    requires known { IsSome (session_of peer slots.now) }
-    requires one { IsOnePerPeer slots.now }
-    requires recent { 0 < length slots.now → recent < length slots.now }
-    ensures { session_of peer slots.now ≡ Some result.now }
-{
-    &slots[index_of_known(slots, recent, peer)]
 }
 
 /// Takes all peers out. Clearing is a call that overwrites the cells, so an empty list is left alone.

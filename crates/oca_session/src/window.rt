@@ -1,8 +1,9 @@
 //! The reply window of one session.
-ghost use Rattle.std.specs.Prelude.{◌≡◌, ℕ, ◌<◌, ◌≤◌, vec_len, vec_capacity, List, [], ◌∷◌, ◌++◌, length, slice_get, slice_index_or, option_map, IfOk, MatchOption, All, Some, true, false};
+ghost use Rattle.std.specs.Prelude.{◌≡◌, ℕ, ◌<◌, ◌≤◌, vec_len, vec_capacity, List, [], ◌∷◌, ◌++◌, length, slice_get, slice_set, slice_index_or, option_map, IfOk, IfSome, IfNone, MatchOption, All, Some, true, false};
+ghost use Rattle.circular_buffer.specs.Buffer.{buffer};
 ghost use Rattle.oca_types.specs.declared.words.Handle.{Handle};
 ghost use Rattle.oca_types.specs.Peers.{CommandFields, fields_of};
-ghost use Rattle.oca_session.specs.Accepted.{Entry, retained_of, Agrees, judgement, Fresh, higher_of, entry_under, duplicate_or_reused};
+ghost use Rattle.oca_session.specs.Accepted.{Entry, retained_of, Agrees, judgement, Fresh, entry_under, duplicate_or_reused};
 ghost use Rattle.oca_session.specs.Judging.{as_judgement, judgement_by_window, retained_after};
 ghost use Rattle.oca_session.specs.PrivateCells.{is_handle, judge_cell, AddsCell};
 
@@ -11,6 +12,7 @@ use circular_buffer::HeapCircularBuffer;
 use oca_types::{Command, Handle, Reply};
 use std::alloc::{AllocError, Global};
 use std::marker::Model;
+use std::mem::replace;
 
 /// What the reply window of a session says of a command.
 #[derive(Clone, Copy)]
@@ -29,13 +31,15 @@ pub enum Judged<'a> {
 /// pushed out of the window.
 #[derive(Drop)]
 pub struct ReplyWindow {
-    /// The handles, oldest first.
+    /// The handles, in places that are used in turn once all are taken: the oldest is at `next`, or at 0 while
+    /// there is room, and the others follow it round.
     handles: HeapCircularBuffer<Handle>,
-    /// The rest of the commands and their replies, in cells that are used in turn once all are taken: that of
-    /// the oldest command is at `oldest`, and the others follow it round.
+    /// The rest of each command and its reply, in the place of its handle.
     cells: Vec<Cell>,
-    oldest: usize,
-    floor: Option<u32>,
+    /// The place of the next command: behind all others, or that of the oldest.
+    next: usize,
+    /// The number after the floor; 0 where there is no floor.
+    floor_end: u64,
     /// Above each handle that was accepted.
     above: u64,
 }
@@ -43,16 +47,17 @@ pub struct ReplyWindow {
 impl Model for ReplyWindow {
     ghost use Rattle.std.specs.Prelude.{◌≡◌, ◌<◌, ◌≤◌, length, vec_capacity};
     ghost use Rattle.oca_session.specs.Accepted.{Retained};
-    ghost use Rattle.oca_session.specs.PrivateCells.{AreBelow, AreDistinct, entries_of};
+    ghost use Rattle.oca_session.specs.PrivateCells.{AreBelow, AreDistinct, entries_of, floor_before, turned};
 
     ghost Value = { Retained };
 
-    ghost view = { λ a. record { size = a.handles.capacity; entries = entries_of a.handles.items a.oldest a.cells.items; floor = a.floor } };
+    ghost view = { λ a. record { size = a.handles.capacity; entries = entries_of a.handles.items a.next a.cells.items; floor = floor_before a.floor_end } };
 
     ghost invariant = { λ a. (length a.cells.items ≡ length a.handles.items) × (length a.handles.items ≤ a.handles.capacity)
-        × (a.oldest < a.handles.capacity) × (a.handles.capacity ≤ vec_capacity a.cells)
-        × (length a.handles.items < a.handles.capacity → a.oldest ≡ 0) × AreBelow a.above a.handles.items a.floor
-        × AreDistinct a.handles.items };
+        × (a.next < a.handles.capacity) × (a.handles.capacity ≤ vec_capacity a.cells)
+        × (length a.handles.items < a.handles.capacity → a.next ≡ length a.handles.items)
+        × AreBelow a.above (turned a.next a.handles.items) a.floor_end
+        × AreDistinct (turned a.next a.handles.items) };
 }
 
 impl ReplyWindow {
@@ -66,8 +71,8 @@ impl ReplyWindow {
         Ok(ReplyWindow {
             handles,
             cells,
-            oldest: 0,
-            floor: None,
+            next: 0,
+            floor_end: 0,
             above: 0,
         })
     }
@@ -78,8 +83,8 @@ impl ReplyWindow {
     {
         self.handles.clear();
         self.cells.clear();
-        self.oldest = 0;
-        self.floor = None;
+        self.next = 0;
+        self.floor_end = 0;
         self.above = 0;
     }
 
@@ -91,32 +96,20 @@ impl ReplyWindow {
         self.judge_retained(command)
     }
 
-    /// The cell of the command that is retained under a handle. The latest are looked at first, since duplicates
-    /// are mostly of them.
+    /// The cell of the command that is retained under a handle. The latest is looked at first, since duplicates
+    /// are mostly of it.
     fn find(&self, handle: Handle) -> Option<&Cell>
         ensures { (c : CommandFields) → option_map (λ e. duplicate_or_reused e c) (entry_under handle.0 self.now.entries)
             ≡ option_map (λ a. judge_cell a.now c) result }
     {
-        let (front, back) = self.handles.as_slices();
-        if let Some(at) = last_index_of(back, handle) {
-            return Some(self.cell_at(front.len() + at));
+        let latest = self.next.saturating_sub(1);
+        if let Some(found) = self.handles.get(latest)
+            && *found == handle
+        {
+            return Some(&self.cells[latest]);
         }
-        let at = last_index_of(front, handle)?;
-        Some(self.cell_at(at))
-    }
-
-    /// The cell of a command, counted from the oldest.
-    fn cell_at(&self, index: usize) -> &Cell
-        requires { index < length self.now.entries }
-        ensures { (c : CommandFields) → option_map (λ e. duplicate_or_reused e c) (slice_get self.now.entries index)
-            ≡ Some (judge_cell result.now c) }
-    {
-        let rest = self.cells.len() - self.oldest;
-        if index < rest {
-            &self.cells[self.oldest + index]
-        } else {
-            &self.cells[index - rest]
-        }
+        let at = place_of(&self.handles, self.next, handle)?;
+        Some(&self.cells[at])
     }
 
     /// What the retained commands say of a command.
@@ -129,10 +122,10 @@ impl ReplyWindow {
         if let Some(cell) = self.find(command.handle) {
             return judge_by_cell(cell, command);
         }
-        match self.floor {
-            Some(floor) if command.handle.0 <= floor => Judged::Old,
-            _ => Judged::Fresh,
+        if u64::from(command.handle.0) < self.floor_end {
+            return Judged::Old;
         }
+        Judged::Fresh
     }
 
     /// Retains a fresh command with its reply. A full window pushes its oldest out.
@@ -153,31 +146,59 @@ impl ReplyWindow {
         ensures { self.new ≡ retained_after self.old (record { command = fields_of command.now; reply = reply.now }) }
     {
         self.above = self.above.max(u64::from(command.handle.0) + 1);
-        let Some(pushed_out) = self.handles.push_back(command.handle) else {
-            push_cell(&mut self.cells, command, reply);
-            return;
-        };
-        self.floor = Some(raised_floor(self.floor, pushed_out));
-        let at = self.oldest;
-        self.oldest = if at + 1 == self.cells.len() {
+        let at = self.next;
+        self.next = if at + 1 == self.handles.capacity() {
             0
         } else {
             at + 1
         };
+        let Some(pushed_out) = replace_at(&mut self.handles, at, command.handle) else {
+            let _ = self.handles.push_back(command.handle);
+            push_cell(&mut self.cells, *command, reply);
+            return;
+        };
+        self.floor_end = self.floor_end.max(u64::from(pushed_out.0) + 1);
         self.cells[at].set(command, reply);
     }
 }
 
+/// Puts a handle in the place of another, and answers that one; nothing where there is no such place.
+fn replace_at(handles: &mut HeapCircularBuffer<Handle>, at: usize, handle: Handle) -> Option<Handle>
+    ensures taken { result ≡ slice_get handles.old.items at }
+    ensures put { IfSome result (λ pushed_out. handles.new ≡ buffer (slice_set handles.old.items at handle) handles.old.capacity) }
+    ensures none { IfNone result (handles.new ≡ handles.old) }
+{
+    let place = handles.get_mut(at)?;
+    Some(replace(place, handle))
+}
+
 /// Adds a cell with a command and its reply. It stands apart from `put`, since a local of a cell's size would be cleared at
-/// each call there.
+/// each call there; and it takes the command by value, which otherwise would lie in memory at each call of `put`.
 #[inline(never)]
-fn push_cell(cells: &mut Vec<Cell>, command: &Command<'_>, reply: &Reply)
-    requires params { length command.now.params.now ≤ 1445 }
+fn push_cell(cells: &mut Vec<Cell>, command: Command<'_>, reply: &Reply)
+    requires params { length command.params.now ≤ 1445 }
     requires room { vec_len cells.old < vec_capacity cells.old }
     ensures capacity { vec_capacity cells.new ≡ vec_capacity cells.old }
-    ensures items { AddsCell command.now.handle (record { command = fields_of command.now; reply = reply.now }) cells.old.items cells.new.items }
+    ensures items { AddsCell command.entry.handle (record { command = fields_of command.entry; reply = reply.now }) cells.old.items cells.new.items }
 {
-    cells.push_reserved(Cell::new(command, reply));
+    cells.push_reserved(Cell::new(&command, reply));
+}
+
+/// Where a handle stands. The latest are looked at first: they are before `next`.
+fn place_of(handles: &HeapCircularBuffer<Handle>, next: usize, handle: Handle) -> Option<usize>
+    ensures { MatchOption result (All (λ x. is_handle handle.0 x ≡ false) handles.now.items)
+        (λ i. (i < length handles.now.items) × ((d : Handle) → is_handle handle.0 (slice_index_or handles.now.items i d) ≡ true)) }
+{
+    let (front, back) = handles.as_slices();
+    let (latest, older) = front.split_at(next.min(front.len()));
+    if let Some(at) = last_index_of(latest, handle) {
+        return Some(at);
+    }
+    if let Some(at) = last_index_of(older, handle) {
+        return Some(latest.len() + at);
+    }
+    let at = last_index_of(back, handle)?;
+    Some(front.len() + at)
 }
 
 /// What the command in a cell says of another under its handle.
@@ -204,14 +225,4 @@ fn last_index_of(handles: &[Handle], handle: Handle) -> Option<usize>
         }
     }
     None
-}
-
-/// The floor after a command of this handle was pushed out.
-fn raised_floor(floor: Option<u32>, handle: Handle) -> u32
-    ensures { higher_of floor (Some handle.0) ≡ Some result }
-{
-    match floor {
-        Some(floor) => floor.max(handle.0),
-        None => handle.0,
-    }
 }

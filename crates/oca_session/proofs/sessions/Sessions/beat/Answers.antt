@@ -12,10 +12,10 @@ invariant_of-self c =
       c.self.invariant.0,
       c.self.invariant.1,
       length-set a.slots.items at.result _ ∙ c.self.invariant.2,
-      sound_in a.window c.args.peer f (heartbeat_sound a.window c.args.ms) a.slots.items c.deref.result.now a.count at.result _ _
-          c.self.invariant.3 c.deref.ensures.value at.ensures c.index_mut-slot.ensures.value c.set_heartbeat.ensures,
-      one_in c.args.peer f (λ s. refl) a.slots.items c.deref.result.now a.count at.result _ _
-          c.self.invariant.4 c.deref.ensures.value at.ensures c.index_mut-slot.ensures.value c.set_heartbeat.ensures,
+      sound_in a.window c.args.peer f (heartbeat_sound a.window c.args.ms) a.slots.items c.self.inside.slots.items a.count at.result _ _
+          c.self.invariant.3 refl (rw (← c.self.view_is) at at.ensures.place) c.index_mut-slot.ensures.value c.set_heartbeat.ensures,
+      one_in c.args.peer f (λ s. refl) a.slots.items c.self.inside.slots.items a.count at.result _ _
+          c.self.invariant.4 refl (rw (← c.self.view_is) at at.ensures.place) c.index_mut-slot.ensures.value c.set_heartbeat.ensures,
       quiet_in a.quiet_until c.min-self-inside.result a.slots.items a.count at.result _ c.self.invariant.5 (omega arith) (omega (arith, c.quiet_until.ensures)),
       c.self.invariant.6,
     )
@@ -25,16 +25,16 @@ returns-clause-heartbeat c =
     let a = c.self.inside in
     let at = c.index_of_known-at in
     rw (← c.self.view_is) (ap (λ ss. let t : Table = record { window = a.window; moment = a.moment; sessions = ss } in t)
-    (changed_in c.args.peer (with_heartbeat c.args.ms) a.slots.items c.deref.result.now a.count at.result _ _
-    c.self.invariant.4 c.deref.ensures.value at.ensures c.index_mut-slot.ensures.value c.set_heartbeat.ensures))
+    (changed_in c.args.peer (with_heartbeat c.args.ms) a.slots.items c.self.inside.slots.items a.count at.result _ _
+    c.self.invariant.4 refl (rw (← c.self.view_is) at at.ensures.place) c.index_mut-slot.ensures.value c.set_heartbeat.ensures))
 
 pub returns-clause-peers : goal.returns-clause-peers
 returns-clause-peers c =
     let a = c.self.inside in
     let at = c.index_of_known-at in
     rw (← c.self.view_is) (ap peers_of
-    (changed_in c.args.peer (with_heartbeat c.args.ms) a.slots.items c.deref.result.now a.count at.result _ _
-    c.self.invariant.4 c.deref.ensures.value at.ensures c.index_mut-slot.ensures.value c.set_heartbeat.ensures)
+    (changed_in c.args.peer (with_heartbeat c.args.ms) a.slots.items c.self.inside.slots.items a.count at.result _ _
+    c.self.invariant.4 refl (rw (← c.self.view_is) at at.ensures.place) c.index_mut-slot.ensures.value c.set_heartbeat.ensures)
     ∙ peers_of-changed c.args.peer (with_heartbeat c.args.ms) (λ s. refl) _)
 
 pub returns-clause-known : goal.returns-clause-known

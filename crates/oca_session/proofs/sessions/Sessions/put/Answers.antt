@@ -19,8 +19,8 @@ keep-requires c =
     let at = c.index_of_known-at in
     let fresh : Option Session → Type 0 = λ o. IfSome o (λ s. judgement_by_window s.retained (fields_of c.args.command.now) ≡ Fresh) in
     let seen = ap (λ t. session_of c.args.peer t.sessions) c.self.view_is in
-    let found = session_in c.args.peer a.slots.items c.deref.result.now a.count at.result _
-    c.deref.ensures.value at.ensures c.index_mut.ensures.value in
+    let found = session_in c.args.peer a.slots.items c.self.inside.slots.items a.count at.result _
+    refl (rw (← c.self.view_is) at at.ensures.place) c.index_mut.ensures.value in
     record { fresh = subst fresh (sym seen ∙ found) c.requires.fresh; room = c.requires.room }
 
 pub invariant_of-self : goal.invariant_of-self
@@ -31,12 +31,12 @@ invariant_of-self c =
       c.self.invariant.0,
       c.self.invariant.1,
       length-set a.slots.items at.result _ ∙ c.self.invariant.2,
-      sound_in a.window c.args.peer f (entry_sound a.window _) a.slots.items c.deref.result.now a.count at.result _ _
-          c.self.invariant.3 c.deref.ensures.value at.ensures c.index_mut.ensures.value c.keep.ensures,
-      one_in c.args.peer f (λ s. refl) a.slots.items c.deref.result.now a.count at.result _ _
-          c.self.invariant.4 c.deref.ensures.value at.ensures c.index_mut.ensures.value c.keep.ensures,
-      quiet_kept c.args.peer _ a.quiet_until a.slots.items c.deref.result.now a.count at.result _ _
-          c.self.invariant.5 c.deref.ensures.value at.ensures c.index_mut.ensures.value c.keep.ensures,
+      sound_in a.window c.args.peer f (entry_sound a.window _) a.slots.items c.self.inside.slots.items a.count at.result _ _
+          c.self.invariant.3 refl (rw (← c.self.view_is) at at.ensures.place) c.index_mut.ensures.value c.keep.ensures,
+      one_in c.args.peer f (λ s. refl) a.slots.items c.self.inside.slots.items a.count at.result _ _
+          c.self.invariant.4 refl (rw (← c.self.view_is) at at.ensures.place) c.index_mut.ensures.value c.keep.ensures,
+      quiet_kept c.args.peer _ a.quiet_until a.slots.items c.self.inside.slots.items a.count at.result _ _
+          c.self.invariant.5 refl (rw (← c.self.view_is) at at.ensures.place) c.index_mut.ensures.value c.keep.ensures,
       c.self.invariant.6,
     )
 
@@ -45,5 +45,5 @@ returns-clause-retained c =
     let a = c.self.inside in
     let at = c.index_of_known-at in
     rw (← c.self.view_is) (ap (λ ss. let t : Table = record { window = a.window; moment = a.moment; sessions = ss } in t)
-    (changed_in c.args.peer (with_entry (kept c.args.command.now c.args.reply.now)) a.slots.items c.deref.result.now a.count at.result _ _
-    c.self.invariant.4 c.deref.ensures.value at.ensures c.index_mut.ensures.value c.keep.ensures))
+    (changed_in c.args.peer (with_entry (kept c.args.command.now c.args.reply.now)) a.slots.items c.self.inside.slots.items a.count at.result _ _
+    c.self.invariant.4 refl (rw (← c.self.view_is) at at.ensures.place) c.index_mut.ensures.value c.keep.ensures))

@@ -1,41 +1,28 @@
-use Rattle.std.proofs.Common.{ap, ◌∙◌, refl}
-use Rattle.std.specs.Prelude.{option_map}
-use Rattle.oca_session.specs.Accepted.{Entry, duplicate_or_reused}
-use Rattle.oca_session.proofs.Rings.{found_front, found_back, found_nowhere}
+use Rattle.std.proofs.Common.{length, option_copied, sym, ap, ◌∙◌, refl, Some}
+use Rattle.oca_session.specs.declared.cell.Cell.{Cell}
+use Rattle.oca_session.specs.PrivateCells.{is_handle, judge_cell}
+use Rattle.oca_session.proofs.Rings.{found_there, found_nowhere, next_within, some_there}
 use Rattle.oca_session.proofs.window.ReplyWindow.find.Goals as goal
-
-pub cell_at-requires : goal.cell_at-requires
-cell_at-requires c =
-    let a = c.self.inside in
-    let is = c.in-Some.ensures in
-    let found = found_back a.oldest a.handles.items a.cells.items c.self.invariant.0 c.args.handle.0 c.in-Some.at _ _ c.args.handle c.self.invariant.6 c.as_slices.ensures is.0 (is.1 c.args.handle) in
-    rw (← c.self.view_is) found.0
-
-pub returns-in-Some : goal.returns-in-Some
-returns-in-Some c =
-    let a = c.self.inside in
-    let is = c.in-Some.ensures in
-    let found = found_back a.oldest a.handles.items a.cells.items c.self.invariant.0 c.args.handle.0 c.in-Some.at _ _ c.args.handle c.self.invariant.6 c.as_slices.ensures is.0 (is.1 c.args.handle) in
-    let there = rw (← c.self.view_is) at c.cell_at.ensures in
-    rw (← c.self.view_is) (λ q. ap (option_map (λ (e : Entry). duplicate_or_reused e q)) found.1 ∙ there q)
 
 pub returns-in_err-at : goal.returns-in_err-at
 returns-in_err-at c =
     let a = c.self.inside in
-    let none = found_nowhere a.oldest a.handles.items a.cells.items c.self.invariant.0 c.args.handle.0 _ _ c.as_slices.ensures c.in_err-at.ensures c.in_default.ensures in
+    let none = found_nowhere a.next a.handles.items a.cells.items c.self.invariant.0 c.args.handle.0 c.in_err-at.ensures in
     rw (← c.self.view_is, c.from_residual.ensures, none) (λ q. refl)
 
-pub cell_at-requires-2 : goal.cell_at-requires-2
-cell_at-requires-2 c =
+pub returns-2 : goal.returns-2
+returns-2 c =
     let a = c.self.inside in
     let is = c.in_ok-at.ensures in
-    let found = found_front a.oldest a.handles.items a.cells.items c.self.invariant.0 c.args.handle.0 c.in_ok-at.at _ _ c.args.handle c.self.invariant.6 c.as_slices.ensures is.0 (is.1 c.args.handle) in
-    rw (← c.self.view_is) found.0
+    let small = next_within a.next (length a.handles.items) a.handles.capacity c.self.invariant.2 c.self.invariant.4 in
+    rw (← c.self.view_is) (λ q. found_there a.next a.handles.items a.cells.items c.self.invariant.0 c.args.handle.0 c.in_ok-at.at c.args.handle c.index-2.result.now small c.self.invariant.6 is.0 (is.1 c.args.handle) q
+    ∙ ap (λ (r : Cell). Some (judge_cell r q)) (sym c.index-2.ensures))
 
 pub returns : goal.returns
 returns c =
     let a = c.self.inside in
-    let is = c.in_ok-at.ensures in
-    let found = found_front a.oldest a.handles.items a.cells.items c.self.invariant.0 c.args.handle.0 c.in_ok-at.at _ _ c.args.handle c.self.invariant.6 c.as_slices.ensures is.0 (is.1 c.args.handle) in
-    let there = rw (← c.self.view_is) at c.cell_at-2.ensures in
-    rw (← c.self.view_is) (λ q. ap (option_map (λ (e : Entry). duplicate_or_reused e q)) found.1 ∙ there q)
+    let there = some_there a.handles.items c.saturating_sub-latest.result c.in-Some.found.now (sym c.get.ensures ∙ ap option_copied c.in-Some.is) in
+    let here = ap (is_handle c.args.handle.0) there.1 ∙ sym c.if-eq.ensures in
+    let small = next_within a.next (length a.handles.items) a.handles.capacity c.self.invariant.2 c.self.invariant.4 in
+    rw (← c.self.view_is) (λ q. found_there a.next a.handles.items a.cells.items c.self.invariant.0 c.args.handle.0 c.saturating_sub-latest.result c.in-Some.found.now c.index.result.now small c.self.invariant.6 there.0 here q
+    ∙ ap (λ (r : Cell). Some (judge_cell r q)) (sym c.index.ensures))
