@@ -50,7 +50,7 @@ impl Cell {
     {
         let params = reply.params.as_slice();
         if self.reply.params.len() != params.len() || self.params.len() != command.params.len() {
-            self.set_other(*command, reply);
+            self.set_other(command, reply);
             return;
         }
         self.target = command.target;
@@ -65,12 +65,11 @@ impl Cell {
     }
 
     /// Writes a command and its reply over those that the cell held, whatever their lengths. It stands apart from `set`,
-    /// since its calls would leave the callers of `set` few registers, and takes the command by value, which otherwise would
-    /// lie in memory at each call of `set`.
+    /// since its calls would leave the callers of `set` few registers.
     #[inline(never)]
-    fn set_other(&mut self, command: Command<'_>, reply: &Reply)
-        requires { length command.params.now ≤ 1445 }
-        ensures { entry_in command.entry.handle self.new ≡ record { command = fields_of command.entry; reply = reply.now } }
+    fn set_other(&mut self, command: &Command<'_>, reply: &Reply)
+        requires { length command.now.params.now ≤ 1445 }
+        ensures { entry_in command.now.handle self.new ≡ record { command = fields_of command.now; reply = reply.now } }
     {
         self.target = command.target;
         self.method = command.method;

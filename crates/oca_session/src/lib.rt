@@ -6,9 +6,9 @@
 //! in, and one that is earlier than a moment already seen counts as the one already seen.
 //!
 //! All memory is taken in [`Sessions::new`]. That no other call takes any is read in the code, and no clause
-//! says it: after `new` the vectors are written by index, and by `push_reserved` within their capacity, which
-//! its contract keeps; the ring overwrites its oldest item. A window of w commands takes some 2,948 w bytes in
-//! each of the 16 sessions, which are touched as commands come.
+//! says it: after `new` the vectors and buffers are written by index, and pushed to within their capacity, which
+//! is as large as a window. A window of w commands takes some 2,948 w bytes in each of the 16 sessions, which are
+//! touched as commands come.
 #![tactic(auto)]
 
 mod cell;

@@ -154,7 +154,7 @@ impl ReplyWindow {
         };
         let Some(pushed_out) = replace_at(&mut self.handles, at, command.handle) else {
             let _ = self.handles.push_back(command.handle);
-            push_cell(&mut self.cells, *command, reply);
+            push_cell(&mut self.cells, command, reply);
             return;
         };
         self.floor_end = self.floor_end.max(u64::from(pushed_out.0) + 1);
@@ -173,15 +173,15 @@ fn replace_at(handles: &mut HeapCircularBuffer<Handle>, at: usize, handle: Handl
 }
 
 /// Adds a cell with a command and its reply. It stands apart from `put`, since a local of a cell's size would be cleared at
-/// each call there; and it takes the command by value, which otherwise would lie in memory at each call of `put`.
+/// each call there.
 #[inline(never)]
-fn push_cell(cells: &mut Vec<Cell>, command: Command<'_>, reply: &Reply)
-    requires params { length command.params.now ≤ 1445 }
+fn push_cell(cells: &mut Vec<Cell>, command: &Command<'_>, reply: &Reply)
+    requires params { length command.now.params.now ≤ 1445 }
     requires room { vec_len cells.old < vec_capacity cells.old }
     ensures capacity { vec_capacity cells.new ≡ vec_capacity cells.old }
-    ensures items { AddsCell command.entry.handle (record { command = fields_of command.entry; reply = reply.now }) cells.old.items cells.new.items }
+    ensures items { AddsCell command.now.handle (record { command = fields_of command.now; reply = reply.now }) cells.old.items cells.new.items }
 {
-    cells.push_reserved(Cell::new(&command, reply));
+    cells.push_reserved(Cell::new(command, reply));
 }
 
 /// Where a handle stands. The latest are looked at first: they are before `next`.
