@@ -1,9 +1,9 @@
 pub mod Faults
 pub mod Fields
+pub mod FieldAnswers
 pub mod Script
 pub mod Ends
 pub mod Printing
 pub mod Replaying
-pub mod PrivateSplitting
 pub mod PrivateScript
 pub mod PrivateSteps

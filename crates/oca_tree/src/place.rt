@@ -37,8 +37,12 @@ fn search_from(objects: &Objects, recent: &mut usize, ono: Ono) -> Option<usize>
     requires { IsTree objects.now }
     ensures { result ≡ position (has_number ono.0) objects.now }
 {
-    if *recent < objects.len() && objects.object_at(*recent).ono == ono {
-        return Some(*recent);
+    let at = *recent;
+    // Two tests, since of `&&` a Boolean is made and tested again.
+    if at < objects.len() {
+        if objects.object_at(at).ono == ono {
+            return Some(at);
+        }
     }
     let found = objects.index_of(ono);
     if let Some(at) = found {
