@@ -1,5 +1,5 @@
 //! Where objects stand: found by their number, and the chain of containers above them.
-ghost use Rattle.std.specs.Prelude.{◌≡◌, ◌<◌, ◌≤◌, length, slice_index_or, is_some, IfNone, IfSome, Some, None};
+ghost use Rattle.std.specs.Prelude.{◌≡◌, ◌<◌, ◌≤◌, length, slice_index_or, is_some, IfNone, IfSome, IsTrue, Some, None};
 ghost use Rattle.std.specs.List.{position};
 ghost use Rattle.oca_tree.specs.Objects.{has_number, object_of};
 ghost use Rattle.oca_tree.specs.declared.object.Object.{Object};
@@ -31,24 +31,25 @@ pub(crate) fn index_from(objects: &Objects, recent: &mut usize, ono: Ono) -> Opt
     search_from(objects, recent, ono)
 }
 
-/// Looks for the number at `recent`, and then among all.
-#[tactic(auto, using(crate::proofs::Containers::index_itself))]
+/// Looks for the number at `recent`, and then among all, and leaves there where it was found: an index that is read in one
+/// place is not tested again.
 fn search_from(objects: &Objects, recent: &mut usize, ono: Ono) -> Option<usize>
     requires { IsTree objects.now }
     ensures { result ≡ position (has_number ono.0) objects.now }
 {
-    let at = *recent;
-    // Two tests, since of `&&` a Boolean is made and tested again.
-    if at < objects.len() {
-        if objects.object_at(at).ono == ono {
-            return Some(at);
-        }
+    if !is_at(objects, *recent, ono) {
+        *recent = objects.index_of(ono)?;
     }
-    let found = objects.index_of(ono);
-    if let Some(at) = found {
-        *recent = at;
-    }
-    found
+    Some(*recent)
+}
+
+/// Whether the object at this index has the number. If so, it is the first that has it.
+#[tactic(auto, using(crate::proofs::Containers::index_itself))]
+fn is_at(objects: &Objects, at: usize, ono: Ono) -> bool
+    requires { IsTree objects.now }
+    ensures { IsTrue result → position (has_number ono.0) objects.now ≡ Some at }
+{
+    at < objects.len() && objects.object_at(at).ono == ono
 }
 
 /// Whether there is an object with this number.
