@@ -60,7 +60,7 @@ none_known p ss h = none (session_of p ss) (sym (known_by_place p ss) ∙ ap is_
     none None q = refl
     none (Some s) q = cc
 
-pub found_at : (p : Peer) (ss : List Session) (i : ℕ) (d : Session) → position (is_of p) ss ≡ Some i →
+found_at : (p : Peer) (ss : List Session) (i : ℕ) (d : Session) → position (is_of p) ss ≡ Some i →
     session_of p ss ≡ Some (get_or ss i d)
 found_at p ss i d h =
     let n = position_or_len (is_of p) ss in

@@ -27,7 +27,7 @@ entry_in x a =
       reply = a.reply;
     }
 
--- the accepted commands whose handles and cells stand in the same places, in order, where the first is at o (profile)
+-- the accepted commands whose handles and cells stand in the same places: those from place o on, and then those before it (profile)
 abbrev pub entries_of : List Handle → ℕ → List Cell → List Entry
 entries_of xs o cs = paired entry_in (turned o xs) (turned o cs)
 
@@ -46,7 +46,7 @@ pub record AddsCell (x : Handle) (e : Entry) (old new : List Cell) : Type 0 wher
 abbrev pub AreDistinct : List Handle → Type 0
 AreDistinct xs = AllPairs (λ x y. is_handle x.0 y ≡ false) xs
 
--- each handle is below this number, and so is the floor, which is below its end (profile)
+-- each handle is below this number, and the number after the floor is at most this one (profile)
 abbrev pub AreBelow : ℕ → List Handle → ℕ → Type 0
 AreBelow above xs end = All (λ x. x.0 < above) xs × (end ≤ above)
 

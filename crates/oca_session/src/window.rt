@@ -96,17 +96,17 @@ impl ReplyWindow {
         self.judge_retained(command)
     }
 
-    /// The cell of the command that is retained under a handle. The latest is looked at first, since duplicates
-    /// are mostly of it.
+    /// The cell of the command that is retained under a handle. The place before the next is looked at first, since
+    /// duplicates are mostly of the latest command, which stands there (but where the next place is 0 again).
     fn find(&self, handle: Handle) -> Option<&Cell>
         ensures { (c : CommandFields) → option_map (λ e. duplicate_or_reused e c) (entry_under handle.0 self.now.entries)
             ≡ option_map (λ a. judge_cell a.now c) result }
     {
-        let latest = self.next.saturating_sub(1);
-        if let Some(found) = self.handles.get(latest)
+        let before = self.next.saturating_sub(1);
+        if let Some(found) = self.handles.get(before)
             && *found == handle
         {
-            return Some(&self.cells[latest]);
+            return Some(&self.cells[before]);
         }
         let at = place_of(&self.handles, self.next, handle)?;
         Some(&self.cells[at])
@@ -184,7 +184,7 @@ fn push_cell(cells: &mut Vec<Cell>, command: &Command<'_>, reply: &Reply)
     cells.push_reserved(Cell::new(command, reply));
 }
 
-/// Where a handle stands. The latest are looked at first: they are before `next`.
+/// The place of a handle, or none. It is looked for from `next` downwards, and then from the end, so that the latest come first.
 fn place_of(handles: &HeapCircularBuffer<Handle>, next: usize, handle: Handle) -> Option<usize>
     ensures { MatchOption result (All (λ x. is_handle handle.0 x ≡ false) handles.now.items)
         (λ i. (i < length handles.now.items) × ((d : Handle) → is_handle handle.0 (slice_index_or handles.now.items i d) ≡ true)) }
@@ -212,7 +212,7 @@ fn judge_by_cell<'a>(cell: &'a Cell, command: &Command<'_>) -> Judged<'a>
     }
 }
 
-/// Where a handle stands last among these.
+/// A place of a handle among these, looked for from the last, or none.
 fn last_index_of(handles: &[Handle], handle: Handle) -> Option<usize>
     ensures { MatchOption result (All (λ x. is_handle handle.0 x ≡ false) handles.now)
         (λ i. (i < length handles.now) × ((d : Handle) → is_handle handle.0 (slice_index_or handles.now i d) ≡ true)) }

@@ -21,8 +21,8 @@ returns-2 c =
 pub returns : goal.returns
 returns c =
     let a = c.self.inside in
-    let there = some_there a.handles.items c.saturating_sub-latest.result c.in-Some.found.now (sym c.get.ensures ∙ ap option_copied c.in-Some.is) in
+    let there = some_there a.handles.items c.saturating_sub-before.result c.in-Some.found.now (sym c.get.ensures ∙ ap option_copied c.in-Some.is) in
     let here = ap (is_handle c.args.handle.0) there.1 ∙ sym c.if-eq.ensures in
     let small = next_within a.next (length a.handles.items) a.handles.capacity c.self.invariant.2 c.self.invariant.4 in
-    rw (← c.self.view_is) (λ q. found_there a.next a.handles.items a.cells.items c.self.invariant.0 c.args.handle.0 c.saturating_sub-latest.result c.in-Some.found.now c.index.result.now small c.self.invariant.6 there.0 here q
+    rw (← c.self.view_is) (λ q. found_there a.next a.handles.items a.cells.items c.self.invariant.0 c.args.handle.0 c.saturating_sub-before.result c.in-Some.found.now c.index.result.now small c.self.invariant.6 there.0 here q
     ∙ ap (λ (r : Cell). Some (judge_cell r q)) (sym c.index.ensures))
