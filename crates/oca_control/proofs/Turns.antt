@@ -8,54 +8,22 @@ use Rattle.std.proofs.lemmas.Grind.{flat_map-append}
 use Rattle.std.proofs.lemmas.List.Sums.{sum_by-append}
 use Rattle.std.proofs.lemmas.List.Folds.{list_any-append}
 use Rattle.oca_types.specs.declared.words.Peer.{Peer}
+use Rattle.oca_net.specs.declared.end.Heard.{Heard}
+use Rattle.oca_net.specs.declared.end.Heard.TheVariants as heard
 use Rattle.oca_net.specs.Deliveries.{Delivery, Datagram, Quiet, Failed, Sent}
-use Rattle.oca_net.specs.Ends.{taken_after, largest_datagram, last_u64, one_more, Lacks, none, kept, missing, TakesAllBut}
+use Rattle.oca_net.specs.Ends.{is_failed, last_u64, one_more}
+use Rattle.oca_net.specs.EndStates.{EndState, Receives, SendsAllBut, Runs}
+use Rattle.oca_net.proofs.Sending.{sends_none, sends_more}
+use Rattle.oca_net.proofs.Hearing.{oversize_heard}
+use Rattle.oca_net.proofs.Running.{runs_none, runs_more, runs_one, runs_closed}
 use Rattle.oca_control.specs.declared.reception.Reception.{Reception}
 use Rattle.oca_control.specs.Steps.{ReceivesDatagram}
 use Rattle.oca_control.specs.declared.due.Due.{Due}
 use Rattle.oca_control.specs.declared.due.Due.TheVariants as dues
 use Rattle.oca_control.specs.declared.report.DriveReport.{DriveReport}
-use Rattle.oca_control.specs.Links.{LinkState, Decision, GivesCommand, GivesKeepAlive, GivesNothing, IsLost, decision, gone_on, due_answer, due_bytes, after_due}
-use Rattle.oca_control.specs.Driving.{answered_by, HearsDatagram, is_command, is_keep_alive, is_lost, goes_on, decisions_from, link_from, given_to, all_given_to, NoTurn, OneMore, is_failed_delivery, report_of, DrivesTelling, DrivesAny, receives_of}
-use Rattle.oca_control.specs.PrivateDriving.{added, IsWithin, given_report, TurnTelling, TurnAny, IsUnchanged}
-
--- ---- what an end took
-
-lacks_both : {X : Type 0} (k j : ℕ) (xs ys us vs : List X) → Lacks k xs ys → Lacks j us vs → Lacks (k + j) (xs ++ us) (ys ++ vs)
-lacks_both k j xs ys us vs none b = subst (λ (n : ℕ). Lacks n us vs) (from_zero j) b
-  where
-    from_zero : (n : ℕ) → n ≡ 0 + n
-    from_zero n = omega arith
-lacks_both k j xs ys us vs (kept x a) b = kept x (lacks_both _ j _ _ us vs a b)
-lacks_both k j xs ys us vs (missing {k = i} y a) b = subst (λ (n : ℕ). Lacks n (xs ++ us) (ys ++ vs)) (one_later i j) (missing y (lacks_both i j xs _ us vs a b))
-  where
-    one_later : (i j : ℕ) → i + j + 1 ≡ i + 1 + j
-    one_later i j = omega arith
-
-pub takes_none : (t t' : List Sent) → t' ≡ t → TakesAllBut 0 t t' []
-takes_none t t' same = record { sent = []; grew = same ∙ sym (append-nil t); part = none }
-
-pub takes_more : (k j : ℕ) (a b c xs ys : List Sent) → TakesAllBut k a b xs → TakesAllBut j b c ys → TakesAllBut (k + j) a c (xs ++ ys)
-takes_more k j a b c xs ys f g = record {
-  sent = f.sent ++ g.sent;
-  grew = g.grew ∙ ap (λ zs. zs ++ g.sent) f.grew ∙ append_assoc a f.sent g.sent;
-  part = lacks_both k j f.sent xs g.sent ys f.part g.part;
-}
-
-pub takes_sent : (t t' : List Sent) (to : Peer) (bytes bytes' : List ℕ) (b : Bool) → t' ≡ taken_after b to bytes' t → bytes' ≡ bytes → b ≡ true →
-    TakesAllBut 0 t t' ((record { to = to; bytes = bytes }) ∷ [])
-takes_sent t t' to bytes bytes' b took same so = record {
-  sent = (record { to = to; bytes = bytes }) ∷ [];
-  grew = took ∙ ap (λ x. taken_after x to bytes' t) so ∙ ap (λ x. taken_after true to x t) same;
-  part = kept (record { to = to; bytes = bytes }) none;
-}
-
-pub takes_missed : (t t' : List Sent) (s : Sent) (b : Bool) (to : Peer) (bytes : List ℕ) → t' ≡ taken_after b to bytes t → b ≡ false → TakesAllBut 1 t t' (s ∷ [])
-takes_missed t t' s b to bytes took not_so = record {
-  sent = [];
-  grew = took ∙ ap (λ x. taken_after x to bytes t) not_so ∙ sym (append-nil t);
-  part = missing s none;
-}
+use Rattle.oca_control.specs.Links.{LinkState, Decision, GivesCommand, GivesKeepAlive, GivesNothing, IsLost, decision, gone_on, due_answer, due_bytes, after_due, present}
+use Rattle.oca_control.specs.Driving.{answered_by, HearsDatagram, is_command, is_keep_alive, is_lost, goes_on, decisions_from, link_from, given_to, all_given_to, NoTurn, OneMore, is_failed_delivery, report_of, DrivesTurn, DrivesEnd, receives_of}
+use Rattle.oca_control.specs.PrivateDriving.{added, IsWithin, given_report, GivesOne, GaveAll, DrivesOnce, IsClosed}
 
 -- ---- one decision
 
@@ -71,20 +39,45 @@ keeps_alive p GivesKeepAlive h e f = (refl, refl, λ k. refl)
 keeps_alive p GivesNothing h e f = let g = sym e ∙ f in cc
 keeps_alive p IsLost h e f = let g = sym e ∙ f in cc
 
-pub gives_nothing : (p : Peer) (d : Decision) (h : Due) → h ≡ due_answer d → h ≡ dues.Nothing → given_to p d ≡ []
+pub gives_nothing : (p : Peer) (d : Decision) (h : Due) → h ≡ due_answer d → h ≡ dues.Nothing → (given_to p d ≡ []) × (goes_on d ≡ false) × (given_report [] 0 ≡ given_report (d ∷ []) 0)
 gives_nothing p (GivesCommand c) h e f = let g = sym e ∙ f in cc
 gives_nothing p GivesKeepAlive h e f = let g = sym e ∙ f in cc
-gives_nothing p GivesNothing h e f = refl
-gives_nothing p IsLost h e f = refl
+gives_nothing p GivesNothing h e f = (refl, refl, refl)
+gives_nothing p IsLost h e f = let g = sym e ∙ f in cc
 
-pub gives_lost : (p : Peer) (d : Decision) (h : Due) → h ≡ due_answer d → h ≡ dues.Lost → given_to p d ≡ []
+pub gives_lost : (p : Peer) (d : Decision) (h : Due) → h ≡ due_answer d → h ≡ dues.Lost → (given_to p d ≡ []) × (goes_on d ≡ false) × (record (given_report [] 0) { lost = true } ≡ given_report (d ∷ []) 0)
 gives_lost p (GivesCommand c) h e f = let g = sym e ∙ f in cc
 gives_lost p GivesKeepAlive h e f = let g = sym e ∙ f in cc
-gives_lost p GivesNothing h e f = refl
-gives_lost p IsLost h e f = refl
+gives_lost p GivesNothing h e f = let g = sym e ∙ f in cc
+gives_lost p IsLost h e f = (refl, refl, refl)
 
-pub takes_as : (k : ℕ) (t t' xs ys : List Sent) → xs ≡ ys → TakesAllBut k t t' xs → TakesAllBut k t t' ys
-takes_as k t t' xs ys e took = subst (TakesAllBut k t t') e took
+sends_as : {k : ℕ} {e f : EndState} {xs ys : List Sent} → xs ≡ ys → SendsAllBut k e f xs → SendsAllBut k e f ys
+sends_as {k} {e} {f} same sent = subst (SendsAllBut k e f) same sent
+
+-- something was given out, and handed to the end
+pub gave_out : {now : ℕ} {l l' : LinkState} {e f : EndState} {p : Peer} {bytes : List ℕ} {k : ℕ} (r : DriveReport) → l' ≡ gone_on now l → p ≡ l.device → bytes ≡ due_bytes (decision now l) →
+    (given_to p (decision now l) ≡ (record { to = p; bytes = due_bytes (decision now l) }) ∷ []) × (goes_on (decision now l) ≡ true) × (r ≡ given_report (decision now l ∷ []) r.failed_sends) →
+    r.failed_sends ≡ k → SendsAllBut k e f ((record { to = p; bytes = bytes }) ∷ []) → GivesOne now l l' e f true r
+gave_out {now} {l} {l'} {e} {f} {p} {bytes} {k} r link device same gives count sent = record {
+  link = link;
+  goes = sym gives.1;
+  reported = gives.2;
+  sends = subst (λ (n : ℕ). SendsAllBut n e f (given_to l.device (decision now l))) (sym count)
+      (subst (λ (q : Peer). SendsAllBut k e f (given_to q (decision now l))) device
+      (sends_as (ap (λ (xs : List ℕ). (record { to = p; bytes = xs }) ∷ []) same ∙ sym gives.0) sent));
+}
+
+-- nothing was given out
+pub gave_nothing : {now : ℕ} {l l' : LinkState} (e : EndState) (r : DriveReport) → l' ≡ gone_on now l →
+    (given_to l.device (decision now l) ≡ []) × (goes_on (decision now l) ≡ false) × (r ≡ given_report (decision now l ∷ []) 0) → GivesOne now l l' e e false r
+gave_nothing {now} {l} {l'} e r link gives =
+    let none = ap (λ (q : DriveReport). q.failed_sends) gives.2 in
+    record {
+      link = link;
+      goes = sym gives.1;
+      reported = gives.2 ∙ ap (given_report (decision now l ∷ [])) (sym none);
+      sends = subst (λ (n : ℕ). SendsAllBut n e e (given_to l.device (decision now l))) (sym none) (sends_as (sym gives.0) (sends_none e));
+    }
 
 -- ---- sums of reports
 
@@ -101,169 +94,135 @@ added_reports xs ys ds es n k a b =
         ≡ (let r : DriveReport = record { turns = t'; sent = s'; keep_alives = q'; answered = m; failed_receives = f'; failed_sends = x; lost = l' } in r)
     made t t' s s' q q' f f' l l' m x e1 e2 e3 e4 e5 = cc
 
+-- nothing that is given out changes the address
+pub device_stays : (d : Decision) (now : ℕ) (l : LinkState) → (after_due d now l).device ≡ l.device
+device_stays (GivesCommand c) now l = refl
+device_stays GivesKeepAlive now l = refl
+device_stays GivesNothing now l = refl
+device_stays IsLost now l = refl
+
 -- ---- what is due, one after another
 
-pub record GivesSoFar (now left : ℕ) (start : LinkState) (i : ℕ) (l : LinkState) (report : DriveReport) (tells : Bool) (t t' : List Sent) : Type 0 where
+pub record GivesSoFar (now left : ℕ) (start : LinkState) (i : ℕ) (l : LinkState) (e f : EndState) (report : DriveReport) : Type 0 where
   pub decisions : List Decision
   pub all : decisions_from now left start ≡ decisions ++ decisions_from now (left - i) l
   pub link : link_from now left start ≡ link_from now (left - i) l
   pub reported : report ≡ given_report decisions report.failed_sends
   pub device : l.device ≡ start.device
-  pub took : IsTrue tells → TakesAllBut report.failed_sends t t' (all_given_to start.device decisions)
+  pub sends : SendsAllBut report.failed_sends e f (all_given_to start.device decisions)
 
-pub gives_start : (now left : ℕ) (l : LinkState) (r : DriveReport) (tells : Bool) (t : List Sent) → r ≡ given_report [] 0 → GivesSoFar now left l 0 l r tells t t
-gives_start now left l r tells t is = record {
+pub gives_start : (now left : ℕ) (l : LinkState) (e : EndState) (r : DriveReport) → r ≡ given_report [] 0 → GivesSoFar now left l 0 l e e r
+gives_start now left l e r is = subst (GivesSoFar now left l 0 l e e) (sym is) (record {
   decisions = [];
   all = ap (λ n. decisions_from now n l) (all_left left);
   link = ap (λ n. link_from now n l) (all_left left);
-  reported = is ∙ ap (given_report []) (sym (ap (λ (q : DriveReport). q.failed_sends) is));
+  reported = refl;
   device = refl;
-  took = λ h. subst (λ (k : ℕ). TakesAllBut k t t []) (sym (ap (λ (q : DriveReport). q.failed_sends) is)) (takes_none t t refl);
-}
+  sends = sends_none e;
+})
   where
     all_left : (n : ℕ) → n ≡ n - 0
     all_left n = omega arith
 
--- what one call gave
-pub record GivesOne (now : ℕ) (l l' : LinkState) (go : Bool) (given : DriveReport) (tells : Bool) (t t' : List Sent) : Type 0 where
-  pub link : l' ≡ gone_on now l
-  pub goes : go ≡ goes_on (decision now l)
-  pub reported : given ≡ given_report (decision now l ∷ []) given.failed_sends
-  pub took : IsTrue tells → TakesAllBut given.failed_sends t t' (given_to l.device (decision now l))
-  pub device : l'.device ≡ l.device
-
--- all that was due was given out
-pub record GaveAll (now left : ℕ) (start l : LinkState) (report : DriveReport) (tells : Bool) (t t' : List Sent) : Type 0 where
-  pub link : l ≡ link_from now left start
-  pub device : l.device ≡ start.device
-  pub reported : report ≡ given_report (decisions_from now left start) report.failed_sends
-  pub took : IsTrue tells → TakesAllBut report.failed_sends t t' (all_given_to start.device (decisions_from now left start))
-
 one_given : (p : Peer) (ds : List Decision) (d : Decision) → all_given_to p (ds ++ d ∷ []) ≡ all_given_to p ds ++ given_to p d
 one_given p ds d = flat_map-append (given_to p) ds (d ∷ []) ∙ ap (λ zs. all_given_to p ds ++ zs) (append-nil (given_to p d))
 
-module _ (now left : ℕ) (start : LinkState) (i : ℕ) (l l' : LinkState) (r given r' : DriveReport) (tells : Bool) (t t1 t' : List Sent) where
-  one_reported : (ds : List Decision) (d : Decision) → r ≡ given_report ds r.failed_sends → given ≡ given_report (d ∷ []) given.failed_sends → r' ≡ added r given →
-      r' ≡ given_report (ds ++ d ∷ []) r'.failed_sends
-  one_reported ds d e f g =
-      g ∙ ap (λ q. added q given) e ∙ ap (added (given_report ds r.failed_sends)) f ∙ added_reports [] [] ds (d ∷ []) 0 0 r.failed_sends given.failed_sends
-      ∙ ap (given_report (ds ++ d ∷ [])) (sym (ap (λ (q : DriveReport). q.failed_sends) g))
+one_reported : (ds : List Decision) (d : Decision) (r given : DriveReport) → r ≡ given_report ds r.failed_sends → given ≡ given_report (d ∷ []) given.failed_sends →
+    added r given ≡ given_report (ds ++ d ∷ []) (r.failed_sends + given.failed_sends)
+one_reported ds d r given a b =
+    ap (λ q. added q given) a ∙ ap (added (given_report ds r.failed_sends)) b ∙ added_reports [] [] ds (d ∷ []) 0 0 r.failed_sends given.failed_sends
 
-  one_took : (ds : List Decision) (d : Decision) → r' ≡ added r given → l.device ≡ start.device → TakesAllBut r.failed_sends t t1 (all_given_to start.device ds) →
-      TakesAllBut given.failed_sends t1 t' (given_to l.device d) → TakesAllBut r'.failed_sends t t' (all_given_to start.device (ds ++ d ∷ []))
-  one_took ds d g same a b =
-      subst (λ (k : ℕ). TakesAllBut k t t' (all_given_to start.device (ds ++ d ∷ []))) (sym (ap (λ (q : DriveReport). q.failed_sends) g))
-      (subst (λ (xs : List Sent). TakesAllBut (r.failed_sends + given.failed_sends) t t' xs) (sym (one_given start.device ds d))
-      (takes_more r.failed_sends given.failed_sends t t1 t' _ _ a (subst (λ (p : Peer). TakesAllBut given.failed_sends t1 t' (given_to p d)) same b)))
+one_sent : {p q : Peer} {e f g : EndState} {k j : ℕ} (ds : List Decision) (d : Decision) → p ≡ q → SendsAllBut k e f (all_given_to q ds) → SendsAllBut j f g (given_to p d) →
+    SendsAllBut (k + j) e g (all_given_to q (ds ++ d ∷ []))
+one_sent {p} {q} {e} {f} {g} {k} {j} ds d same a b =
+    sends_as (sym (one_given q ds d)) (sends_more a (subst (λ (x : Peer). SendsAllBut j f g (given_to x d)) same b))
 
-  next_decisions : (m : ℕ) → decisions_from now (suc m) l ≡ decision now l ∷ cond (goes_on (decision now l)) (decisions_from now m (gone_on now l)) []
-  unfolding decisions_from
-  next_decisions m = refl
+next_decisions : (now m : ℕ) (l : LinkState) → decisions_from now (suc m) l ≡ decision now l ∷ cond (goes_on (decision now l)) (decisions_from now m (gone_on now l)) []
+unfolding decisions_from
+next_decisions now m l = refl
 
-  next_link : (m : ℕ) → link_from now (suc m) l ≡ cond (goes_on (decision now l)) (link_from now m (gone_on now l)) (gone_on now l)
-  unfolding link_from
-  next_link m = refl
+next_link : (now m : ℕ) (l : LinkState) → link_from now (suc m) l ≡ cond (goes_on (decision now l)) (link_from now m (gone_on now l)) (gone_on now l)
+unfolding link_from
+next_link now m l = refl
 
-  pub gives_more : (go : Bool) → GivesSoFar now left start i l r tells t t1 → GivesOne now l l' go given tells t1 t' → go ≡ true → i < left → r' ≡ added r given →
-      GivesSoFar now left start (i + 1) l' r' tells t t'
-  gives_more go f g so below sum = record {
-    decisions = f.decisions ++ decision now l ∷ [];
-    all = f.all ∙ ap (λ n. f.decisions ++ decisions_from now n l) (one_less left i below)
-        ∙ ap (λ xs. f.decisions ++ xs) (next_decisions (left - (i + 1)) ∙ ap (λ b. decision now l ∷ cond b (decisions_from now (left - (i + 1)) (gone_on now l)) []) (sym g.goes ∙ so)
-        ∙ ap (λ x. decision now l ∷ decisions_from now (left - (i + 1)) x) (sym g.link))
-        ∙ sym (append_assoc f.decisions (decision now l ∷ []) (decisions_from now (left - (i + 1)) l'));
-    link = f.link ∙ ap (λ n. link_from now n l) (one_less left i below) ∙ next_link (left - (i + 1))
-        ∙ ap (λ b. cond b (link_from now (left - (i + 1)) (gone_on now l)) (gone_on now l)) (sym g.goes ∙ so) ∙ ap (link_from now (left - (i + 1))) (sym g.link);
-    reported = one_reported f.decisions (decision now l) f.reported g.reported sum;
-    device = g.device ∙ f.device;
-    took = λ h. one_took f.decisions (decision now l) sum f.device (f.took h) (g.took h);
-  }
+one_less : (n j : ℕ) → j < n → n - j ≡ suc (n - (j + 1))
+one_less n j p = omega arith
+
+module _ {now left : ℕ} {start : LinkState} {i : ℕ} {l l' : LinkState} {e f g : EndState} {r given : DriveReport} where
+  pub gives_more : (go : Bool) (r' : DriveReport) → r' ≡ added r given → GivesSoFar now left start i l e f r → GivesOne now l l' f g go given → go ≡ true → i < left →
+      GivesSoFar now left start (i + 1) l' e g r'
+  gives_more go r' sum x y so below = subst (GivesSoFar now left start (i + 1) l' e g) (sym sum) (record {
+    decisions = x.decisions ++ decision now l ∷ [];
+    all = x.all ∙ ap (λ n. x.decisions ++ decisions_from now n l) (one_less left i below)
+        ∙ ap (λ xs. x.decisions ++ xs) (next_decisions now (left - (i + 1)) l ∙ ap (λ b. decision now l ∷ cond b (decisions_from now (left - (i + 1)) (gone_on now l)) []) (sym y.goes ∙ so)
+        ∙ ap (λ z. decision now l ∷ decisions_from now (left - (i + 1)) z) (sym y.link))
+        ∙ sym (append_assoc x.decisions (decision now l ∷ []) (decisions_from now (left - (i + 1)) l'));
+    link = x.link ∙ ap (λ n. link_from now n l) (one_less left i below) ∙ next_link now (left - (i + 1)) l
+        ∙ ap (λ b. cond b (link_from now (left - (i + 1)) (gone_on now l)) (gone_on now l)) (sym y.goes ∙ so) ∙ ap (link_from now (left - (i + 1))) (sym y.link);
+    reported = one_reported x.decisions (decision now l) r given x.reported y.reported;
+    device = ap (λ (z : LinkState). z.device) y.link ∙ device_stays (decision now l) (present now l) l ∙ x.device;
+    sends = one_sent x.decisions (decision now l) x.device x.sends y.sends;
+  })
+
+  pub gives_last : (go : Bool) (r' : DriveReport) → r' ≡ added r given → GivesSoFar now left start i l e f r → GivesOne now l l' f g go given → go ≡ false → i < left →
+      GaveAll now left start l' e g r'
+  gives_last go r' sum x y not_so below = subst (GaveAll now left start l' e g) (sym sum) (record {
+    link = y.link ∙ sym (x.link ∙ ap (λ n. link_from now n l) (one_less left i below) ∙ next_link now (left - (i + 1)) l
+        ∙ ap (λ b. cond b (link_from now (left - (i + 1)) (gone_on now l)) (gone_on now l)) (sym y.goes ∙ not_so));
+    device = ap (λ (z : LinkState). z.device) y.link ∙ device_stays (decision now l) (present now l) l ∙ x.device;
+    reported = one_reported x.decisions (decision now l) r given x.reported y.reported ∙ ap (λ ds. given_report ds (r.failed_sends + given.failed_sends)) (sym all);
+    sends = subst (λ (ds : List Decision). SendsAllBut (r.failed_sends + given.failed_sends) e g (all_given_to start.device ds)) (sym all) (one_sent x.decisions (decision now l) x.device x.sends y.sends);
+  })
     where
-      one_less : (n i : ℕ) → i < n → n - i ≡ suc (n - (i + 1))
-      one_less n i p = omega arith
+      all : decisions_from now left start ≡ x.decisions ++ decision now l ∷ []
+      all = x.all ∙ ap (λ n. x.decisions ++ decisions_from now n l) (one_less left i below)
+          ∙ ap (λ xs. x.decisions ++ xs) (next_decisions now (left - (i + 1)) l ∙ ap (λ b. decision now l ∷ cond b (decisions_from now (left - (i + 1)) (gone_on now l)) []) (sym y.goes ∙ not_so))
 
-  pub gives_last : (go : Bool) → GivesSoFar now left start i l r tells t t1 → GivesOne now l l' go given tells t1 t' → go ≡ false → i < left → r' ≡ added r given →
-      GaveAll now left start l' r' tells t t'
-  gives_last go f g not_so below sum = record {
-    link = g.link ∙ sym (f.link ∙ ap (λ n. link_from now n l) (one_less left i below) ∙ next_link (left - (i + 1))
-        ∙ ap (λ b. cond b (link_from now (left - (i + 1)) (gone_on now l)) (gone_on now l)) (sym g.goes ∙ not_so));
-    device = g.device ∙ f.device;
-    reported = one_reported f.decisions (decision now l) f.reported g.reported sum ∙ ap (λ ds. given_report ds r'.failed_sends) (sym all);
-    took = λ h. subst (λ (ds : List Decision). TakesAllBut r'.failed_sends t t' (all_given_to start.device ds)) (sym all) (one_took f.decisions (decision now l) sum f.device (f.took h) (g.took h));
-  }
-    where
-      one_less : (n i : ℕ) → i < n → n - i ≡ suc (n - (i + 1))
-      one_less n i p = omega arith
-
-      all : decisions_from now left start ≡ f.decisions ++ decision now l ∷ []
-      all = f.all ∙ ap (λ n. f.decisions ++ decisions_from now n l) (one_less left i below)
-          ∙ ap (λ xs. f.decisions ++ xs) (next_decisions (left - (i + 1)) ∙ ap (λ b. decision now l ∷ cond b (decisions_from now (left - (i + 1)) (gone_on now l)) []) (sym g.goes ∙ not_so))
-
-pub gave_all : (now left : ℕ) (start : LinkState) (i : ℕ) (l : LinkState) (r : DriveReport) (tells : Bool) (t t' : List Sent) → GivesSoFar now left start i l r tells t t' → left ≤ i → GaveAll now left start l r tells t t'
+pub gave_all : {now left : ℕ} {start : LinkState} {i : ℕ} {l : LinkState} {e f : EndState} {r : DriveReport} → GivesSoFar now left start i l e f r → left ≤ i → GaveAll now left start l e f r
 unfolding decisions_from link_from
-gave_all now left start i l r tells t t' f over = record {
-  link = sym (f.link ∙ ap (λ n. link_from now n l) (nothing_left left i over));
-  device = f.device;
-  reported = f.reported ∙ ap (λ ds. given_report ds r.failed_sends) (sym all);
-  took = λ h. subst (λ (ds : List Decision). TakesAllBut r.failed_sends t t' (all_given_to start.device ds)) (sym all) (f.took h);
+gave_all {now} {left} {start} {i} {l} {e} {f} {r} x over = record {
+  link = sym (x.link ∙ ap (λ n. link_from now n l) (nothing_left left i over));
+  device = x.device;
+  reported = x.reported ∙ ap (λ ds. given_report ds r.failed_sends) (sym all);
+  sends = subst (λ (ds : List Decision). SendsAllBut r.failed_sends e f (all_given_to start.device ds)) (sym all) x.sends;
 }
   where
     nothing_left : (n i : ℕ) → n ≤ i → n - i ≡ 0
     nothing_left n i p = omega arith
 
-    all : decisions_from now left start ≡ f.decisions
-    all = f.all ∙ ap (λ n. f.decisions ++ decisions_from now n l) (nothing_left left i over) ∙ append-nil f.decisions
+    all : decisions_from now left start ≡ x.decisions
+    all = x.all ∙ ap (λ n. x.decisions ++ decisions_from now n l) (nothing_left left i over) ∙ append-nil x.decisions
 
 -- ---- the turns
 
-pub no_telling : (l : LinkState) (delivered : List Delivery) (t : List Sent) (r : DriveReport) → r ≡ given_report [] 0 → DrivesTelling l l delivered delivered t t r
-no_telling l delivered t r is = record {
-  deliveries = [];
-  decisions = [];
-  answered = 0;
-  grew = sym (append-nil delivered);
-  drives = NoTurn;
-  reported = is ∙ ap (given_report []) (sym (ap (λ (q : DriveReport). q.failed_sends) is));
-  took = subst (λ (k : ℕ). TakesAllBut k t t []) (sym (ap (λ (q : DriveReport). q.failed_sends) is)) (takes_none t t refl);
-}
+pub turns_none : (l : LinkState) (e : EndState) → DrivesEnd l l e e (given_report [] 0)
+turns_none l e = record { deliveries = []; decisions = []; answered = 0; drives = NoTurn; reported = refl; runs = runs_none e }
 
-pub no_any : (l : LinkState) (r : DriveReport) → r ≡ given_report [] 0 → DrivesAny l l r
-no_any l r is = record {
-  deliveries = [];
-  decisions = [];
-  answered = 0;
-  drives = NoTurn;
-  reported = is ∙ ap (given_report []) (sym (ap (λ (q : DriveReport). q.failed_sends) is));
-}
+pub turns_more : {a b c : LinkState} {e f g : EndState} {r turn : DriveReport} (r' : DriveReport) → r' ≡ added r turn → DrivesEnd a b e f r → DrivesOnce b c f g turn → r.lost ≡ false → b.device ≡ a.device →
+    DrivesEnd a c e g r'
+turns_more {a} {b} {c} {e} {f} {g} {r} {turn} r' sum x y going same = subst (DrivesEnd a c e g) (sym sum) (record {
+  deliveries = x.deliveries ++ y.delivery ∷ [];
+  decisions = x.decisions ++ y.decisions;
+  answered = x.answered + y.answered;
+  drives = OneMore y.delivery x.drives (sym (ap (λ (q : DriveReport). q.lost) x.reported) ∙ going) y.drives;
+  reported = ap (λ q. added q turn) x.reported ∙ ap (added (report_of x.deliveries x.decisions x.answered r.failed_sends)) y.reported
+      ∙ added_reports x.deliveries (y.delivery ∷ []) x.decisions y.decisions x.answered y.answered r.failed_sends turn.failed_sends;
+  runs = subst (λ (xs : List Sent). Runs (x.deliveries ++ y.delivery ∷ []) xs (r.failed_receives + turn.failed_receives) (r.failed_sends + turn.failed_sends) e g) (sym (flat_map-append (given_to a.device) x.decisions y.decisions))
+      (runs_more x.runs (subst (λ (p : Peer). Runs (y.delivery ∷ []) (all_given_to p y.decisions) turn.failed_receives turn.failed_sends f g) same y.runs));
+})
 
-turn_reported : (r turn r' : DriveReport) (xs : List Delivery) (x : Delivery) (ds es : List Decision) (n k : ℕ) → r ≡ report_of xs ds n r.failed_sends → turn ≡ report_of (x ∷ []) es k turn.failed_sends → r' ≡ added r turn →
-    r' ≡ report_of (xs ++ x ∷ []) (ds ++ es) (n + k) r'.failed_sends
-turn_reported r turn r' xs x ds es n k e f g =
-    g ∙ ap (λ q. added q turn) e ∙ ap (added (report_of xs ds n r.failed_sends)) f ∙ added_reports xs (x ∷ []) ds es n k r.failed_sends turn.failed_sends
-    ∙ ap (report_of (xs ++ x ∷ []) (ds ++ es) (n + k)) (sym (ap (λ (q : DriveReport). q.failed_sends) g))
+pub turns_closed : {a b c : LinkState} {e f g : EndState} {r : DriveReport} → DrivesEnd a b e f r → IsClosed b c f g → DrivesEnd a c e g r
+turns_closed {a} {b} {c} {e} {f} {g} {r} x y = subst (λ (l : LinkState). DrivesEnd a l e g r) (sym y.link) (record {
+  deliveries = x.deliveries;
+  decisions = x.decisions;
+  answered = x.answered;
+  drives = x.drives;
+  reported = x.reported;
+  runs = runs_closed x.runs y.received;
+})
 
-pub telling_more : (a b c : LinkState) (d1 d2 d3 : List Delivery) (t1 t2 t3 : List Sent) (r turn r' : DriveReport) → DrivesTelling a b d1 d2 t1 t2 r → TurnTelling b c d2 d3 t2 t3 turn →
-    r.lost ≡ false → b.device ≡ a.device → r' ≡ added r turn → DrivesTelling a c d1 d3 t1 t3 r'
-telling_more a b c d1 d2 d3 t1 t2 t3 r turn r' f g going same sum = record {
-  deliveries = f.deliveries ++ g.delivery ∷ [];
-  decisions = f.decisions ++ g.decisions;
-  answered = f.answered + g.answered;
-  grew = g.grew ∙ ap (λ xs. xs ++ g.delivery ∷ []) f.grew ∙ append_assoc d1 f.deliveries (g.delivery ∷ []);
-  drives = OneMore g.delivery f.drives (sym (ap (λ (q : DriveReport). q.lost) f.reported) ∙ going) g.drives;
-  reported = turn_reported r turn r' f.deliveries g.delivery f.decisions g.decisions f.answered g.answered f.reported g.reported sum;
-  took = subst (λ (k : ℕ). TakesAllBut k t1 t3 (all_given_to a.device (f.decisions ++ g.decisions))) (sym (ap (λ (q : DriveReport). q.failed_sends) sum))
-      (subst (λ (xs : List Sent). TakesAllBut (r.failed_sends + turn.failed_sends) t1 t3 xs) (sym (flat_map-append (given_to a.device) f.decisions g.decisions))
-      (takes_more r.failed_sends turn.failed_sends t1 t2 t3 _ _ f.took (subst (λ (p : Peer). TakesAllBut turn.failed_sends t2 t3 (all_given_to p g.decisions)) same g.took)));
-}
-
-pub any_more : (a b c : LinkState) (r turn r' : DriveReport) → DrivesAny a b r → TurnAny b c turn → r.lost ≡ false → r' ≡ added r turn → DrivesAny a c r'
-any_more a b c r turn r' f g going sum = record {
-  deliveries = f.deliveries ++ g.delivery ∷ [];
-  decisions = f.decisions ++ g.decisions;
-  answered = f.answered + g.answered;
-  drives = OneMore g.delivery f.drives (sym (ap (λ (q : DriveReport). q.lost) f.reported) ∙ going) g.drives;
-  reported = turn_reported r turn r' f.deliveries g.delivery f.decisions g.decisions f.answered g.answered f.reported g.reported sum;
-}
+pub one_turn_more : {b c : LinkState} {f g : EndState} {turn : DriveReport} (r r' : DriveReport) → r' ≡ added r turn → DrivesOnce b c f g turn → r'.turns ≡ r.turns + 1
+one_turn_more r r' sum y = ap (λ (q : DriveReport). q.turns) sum ∙ ap (λ (q : DriveReport). r.turns + q.turns) y.reported
 
 -- ---- numbers that fit
 
@@ -292,12 +251,6 @@ wider m n r x le = record {
 }
 
 -- ---- numbers of one turn and of those before
-
-pub failures_so_far : (f0 f1 f2 a b c d : ℕ) → (f1 < last_u64 → f1 ≡ f0 + (a + b)) → (f2 < last_u64 → f2 ≡ f1 + (c + d)) → f2 < last_u64 → f2 ≡ f0 + ((a + c) + (b + d))
-failures_so_far f0 f1 f2 a b c d before here below = let e = here below in let h : f1 < last_u64 = omega arith in let i = before h in omega arith
-
-pub sends_so_far : (f0 f1 f2 b d : ℕ) → (f1 < last_u64 → f1 ≡ f0 + b) → (f2 < last_u64 → f2 ≡ f1 + d) → f2 < last_u64 → f2 ≡ f0 + (b + d)
-sends_so_far f0 f1 f2 b d before here below = let e = here below in let h : f1 < last_u64 = omega arith in let i = before h in omega arith
 
 pub receives_more : (r0 r1 r2 n n' : ℕ) → (r1 < last_u64 → r1 ≡ r0 + n) → r2 ≡ one_more r1 → n' ≡ n + 1 → r2 < last_u64 → r2 ≡ r0 + n'
 receives_more r0 r1 r2 n n' before here next below = let h : r1 < last_u64 = omega arith in let i = before h in omega arith
@@ -333,106 +286,54 @@ heard_datagram from bytes now old mid answer n short received count = record {
 pub same_device : (from : Peer) (bytes : List ℕ) (now : ℕ) (old mid : LinkState) (answer : Reception) → ReceivesDatagram from bytes now old answer mid → mid.device ≡ old.device
 same_device from bytes now old mid answer received = ap (λ (l : LinkState). l.device) received.link_is
 
-module _ (old mid new : LinkState) (now : ℕ) (given : DriveReport) (link : new ≡ link_from now (mid.span + 1) mid)
-    (reported : given ≡ given_report (decisions_from now (mid.span + 1) mid) given.failed_sends) where
-  pub datagram_any : (from : Peer) (bytes : List ℕ) (answer : Reception) (n : ℕ) → length bytes ≤ 1472 → ReceivesDatagram from bytes now old answer mid → n ≡ answered_by answer →
-      TurnAny old new (record { turns = 1; sent = given.sent; keep_alives = given.keep_alives; answered = n; failed_receives = given.failed_receives; failed_sends = given.failed_sends; lost = given.lost })
-  datagram_any from bytes answer n short received count = record {
-    delivery = Datagram from bytes now;
-    decisions = decisions_from now (mid.span + 1) mid;
-    answered = n;
-    drives = record { between = mid; hears = heard_datagram from bytes now old mid answer n short received count; gives = (refl, link) };
-    reported = datagram_reported from bytes now (decisions_from now (mid.span + 1) mid) n given reported;
-  }
-
-  pub datagram_telling : (from : Peer) (bytes : List ℕ) (answer : Reception) (n : ℕ) (d d' : List Delivery) (t t1 t' : List Sent) → length bytes ≤ 1472 → ReceivesDatagram from bytes now old answer mid → n ≡ answered_by answer →
-      d' ≡ d ++ Datagram from bytes now ∷ [] → t1 ≡ t → TakesAllBut given.failed_sends t1 t' (all_given_to mid.device (decisions_from now (mid.span + 1) mid)) →
-      TurnTelling old new d d' t t' (record { turns = 1; sent = given.sent; keep_alives = given.keep_alives; answered = n; failed_receives = given.failed_receives; failed_sends = given.failed_sends; lost = given.lost })
-  datagram_telling from bytes answer n d d' t t1 t' short received count grew same took = record {
-    delivery = Datagram from bytes now;
-    decisions = decisions_from now (mid.span + 1) mid;
-    answered = n;
-    grew = grew;
-    drives = record { between = mid; hears = heard_datagram from bytes now old mid answer n short received count; gives = (refl, link) };
-    reported = datagram_reported from bytes now (decisions_from now (mid.span + 1) mid) n given reported;
-    took = subst (λ (x : List Sent). TakesAllBut given.failed_sends x t' (all_given_to old.device (decisions_from now (mid.span + 1) mid))) same
-        (subst (λ (p : Peer). TakesAllBut given.failed_sends t1 t' (all_given_to p (decisions_from now (mid.span + 1) mid))) (same_device from bytes now old mid answer received) took);
-  }
-
-module _ (old new : LinkState) (now : ℕ) (given : DriveReport) (link : new ≡ link_from now (old.span + 1) old)
-    (reported : given ≡ given_report (decisions_from now (old.span + 1) old) given.failed_sends) where
-  pub quiet_any : TurnAny old new (record { turns = 1; sent = given.sent; keep_alives = given.keep_alives; answered = given.answered; failed_receives = given.failed_receives; failed_sends = given.failed_sends; lost = given.lost })
-  quiet_any = record {
-    delivery = Quiet now;
-    decisions = decisions_from now (old.span + 1) old;
-    answered = 0;
-    drives = record { between = old; hears = (refl, refl); gives = (refl, link) };
-    reported = silent_reported (Quiet now) (decisions_from now (old.span + 1) old) given refl reported;
-  }
-
-  pub quiet_telling : (d d' : List Delivery) (t t1 t' : List Sent) → d' ≡ d ++ Quiet now ∷ [] → t1 ≡ t → TakesAllBut given.failed_sends t1 t' (all_given_to old.device (decisions_from now (old.span + 1) old)) →
-      TurnTelling old new d d' t t' (record { turns = 1; sent = given.sent; keep_alives = given.keep_alives; answered = given.answered; failed_receives = given.failed_receives; failed_sends = given.failed_sends; lost = given.lost })
-  quiet_telling d d' t t1 t' grew same took = record {
-    delivery = Quiet now;
-    decisions = decisions_from now (old.span + 1) old;
-    answered = 0;
-    grew = grew;
-    drives = record { between = old; hears = (refl, refl); gives = (refl, link) };
-    reported = silent_reported (Quiet now) (decisions_from now (old.span + 1) old) given refl reported;
-    took = subst (λ (x : List Sent). TakesAllBut given.failed_sends x t' (all_given_to old.device (decisions_from now (old.span + 1) old))) same took;
-  }
-
-  pub oversize_telling : (from : Peer) (bytes : List ℕ) (d d' : List Delivery) (t t1 t' : List Sent) → largest_datagram < length bytes → d' ≡ d ++ Datagram from bytes now ∷ [] → t1 ≡ t →
-      TakesAllBut given.failed_sends t1 t' (all_given_to old.device (decisions_from now (old.span + 1) old)) →
-      TurnTelling old new d d' t t' (record { turns = 1; sent = given.sent; keep_alives = given.keep_alives; answered = given.answered; failed_receives = given.failed_receives; failed_sends = given.failed_sends; lost = given.lost })
-  oversize_telling from bytes d d' t t1 t' over grew same took = record {
-    delivery = Datagram from bytes now;
-    decisions = decisions_from now (old.span + 1) old;
-    answered = 0;
-    grew = grew;
-    drives = record { between = old; hears = record { short = λ fits. absurd (omega arith); long = λ _. (refl, refl) }; gives = (refl, link) };
-    reported = silent_reported (Datagram from bytes now) (decisions_from now (old.span + 1) old) given refl reported;
-    took = subst (λ (x : List Sent). TakesAllBut given.failed_sends x t' (all_given_to old.device (decisions_from now (old.span + 1) old))) same took;
-  }
-
-pub failed_telling : (l : LinkState) (given : DriveReport) (d d' : List Delivery) (t t' : List Sent) → given ≡ given_report [] 0 → d' ≡ d ++ Failed ∷ [] → t' ≡ t →
-    TurnTelling l l d d' t t' (record { turns = 1; sent = given.sent; keep_alives = given.keep_alives; answered = given.answered; failed_receives = 1; failed_sends = given.failed_sends; lost = given.lost })
-failed_telling l given d d' t t' e grew same = record {
-  delivery = Failed;
-  decisions = [];
-  answered = 0;
-  grew = grew;
-  drives = record { between = l; hears = (refl, refl); gives = (refl, refl) };
-  reported = failed_reported given e;
-  took = subst (λ (k : ℕ). TakesAllBut k t t' []) (sym (ap (λ (q : DriveReport). q.failed_sends) e)) (takes_none t t' same);
+-- one was heard, and what was due then given out
+heard_one : (x : Delivery) {h : Heard} {held : List ℕ} {old new : LinkState} {e f g : EndState} {ds : List Decision} {n : ℕ} {r : DriveReport} →
+    Receives h held e f → (IsTrue e.tells → f.delivered ≡ e.delivered ++ x ∷ []) → count_by is_failed_delivery (x ∷ []) ≡ cond (is_failed h) 1 0 →
+    SendsAllBut r.failed_sends f g (all_given_to old.device ds) → DrivesTurn x old new ds n → r ≡ report_of (x ∷ []) ds n r.failed_sends → new.device ≡ old.device →
+    DrivesOnce old new e g r
+heard_one x {h} {held} {old} {new} {e} {f} {g} {ds} {n} {r} heard grew failed sent drives reported device = record {
+  delivery = x;
+  decisions = ds;
+  answered = n;
+  drives = drives;
+  reported = reported;
+  runs = subst (λ (k : ℕ). Runs (x ∷ []) (all_given_to old.device ds) k r.failed_sends e g) (sym (ap (λ (q : DriveReport). q.failed_receives) reported ∙ failed)) (runs_one x heard sent grew);
+  device = device;
+  receives = sent.receives ∙ heard.receives;
 }
 
-pub failed_any : (l : LinkState) (given : DriveReport) → given ≡ given_report [] 0 →
-    TurnAny l l (record { turns = 1; sent = given.sent; keep_alives = given.keep_alives; answered = given.answered; failed_receives = 1; failed_sends = given.failed_sends; lost = given.lost })
-failed_any l given e = record {
-  delivery = Failed;
-  decisions = [];
-  answered = 0;
-  drives = record { between = l; hears = (refl, refl); gives = (refl, refl) };
-  reported = failed_reported given e;
-}
+module _ {e f g : EndState} {held : List ℕ} {now : ℕ} (given : DriveReport) where
+  pub datagram_turn : {old mid new : LinkState} {from : Peer} (bytes : List ℕ) (answer : Reception) (n : ℕ) → length bytes ≤ 1472 → bytes ≡ held → Receives (heard.Datagram from now) held e f →
+      ReceivesDatagram from bytes now old answer mid → n ≡ answered_by answer → GaveAll now (mid.span + 1) mid new f g given →
+      DrivesOnce old new e g (record { turns = 1; sent = given.sent; keep_alives = given.keep_alives; answered = n; failed_receives = given.failed_receives; failed_sends = given.failed_sends; lost = given.lost })
+  datagram_turn {old} {mid} {new} {from} bytes answer n short same h received count gave =
+      let device = same_device from bytes now old mid answer received in
+      let ds = decisions_from now (mid.span + 1) mid in
+      heard_one (Datagram from bytes now) h (λ told. h.delivered told ∙ ap (λ (xs : List ℕ). e.delivered ++ Datagram from xs now ∷ []) (sym same)) refl
+      (subst (λ (p : Peer). SendsAllBut given.failed_sends f g (all_given_to p ds)) device gave.sends)
+      (record { between = mid; hears = heard_datagram from bytes now old mid answer n short received count; gives = (refl, gave.link) })
+      (datagram_reported from bytes now ds n given gave.reported) (gave.device ∙ device)
 
--- the end was closed
-pub telling_closed : (a b c : LinkState) (d1 d2 d3 : List Delivery) (t1 t2 t3 : List Sent) (r : DriveReport) → DrivesTelling a b d1 d2 t1 t2 r → IsUnchanged b c d2 d3 t2 t3 → DrivesTelling a c d1 d3 t1 t3 r
-telling_closed a b c d1 d2 d3 t1 t2 t3 r f u =
-    subst (λ (l : LinkState). DrivesTelling a l d1 d3 t1 t3 r) (sym u.link)
-    (subst (λ (d : List Delivery). DrivesTelling a b d1 d t1 t3 r) (sym u.delivered_is)
-    (subst (λ (t : List Sent). DrivesTelling a b d1 d2 t1 t r) (sym u.taken_is) f))
+  pub quiet_turn : {old new : LinkState} → Receives (heard.Quiet now) held e f → GaveAll now (old.span + 1) old new f g given →
+      DrivesOnce old new e g (record { turns = 1; sent = given.sent; keep_alives = given.keep_alives; answered = given.answered; failed_receives = given.failed_receives; failed_sends = given.failed_sends; lost = given.lost })
+  quiet_turn {old} {new} h gave =
+      heard_one (Quiet now) h h.delivered refl gave.sends (record { between = old; hears = (refl, refl); gives = (refl, gave.link) })
+      (silent_reported (Quiet now) (decisions_from now (old.span + 1) old) given refl gave.reported) gave.device
 
-pub any_closed : (a b c : LinkState) (r : DriveReport) → DrivesAny a b r → c ≡ b → DrivesAny a c r
-any_closed a b c r f e = subst (λ (l : LinkState). DrivesAny a l r) (sym e) f
+  pub oversize_turn : {old new : LinkState} → Receives (heard.Oversize now) held e f → GaveAll now (old.span + 1) old new f g given →
+      DrivesOnce old new e g (record { turns = 1; sent = given.sent; keep_alives = given.keep_alives; answered = given.answered; failed_receives = given.failed_receives; failed_sends = given.failed_sends; lost = given.lost })
+  oversize_turn {old} {new} h gave =
+      let d = oversize_heard h in
+      let over = d.above in
+      heard_one (Datagram d.from d.long now) h d.grew refl gave.sends
+      (record { between = old; hears = record { short = λ fits. absurd (omega arith); long = λ _. (refl, refl) }; gives = (refl, gave.link) })
+      (silent_reported (Datagram d.from d.long now) (decisions_from now (old.span + 1) old) given refl gave.reported) gave.device
 
--- nothing that is given out changes the address
-pub device_stays : (d : Decision) (now : ℕ) (l : LinkState) → (after_due d now l).device ≡ l.device
-device_stays (GivesCommand c) now l = refl
-device_stays GivesKeepAlive now l = refl
-device_stays GivesNothing now l = refl
-device_stays IsLost now l = refl
+pub failed_turn : {e f : EndState} {held : List ℕ} (given : DriveReport) (l : LinkState) → Receives heard.Failed held e f → given ≡ given_report [] 0 →
+    DrivesOnce l l e f (record { turns = 1; sent = given.sent; keep_alives = given.keep_alives; answered = given.answered; failed_receives = 1; failed_sends = given.failed_sends; lost = given.lost })
+failed_turn {e} {f} given l h none =
+    heard_one Failed h h.delivered refl (subst (λ (k : ℕ). SendsAllBut k f f []) (sym (ap (λ (q : DriveReport). q.failed_sends) none)) (sends_none f))
+    (record { between = l; hears = (refl, refl); gives = (refl, refl) }) (failed_reported given none) refl
 
 -- how often was received
 and_false : (b : Bool) → (b && false) ≡ false

@@ -3,7 +3,8 @@ use Rattle.std.specs.Prelude.{◌≡◌, ℕ, zero, suc, ◌+◌, ◌<◌, ◌�
 use Rattle.std.specs.List.{list_any, flat_map}
 use Rattle.oca_types.specs.declared.words.Peer.{Peer}
 use Rattle.oca_net.specs.Deliveries.{Delivery, Datagram, Quiet, Failed, Sent}
-use Rattle.oca_net.specs.Ends.{largest_datagram, TakesAllBut}
+use Rattle.oca_net.specs.Ends.{largest_datagram}
+use Rattle.oca_net.specs.EndStates.{EndState, Runs}
 use Rattle.oca_control.specs.declared.reception.Reception.{Reception}
 use Rattle.oca_control.specs.declared.reception.Reception.TheVariants as receptions
 use Rattle.oca_control.specs.declared.report.DriveReport.{DriveReport}
@@ -108,24 +109,16 @@ report_of deliveries decisions answered failed_sends =
       lost = list_any is_lost decisions;
     }
 
--- A link was driven by an end that tells: what the end delivered grew by the turns' deliveries, what it took by what was given
--- out but for the failed sends, and the report is that of the turns.
-pub record DrivesTelling (old new : LinkState) (delivered delivered' : List Delivery) (taken taken' : List Sent) (report : DriveReport) : Type 0 where
-  pub deliveries : List Delivery
-  pub decisions : List Decision
-  pub answered : ℕ
-  pub grew : delivered' ≡ delivered ++ deliveries
-  pub drives : Drives deliveries old new decisions answered
-  pub reported : report ≡ report_of deliveries decisions answered report.failed_sends
-  pub took : TakesAllBut report.failed_sends taken taken' (all_given_to old.device decisions)
-
--- Whatever the end tells: there are deliveries of which the turns are what was done and reported.
-pub record DrivesAny (old new : LinkState) (report : DriveReport) : Type 0 where
+-- A LINK WAS DRIVEN OVER AN END: there are deliveries of which the turns are what was done and reported, and the report counts the
+-- calls of the end that failed. Where the end tells, these deliveries are what it delivered, and it took what was given out but for
+-- the failed sends.
+pub record DrivesEnd (old new : LinkState) (before after : EndState) (report : DriveReport) : Type 0 where
   pub deliveries : List Delivery
   pub decisions : List Decision
   pub answered : ℕ
   pub drives : Drives deliveries old new decisions answered
   pub reported : report ≡ report_of deliveries decisions answered report.failed_sends
+  pub runs : Runs deliveries (all_given_to old.device decisions) report.failed_receives report.failed_sends before after
 
 -- how often is received: once a turn, and once more where neither the turns nor a lost link ended the loop
 abbrev pub receives_of : DriveReport → ℕ → ℕ

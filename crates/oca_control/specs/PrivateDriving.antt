@@ -1,10 +1,12 @@
 -- For private contracts: what a part of a turn does and reports.
-use Rattle.std.specs.Prelude.{◌≡◌, ℕ, ◌+◌, ◌≤◌, ◌||◌, List, [], ◌∷◌, ◌++◌, Option, Some, None}
-use Rattle.oca_net.specs.Deliveries.{Delivery, Sent}
-use Rattle.oca_net.specs.Ends.{TakesAllBut}
+use Rattle.std.specs.Prelude.{◌≡◌, ℕ, ◌+◌, ◌≤◌, Bool, ◌||◌, List, [], ◌∷◌, Option, Some, None}
+use Rattle.oca_net.specs.declared.end.Heard.TheVariants as heard
+use Rattle.oca_net.specs.Deliveries.{Delivery}
+use Rattle.oca_net.specs.Ends.{one_more}
+use Rattle.oca_net.specs.EndStates.{EndState, Receives, SendsAllBut, Runs}
 use Rattle.oca_control.specs.declared.report.DriveReport.{DriveReport}
-use Rattle.oca_control.specs.Links.{LinkState, Decision}
-use Rattle.oca_control.specs.Driving.{DrivesTurn, report_of, all_given_to}
+use Rattle.oca_control.specs.Links.{LinkState, Decision, decision, gone_on}
+use Rattle.oca_control.specs.Driving.{DrivesTurn, report_of, goes_on, given_to, all_given_to, decisions_from, link_from}
 
 -- first the one, then the other
 abbrev pub added : DriveReport → DriveReport → DriveReport
@@ -32,34 +34,36 @@ pub record IsWithin (m : ℕ) (r : DriveReport) : Type 0 where
 abbrev pub given_report : List Decision → ℕ → DriveReport
 given_report decisions failed_sends = report_of [] decisions 0 failed_sends
 
--- a turn of an end that tells
-pub record TurnTelling (old new : LinkState) (delivered delivered' : List Delivery) (taken taken' : List Sent) (turn : DriveReport) : Type 0 where
+-- a decision was taken, and what it gives handed to the end
+pub record GivesOne (now : ℕ) (l l' : LinkState) (before after : EndState) (go : Bool) (given : DriveReport) : Type 0 where
+  pub link : l' ≡ gone_on now l
+  pub goes : go ≡ goes_on (decision now l)
+  pub reported : given ≡ given_report (decision now l ∷ []) given.failed_sends
+  pub sends : SendsAllBut given.failed_sends before after (given_to l.device (decision now l))
+
+-- all that was due in so many calls was given out
+pub record GaveAll (now left : ℕ) (start l : LinkState) (before after : EndState) (report : DriveReport) : Type 0 where
+  pub link : l ≡ link_from now left start
+  pub device : l.device ≡ start.device
+  pub reported : report ≡ given_report (decisions_from now left start) report.failed_sends
+  pub sends : SendsAllBut report.failed_sends before after (all_given_to start.device (decisions_from now left start))
+
+-- a turn
+pub record DrivesOnce (old new : LinkState) (before after : EndState) (turn : DriveReport) : Type 0 where
   pub delivery : Delivery
   pub decisions : List Decision
   pub answered : ℕ
-  pub grew : delivered' ≡ delivered ++ delivery ∷ []
   pub drives : DrivesTurn delivery old new decisions answered
   pub reported : turn ≡ report_of (delivery ∷ []) decisions answered turn.failed_sends
-  pub took : TakesAllBut turn.failed_sends taken taken' (all_given_to old.device decisions)
+  pub runs : Runs (delivery ∷ []) (all_given_to old.device decisions) turn.failed_receives turn.failed_sends before after
+  pub device : new.device ≡ old.device
+  pub receives : after.receives ≡ one_more before.receives
 
--- a turn of any end
-pub record TurnAny (old new : LinkState) (turn : DriveReport) : Type 0 where
-  pub delivery : Delivery
-  pub decisions : List Decision
-  pub answered : ℕ
-  pub drives : DrivesTurn delivery old new decisions answered
-  pub reported : turn ≡ report_of (delivery ∷ []) decisions answered turn.failed_sends
-
--- at Closed nothing changes
-pub record IsUnchanged (old new : LinkState) (delivered delivered' : List Delivery) (taken taken' : List Sent) : Type 0 where
+-- at Closed the link is as it was
+pub record IsClosed (old new : LinkState) (before after : EndState) : Type 0 where
   pub link : new ≡ old
-  pub delivered_is : delivered' ≡ delivered
-  pub taken_is : taken' ≡ taken
+  pub received : Receives heard.Closed [] before after
 
-abbrev pub TurnOrClosed : LinkState → LinkState → List Delivery → List Delivery → List Sent → List Sent → Option DriveReport → Type 0
-TurnOrClosed old new delivered delivered' taken taken' None = IsUnchanged old new delivered delivered' taken taken'
-TurnOrClosed old new delivered delivered' taken taken' (Some turn) = TurnTelling old new delivered delivered' taken taken' turn
-
-abbrev pub AnyTurnOrClosed : LinkState → LinkState → Option DriveReport → Type 0
-AnyTurnOrClosed old new None = new ≡ old
-AnyTurnOrClosed old new (Some turn) = TurnAny old new turn
+abbrev pub TakesTurn : LinkState → LinkState → EndState → EndState → Option DriveReport → Type 0
+TakesTurn old new before after None = IsClosed old new before after
+TakesTurn old new before after (Some turn) = DrivesOnce old new before after turn

@@ -1,10 +1,9 @@
 //! The loop that drives a link over an end.
-ghost use Rattle.std.specs.Prelude.{◌≡◌, ◌+◌, ◌-◌, ◌<◌, ◌≤◌, ◌^◌, ℕ, [], ◌∷◌, IsTrue, IfSome, IfNone, true, false, length};
-ghost use Rattle.oca_types.specs.declared.words.Peer.{Peer};
-ghost use Rattle.oca_net.specs.Ends.{last_u64, one_more, failures_sent, taken_after, largest_datagram, TakesAllBut};
-ghost use Rattle.oca_control.specs.Links.{decision, gone_on, due_bytes};
-ghost use Rattle.oca_control.specs.Driving.{DrivesTelling, DrivesAny, answered_by, decisions_from, link_from, goes_on, given_to, all_given_to, receives_of};
-ghost use Rattle.oca_control.specs.PrivateDriving.{added, IsWithin, given_report, TurnOrClosed, AnyTurnOrClosed};
+ghost use Rattle.std.specs.Prelude.{◌≡◌, ◌+◌, ◌-◌, ◌<◌, ◌≤◌, ◌^◌, ℕ, [], ◌∷◌, IsTrue, IfSome, false};
+ghost use Rattle.oca_net.specs.Ends.{last_u64};
+ghost use Rattle.oca_net.specs.EndStates.{SendsAllBut};
+ghost use Rattle.oca_control.specs.Driving.{DrivesEnd, answered_by, receives_of};
+ghost use Rattle.oca_control.specs.PrivateDriving.{added, IsWithin, given_report, GivesOne, GaveAll, TakesTurn};
 
 use crate::due::Due;
 use crate::link::Link;
@@ -20,15 +19,11 @@ use oca_types::{Packet, Peer};
 /// has handles; where a send fails, it is counted. A failed receive does nothing else. The loop ends at Closed, which is no turn
 /// and after which it receives nothing, after a turn in which `due` answers `Lost`, or after the turns.
 pub fn drive<E: End>(link: &mut Link, end: &mut E, turns: u32) -> DriveReport
-    ensures telling { IsTrue (E.tells end.old) →
-        DrivesTelling link.old link.new (E.delivered end.old) (E.delivered end.new) (E.taken end.old) (E.taken end.new) result }
-    ensures any_end { DrivesAny link.old link.new result }
-    ensures tells { E.tells end.new ≡ E.tells end.old }
+    ensures driven { DrivesEnd link.old link.new (E.state end.old) (E.state end.new) result }
     ensures turns { result.turns ≤ turns }
-    ensures early { result.turns < turns → result.lost ≡ false → IsTrue (E.closed end.new) }
-    ensures receives { E.receives end.new < last_u64 → E.receives end.new ≡ E.receives end.old + receives_of result turns }
-    ensures failures { E.failures end.new < last_u64 →
-        E.failures end.new ≡ E.failures end.old + (result.failed_receives + result.failed_sends) }
+    ensures early { result.turns < turns → result.lost ≡ false → IsTrue (E.state end.new).closed }
+    ensures receives { (E.state end.new).receives < last_u64 →
+        (E.state end.new).receives ≡ (E.state end.old).receives + receives_of result turns }
 {
     let mut report = nothing();
     let mut packet = Packet::new();
@@ -48,18 +43,8 @@ pub fn drive<E: End>(link: &mut Link, end: &mut E, turns: u32) -> DriveReport
 
 /// Receives once, and does what there is to do. Answers what it did, or nothing at Closed.
 fn take_turn<E: End>(link: &mut Link, end: &mut E, packet: &mut Packet) -> Option<DriveReport>
-    ensures telling { E.tells end.new ≡ E.tells end.old }
-    ensures turn { IsTrue (E.tells end.old) →
-        TurnOrClosed link.old link.new (E.delivered end.old) (E.delivered end.new) (E.taken end.old) (E.taken end.new) result }
-    ensures any_end { AnyTurnOrClosed link.old link.new result }
-    ensures device { link.new.device ≡ link.old.device }
-    ensures one { IfSome result (λ turn. turn.turns ≡ 1) }
+    ensures turn { TakesTurn link.old link.new (E.state end.old) (E.state end.new) result }
     ensures fits { IfSome result (IsWithin 4294967295) }
-    ensures closed { IfNone result (IsTrue (E.closed end.new)) }
-    ensures receives { E.receives end.new ≡ one_more (E.receives end.old) }
-    ensures failed { IfSome result (λ turn. E.failures end.new < last_u64 →
-        E.failures end.new ≡ E.failures end.old + (turn.failed_receives + turn.failed_sends)) }
-    ensures none_failed { IfNone result (E.failures end.new ≡ E.failures end.old) }
 {
     match end.receive(packet) {
         Heard::Datagram { from, now } => {
@@ -101,16 +86,7 @@ fn count_of(reception: Reception) -> u64
 
 /// Hands what is due at this moment to the end, for the device, and answers what was handed over.
 fn give_all<E: End>(link: &mut Link, end: &mut E, packet: &mut Packet, now: u64) -> DriveReport
-    ensures link { link.new ≡ link_from now (link.old.span + 1) link.old }
-    ensures device { link.new.device ≡ link.old.device }
-    ensures report { result ≡ given_report (decisions_from now (link.old.span + 1) link.old) result.failed_sends }
-    ensures telling { E.tells end.new ≡ E.tells end.old }
-    ensures delivered { IsTrue (E.tells end.old) → E.delivered end.new ≡ E.delivered end.old }
-    ensures taken { IsTrue (E.tells end.old) →
-        TakesAllBut result.failed_sends (E.taken end.old) (E.taken end.new) (all_given_to link.old.device (decisions_from now (link.old.span + 1) link.old)) }
-    ensures closed { E.closed end.new ≡ E.closed end.old }
-    ensures receives { E.receives end.new ≡ E.receives end.old }
-    ensures failures { E.failures end.new < last_u64 → E.failures end.new ≡ E.failures end.old + result.failed_sends }
+    ensures gives { GaveAll now (link.old.span + 1) link.old link.new (E.state end.old) (E.state end.new) result }
     ensures fits { IsWithin 4294967295 result }
 {
     let mut report = nothing();
@@ -133,16 +109,7 @@ fn give_one<E: End>(
     packet: &mut Packet,
     now: u64,
 ) -> (bool, DriveReport)
-    ensures link { link.new ≡ gone_on now link.old }
-    ensures goes_on { result.0 ≡ goes_on (decision now link.old) }
-    ensures report { result.1 ≡ given_report (decision now link.old ∷ []) result.1.failed_sends }
-    ensures telling { E.tells end.new ≡ E.tells end.old }
-    ensures delivered { IsTrue (E.tells end.old) → E.delivered end.new ≡ E.delivered end.old }
-    ensures taken { IsTrue (E.tells end.old) →
-        TakesAllBut result.1.failed_sends (E.taken end.old) (E.taken end.new) (given_to link.old.device (decision now link.old)) }
-    ensures closed { E.closed end.new ≡ E.closed end.old }
-    ensures receives { E.receives end.new ≡ E.receives end.old }
-    ensures failures { E.failures end.new < last_u64 → E.failures end.new ≡ E.failures end.old + result.1.failed_sends }
+    ensures gives { GivesOne now link.old link.new (E.state end.old) (E.state end.new) result.0 result.1 }
     ensures fits { IsWithin 1 result.1 }
 {
     let device = link.device();
@@ -176,12 +143,7 @@ fn give_one<E: End>(
 
 /// Sends a datagram, and answers how many sends failed.
 fn send<E: End>(end: &mut E, to: Peer, packet: &Packet) -> u64
-    ensures telling { E.tells end.new ≡ E.tells end.old }
-    ensures delivered { IsTrue (E.tells end.old) → E.delivered end.new ≡ E.delivered end.old }
-    ensures taken { IsTrue (E.tells end.old) → TakesAllBut result (E.taken end.old) (E.taken end.new) ((record { to = to; bytes = packet.now.items }) ∷ []) }
-    ensures closed { E.closed end.new ≡ E.closed end.old }
-    ensures receives { E.receives end.new ≡ E.receives end.old }
-    ensures failures { E.failures end.new < last_u64 → E.failures end.new ≡ E.failures end.old + result }
+    ensures sends { SendsAllBut result (E.state end.old) (E.state end.new) ((record { to = to; bytes = packet.now.items }) ∷ []) }
     ensures few { result ≤ 1 }
 {
     if end.send(to, packet.as_slice()) {

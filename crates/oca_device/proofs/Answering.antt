@@ -9,11 +9,12 @@ use Rattle.oca_pdu.specs.Messages.{Msg, Command, Response, KeepAlive}
 use Rattle.oca_tree.specs.declared.object.Object.{Object}
 use Rattle.oca_tree.specs.Execution.{execution}
 use Rattle.oca_tree.specs.Locks.{released}
+use Rattle.oca_tree.specs.Settings.{after_set}
 use Rattle.oca_session.specs.Accepted.{Entry, Judgement, Fresh, Duplicate, Reused, Old, judge_unaccepted, accepts, entry_under, window, asks_the_same, has_handle}
 use Rattle.oca_device.specs.Notes.{Note, run, is_known, accepted}
 use Rattle.oca_device.specs.States.{State, judged_in, reply_of, after_command, after_messages, time_of}
 use Rattle.oca_device.specs.Answers.{response, answer_to_command, answers_to_messages}
-use Rattle.oca_device.specs.LawByEvents.{accepts_handle, accepted_of, is_duplicate, Change, Executes, Releases, objects, reply, replies}
+use Rattle.oca_device.specs.LawByEvents.{accepts_handle, accepted_of, is_duplicate, Change, Executes, Releases, Sets, objects, reply, replies}
 use Rattle.oca_device.proofs.Peers.{same_self}
 use Rattle.oca_device.proofs.Acceptance.{commands_of, AreDistinct, accepts_same, found_in_front, found_last, found_after, new_where_accepted, duplicate_is, asks_so, equal_is}
 use Rattle.oca_device.proofs.Messages.{executed_of, fresh_state, entry_of, fresh_known, fresh_accepted, fresh_executed, after_judged, kept_alive, alive_accepted, alive_executed, alive_known, distinct_next}
@@ -138,11 +139,13 @@ messages_answered w p (Response r ∷ ms) s under k d u = messages_answered w p 
 pub objects_both : (tree : List Object) (xs ys : List Change) → objects tree (xs ++ ys) ≡ objects (objects tree xs) ys
 objects_both tree [] ys = refl
 objects_both tree (Releases p ∷ xs) ys = objects_both (released tree p) xs ys
+objects_both tree (Sets ono value ∷ xs) ys = objects_both (after_set tree ono value) xs ys
 objects_both tree (Executes p c ∷ xs) ys = objects_both (execution tree p c).tree xs ys
 
 pub reply_both : (p : Peer) (h : ℕ) (r : List Msg) (tree : List Object) (xs ys : List Change) → reply p h r tree (xs ++ ys) ≡ reply p h (reply p h r tree xs) (objects tree xs) ys
 reply_both p h r tree [] ys = refl
 reply_both p h r tree (Releases q ∷ xs) ys = reply_both p h r (released tree q) xs ys
+reply_both p h r tree (Sets ono value ∷ xs) ys = reply_both p h r (after_set tree ono value) xs ys
 reply_both p h r tree (Executes q c ∷ xs) ys =
     reply_both p h (cond (same_peer q p && nat_eq c.handle h) (response h (reply_of tree q c) ∷ []) r) (execution tree q c).tree xs ys
 

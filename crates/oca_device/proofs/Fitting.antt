@@ -15,8 +15,9 @@ use Rattle.oca_tree.specs.Objects.{object_of}
 use Rattle.oca_tree.specs.Execution.{Execution, answer, execution, by_status, status_of, status_lines, first_that_applies, kind_at, request_at, is_unknown, is_left_out, is_locked, on_both}
 use Rattle.oca_tree.specs.Requests.{is_out_of_range, is_invalid}
 use Rattle.oca_tree.specs.Locks.{released}
+use Rattle.oca_tree.specs.Settings.{after_set}
 use Rattle.oca_device.specs.Groups.{IsAnswer}
-use Rattle.oca_device.specs.LawByEvents.{Happening, Passes, Says, Change, Executes, Releases, reply, replies, answers, changes, clock, admitted, accepted_by, served_of, accepts_handle, is_duplicate, with_command}
+use Rattle.oca_device.specs.LawByEvents.{Happening, Passes, Says, Sets, Change, Executes, Releases, reply, replies, answers, changes, clock, admitted, accepted_by, served_of, accepts_handle, is_duplicate, with_command}
 
 -- ---- the parameters of an answer
 
@@ -84,6 +85,7 @@ its x h = Response (record { handle = h; status = status_number x.status; count 
 reply_fits : (p : Peer) (h : ℕ) (r : List Msg) (tree : List Object) (C : List Change) → AreAnswers r → AreAnswers (reply p h r tree C)
 reply_fits p h r tree [] a = a
 reply_fits p h r tree (Releases q ∷ C) a = reply_fits p h r (released tree q) C a
+reply_fits p h r tree (Sets ono value ∷ C) a = reply_fits p h r (after_set tree ono value) C a
 reply_fits p h r tree (Executes q c ∷ C) a = reply_fits p h (cond (same_peer q p && nat_eq c.handle h) (its (execution tree q c) h ∷ []) r) (execution tree q c).tree C (by (same_peer q p && nat_eq c.handle h))
   where
     by : (b : Bool) → AreAnswers (cond b (its (execution tree q c) h ∷ []) r)
@@ -108,6 +110,7 @@ replies_fit w under A (Response r ∷ ms) u = replies_fit w under A ms u
 pub answers_fit : (w : ℕ) (tree : List Object) (H : List Happening) → AllByRecursion IsAnswer (answers w tree H)
 answers_fit w tree [] = tt
 answers_fit w tree (Passes now ∷ H) = tt
+answers_fit w tree (Sets ono value ∷ H) = tt
 answers_fit w tree (Says p ms ∷ H) =
     replies_fit w (λ h. reply p h [] tree (changes w (Says p ms ∷ H))) (accepted_by w (clock H) p (admitted H)) (served_of p ms H)
     (λ h. reply_fits p h [] tree (changes w (Says p ms ∷ H)) tt)

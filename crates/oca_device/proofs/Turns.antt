@@ -1,11 +1,16 @@
 -- Deliveries, replies and reports of one turn and of several.
-use Rattle.std.proofs.Common.{◌≡◌, ℕ, zero, suc, ◌+◌, ◌≤◌, ◌<◌, Bool, true, false, cond, List, [], ◌∷◌, ◌++◌, length, refl, sym, ap, ◌∙◌, subst, arith, length-append}
-use Rattle.std.specs.Prelude.{nat_lt, nat_le, take, slice_index_or}
+use Rattle.std.proofs.Common.{◌≡◌, ℕ, ◌+◌, ◌≤◌, ◌<◌, Bool, true, false, cond, List, [], ◌∷◌, ◌++◌, length, refl, sym, ap, ◌∙◌, subst, arith, length-append}
+use Rattle.std.specs.Prelude.{nat_lt, nat_le, take, slice_index_or, IsTrue}
 use Rattle.std.proofs.lemmas.Bool.Decides.{nat_tests}
 use Rattle.std.proofs.lemmas.List.{append_assoc, append-nil, map-append, take_more}
 use Rattle.oca_types.specs.declared.words.Peer.{Peer}
+use Rattle.oca_net.specs.declared.end.Heard.{Heard}
+use Rattle.oca_net.specs.declared.end.Heard.TheVariants as heard
 use Rattle.oca_net.specs.Deliveries.{Delivery, Datagram, Quiet, Failed, Sent}
-use Rattle.oca_net.specs.Ends.{taken_after, one_more, last_u64, Lacks, none, kept, missing, TakesAllBut}
+use Rattle.oca_net.specs.Ends.{one_more, last_u64, is_failed, TakesAllBut}
+use Rattle.oca_net.specs.EndStates.{EndState, Receives, Sends, SendsAllBut}
+use Rattle.oca_net.proofs.Sending.{takes_none, takes_more, sends_none, sends_more, sends_one}
+use Rattle.oca_net.proofs.Hearing.{oversize_heard}
 use Rattle.oca_tree.specs.declared.object.Object.{Object}
 use Rattle.oca_device.specs.declared.report.Report.{Report}
 use Rattle.oca_device.specs.declared.verdict.Verdict.{Verdict}
@@ -15,21 +20,8 @@ use Rattle.oca_device.specs.Events as event
 use Rattle.oca_device.specs.Answers.{packets, verdict}
 use Rattle.oca_device.specs.Devices.{DeviceState, Represents}
 use Rattle.oca_device.specs.Reports.{no_turns, one_turn, verdict_turn, added, turn_report, events_after, events_after_all, report_of, receives_of}
-use Rattle.oca_device.specs.Replies.{Serves, ServesTelling, ServesAny, replies, replies_to, sent_to}
-use Rattle.oca_device.specs.PrivateTotals.{IsWithin}
-
--- ---- lists without some of their members
-
-pub lacks_both : {X : Type 0} (k j : ℕ) (xs ys us vs : List X) → Lacks k xs ys → Lacks j us vs → Lacks (k + j) (xs ++ us) (ys ++ vs)
-lacks_both k j xs ys us vs none b = subst (λ (n : ℕ). Lacks n us vs) (from_zero j) b
-  where
-    from_zero : (n : ℕ) → n ≡ 0 + n
-    from_zero n = omega arith
-lacks_both k j xs ys us vs (kept x a) b = kept x (lacks_both _ j _ _ us vs a b)
-lacks_both k j xs ys us vs (missing {k = i} y a) b = subst (λ (n : ℕ). Lacks n (xs ++ us) (ys ++ vs)) (one_later i j) (missing y (lacks_both i j xs _ us vs a b))
-  where
-    one_later : (i j : ℕ) → i + j + 1 ≡ i + 1 + j
-    one_later i j = omega arith
+use Rattle.oca_device.specs.Replies.{Serves, ServesEnd, replies, replies_to, sent_to}
+use Rattle.oca_device.specs.PrivateTotals.{IsWithin, ServesTurn, IsClosed}
 
 -- ---- sums of reports
 
@@ -115,67 +107,49 @@ serves_more a b c ds es r s f g =
           ∙ ap (λ (q : Report). let z : Report = record q { failed_sends = k } in z) (sym (later_reports w tree ds es events));
     }
 
--- over any end
-pub any_nothing : (d : DeviceState) (r : Report) → r ≡ no_turns → ServesAny d d r
-any_nothing d r e = subst (ServesAny d d) (sym e) (record { deliveries = []; serves = nothing_served d })
+-- no turns
+pub turns_none : (d : DeviceState) (e : EndState) → ServesEnd d d e e no_turns
+turns_none d e = record {
+  deliveries = [];
+  serves = nothing_served d;
+  telling = refl;
+  delivered = λ _. sym (append-nil e.delivered);
+  replied = λ _ w tree events h. takes_none e.taken e.taken refl;
+  failures = λ _. omega arith;
+}
 
-pub any_more : (a b c : DeviceState) (r s sum : Report) → ServesAny a b r → ServesAny b c s → sum ≡ added r s → ServesAny a c sum
-any_more a b c r s sum f g e =
-    subst (ServesAny a c) (sym e) (record { deliveries = f.deliveries ++ g.deliveries; serves = serves_more a b c f.deliveries g.deliveries r s f.serves g.serves })
+-- one turn more
+pub turns_more : {a b c : DeviceState} {e f g : EndState} {r s : Report} → ServesEnd a b e f r → ServesEnd b c f g s → ServesEnd a c e g (added r s)
+turns_more {a} {b} {c} {e} {f} {g} {r} {s} x y = record {
+  deliveries = x.deliveries ++ y.deliveries;
+  serves = serves_more a b c x.deliveries y.deliveries r s x.serves y.serves;
+  telling = y.telling ∙ x.telling;
+  delivered = λ told. y.delivered (x.telling ∙ told) ∙ ap (λ xs. xs ++ y.deliveries) (x.delivered told) ∙ append_assoc e.delivered x.deliveries y.deliveries;
+  replied = λ told w tree events h.
+      subst (λ (xs : List Sent). TakesAllBut (r.failed_sends + s.failed_sends) e.taken g.taken xs) (sym (later_replies w tree x.deliveries y.deliveries events))
+      (takes_more (x.replied told w tree events h) (y.replied (x.telling ∙ told) w tree (events_after_all x.deliveries events) (x.serves.represents w tree events h)));
+  failures = failures_so_far e.failures f.failures g.failures r.failed_receives r.failed_sends s.failed_receives s.failed_sends x.failures y.failures;
+}
+  where
+    failures_so_far : (a b c fr fs tr ts : ℕ) → (b < last_u64 → b ≡ a + (fr + fs)) → (c < last_u64 → c ≡ b + (tr + ts)) → c < last_u64 → c ≡ a + (fr + tr + (fs + ts))
+    failures_so_far a b c fr fs tr ts h k below =
+        let now = k below in
+        let before : b < last_u64 = omega arith in
+        omega (arith, h before, now)
 
-pub any_closed : (a b c : DeviceState) (r : Report) → ServesAny a b r → c ≡ b → ServesAny a c r
-any_closed a b c r f e = subst (λ (d : DeviceState). ServesAny a d r) (sym e) f
-
--- over an end that tells
-pub no_deliveries : (d : DeviceState) (delivered : List Delivery) (took : List Sent) → ServesTelling d d delivered delivered took took no_turns
-no_deliveries d delivered took =
-    record {
-      deliveries = [];
-      grew = sym (append-nil delivered);
-      serves = nothing_served d;
-      replied = λ w tree events h. record { sent = []; grew = sym (append-nil took); part = none };
-    }
-
-one_delivery : (x : Delivery) (old new : DeviceState) (delivered delivered' : List Delivery) (took took' : List Sent) (r : Report) →
-    delivered' ≡ delivered ++ x ∷ [] → Serves (x ∷ []) old new r →
-    ((w : ℕ) (tree : List Object) (events : List Event) → Represents w old tree events → TakesAllBut r.failed_sends took took' (replies_to w tree events x)) →
-    ServesTelling old new delivered delivered' took took' r
-one_delivery x old new delivered delivered' took took' r grew serves replied =
-    record {
-      deliveries = x ∷ [];
-      grew = grew;
-      serves = serves;
-      replied = λ w tree events h. subst (λ (xs : List Sent). TakesAllBut r.failed_sends took took' xs) (sym (append-nil (replies_to w tree events x))) (replied w tree events h);
-    }
-
-pub one_more_turn : (a b c : DeviceState) (d1 d2 d3 : List Delivery) (t1 t2 t3 : List Sent) (r s : Report) →
-    ServesTelling a b d1 d2 t1 t2 r → ServesTelling b c d2 d3 t2 t3 s → ServesTelling a c d1 d3 t1 t3 (added r s)
-one_more_turn a b c d1 d2 d3 t1 t2 t3 r s f g =
-    record {
-      deliveries = f.deliveries ++ g.deliveries;
-      grew = g.grew ∙ ap (λ xs. xs ++ g.deliveries) f.grew ∙ append_assoc d1 f.deliveries g.deliveries;
-      serves = serves_more a b c f.deliveries g.deliveries r s f.serves g.serves;
-      replied = λ w tree events h.
-          let x = f.replied w tree events h in
-          let y = g.replied w tree (events_after_all f.deliveries events) (f.serves.represents w tree events h) in
-          record {
-            sent = x.sent ++ y.sent;
-            grew = y.grew ∙ ap (λ xs. xs ++ y.sent) x.grew ∙ append_assoc t1 x.sent y.sent;
-            part = subst (λ (xs : List Sent). Lacks (r.failed_sends + s.failed_sends) (x.sent ++ y.sent) xs) (sym (later_replies w tree f.deliveries g.deliveries events))
-                (lacks_both r.failed_sends s.failed_sends _ _ _ _ x.part y.part);
-          };
-    }
+-- and then Closed
+pub turns_closed : {a b c : DeviceState} {e f g : EndState} {r : Report} → ServesEnd a b e f r → IsClosed b c f g → ServesEnd a c e g r
+turns_closed {a} {b} {c} {e} {f} {g} {r} x y = record {
+  deliveries = x.deliveries;
+  serves = subst (λ (d : DeviceState). Serves x.deliveries a d r) (sym y.device) x.serves;
+  telling = y.received.telling ∙ x.telling;
+  delivered = λ told. y.received.delivered (x.telling ∙ told) ∙ x.delivered told;
+  replied = λ told w tree events h.
+      subst (λ (t : List Sent). TakesAllBut r.failed_sends e.taken t (replies w tree events x.deliveries)) (sym (y.received.taken (x.telling ∙ told))) (x.replied told w tree events h);
+  failures = subst (λ (n : ℕ). n < last_u64 → n ≡ e.failures + (r.failed_receives + r.failed_sends)) (sym y.received.failures) x.failures;
+}
 
 -- ---- the packets of one datagram are sent
-
-lacks_no_last : {X : Type 0} (k : ℕ) (xs ys : List X) (x : X) → Lacks k xs ys → Lacks k (xs ++ x ∷ []) (ys ++ x ∷ [])
-lacks_no_last k xs ys x a = subst (λ (n : ℕ). Lacks n (xs ++ x ∷ []) (ys ++ x ∷ [])) (to_zero k) (lacks_both k 0 xs ys (x ∷ []) (x ∷ []) a (kept x none))
-  where
-    to_zero : (n : ℕ) → n + 0 ≡ n
-    to_zero n = omega arith
-
-lacks_last : {X : Type 0} (k : ℕ) (xs ys : List X) (y : X) → Lacks k xs ys → Lacks (k + 1) xs (ys ++ y ∷ [])
-lacks_last {X} k xs ys y a = subst (λ (us : List X). Lacks (k + 1) us (ys ++ y ∷ [])) (append-nil xs) (lacks_both k 1 xs ys [] (y ∷ []) a (missing y none))
 
 -- the first packets, as they are sent to a peer
 abbrev pub first_sent : Peer → ℕ → List (List ℕ) → List Sent
@@ -187,36 +161,14 @@ further p i packets h =
     ap (sent_to p) (take_more packets i [] h)
     ∙ map-append (λ (bytes : List ℕ). let x : Sent = record { to = p; bytes = bytes } in x) (take i packets) (slice_index_or packets i [] ∷ [])
 
-pub nothing_sent : (p : Peer) (packets : List (List ℕ)) (took : List Sent) → TakesAllBut 0 took took (first_sent p 0 packets)
-nothing_sent p packets took = record { sent = []; grew = sym (append-nil took); part = none }
-
-pub sent_further : (p : Peer) (i k : ℕ) (packets : List (List ℕ)) (old took took' : List Sent) → i < length packets →
-    TakesAllBut k old took (first_sent p i packets) → took' ≡ taken_after true p (slice_index_or packets i []) took →
-    TakesAllBut k old took' (first_sent p (i + 1) packets)
-sent_further p i k packets old took took' h t e =
-    let x : Sent = record { to = p; bytes = slice_index_or packets i [] } in
-    record {
-      sent = t.sent ++ x ∷ [];
-      grew = e ∙ ap (λ xs. xs ++ x ∷ []) t.grew ∙ append_assoc old t.sent (x ∷ []);
-      part = subst (λ (ys : List Sent). Lacks k (t.sent ++ x ∷ []) ys) (sym (further p i packets h)) (lacks_no_last k t.sent (first_sent p i packets) x t.part);
-    }
-
-pub failed_further : (p : Peer) (i k : ℕ) (packets : List (List ℕ)) (old took took' : List Sent) → i < length packets →
-    TakesAllBut k old took (first_sent p i packets) → took' ≡ taken_after false p (slice_index_or packets i []) took →
-    TakesAllBut (k + 1) old took' (first_sent p (i + 1) packets)
-failed_further p i k packets old took took' h t e =
-    let x : Sent = record { to = p; bytes = slice_index_or packets i [] } in
-    record {
-      sent = t.sent;
-      grew = e ∙ t.grew;
-      part = subst (λ (ys : List Sent). Lacks (k + 1) t.sent ys) (sym (further p i packets h)) (lacks_last k t.sent (first_sent p i packets) x t.part);
-    }
+pub sent_further : (p : Peer) (i k k' : ℕ) (packets : List (List ℕ)) {a b c : EndState} {was_taken : Bool} → i < length packets →
+    SendsAllBut k a b (first_sent p i packets) → Sends was_taken p (slice_index_or packets i []) b c → k' ≡ k + cond was_taken 0 1 →
+    SendsAllBut k' a c (first_sent p (i + 1) packets)
+sent_further p i k k' packets {a} {b} {c} {was_taken} h f s e =
+    subst (λ (n : ℕ). SendsAllBut n a c (first_sent p (i + 1) packets)) (sym e)
+    (subst (λ (xs : List Sent). SendsAllBut (k + cond was_taken 0 1) a c xs) (sym (further p i packets h)) (sends_more f (sends_one s)))
 
 -- ---- one turn
-
--- a report is known but for the sends that failed
-pub but_for_failed_sends : (r x : Report) → r ≡ x → r ≡ record x { failed_sends = r.failed_sends }
-but_for_failed_sends r x e = e ∙ ap (λ (n : ℕ). let y : Report = record x { failed_sends = n } in y) (sym (ap (λ (q : Report). q.failed_sends) e))
 
 within : (n : ℕ) → n ≤ 1472 → nat_le n 1472 ≡ true
 within n h = grind (arith, nat_tests)
@@ -224,144 +176,83 @@ within n h = grind (arith, nat_tests)
 beyond : (n : ℕ) → 1472 < n → nat_le n 1472 ≡ false
 beyond n h = grind (arith, nat_tests)
 
--- a verdict is that of one turn
-verdict_one : (v : Verdict) → (verdict_turn v).turns ≡ 1
-verdict_one (verdicts.Served n k o r) = refl
-verdict_one (verdicts.Malformed fault) = refl
-verdict_one verdicts.NoRoom = refl
+-- a verdict is that of one turn, in which no receive failed
+verdict_one : (v : Verdict) → ((verdict_turn v).turns ≡ 1) × ((verdict_turn v).failed_receives ≡ 0)
+verdict_one (verdicts.Served n k o r) = (refl, refl)
+verdict_one (verdicts.Malformed fault) = (refl, refl)
+verdict_one verdicts.NoRoom = (refl, refl)
 
-pub verdict_turns : (v : Verdict) (r : Report) → r ≡ verdict_turn v → r.turns ≡ 1
-verdict_turns v r e = ap (λ (q : Report). q.turns) e ∙ verdict_one v
+-- a turn: one delivery was heard, and the replies to it were sent
+heard_one : (x : Delivery) {h : Heard} {bytes : List ℕ} {all : List Sent} {old new : DeviceState} {before mid after : EndState} {r : Report} →
+    Receives h bytes before mid → SendsAllBut r.failed_sends mid after all →
+    (IsTrue before.tells → mid.delivered ≡ before.delivered ++ x ∷ []) → r.failed_receives ≡ cond (is_failed h) 1 0 → r.turns ≡ 1 →
+    ((w : ℕ) (tree : List Object) (events : List Event) → Represents w old tree events → Represents w new tree (events_after x events)) →
+    ((w : ℕ) (tree : List Object) (events : List Event) → Represents w old tree events → r ≡ record (turn_report w tree events x) { failed_sends = r.failed_sends }) →
+    ((w : ℕ) (tree : List Object) (events : List Event) → Represents w old tree events → all ≡ replies_to w tree events x) →
+    ServesTurn old new before after r
+heard_one x {h} {bytes} {all} {old} {new} {before} {mid} {after} {r} heard sent grew failed one represents reported replies_are = record {
+  serves = record {
+    deliveries = x ∷ [];
+    serves = one_served x old new r one represents reported;
+    telling = sent.telling ∙ heard.telling;
+    delivered = λ told. sent.delivered (heard.telling ∙ told) ∙ grew told;
+    replied = λ told w tree events rep.
+        subst (λ (xs : List Sent). TakesAllBut r.failed_sends before.taken after.taken xs) (replies_are w tree events rep ∙ sym (append-nil (replies_to w tree events x)))
+        (subst (λ (t : List Sent). TakesAllBut r.failed_sends t after.taken all) (heard.taken told) (sent.taken (heard.telling ∙ told)));
+    failures = counted (is_failed h) before.failures mid.failures after.failures r.failed_receives r.failed_sends heard.failures failed sent.failures;
+  };
+  one = one;
+  receives = sent.receives ∙ heard.receives;
+}
+  where
+    counted : (b : Bool) (x y z fr fs : ℕ) → y ≡ cond b (one_more x) x → fr ≡ cond b 1 0 → (z < last_u64 → z ≡ y + fs) → z < last_u64 → z ≡ x + (fr + fs)
+    counted true x y z fr fs e f h below = let now = h below in omega arith
+    counted false x y z fr fs e f h below = let now = h below in omega arith
 
--- nothing is sent
-no_replies : (k : ℕ) (took took' all : List Sent) → k ≡ 0 → took' ≡ took → all ≡ [] → TakesAllBut k took took' all
-no_replies k took took' all e same nothing =
-    record {
-      sent = [];
-      grew = same ∙ sym (append-nil took);
-      part = subst (λ (n : ℕ). Lacks n [] all) (sym e) (subst (λ (ys : List Sent). Lacks 0 [] ys) (sym nothing) none);
-    }
-
-module _ (old new : DeviceState) (r : Report) where
-  quiet_served : (now : ℕ) → r ≡ record one_turn { quiet = 1 } →
+module _ {old new : DeviceState} {before mid : EndState} {held : List ℕ} (r : Report) where
+  pub quiet_turn : {now : ℕ} → r ≡ record one_turn { quiet = 1 } → Receives (heard.Quiet now) held before mid →
       ((w : ℕ) (tree : List Object) (events : List Event) → Represents w old tree events → Represents w new tree (event.Tick now ∷ events)) →
-      Serves (Quiet now ∷ []) old new r
-  quiet_served now e h =
-      one_served (Quiet now) old new r (ap (λ (q : Report). q.turns) e) h
-      (λ w tree events _. but_for_failed_sends r (record one_turn { quiet = 1 }) e)
+      ServesTurn old new before mid r
+  quiet_turn {now} e h ticks =
+      subst (ServesTurn old new before mid) (sym e)
+      (heard_one (Quiet now) {r = record one_turn { quiet = 1 }} h (sends_none mid) h.delivered refl refl ticks (λ w tree events _. refl) (λ w tree events _. refl))
 
-  oversize_served : (from : Peer) (long : List ℕ) (now : ℕ) → 1472 < length long → r ≡ record one_turn { oversize = 1 } →
+  pub oversize_turn : {now : ℕ} → r ≡ record one_turn { oversize = 1 } → Receives (heard.Oversize now) held before mid →
       ((w : ℕ) (tree : List Object) (events : List Event) → Represents w old tree events → Represents w new tree (event.Tick now ∷ events)) →
-      Serves (Datagram from long now ∷ []) old new r
-  oversize_served from long now above e h =
-      let no_datagram = beyond (length long) above in
-      one_served (Datagram from long now) old new r (ap (λ (q : Report). q.turns) e)
-      (λ w tree events rep. subst (λ (b : Bool). Represents w new tree (cond b (event.Datagram from long now ∷ events) (event.Tick now ∷ events))) (sym no_datagram) (h w tree events rep))
-      (λ w tree events _. but_for_failed_sends r (turn_report w tree events (Datagram from long now))
-      (e ∙ sym (ap (λ b. cond b (verdict_turn (verdict w tree events from long now)) (record one_turn { oversize = 1 })) no_datagram)))
+      ServesTurn old new before mid r
+  oversize_turn {now} e h ticks =
+      let d = oversize_heard h in
+      let no_datagram = beyond (length d.long) d.above in
+      subst (ServesTurn old new before mid) (sym e)
+      (heard_one (Datagram d.from d.long now) {r = record one_turn { oversize = 1 }} h (sends_none mid) d.grew refl refl
+      (λ w tree events rep. subst (λ (b : Bool). Represents w new tree (cond b (event.Datagram d.from d.long now ∷ events) (event.Tick now ∷ events))) (sym no_datagram) (ticks w tree events rep))
+      (λ w tree events _. ap (λ b. record (cond b (verdict_turn (verdict w tree events d.from d.long now)) (record one_turn { oversize = 1 })) { failed_sends = 0 }) (sym no_datagram))
+      (λ w tree events _. ap (λ b. cond b (sent_to d.from (packets w tree events (event.Datagram d.from d.long now))) []) (sym no_datagram)))
 
-  failed_served : r ≡ record one_turn { failed_receives = 1 } → new ≡ old → Serves (Failed ∷ []) old new r
-  failed_served e h =
-      one_served Failed old new r (ap (λ (q : Report). q.turns) e)
-      (λ w tree events rep. subst (λ (d : DeviceState). Represents w d tree events) (sym h) rep)
-      (λ w tree events _. but_for_failed_sends r (record one_turn { failed_receives = 1 }) e)
+  pub failed_turn : r ≡ record one_turn { failed_receives = 1 } → Receives heard.Failed held before mid → new ≡ old → ServesTurn old new before mid r
+  failed_turn e h same =
+      subst (ServesTurn old new before mid) (sym e)
+      (heard_one Failed {r = record one_turn { failed_receives = 1 }} h (sends_none mid) h.delivered refl refl
+      (λ w tree events rep. subst (λ (d : DeviceState). Represents w d tree events) (sym same) rep) (λ w tree events _. refl) (λ w tree events _. refl))
 
-  datagram_served : (from : Peer) (bytes : List ℕ) (now : ℕ) (v : Verdict) (q : Report) → length bytes ≤ 1472 →
-      r ≡ record q { failed_sends = r.failed_sends } → q ≡ verdict_turn v → q.turns ≡ 1 →
+  pub datagram_turn : {after : EndState} {from : Peer} {now : ℕ} {out : List (List ℕ)} (bytes : List ℕ) (v : Verdict) (q : Report) →
+      r ≡ record q { failed_sends = r.failed_sends } → q ≡ verdict_turn v → length bytes ≤ 1472 → bytes ≡ held → Receives (heard.Datagram from now) held before mid →
       ((w : ℕ) (tree : List Object) (events : List Event) → Represents w old tree events → Represents w new tree (event.Datagram from bytes now ∷ events)) →
+      ((w : ℕ) (tree : List Object) (events : List Event) → Represents w old tree events → out ≡ packets w tree events (event.Datagram from bytes now)) →
       ((w : ℕ) (tree : List Object) (events : List Event) → Represents w old tree events → v ≡ verdict w tree events from bytes now) →
-      Serves (Datagram from bytes now ∷ []) old new r
-  datagram_served from bytes now v q short e f one represents verdict_is =
+      SendsAllBut r.failed_sends mid after (sent_to from out) → ServesTurn old new before after r
+  datagram_turn {after} {from} {now} {out} bytes v q e f short same h represents packets_are verdict_is sent =
       let fits = within (length bytes) short in
-      one_served (Datagram from bytes now) old new r (ap (λ (x : Report). x.turns) e ∙ one)
+      let one = verdict_one v in
+      heard_one (Datagram from bytes now) h sent
+      (λ told. h.delivered told ∙ ap (λ (xs : List ℕ). before.delivered ++ Datagram from xs now ∷ []) (sym same))
+      (ap (λ (x : Report). x.failed_receives) (e ∙ ap (λ (x : Report). let y : Report = record x { failed_sends = r.failed_sends } in y) f) ∙ one.1)
+      (ap (λ (x : Report). x.turns) (e ∙ ap (λ (x : Report). let y : Report = record x { failed_sends = r.failed_sends } in y) f) ∙ one.0)
       (λ w tree events rep. subst (λ (b : Bool). Represents w new tree (cond b (event.Datagram from bytes now ∷ events) (event.Tick now ∷ events))) (sym fits) (represents w tree events rep))
       (λ w tree events rep. e ∙ ap (λ (x : Report). let y : Report = record x { failed_sends = r.failed_sends } in y)
       (f ∙ ap verdict_turn (verdict_is w tree events rep)
       ∙ sym (ap (λ b. cond b (verdict_turn (verdict w tree events from bytes now)) (record one_turn { oversize = 1 })) fits)))
-
-  pub any_quiet : (now : ℕ) → r ≡ record one_turn { quiet = 1 } →
-      ((w : ℕ) (tree : List Object) (events : List Event) → Represents w old tree events → Represents w new tree (event.Tick now ∷ events)) →
-      ServesAny old new r
-  any_quiet now e h = record { deliveries = Quiet now ∷ []; serves = quiet_served now e h }
-
-  pub any_oversize : (now : ℕ) → r ≡ record one_turn { oversize = 1 } →
-      ((w : ℕ) (tree : List Object) (events : List Event) → Represents w old tree events → Represents w new tree (event.Tick now ∷ events)) →
-      ServesAny old new r
-  any_oversize now e h = record { deliveries = Datagram no_one (zeros 1473) now ∷ []; serves = oversize_served no_one (zeros 1473) now (above 1473 (omega arith)) e h }
-    where
-      no_one : Peer
-      no_one = record { ip = 0; port = 0 }
-
-      zeros : ℕ → List ℕ
-      zeros zero = []
-      zeros (suc n) = 0 ∷ zeros n
-
-      length_zeros : (n : ℕ) → length (zeros n) ≡ n
-      length_zeros zero = refl
-      length_zeros (suc n) = ap suc (length_zeros n)
-
-      above : (n : ℕ) → 1472 < n → 1472 < length (zeros n)
-      above n h = subst (λ (k : ℕ). 1472 < k) (sym (length_zeros n)) h
-
-  pub any_failed : r ≡ record one_turn { failed_receives = 1 } → new ≡ old → ServesAny old new r
-  any_failed e h = record { deliveries = Failed ∷ []; serves = failed_served e h }
-
-  pub any_datagram : (from : Peer) (bytes : List ℕ) (now : ℕ) (v : Verdict) (q : Report) → length bytes ≤ 1472 →
-      r ≡ record q { failed_sends = r.failed_sends } → q ≡ verdict_turn v → q.turns ≡ 1 →
-      ((w : ℕ) (tree : List Object) (events : List Event) → Represents w old tree events → Represents w new tree (event.Datagram from bytes now ∷ events)) →
-      ((w : ℕ) (tree : List Object) (events : List Event) → Represents w old tree events → v ≡ verdict w tree events from bytes now) →
-      ServesAny old new r
-  any_datagram from bytes now v q short e f one represents verdict_is =
-      record { deliveries = Datagram from bytes now ∷ []; serves = datagram_served from bytes now v q short e f one represents verdict_is }
-
-module _ (old new : DeviceState) (delivered delivered' : List Delivery) (took took' : List Sent) (r : Report) where
-  pub quiet_turn : (now : ℕ) → delivered' ≡ delivered ++ Quiet now ∷ [] → took' ≡ took → r ≡ record one_turn { quiet = 1 } →
-      ((w : ℕ) (tree : List Object) (events : List Event) → Represents w old tree events → Represents w new tree (event.Tick now ∷ events)) →
-      ServesTelling old new delivered delivered' took took' r
-  quiet_turn now grew same e h =
-      one_delivery (Quiet now) old new delivered delivered' took took' r grew (quiet_served old new r now e h)
-      (λ w tree events _. no_replies r.failed_sends took took' [] (ap (λ (q : Report). q.failed_sends) e) same refl)
-
-  pub oversize_turn : (from : Peer) (long : List ℕ) (now : ℕ) → 1472 < length long → delivered' ≡ delivered ++ Datagram from long now ∷ [] → took' ≡ took → r ≡ record one_turn { oversize = 1 } →
-      ((w : ℕ) (tree : List Object) (events : List Event) → Represents w old tree events → Represents w new tree (event.Tick now ∷ events)) →
-      ServesTelling old new delivered delivered' took took' r
-  oversize_turn from long now above grew same e h =
-      let no_datagram = beyond (length long) above in
-      one_delivery (Datagram from long now) old new delivered delivered' took took' r grew (oversize_served old new r from long now above e h)
-      (λ w tree events _. no_replies r.failed_sends took took' _ (ap (λ (q : Report). q.failed_sends) e) same
-      (ap (λ b. cond b (sent_to from (packets w tree events (event.Datagram from long now))) []) no_datagram))
-
-  pub failed_turn : delivered' ≡ delivered ++ Failed ∷ [] → took' ≡ took → r ≡ record one_turn { failed_receives = 1 } → new ≡ old →
-      ServesTelling old new delivered delivered' took took' r
-  failed_turn grew same e h =
-      one_delivery Failed old new delivered delivered' took took' r grew (failed_served old new r e h)
-      (λ w tree events _. no_replies r.failed_sends took took' [] (ap (λ (q : Report). q.failed_sends) e) same refl)
-
-  pub datagram_turn : (from : Peer) (bytes : List ℕ) (now : ℕ) (v : Verdict) (out : List (List ℕ)) (q : Report) → length bytes ≤ 1472 → delivered' ≡ delivered ++ Datagram from bytes now ∷ [] →
-      r ≡ record q { failed_sends = r.failed_sends } → q ≡ verdict_turn v → q.turns ≡ 1 →
-      ((w : ℕ) (tree : List Object) (events : List Event) → Represents w old tree events → Represents w new tree (event.Datagram from bytes now ∷ events)) →
-      ((w : ℕ) (tree : List Object) (events : List Event) → Represents w old tree events → out ≡ packets w tree events (event.Datagram from bytes now)) →
-      ((w : ℕ) (tree : List Object) (events : List Event) → Represents w old tree events → v ≡ verdict w tree events from bytes now) →
-      TakesAllBut r.failed_sends took took' (sent_to from out) →
-      ServesTelling old new delivered delivered' took took' r
-  datagram_turn from bytes now v out q short grew e f one represents packets_are verdict_is sent =
-      let fits = within (length bytes) short in
-      one_delivery (Datagram from bytes now) old new delivered delivered' took took' r grew (datagram_served old new r from bytes now v q short e f one represents verdict_is)
-      (λ w tree events rep. subst (λ (xs : List Sent). TakesAllBut r.failed_sends took took' xs)
-      (ap (sent_to from) (packets_are w tree events rep) ∙ sym (ap (λ b. cond b (sent_to from (packets w tree events (event.Datagram from bytes now))) []) fits)) sent)
-
--- ---- counts of failures, short of their last value
-
--- a call failed once more
-pub failure_counted : (a b c k : ℕ) → c ≡ one_more b → (b < last_u64 → b ≡ a + k) → c < last_u64 → c ≡ a + (k + 1)
-failure_counted a b c k e h below =
-    let stepped : c ≡ b + 1 = omega arith in
-    let before : b < last_u64 = omega arith in
-    omega (arith, h before)
-
--- a call did not fail
-pub no_failure_counted : (a b c k : ℕ) → c ≡ b → (b < last_u64 → b ≡ a + k) → c < last_u64 → c ≡ a + k
-no_failure_counted a b c k e h below = e ∙ h (subst (λ (n : ℕ). n < last_u64) e below)
+      (λ w tree events rep. ap (sent_to from) (packets_are w tree events rep) ∙ sym (ap (λ b. cond b (sent_to from (packets w tree events (event.Datagram from bytes now))) []) fits))
 
 -- ---- numbers of reports
 
@@ -375,18 +266,14 @@ more_within m k n a b r e x y le =
     let both : IsWithin n (added a b) = record { turns = omega (arith, x.turns, y.turns); executed = omega (arith, x.executed, y.executed); kept = omega (arith, x.kept, y.kept); old = omega (arith, x.old, y.old); reused = omega (arith, x.reused, y.reused); malformed = omega (arith, x.malformed, y.malformed); no_room = omega (arith, x.no_room, y.no_room); oversize = omega (arith, x.oversize, y.oversize); quiet = omega (arith, x.quiet, y.quiet); failed_receives = omega (arith, x.failed_receives, y.failed_receives); failed_sends = omega (arith, x.failed_sends, y.failed_sends) } in
     subst (λ (q : Report). IsWithin n q) (sym e) both
 
--- failures of the turns so far and of one more
-pub failures_so_far : (a b c fr fs tr ts : ℕ) → (b < last_u64 → b ≡ a + (fr + fs)) → (c < last_u64 → c ≡ b + (tr + ts)) → c < last_u64 → c ≡ a + (fr + tr + (fs + ts))
-failures_so_far a b c fr fs tr ts h k below =
-    let now = k below in
-    let before : b < last_u64 = omega arith in
-    omega (arith, h before, now)
-
 -- ---- receives, short of their last value
 
 -- one receive a turn
 pub received_further : (a b c k : ℕ) → c ≡ one_more b → (b < last_u64 → b ≡ a + k) → c < last_u64 → c ≡ a + (k + 1)
-received_further a b c k e h below = failure_counted a b c k e h below
+received_further a b c k e h below =
+    let stepped : c ≡ b + 1 = omega arith in
+    let before : b < last_u64 = omega arith in
+    omega (arith, h before)
 
 pub fewer_turns : (n m : ℕ) → n < m → receives_of n m ≡ n + 1
 fewer_turns n m h = ap (λ b. cond b (n + 1) n) (is_fewer n m h)

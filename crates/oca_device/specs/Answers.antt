@@ -12,7 +12,7 @@ use Rattle.oca_session.specs.Accepted.{Judgement, Fresh, Duplicate, Reused, Old}
 use Rattle.oca_device.specs.declared.counts.Counts.{Counts}
 use Rattle.oca_device.specs.declared.verdict.Verdict.{Verdict}
 use Rattle.oca_device.specs.declared.verdict.Verdict.TheVariants as verdicts
-use Rattle.oca_device.specs.Events.{Event, Datagram, Tick}
+use Rattle.oca_device.specs.Events.{Event, Datagram, Tick, Local}
 use Rattle.oca_device.specs.Notes.{Admitted}
 use Rattle.oca_device.specs.Groups.{groups_of, encodings}
 use Rattle.oca_device.specs.States.{State, noted, moved_to, admits, judged_in, reply_of, after_message, state_after}
@@ -52,6 +52,7 @@ answers_to_reading w p (Ok messages) s = if admits s p then answers_to_messages 
 abbrev pub answers_in : ℕ → Event → State → List Msg
 answers_in w (Datagram from bytes now) s = answers_to_reading w from (read_datagram bytes) (moved_to (max s.moment now) s)
 answers_in w (Tick now) s = []
+answers_in w (Local ono value) s = []
 
 -- THE ANSWERS to an event after events.
 abbrev pub answers : ℕ → List Object → List Event → Event → List Msg

@@ -1,9 +1,11 @@
 -- What a turn answers, and numbers of reports that fit.
-use Rattle.std.specs.Prelude.{◌≡◌, ℕ, ◌≤◌, List, Option, Some, None}
-use Rattle.oca_net.specs.Deliveries.{Delivery, Sent}
+use Rattle.std.specs.Prelude.{◌≡◌, ℕ, ◌≤◌, [], Option, Some, None}
+use Rattle.oca_net.specs.declared.end.Heard.TheVariants as heard
+use Rattle.oca_net.specs.Ends.{one_more}
+use Rattle.oca_net.specs.EndStates.{EndState, Receives}
 use Rattle.oca_device.specs.declared.report.Report.{Report}
 use Rattle.oca_device.specs.Devices.{DeviceState}
-use Rattle.oca_device.specs.Replies.{ServesTelling, ServesAny}
+use Rattle.oca_device.specs.Replies.{ServesEnd}
 
 -- no number of the report is above m
 pub record IsWithin (m : ℕ) (r : Report) : Type 0 where
@@ -19,18 +21,17 @@ pub record IsWithin (m : ℕ) (r : Report) : Type 0 where
   pub failed_receives : r.failed_receives ≤ m
   pub failed_sends : r.failed_sends ≤ m
 
--- nothing was delivered or taken, and the device is as it was
-pub record IsUnchanged (old new : DeviceState) (delivered delivered' : List Delivery) (taken taken' : List Sent) : Type 0 where
+-- A turn serves an end, and receives once.
+pub record ServesTurn (old new : DeviceState) (before after : EndState) (turn : Report) : Type 0 where
+  pub serves : ServesEnd old new before after turn
+  pub one : turn.turns ≡ 1
+  pub receives : after.receives ≡ one_more before.receives
+
+-- at Closed the device is as it was
+pub record IsClosed (old new : DeviceState) (before after : EndState) : Type 0 where
   pub device : new ≡ old
-  pub delivered_is : delivered' ≡ delivered
-  pub taken_is : taken' ≡ taken
+  pub received : Receives heard.Closed [] before after
 
--- a turn serves deliveries, and at Closed nothing changes
-abbrev pub ServesTurn : DeviceState → DeviceState → List Delivery → List Delivery → List Sent → List Sent → Option Report → Type 0
-ServesTurn old new delivered delivered' taken taken' None = IsUnchanged old new delivered delivered' taken taken'
-ServesTurn old new delivered delivered' taken taken' (Some report) = ServesTelling old new delivered delivered' taken taken' report
-
--- the same over any end
-abbrev pub ServesAnyTurn : DeviceState → DeviceState → Option Report → Type 0
-ServesAnyTurn old new None = new ≡ old
-ServesAnyTurn old new (Some report) = ServesAny old new report
+abbrev pub TakesTurn : DeviceState → DeviceState → EndState → EndState → Option Report → Type 0
+TakesTurn old new before after None = IsClosed old new before after
+TakesTurn old new before after (Some turn) = ServesTurn old new before after turn

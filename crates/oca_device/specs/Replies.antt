@@ -1,8 +1,9 @@
 -- What the loop sends: the packets of each datagram, to its sender (profile).
-use Rattle.std.specs.Prelude.{◌≡◌, ℕ, nat_le, if◌then◌else◌, List, [], ◌∷◌, ◌++◌, map, length}
+use Rattle.std.specs.Prelude.{◌≡◌, ℕ, ◌+◌, ◌<◌, IsTrue, nat_le, if◌then◌else◌, List, [], ◌∷◌, ◌++◌, map, length}
 use Rattle.oca_types.specs.declared.words.Peer.{Peer}
 use Rattle.oca_net.specs.Deliveries.{Delivery, Datagram, Quiet, Failed, Sent}
-use Rattle.oca_net.specs.Ends.{largest_datagram, TakesAllBut}
+use Rattle.oca_net.specs.Ends.{largest_datagram, last_u64, TakesAllBut}
+use Rattle.oca_net.specs.EndStates.{EndState}
 use Rattle.oca_tree.specs.declared.object.Object.{Object}
 use Rattle.oca_device.specs.declared.report.Report.{Report}
 use Rattle.oca_device.specs.Events.{Event}
@@ -36,16 +37,13 @@ pub record Serves (deliveries : List Delivery) (old new : DeviceState) (report :
   pub reported : (w : ℕ) (tree : List Object) (events : List Event) → Represents w old tree events →
       report ≡ record (report_of w tree events deliveries) { failed_sends = report.failed_sends }
 
--- Over an end that tells: what the end delivered grew by some deliveries, the device served these, and the end took the replies to
--- them but for those whose send failed.
-pub record ServesTelling (old new : DeviceState) (delivered delivered' : List Delivery) (taken taken' : List Sent) (report : Report) : Type 0 where
-  pub deliveries : List Delivery
-  pub grew : delivered' ≡ delivered ++ deliveries
-  pub serves : Serves deliveries old new report
-  pub replied : (w : ℕ) (tree : List Object) (events : List Event) → Represents w old tree events →
-      TakesAllBut report.failed_sends taken taken' (replies w tree events deliveries)
-
--- Whatever the end tells: there are deliveries that the device served.
-pub record ServesAny (old new : DeviceState) (report : Report) : Type 0 where
+-- A DEVICE SERVED AN END: there are deliveries that it served, and the report counts the calls of the end that failed. Where the end
+-- tells, these deliveries are what it delivered, and it took the replies to them but for those whose send failed.
+pub record ServesEnd (old new : DeviceState) (before after : EndState) (report : Report) : Type 0 where
   pub deliveries : List Delivery
   pub serves : Serves deliveries old new report
+  pub telling : after.tells ≡ before.tells
+  pub delivered : IsTrue before.tells → after.delivered ≡ before.delivered ++ deliveries
+  pub replied : IsTrue before.tells → (w : ℕ) (tree : List Object) (events : List Event) → Represents w old tree events →
+      TakesAllBut report.failed_sends before.taken after.taken (replies w tree events deliveries)
+  pub failures : after.failures < last_u64 → after.failures ≡ before.failures + (report.failed_receives + report.failed_sends)

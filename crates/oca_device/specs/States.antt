@@ -11,9 +11,11 @@ use Rattle.oca_pdu.specs.Reading.{read_datagram}
 use Rattle.oca_tree.specs.declared.object.Object.{Object}
 use Rattle.oca_tree.specs.Execution.{execution}
 use Rattle.oca_tree.specs.Locks.{released}
+use Rattle.oca_tree.specs.Settings.{after_set}
+use Rattle.oca_tree.specs.declared.setting.LocalValue.{LocalValue}
 use Rattle.oca_session.specs.Limits.{most_sessions}
 use Rattle.oca_session.specs.Accepted.{Judgement, Fresh, Duplicate, Reused, Old, judgement}
-use Rattle.oca_device.specs.Events.{Event, Datagram, Tick}
+use Rattle.oca_device.specs.Events.{Event, Datagram, Tick, Local}
 use Rattle.oca_device.specs.Notes.{Noted, Admitted, Heartbeat, Executed, Note, run, is_known, known, accepted, has_lapsed}
 
 pub record State : Type 0 where
@@ -88,11 +90,18 @@ abbrev pub after_reading : ℕ → Peer → Result (List Msg) PduFault → State
 after_reading w p (Err fault) s = s
 after_reading w p (Ok messages) s = if admits s p then after_messages w p messages (noted p (Admitted messages) s) else s
 
+-- ---- a change at the front
+
+-- The object is set. Nobody was heard, so the clock and the notes stay.
+abbrev pub after_local : ℕ → LocalValue → State → State
+after_local ono value s = record { tree = after_set s.tree ono value; moment = s.moment; notes = s.notes }
+
 -- ---- events
 
 abbrev pub after_event : ℕ → Event → State → State
 after_event w (Datagram from bytes now) s = after_reading w from (read_datagram bytes) (moved_to (max s.moment now) s)
 after_event w (Tick now) s = moved_to (max s.moment now) s
+after_event w (Local ono value) s = after_local ono value s
 
 -- the peers known in a state, in order of opening
 abbrev pub known_after : State → List Peer

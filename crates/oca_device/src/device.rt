@@ -1,5 +1,5 @@
 //! The device: it takes events, and puts its answers into an outbox.
-ghost use Rattle.std.specs.Prelude.{◌≡◌, ℕ, ◌+◌, ◌<◌, ◌≤◌, List, [], ◌∷◌, ◌++◌, length, max, IfOk, IsTrue, IsSome, if◌then◌else◌, Ok, Err};
+ghost use Rattle.std.specs.Prelude.{◌≡◌, ℕ, ◌+◌, ◌<◌, ◌≤◌, List, [], ◌∷◌, ◌++◌, length, max, IfOk, OnErr, IsTrue, IsSome, if◌then◌else◌, Ok, Err};
 ghost use Rattle.oca_types.specs.Peers.{fields_of};
 ghost use Rattle.oca_types.specs.Sizes.{window_size};
 ghost use Rattle.std.specs.List.{AllByRecursion};
@@ -7,10 +7,12 @@ ghost use Rattle.oca_pdu.specs.Messages.{Msg, Command as Commands, msg_of};
 ghost use Rattle.oca_pdu.specs.Datagrams.{messages_left};
 ghost use Rattle.oca_tree.specs.declared.object.Object.{Object};
 ghost use Rattle.oca_session.specs.Table.{session_of};
-ghost use Rattle.oca_device.specs.Events.{Event, Datagram as DatagramEvent, Tick};
+ghost use Rattle.oca_device.specs.Events.{Event, Datagram as DatagramEvent, Tick, Local};
 ghost use Rattle.oca_device.specs.Notes.{Admitted, run, last_moment};
 ghost use Rattle.oca_device.specs.States.{State, state_after, known_after, noted, moved_to, admits, released_all, reply_of, time_of};
 ghost use Rattle.oca_tree.specs.Execution.{execution};
+ghost use Rattle.oca_tree.specs.Settings.{set_fault};
+ghost use Rattle.std.specs.Result.{result_err};
 ghost use Rattle.oca_device.specs.Answers.{packets, verdict};
 
 use crate::counts::{Counts, NONE};
@@ -19,15 +21,15 @@ use crate::verdict::Verdict;
 use arrayvec::ArrayVec;
 use oca_pdu::{Form, Message, Messages, check};
 use oca_session::{Admission, Judged, Sessions};
-use oca_tree::Tree;
-use oca_types::{Command, NoMemory, Params, Peer, Reply, Status, Window};
+use oca_tree::{LocalValue, SetFault, Tree};
+use oca_types::{Command, NoMemory, Ono, Params, Peer, Reply, Status, Window};
 use std::alloc::Global;
 use std::marker::Model;
 
 /// A device: a tree of objects, and the sessions of its peers.
 ///
-/// What it is follows from the tree that it was made with and the events that it was given: datagrams and clock
-/// readings. Moments are in milliseconds; one that is earlier than a moment already seen counts as the one already seen.
+/// What it is follows from the tree that it was made with and the events that it was given: datagrams, clock
+/// readings and changes at its own front. Moments are in milliseconds; one that is earlier than a moment already seen counts as the one already seen.
 #[derive(Drop)]
 pub struct Device {
     tree: Tree,
@@ -96,6 +98,19 @@ impl Device {
         ensures { (w : ℕ) (T : List Object) (E : List Event) → Represents w self.old T E → Represents w self.new T (Tick now ∷ E) }
     {
         self.move_clock(now);
+    }
+
+    /// Sets an object at the device's own front, as the set method of its class sets it at a peer that no lock refuses. A refusal
+    /// changes nothing. Either way the clock stays, and no session is opened.
+    pub fn set(&mut self, ono: Ono, value: LocalValue) -> Result<(), SetFault>
+        ensures represents { (w : ℕ) (T : List Object) (E : List Event) → Represents w self.old T E →
+            Represents w self.new T (Local ono.0 value ∷ E) }
+        ensures told { result_err result ≡ set_fault self.old.tree ono.0 value }
+        ensures represented { (w : ℕ) (T : List Object) (E : List Event) → Represents w self.old T E →
+            result_err result ≡ set_fault (state_after w T E).tree ono.0 value }
+        ensures refused { OnErr result (self.new ≡ self.old) }
+    {
+        self.tree.set(ono, value)
     }
 
     /// The objects.

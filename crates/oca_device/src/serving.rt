@@ -1,10 +1,10 @@
 //! The loop that serves an end of a link.
-ghost use Rattle.std.specs.Prelude.{◌≡◌, ◌+◌, ◌<◌, ◌≤◌, ◌^◌, ℕ, List, [], ◌∷◌, ◌++◌, IsTrue, IfSome, IfNone, length, ◌-◌, slice_index_or};
+ghost use Rattle.std.specs.Prelude.{◌≡◌, ◌+◌, ◌<◌, ◌≤◌, ◌^◌, [], IsTrue, IfSome, length, ◌-◌, slice_index_or};
 ghost use Rattle.oca_net.specs.Ends.{last_u64};
+ghost use Rattle.oca_net.specs.EndStates.{Sends, SendsAllBut};
 ghost use Rattle.oca_device.specs.Reports.{added, no_turns, one_turn, verdict_turn, receives_of};
-ghost use Rattle.oca_device.specs.Replies.{ServesTelling, ServesAny, sent_to};
-ghost use Rattle.oca_net.specs.Ends.{failures_sent, taken_after, one_more, TakesAllBut};
-ghost use Rattle.oca_device.specs.PrivateTotals.{IsWithin, ServesTurn, ServesAnyTurn};
+ghost use Rattle.oca_device.specs.Replies.{ServesEnd, sent_to};
+ghost use Rattle.oca_device.specs.PrivateTotals.{IsWithin, TakesTurn};
 
 use crate::device::Device;
 use crate::outbox::Outbox;
@@ -20,15 +20,11 @@ use oca_types::{Packet, Peer};
 /// does nothing. The loop ends at Closed, which is no turn and after which it receives nothing, or after the turns. The outbox
 /// is emptied at first and after each turn.
 pub fn serve<E: End>(device: &mut Device, end: &mut E, outbox: &mut Outbox, turns: u32) -> Report
-    ensures telling { IsTrue (E.tells end.old) →
-        ServesTelling device.old device.new (E.delivered end.old) (E.delivered end.new) (E.taken end.old) (E.taken end.new) result }
-    ensures any_end { ServesAny device.old device.new result }
-    ensures tells { E.tells end.new ≡ E.tells end.old }
+    ensures served { ServesEnd device.old device.new (E.state end.old) (E.state end.new) result }
     ensures turns { result.turns ≤ turns }
-    ensures closed { result.turns < turns → IsTrue (E.closed end.new) }
-    ensures receives { E.receives end.new < last_u64 → E.receives end.new ≡ E.receives end.old + receives_of result.turns turns }
-    ensures failures { E.failures end.new < last_u64 →
-        E.failures end.new ≡ E.failures end.old + (result.failed_receives + result.failed_sends) }
+    ensures closed { result.turns < turns → IsTrue (E.state end.new).closed }
+    ensures receives { (E.state end.new).receives < last_u64 →
+        (E.state end.new).receives ≡ (E.state end.old).receives + receives_of result.turns turns }
     ensures outbox { outbox.new ≡ [] }
 {
     outbox.clear();
@@ -51,17 +47,8 @@ fn take_turn<E: End>(
     packet: &mut Packet,
 ) -> Option<Report>
     requires { outbox.old ≡ [] }
-    ensures telling { E.tells end.new ≡ E.tells end.old }
-    ensures turn { IsTrue (E.tells end.old) →
-        ServesTurn device.old device.new (E.delivered end.old) (E.delivered end.new) (E.taken end.old) (E.taken end.new) result }
-    ensures any_end { ServesAnyTurn device.old device.new result }
-    ensures one { IfSome result (λ turn. turn.turns ≡ 1) }
+    ensures turn { TakesTurn device.old device.new (E.state end.old) (E.state end.new) result }
     ensures fits { IfSome result (IsWithin 4294967295) }
-    ensures closed { IfNone result (IsTrue (E.closed end.new)) }
-    ensures failed { IfSome result (λ turn. E.failures end.new < last_u64 →
-        E.failures end.new ≡ E.failures end.old + (turn.failed_receives + turn.failed_sends)) }
-    ensures none_failed { IfNone result (E.failures end.new ≡ E.failures end.old) }
-    ensures receives { E.receives end.new ≡ one_more (E.receives end.old) }
     ensures outbox { outbox.new ≡ [] }
 {
     match end.receive(packet) {
@@ -98,12 +85,7 @@ fn take_turn<E: End>(
 
 /// Sends the packets to a peer, in order, and answers how many sends failed.
 fn send_all<E: End>(end: &mut E, to: Peer, outbox: &Outbox) -> u64
-    ensures telling { E.tells end.new ≡ E.tells end.old }
-    ensures delivered { IsTrue (E.tells end.old) → E.delivered end.new ≡ E.delivered end.old }
-    ensures taken { IsTrue (E.tells end.old) → TakesAllBut result (E.taken end.old) (E.taken end.new) (sent_to to outbox.now) }
-    ensures closed { E.closed end.new ≡ E.closed end.old }
-    ensures failures { E.failures end.new < last_u64 → E.failures end.new ≡ E.failures end.old + result }
-    ensures receives { E.receives end.new ≡ E.receives end.old }
+    ensures sends { SendsAllBut result (E.state end.old) (E.state end.new) (sent_to to outbox.now) }
     ensures few { result ≤ 122 }
 {
     let mut failed = 0;
@@ -118,12 +100,7 @@ fn send_all<E: End>(end: &mut E, to: Peer, outbox: &Outbox) -> u64
 /// Sends the packet of this number.
 fn send_one<E: End>(end: &mut E, to: Peer, outbox: &Outbox, i: usize) -> bool
     requires { i < length outbox.now }
-    ensures telling { E.tells end.new ≡ E.tells end.old }
-    ensures delivered { IsTrue (E.tells end.old) → E.delivered end.new ≡ E.delivered end.old }
-    ensures taken { IsTrue (E.tells end.old) → E.taken end.new ≡ taken_after result to (slice_index_or outbox.now i []) (E.taken end.old) }
-    ensures closed { E.closed end.new ≡ E.closed end.old }
-    ensures failures { E.failures end.new ≡ failures_sent result (E.failures end.old) }
-    ensures receives { E.receives end.new ≡ E.receives end.old }
+    ensures { Sends result to (slice_index_or outbox.now i []) (E.state end.old) (E.state end.new) }
 {
     match outbox.get(i) {
         Some(packet) => end.send(to, packet.as_slice()),

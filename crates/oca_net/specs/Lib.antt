@@ -1,4 +1,5 @@
 pub mod Deliveries
 pub mod Ends
+pub mod EndStates
 pub mod Memory
 pub mod Sockets

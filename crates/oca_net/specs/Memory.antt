@@ -8,6 +8,7 @@ use Rattle.oca_net.specs.declared.memory.Scripted.{Scripted}
 use Rattle.oca_net.specs.declared.memory.Scripted.TheVariants as scripted
 use Rattle.oca_net.specs.Deliveries.{Delivery, Datagram, Quiet, Failed, Sent}
 use Rattle.oca_net.specs.Ends.{largest_datagram, one_more, failures_after, failures_sent, taken_after}
+use Rattle.oca_net.specs.EndStates.{EndState}
 
 -- What an end in memory has delivered (the latest last), what it will deliver (the next first), what it took (the latest
 -- last) and for how many it has room, the number of the next send and of the one that fails, whether it has answered
@@ -22,6 +23,18 @@ pub record MemoryState : Type 0 where
   pub closed : Bool
   pub failures : ℕ
   pub receives : ℕ
+
+-- An end in memory tells.
+abbrev pub state_of_memory : MemoryState → EndState
+state_of_memory e =
+    record {
+      tells = true;
+      delivered = e.delivered;
+      taken = e.taken;
+      closed = e.closed;
+      failures = e.failures;
+      receives = e.receives;
+    }
 
 -- an entry of a script
 abbrev pub delivery_of : Scripted → Delivery

@@ -1,7 +1,7 @@
 //! An end in memory, for tests and for running a link without a network.
 ghost use Rattle.std.specs.Prelude.{◌≡◌, ◌+◌, ◌<◌, ◌≤◌, [], ◌∷◌, ◌++◌, length, IfOk, IsTrue, true, vec_len, vec_capacity};
 ghost use Rattle.oca_net.specs.Ends.{largest_datagram};
-ghost use Rattle.oca_net.specs.Memory.{delivery_of, deliveries_of, heard_of, bytes_of, sent_packets, new_memory, next_heard, next_bytes, after_receive, takes, after_send};
+ghost use Rattle.oca_net.specs.Memory.{delivery_of, deliveries_of, heard_of, bytes_of, sent_packets, new_memory, next_heard, next_bytes, after_receive, takes, after_send, state_of_memory};
 
 use crate::count::step;
 use crate::end::{End, Heard};
@@ -72,7 +72,7 @@ impl MemoryEnd {
         fail_send: Option<u64>,
     ) -> Result<MemoryEnd, NoMemory>
         ensures new { IfOk result (λ e. e ≡ new_memory (deliveries_of script.items) room fail_send) }
-        ensures telling { IfOk result (λ e. IsTrue (⟦<MemoryEnd as End>⟧.tells e)) }
+        ensures telling { IfOk result (λ e. IsTrue (⟦<MemoryEnd as End>⟧.state e).tells) }
     {
         let taken = Vec::with_capacity(alloc, room).map_err(|_| NoMemory)?;
         Ok(MemoryEnd {
@@ -111,17 +111,7 @@ impl MemoryEnd {
 }
 
 impl End for MemoryEnd {
-    ghost tells = { λ _. true };
-
-    ghost delivered = { λ e. e.delivered };
-
-    ghost taken = { λ e. e.taken };
-
-    ghost closed = { λ e. e.closed };
-
-    ghost failures = { λ e. e.failures };
-
-    ghost receives = { λ e. e.receives };
+    ghost state = { state_of_memory };
 
     /// Delivers the next entry of the script; behind the last it answers `Closed`.
     fn receive(&mut self, packet: &mut Packet) -> Heard

@@ -1,7 +1,7 @@
 //! An end at a UDP socket.
 ghost use Rattle.std.specs.Prelude.{◌≡◌, ◌≤◌, [], IfOk, OnErr, IfSome, false, length};
 ghost use Rattle.oca_net.specs.Ends.{HoldsOnlyADatagram, is_closed, is_failed, largest_datagram};
-ghost use Rattle.oca_net.specs.Sockets.{after_heard, after_sent};
+ghost use Rattle.oca_net.specs.Sockets.{after_heard, after_sent, state_of_socket};
 
 use crate::count::step;
 use crate::end::{End, Heard};
@@ -126,17 +126,7 @@ impl<'a, C: Clock> UdpEnd<'a, C> {
 }
 
 impl<'a, C: Clock> End for UdpEnd<'a, C> {
-    ghost tells = { λ _. false };
-
-    ghost delivered = { λ _. [] };
-
-    ghost taken = { λ _. [] };
-
-    ghost closed = { λ _. false };
-
-    ghost failures = { λ e. e.failures };
-
-    ghost receives = { λ e. e.receives };
+    ghost state = { state_of_socket };
 
     /// Waits up to 50 ms for a datagram. It never answers `Closed`.
     fn receive(&mut self, packet: &mut Packet) -> Heard

@@ -9,7 +9,7 @@ use Rattle.oca_pdu.specs.Messages.{Msg, Command, Response, KeepAlive}
 use Rattle.oca_pdu.specs.Reading.{read_datagram}
 use Rattle.oca_tree.specs.declared.object.Object.{Object}
 use Rattle.oca_session.specs.Accepted.{Judgement, Fresh, Duplicate, Reused, Old}
-use Rattle.oca_device.specs.Events.{Event, Datagram, Tick, clock_after}
+use Rattle.oca_device.specs.Events.{Event, Datagram, Tick, Local, clock_after}
 use Rattle.oca_device.specs.Notes.{Noted, Admitted, Heartbeat, Executed, Note, notes_of, is_within}
 use Rattle.oca_device.specs.States.{State, noted, moved_to, admits, judged_in, reply_of, after_command, after_message, after_messages, after_reading, state_after, time_of}
 use Rattle.oca_pair.specs.Premises.{moments_of, is_soon_after, are_close, KeepsItsSession}
@@ -48,6 +48,7 @@ clock_is w tree (Datagram p bytes now ∷ events) =
     let s = state_after w tree events in
     moment_reading w p (read_datagram bytes) (moved_to (max s.moment now) s) ∙ ap (λ t. max t now) (clock_is w tree events)
 clock_is w tree (Tick now ∷ events) = ap (λ t. max t now) (clock_is w tree events)
+clock_is w tree (Local ono value ∷ events) = clock_is w tree events
 
 -- ---- what one datagram notes
 
@@ -128,6 +129,7 @@ moments_own p bytes now before = ap (λ b. cond b (clock_after (Datagram p bytes
 -- a premise for all that came holds for what had come
 pub keeps_before : (p : Peer) (e : Event) (before : List Event) → KeepsItsSession p (e ∷ before) → KeepsItsSession p before
 keeps_before p (Tick now) before k = k
+keeps_before p (Local ono value) before k = k
 keeps_before p (Datagram from bytes now) before k = by_test (same_peer from p) k
   where
     by_test : (b : Bool) → are_close (cond b (clock_after (Datagram from bytes now ∷ before) ∷ moments_of p before) (moments_of p before)) ≡ true → are_close (moments_of p before) ≡ true

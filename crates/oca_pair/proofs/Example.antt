@@ -1,5 +1,5 @@
 -- A schedule with loss, repeats and overtaking, of which the laws speak: it meets all that they ask.
-use Rattle.std.proofs.Common.{ℕ, true, false, List, [], ◌∷◌, Some, None, refl, lit<, lit≤, inl, inr}
+use Rattle.std.proofs.Common.{ℕ, true, false, List, [], ◌∷◌, Some, None, refl, lit<, lit≤}
 use Rattle.oca_types.specs.declared.words.Peer.{Peer}
 use Rattle.oca_types.specs.Peers.{CommandFields}
 use Rattle.oca_pdu.specs.Messages.{Commands}
@@ -10,10 +10,12 @@ use Rattle.oca_control.specs.Untaken.{Untaken}
 use Rattle.oca_control.specs.Links.{Request, command_under}
 use Rattle.oca_pair.specs.declared.start.Start.{Start}
 use Rattle.oca_pair.specs.Networks.{Network, PeerLink, SentDatagram, device_address, opening}
-use Rattle.oca_pair.specs.Steps.{Step, Submit, Due, ToDevice, after_steps}
+use Rattle.oca_pair.specs.Steps.{Step, Submit, Due, ToDevice, Take, after_steps}
 use Rattle.oca_pair.specs.Premises.{RequestFits, Fit}
 use Rattle.oca_pair.specs.Laws.{CarriesUntaken, IsAnswered}
+use Rattle.oca_pair.specs.RoundTrip.{HoldsUntaken, HoldsItsAnswer, meanwhile, come_back, ComesBack}
 use Rattle.oca_pair.proofs.Lawful.{never_old_law}
+use Rattle.oca_pair.proofs.RoundTrip.{round_trip_law}
 
 abbrev controller : Peer
 controller = record { ip = 0x7F000001; port = 9001 }
@@ -64,3 +66,32 @@ pub repeated_is_answered : WrittenIsReadBack → (tree : List Object) → IsAnsw
 repeated_is_answered law tree =
     never_old_law law 5 3 tree the_starts the_steps (lit< tt) (lit≤ tt) refl meets 2 400 0 sent_third the_link third (controller ∷ [])
     refl refl carries_third refl (lit≤ tt) (refl, (refl, (refl, (refl, tt))))
+
+-- Before the device's datagram, the fourth that it sent, comes to the link, the first command is given out again, the third is asked
+-- for in vain, and the second comes to the device at last.
+abbrev between : List Step
+between = Due 0 410 ∷ Take 0 3 ∷ ToDevice 1 420 ∷ []
+
+pub repeated_comes_back : WrittenIsReadBack → (tree : List Object) → ComesBack 2 400 between 500 0 third controller (the_network tree)
+repeated_comes_back law tree =
+    round_trip_law law 5 3 tree the_starts the_steps (lit< tt) (lit≤ tt) refl meets 2 400 0 sent_third the_link third (controller ∷ []) between 500
+    refl refl carries_third refl (lit≤ tt) (refl, (refl, (refl, (refl, tt)))) (tt, (tt, (tt, tt)))
+
+abbrev again : Untaken
+again = record { command = command_under 1 get_state; times = 2; last = 410; answer = None }
+
+still_untaken : (tree : List Object) → HoldsUntaken 0 third (meanwhile 2 400 between (the_network tree))
+still_untaken tree = record {
+  link = record {
+    peer = controller;
+    link = record { device = device_address; moment = 410; next = Some 4; sent = 410; lost = false; span = 3; untaken = again ∷ held 2 ∷ held 3 ∷ [] };
+  };
+  there = refl;
+  untaken = held 3;
+  held = (2, lit< tt, refl);
+  command = refl;
+}
+
+-- so the link holds the third command's answer then
+pub repeated_is_held : WrittenIsReadBack → (tree : List Object) → HoldsItsAnswer 0 third (come_back 2 400 between 500 (the_network tree))
+repeated_is_held law tree = (repeated_comes_back law tree).held (still_untaken tree)

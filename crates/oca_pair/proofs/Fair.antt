@@ -11,7 +11,8 @@ use Rattle.oca_pdu.specs.Messages.{ResponseFields, Response, KeepAlive, Commands
 use Rattle.oca_pdu.specs.Encoding.{pdu_encoding}
 use Rattle.oca_pdu.specs.Reading.{read_datagram}
 use Rattle.oca_session.specs.Accepted.{Entry, window, outside, is_below, accepts, entry_under, asks_the_same, Fresh, Duplicate, Reused, judge_unaccepted, judgement}
-use Rattle.oca_device.specs.Events.{Event, Datagram, Tick}
+use Rattle.oca_tree.specs.declared.setting.LocalValue.{LocalValue}
+use Rattle.oca_device.specs.Events.{Event, Datagram, Tick, Local}
 use Rattle.oca_device.specs.Notes.{Noted, Admitted, Heartbeat, Executed, Note}
 use Rattle.oca_device.specs.States.{State, moved_to, after_reading}
 use Rattle.oca_device.specs.Answers.{packets}
@@ -178,6 +179,23 @@ fair_tick p next us g out back handed now f = record {
   unique = f.unique;
   rising = f.rising;
 }
+
+-- The front sets.
+pub fair_front : (p : Peer) (next : Option ℕ) (us : List Untaken) (g : Past) (out back : List SentDatagram) (handed : List TakenAnswer) (ono : ℕ) (value : LocalValue) →
+    Fair p next us g out back handed → Fair p next us (and_then (Local ono value) g) out back handed
+fair_front p next us g out back handed ono value f =
+    let e : Event = Local ono value in
+    record {
+      fits = f.fits;
+      own = owns_then p g e (state_of g).notes f.own;
+      outgoing = f.outgoing;
+      incoming = each_map (λ d h same. back_then p g e d.bytes (h same)) back f.incoming;
+      untaken = each_map (λ u h. (h.0, held_then p g e u.command.handle u.answer h.1)) us f.untaken;
+      was_taken = each_map (λ t h same. true_then p t.handle t.answer g e (h same)) handed f.was_taken;
+      sendable = f.sendable;
+      unique = f.unique;
+      rising = f.rising;
+    }
 
 -- ---- what a judgement says
 

@@ -70,7 +70,7 @@ only_one h x (y ∷ ys) d (inr i) e =
     member P (z ∷ zs) a (inl q) = let his : z.command.handle ≡ x.command.handle = ap (λ (w : Execution). w.command.handle) q in rw his at a.0
     member P (z ∷ zs) a (inr i) = member P zs a.1 i
 
-true_answer : (p : Peer) (h : ℕ) (a : AnswerFields) (n : Network) → (KeepsItsSession p n.events → Kept p (past n)) → IsTrueAnswer p h a (past n) → IsAnswerOfItsCommand p h a n
+pub true_answer : (p : Peer) (h : ℕ) (a : AnswerFields) (n : Network) → (KeepsItsSession p n.events → Kept p (past n)) → IsTrueAnswer p h a (past n) → IsAnswerOfItsCommand p h a n
 true_answer p h a n kept t = record {
   execution = t.execution;
   executed = in_contains t.execution (executions_for p n) t.executed;
@@ -263,6 +263,7 @@ window_kept (step ∷ es) n = window_kept es (after_step step n) ∙ one step
     one (ToLink k now) = by_reception now (slice_get n.to_links k)
     one (Other from bytes now) = by_other from bytes now (has_link from n.links)
     one (steps.Tick now) = refl
+    one (steps.Front ono value) = refl
     one (Take i h) = by_take i h (slice_get n.links i)
 
 pub never_old_law : WrittenIsReadBack → (w s : ℕ) (tree : List Object) (starts : List Start) (es : List Step) → 0 < s → 2 * s ≤ w + 1 → are_apart starts ≡ true → Fit starts es →

@@ -11,5 +11,6 @@ pub mod Span
 pub mod Room
 pub mod Networks
 pub mod Lawful
+pub mod RoundTrip
 pub mod Example
 pub mod Runs

@@ -11,6 +11,7 @@ use Rattle.oca_pdu.specs.Reading.{read_datagram}
 use Rattle.oca_pdu.specs.Laws.{WrittenIsReadBack}
 use Rattle.oca_tree.specs.declared.object.Object.{Object}
 use Rattle.oca_session.specs.Accepted.{Entry}
+use Rattle.oca_tree.specs.declared.setting.LocalValue.{LocalValue}
 use Rattle.oca_device.specs.Events.{Datagram}
 use Rattle.oca_device.specs.Answers.{packets}
 use Rattle.oca_control.specs.declared.fault.ControlFault.{ControlFault}
@@ -27,7 +28,7 @@ use Rattle.oca_pair.proofs.Lists.{both_true, not_true, same_is, same_turned, oth
 use Rattle.oca_pair.proofs.Clocks.{keeps_before}
 use Rattle.oca_pair.proofs.Wire.{IsSendable, read_command, read_keep_alive}
 use Rattle.oca_pair.proofs.Truths.{Past, past, and_then, state_of, IsSubmitted, IsTrueAnswer}
-use Rattle.oca_pair.proofs.Fair.{end_of, IsOut, IsBack, IsHeld, Fair, fair_other, fair_tick}
+use Rattle.oca_pair.proofs.Fair.{end_of, IsOut, IsBack, IsHeld, Fair, fair_other, fair_tick, fair_front}
 use Rattle.oca_pair.proofs.Delivering.{granted, fair_command, fair_keep_alive, fair_submit, fair_submitted_by, fair_gone_on, fair_sent, fair_received, fair_taken, fair_taken_by, held_answer}
 use Rattle.oca_pair.proofs.Keeping.{Kept, accepted_by, IsGrown, delivers, kept_other, accepted_other, executed_has}
 use Rattle.oca_pair.proofs.Span.{Good, good_submit, good_submitted, good_given_out, good_answered, good_without, good_grown}
@@ -57,7 +58,7 @@ apart_put (x ∷ xs) (suc k) l y e s a =
     let other : l.peer ≢ x.peer = each_at (λ z. z.peer ≢ x.peer) xs k l a.0 e in
     (each_set (λ z. z.peer ≢ x.peer) xs k y (λ h. other (sym s ∙ h)) a.0, apart_put xs k l y e s a.1)
 
-hears_peer : (d : SentDatagram) (now : ℕ) (z : PeerLink) → (hears_datagram d now z).peer ≡ z.peer
+pub hears_peer : (d : SentDatagram) (now : ℕ) (z : PeerLink) → (hears_datagram d now z).peer ≡ z.peer
 hears_peer d now z = by_test (same_peer z.peer d.peer)
   where
     by_test : (b : Bool) → (let y : PeerLink = cond b (record { peer = z.peer; link = received device_address (content_of d.bytes) now z.link }) z in y).peer ≡ z.peer
@@ -404,9 +405,20 @@ sound_tick s now n g = record {
   }) n.links g.each;
 }
 
+sound_front : (s ono : ℕ) (value : LocalValue) (n : Network) → Sound s n → Sound s (after_step (steps.Front ono value) n)
+sound_front s ono value n g = record {
+  apart = g.apart;
+  each = each_map (λ z w. record {
+    span = w.span;
+    fair = fair_front z.peer z.link.next z.link.untaken (past n) n.to_device n.to_links n.taken ono value w.fair;
+    kept = w.kept;
+    good = w.good;
+  }) n.links g.each;
+}
+
 -- ---- a step, a schedule, and the network at first
 
-sound_step : (law : WrittenIsReadBack) (s : ℕ) (step : Step) (n : Network) → StepFits step → Sound s n → Sound s (after_step step n)
+pub sound_step : (law : WrittenIsReadBack) (s : ℕ) (step : Step) (n : Network) → StepFits step → Sound s n → Sound s (after_step step n)
 sound_step law s (Submit i r now) n fits g = sound_submit s i r now n fits g (slice_get n.links i) refl
 sound_step law s (Due i now) n fits g = sound_due s i now n g (slice_get n.links i) refl
 sound_step law s (ToDevice k now) n fits g = by_sent (slice_get n.to_device k) refl
@@ -421,9 +433,10 @@ sound_step law s (ToLink k now) n fits g = by_sent (slice_get n.to_links k) refl
     by_sent (Some d) e = sound_reception s now n g d k e
 sound_step law s (Other from bytes now) n fits g = sound_other s from bytes now n g
 sound_step law s (steps.Tick now) n fits g = sound_tick s now n g
+sound_step law s (steps.Front ono value) n fits g = sound_front s ono value n g
 sound_step law s (Take i h) n fits g = sound_take s i h n g (slice_get n.links i) refl
 
-sound_steps : (law : WrittenIsReadBack) (s : ℕ) (es : List Step) (n : Network) → AllByRecursion StepFits es → Sound s n → Sound s (after_steps es n)
+pub sound_steps : (law : WrittenIsReadBack) (s : ℕ) (es : List Step) (n : Network) → AllByRecursion StepFits es → Sound s n → Sound s (after_steps es n)
 sound_steps law s [] n fits g = g
 sound_steps law s (e ∷ es) n fits g = sound_steps law s es (after_step e n) fits.1 (sound_step law s e n fits.0 g)
 

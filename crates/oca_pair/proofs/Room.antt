@@ -7,7 +7,7 @@ use Rattle.oca_types.specs.declared.words.Peer.{Peer}
 use Rattle.oca_types.specs.Peers.{same_peer}
 use Rattle.oca_pdu.specs.Reading.{read_datagram}
 use Rattle.oca_tree.specs.declared.object.Object.{Object}
-use Rattle.oca_device.specs.Events.{Event, Datagram, Tick}
+use Rattle.oca_device.specs.Events.{Event, Datagram, Tick, Local}
 use Rattle.oca_device.specs.Notes.{Note, is_known, peers_except, opened, known}
 use Rattle.oca_device.specs.States.{State, moved_to, admits, after_reading, state_after}
 use Rattle.oca_pair.specs.Premises.{is_among, ComeFrom}
@@ -109,6 +109,7 @@ pub noted_among : (peers : List Peer) (w : ℕ) (tree : List Object) (events : L
     AllByRecursion (λ n. is_among peers n.peer ≡ true) (state_after w tree events).notes
 noted_among peers w tree [] a = tt
 noted_among peers w tree (Tick now ∷ events) a = noted_among peers w tree events a.1
+noted_among peers w tree (Local ono value ∷ events) a = noted_among peers w tree events a.1
 noted_among peers w tree (Datagram from bytes now ∷ events) a =
     let s : State = state_after w tree events in
     let s1 : State = moved_to (max s.moment now) s in

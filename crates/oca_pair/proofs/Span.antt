@@ -110,7 +110,7 @@ good_same s f p next us vs submitted A near same g = record {
   from = g.from;
 }
 
-holds_given_out : (t h x : ℕ) (us : List Untaken) → holds x (map (given_out t h) us) ≡ holds x us
+pub holds_given_out : (t h x : ℕ) (us : List Untaken) → holds x (map (given_out t h) us) ≡ holds x us
 holds_given_out t h x [] = refl
 holds_given_out t h x (u ∷ us) = ap (λ b. eqb u.command.handle x || b) (holds_given_out t h x us)
 
@@ -123,7 +123,7 @@ pub good_given_out : (s f : ℕ) (p : Peer) (next : Option ℕ) (us : List Untak
 good_given_out s f p next us submitted A t h g =
     good_same s f p next us (map (given_out t h) us) submitted A (near_given_out s f (end_of next) t h us g.untaken) (λ x. holds_given_out t h x us) g
 
-holds_answered : (h x : ℕ) (a : AnswerFields) (us : List Untaken) → holds x (map (answered h a) us) ≡ holds x us
+pub holds_answered : (h x : ℕ) (a : AnswerFields) (us : List Untaken) → holds x (map (answered h a) us) ≡ holds x us
 holds_answered h x a [] = refl
 holds_answered h x a (u ∷ us) = ap (λ b. eqb u.command.handle x || b) (holds_answered h x a us)
 
@@ -145,7 +145,7 @@ near_without s f n h (u ∷ us) g = by_test (eqb u.command.handle h) (near_witho
     by_test true rest = rest
     by_test false rest = (g.0, rest)
 
-holds_without : (h x : ℕ) (us : List Untaken) → holds x (without_handle h us) ≡ false → (h ≡ x) ⊎ (holds x us ≡ false)
+pub holds_without : (h x : ℕ) (us : List Untaken) → holds x (without_handle h us) ≡ false → (h ≡ x) ⊎ (holds x us ≡ false)
 holds_without h x [] e = inr refl
 holds_without h x (u ∷ us) e = by_test (eqb u.command.handle h) refl e (holds_without h x us)
   where

@@ -2,5 +2,6 @@ pub mod Networks
 pub mod Steps
 pub mod Premises
 pub mod Laws
+pub mod RoundTrip
 pub mod Transcripts
 pub mod PrivateRunning

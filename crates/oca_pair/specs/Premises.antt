@@ -4,7 +4,7 @@ use Rattle.std.specs.List.{list_any, list_all, AllByRecursion}
 use Rattle.oca_types.specs.declared.words.Peer.{Peer}
 use Rattle.oca_types.specs.Peers.{same_peer}
 use Rattle.oca_session.specs.Limits.{longest_silence}
-use Rattle.oca_device.specs.Events.{Event, Datagram, Tick, clock_after}
+use Rattle.oca_device.specs.Events.{Event, Datagram, Tick, Local, clock_after}
 use Rattle.oca_control.specs.Links.{Request}
 use Rattle.oca_pair.specs.declared.start.Start.{Start}
 use Rattle.oca_pair.specs.Networks.{device_address}
@@ -42,6 +42,7 @@ moments_of p [] = []
 moments_of p (Datagram from bytes now ∷ before) =
     if same_peer from p then clock_after (Datagram from bytes now ∷ before) ∷ moments_of p before else moments_of p before
 moments_of p (Tick now ∷ before) = moments_of p before
+moments_of p (Local ono value ∷ before) = moments_of p before
 
 -- the moment lies at most 120,000 ms after the latest of these
 abbrev pub is_soon_after : ℕ → List ℕ → Bool
@@ -62,6 +63,7 @@ is_among peers p = list_any (λ q. same_peer q p) peers
 abbrev pub IsFrom : List Peer → Event → Type 0
 IsFrom peers (Datagram from bytes now) = is_among peers from ≡ true
 IsFrom peers (Tick now) = Unit {0}
+IsFrom peers (Local ono value) = Unit {0}
 
 abbrev pub ComeFrom : List Peer → List Event → Type 0
 ComeFrom peers events = AllByRecursion (IsFrom peers) events

@@ -10,6 +10,9 @@ use Rattle.oca_pdu.specs.Reading.{read_datagram}
 use Rattle.oca_device.specs.Events.{Datagram}
 use Rattle.oca_device.specs.Events as event
 use Rattle.oca_device.specs.Answers.{packets, verdict}
+use Rattle.oca_device.specs.States.{state_after}
+use Rattle.oca_tree.specs.declared.setting.LocalValue.{LocalValue}
+use Rattle.oca_tree.specs.Settings.{set_fault}
 use Rattle.oca_control.specs.declared.fault.ControlFault.{ControlFault}
 use Rattle.oca_control.specs.Answers.{AnswerFields}
 use Rattle.oca_control.specs.Untaken.{answer_under}
@@ -32,6 +35,8 @@ pub data Step : Type 0 where
   Other : (from : Peer) (bytes : List ℕ) (now : ℕ) → Step
   -- the device reads its clock
   Tick : (now : ℕ) → Step
+  -- the device's front sets an object
+  Front : (ono : ℕ) (value : LocalValue) → Step
   -- the answer to a command is asked of a link
   Take : (link : ℕ) (handle : ℕ) → Step
 
@@ -47,6 +52,7 @@ is_there (ToDevice k now) n = is_some (slice_get n.to_device k)
 is_there (ToLink k now) n = is_some (slice_get n.to_links k)
 is_there (Other from bytes now) n = not (has_link from n.links)
 is_there (Tick now) n = true
+is_there (Front ono value) n = true
 is_there (Take link handle) n = is_some (slice_get n.links link)
 
 -- the datagrams of a peer with these bytes
@@ -147,6 +153,7 @@ after_step (ToDevice k now) n = after_delivery now (slice_get n.to_device k) n
 after_step (ToLink k now) n = after_reception now (slice_get n.to_links k) n
 after_step (Other from bytes now) n = if has_link from n.links then n else record n { events = Datagram from bytes now ∷ n.events }
 after_step (Tick now) n = record n { events = event.Tick now ∷ n.events }
+after_step (Front ono value) n = record n { events = event.Local ono value ∷ n.events }
 after_step (Take link handle) n = after_take link handle (slice_get n.links link) n
 
 -- THE NETWORK AFTER A SCHEDULE.
@@ -175,6 +182,7 @@ outcome_of (ToLink k now) n = reception_outcome (slice_get n.to_links k) n
 outcome_of (Other from bytes now) n =
     if has_link from n.links then [] else outcomes.Device (verdict n.window n.tree n.events from bytes now) ∷ []
 outcome_of (Tick now) n = outcomes.Ticked ∷ []
+outcome_of (Front ono value) n = outcomes.Front (set_fault (state_after n.window n.tree n.events).tree ono value) ∷ []
 outcome_of (Take link handle) n = on_link (λ l. take_outcome (answer_under handle l.link.untaken)) (slice_get n.links link)
 
 -- THE OUTCOMES OF A SCHEDULE, in order.

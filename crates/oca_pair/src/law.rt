@@ -1,5 +1,6 @@
 //! The laws of networks. The functions run nothing: their contracts are the laws.
 ghost use Rattle.oca_pair.specs.Laws.{EveryScheduleAnswersItsCommands, NoUntakenCommandIsTooOld, EveryCommandIsExecutedOnce};
+ghost use Rattle.oca_pair.specs.RoundTrip.{EveryRoundTripBringsTheAnswer};
 
 use oca_pdu::law_written_is_read_back;
 
@@ -21,6 +22,17 @@ pub fn law_answers()
 pub fn law_never_old()
     ensures answered { NoUntakenCommandIsTooOld }
     ensures once { EveryCommandIsExecutedOnce }
+{
+    law_written_is_read_back();
+}
+
+/// Over every schedule, where `0 < s` and `2 * s <= w + 1`: a delivered datagram with a command that its link still holds untaken
+/// makes the device send one datagram to the link. Whatever happens then, once that datagram is delivered to the link, the link
+/// holds the answer to the command, where it still held the command before; and else its answer was taken earlier. The answer is
+/// the reply of an execution of that very command for that link's peer. The premises are those of `law_never_old`; of what happens
+/// between the two deliveries nothing is asked.
+pub fn law_round_trip()
+    ensures { EveryRoundTripBringsTheAnswer }
 {
     law_written_is_read_back();
 }

@@ -12,7 +12,7 @@ mod start;
 mod step;
 
 pub use fault::PairFault;
-pub use law::{law_answers, law_never_old};
+pub use law::{law_answers, law_never_old, law_round_trip};
 pub use outcome::Outcome;
 pub use pair::{Transcript, run_pair};
 pub use sent::Sent;

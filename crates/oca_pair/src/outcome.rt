@@ -1,6 +1,7 @@
 //! What a step of a network led to.
 use oca_control::{Answer, ControlFault, Reception};
 use oca_device::Verdict;
+use oca_tree::SetFault;
 use oca_types::Handle;
 
 /// What a step of a network led to.
@@ -22,6 +23,8 @@ pub enum Outcome {
     Link(Reception),
     /// The device's clock was read.
     Ticked,
+    /// The device's front set an object, or this fault refused it.
+    Front(Option<SetFault>),
     /// The link gave this answer.
     Answer(Answer),
     /// The link has no answer under the handle.

@@ -4,7 +4,7 @@ ghost use Rattle.oca_types.specs.Sizes.{window_size, span_size};
 ghost use Rattle.oca_control.specs.Links.{Request, submitted, submission, decision, gone_on, received, reception, taken};
 ghost use Rattle.oca_control.specs.Untaken.{answer_under};
 ghost use Rattle.oca_pair.specs.Networks.{Network, SentDatagram, started, opening, device_address};
-ghost use Rattle.oca_pair.specs.Steps.{Submit, Due as DueStep, ToDevice, ToLink, Other, Tick as TickStep, Take, sendings, hears_datagram, submit_outcome, content_of, take_outcome};
+ghost use Rattle.oca_pair.specs.Steps.{Submit, Due as DueStep, ToDevice, ToLink, Other, Tick as TickStep, Front, Take, sendings, hears_datagram, submit_outcome, content_of, take_outcome};
 ghost use Rattle.oca_pair.specs.PrivateRunning.{first_heard};
 
 use crate::given::Given;
@@ -15,7 +15,7 @@ use crate::step::Step;
 use oca_control::{Due, Link, Reception};
 use oca_device::{Device, Outbox};
 use oca_pdu::law_reading;
-use oca_tree::Tree;
+use oca_tree::{LocalValue, Tree};
 use oca_types::{Handle, MethodId, NoMemory, Ono, Packet, Peer, Span, Window};
 use std::alloc::Global;
 use std::marker::Model;
@@ -181,6 +181,7 @@ impl Running {
             Step::ToLink { k, now } => self.deliver_to_link(k, now),
             Step::Other { from, bytes, now } => self.deliver_other(from, bytes, now),
             Step::Tick { now } => Ok(self.tick(now)),
+            Step::Front { ono, value } => Ok(self.set(ono, value)),
             Step::Take { link, handle } => self.take(link, handle),
         }
     }
@@ -283,6 +284,13 @@ impl Running {
     {
         self.device.tick(now);
         Outcome::Ticked
+    }
+
+    /// Sets an object at the device's front.
+    fn set(&mut self, ono: Ono, value: LocalValue) -> Outcome
+        ensures { (n : Network) → Shows self.old n → Took (Ok result) (Front ono.0 value) n self.new }
+    {
+        Outcome::Front(self.device.set(ono, value).err())
     }
 
     /// Takes an answer from a link.

@@ -1,4 +1,5 @@
 //! The steps of a schedule.
+use oca_tree::LocalValue;
 use oca_types::{Handle, MethodId, Ono, Peer};
 
 /// A step of a schedule. Links and datagrams are named by their number, from 0: links in the order of the starts, datagrams in the
@@ -38,6 +39,11 @@ pub enum Step<'a> {
     /// The device's clock is read.
     Tick {
         now: u64,
+    },
+    /// The device's front sets an object.
+    Front {
+        ono: Ono,
+        value: LocalValue,
     },
     /// A link is asked for the answer to a command.
     Take {

@@ -1,8 +1,11 @@
 //! Schedules over the bench device. What is expected is that of the profile's worked examples, and never the program's own output.
-use crate::{Outcome, PairFault, Start, Step, Transcript, law_answers, law_never_old, run_pair};
+use crate::{
+    Outcome, PairFault, Start, Step, Transcript, law_answers, law_never_old, law_round_trip,
+    run_pair,
+};
 use oca_control::{ControlFault, Reception};
 use oca_device::Verdict;
-use oca_tree::bench;
+use oca_tree::{SetFault, bench};
 use oca_types::{Handle, MethodId, Ono, Peer, Span, Window};
 use std::alloc::Global;
 use std::process::Abort;
@@ -39,6 +42,7 @@ enum Seen {
     Device(Verdict),
     Link(Reception),
     Ticked,
+    Front(Option<SetFault>),
     Answer(u8, u8, usize),
     NoAnswer,
 }
@@ -54,6 +58,7 @@ fn shown(outcome: &Outcome) -> Seen {
         Outcome::Device(verdict) => Seen::Device(*verdict),
         Outcome::Link(reception) => Seen::Link(*reception),
         Outcome::Ticked => Seen::Ticked,
+        Outcome::Front(fault) => Seen::Front(*fault),
         Outcome::Answer(answer) => Seen::Answer(answer.status, answer.count, answer.params.len()),
         Outcome::NoAnswer => Seen::NoAnswer,
     }
@@ -177,6 +182,7 @@ fn a_duplicate_is_answered_once(rt: HostRuntime) -> Result<(), Fail> {
     assert_eq!(rt; transcript.to_links.len(), 2);
     law_answers();
     law_never_old();
+    law_round_trip();
     Ok(())
 }
 

@@ -91,7 +91,7 @@ module _ (tree : List Object) (peer : Peer) (c : CommandFields) (i : ℕ) (o : O
   pub every_at : (d : Object) → get_or tree i d ≡ o
   every_at d = same_element tree i d o within_at ∙ sym here
 
-  placed : (new : Object) → new.ono.0 ≡ o.ono.0 → with_object tree new ≡ set tree i new
+  pub placed : (new : Object) → new.ono.0 ≡ o.ono.0 → with_object tree new ≡ set tree i new
   placed new same =
       let numbered : (o.ono.0 == c.target) ≡ true = find_passes (has_number c.target) tree o found_at in
       with_object_at tree i c.target new (same ∙ eqb-true o.ono.0 c.target numbered) place

@@ -13,3 +13,4 @@ pub mod Containers
 pub mod Marking
 pub mod Locking
 pub mod Keyed
+pub mod Fronts

@@ -9,5 +9,6 @@ pub mod Trees
 pub mod Building
 pub mod Bench
 pub mod Readers
+pub mod Settings
 pub mod PrivateSteps
 pub mod PrivateObjects

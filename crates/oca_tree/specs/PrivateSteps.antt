@@ -16,12 +16,15 @@ use Rattle.oca_tree.specs.declared.object.Value.TheVariants as values
 use Rattle.oca_tree.specs.declared.request.Request.{Request}
 use Rattle.oca_tree.specs.declared.builder.AddFault.{AddFault}
 use Rattle.oca_tree.specs.declared.builder.Spec.{Spec}
+use Rattle.oca_tree.specs.declared.setting.LocalValue.{LocalValue}
+use Rattle.oca_tree.specs.declared.setting.SetFault.{SetFault}
 use Rattle.oca_tree.specs.Places.{places, reaches}
 use Rattle.oca_tree.specs.Locks.{lock_refuses}
 use Rattle.oca_tree.specs.Requests.{request_of, is_out_of_range, is_invalid}
 use Rattle.oca_tree.specs.Execution.{identification_encoding, block_member_encoding, joined, answer, kind_at, request_at, status_of, by_status, refused, execution}
 use Rattle.oca_tree.specs.Trees.{IsTree, IsSoundValue}
 use Rattle.oca_tree.specs.Building.{add_fault, object_of_spec, is_bad_value}
+use Rattle.oca_tree.specs.Settings.{request_for, fault_at}
 
 -- members and descendants in one: whether an object is listed, and how
 abbrev pub is_listed : List Object → ℕ → Bool → Object → Bool
@@ -85,3 +88,8 @@ MakesValue (Some v) value = (v ≡ value) × (is_bad_value value ≡ false) × I
 abbrev pub Makes : Result Object AddFault → List Object → ℕ → ℕ → Spec → Type 0
 Makes (Ok o) tree container ono spec = (add_fault tree container ono spec ≡ None) × (o ≡ object_of_spec container ono spec) × IsTree (tree ++ o ∷ [])
 Makes (Err e) tree container ono spec = add_fault tree container ono spec ≡ Some e
+
+-- The request that a value stands for can be carried out at an object that holds this, or the first fault refuses it.
+abbrev pub ChecksSetting : Result Request SetFault → Value → LocalValue → Type 0
+ChecksSetting (Ok r) held value = (fault_at held value ≡ None) × (r ≡ request_for value)
+ChecksSetting (Err e) held value = fault_at held value ≡ Some e

@@ -1,4 +1,5 @@
 //! What the definitions of a tree say of one another.
+ghost use Rattle.oca_tree.specs.Settings.{AnyPeerSetsTheSame, FrontSetsAsPeersDo};
 ghost use Rattle.oca_tree.specs.Trees.{DescendantsFollowChains};
 
 use crate::tree::Tree;
@@ -10,3 +11,10 @@ pub fn law_of_descendants(tree: &Tree)
 {
     let _sound = tree.len();
 }
+
+/// Laws: what is set at the device's own front is the same in whichever peer's name, and it is what a peer's command sets that asks
+/// the same and that no lock refuses.
+pub fn law_of_settings()
+    ensures any_peer { AnyPeerSetsTheSame }
+    ensures as_peers { FrontSetsAsPeersDo }
+{}

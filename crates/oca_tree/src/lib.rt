@@ -17,13 +17,15 @@ mod objects;
 mod place;
 mod put;
 mod request;
+mod setting;
 mod take;
 mod tree;
 
 pub use bench_tree::bench;
 pub use builder::{AddFault, Kind, Spec, TreeBuilder};
-pub use laws::law_of_descendants;
+pub use laws::{law_of_descendants, law_of_settings};
 pub use object::{Lock, LockKind, MuteState, PolarityState};
+pub use setting::{LocalValue, SetFault};
 pub use tree::{Done, ObjectInfo, Setting, Tree};
 
 #[cfg(test)]

@@ -5,6 +5,7 @@ mod commands;
 mod lists;
 mod locks;
 mod methods;
+mod setting;
 
 use super::*;
 use oca_types::{Class, Command, Handle, MethodId, Ono, Params, Peer, Status, class_fields};

@@ -1,15 +1,18 @@
 //! The tree: executing commands, taking locks off, and reading its objects.
-ghost use Rattle.std.specs.Prelude.{◌≡◌, [], length};
+ghost use Rattle.std.specs.Prelude.{◌≡◌, [], length, OnErr};
 ghost use Rattle.oca_types.specs.Peers.{fields_of};
+ghost use Rattle.std.specs.Result.{result_err};
 ghost use Rattle.oca_tree.specs.Locks.{released, lock_count};
 ghost use Rattle.oca_tree.specs.Trees.{IsTree};
 ghost use Rattle.oca_tree.specs.Execution.{execution};
+ghost use Rattle.oca_tree.specs.Settings.{after_set, set_fault};
 ghost use Rattle.oca_tree.specs.Readers.{info_of, info_at, lock_at, value_setting, setting_at};
 
 use crate::answer::{mute_number, polarity_number};
 use crate::execute::carry_out;
 use crate::object::{Lock, Object, Value};
 use crate::objects::Objects;
+use crate::setting::{LocalValue, SetFault, set};
 use oca_types::{Class, Command, Ono, Params, Peer, Status, Text};
 use std::marker::Model;
 
@@ -120,6 +123,22 @@ impl Tree {
                 Done { status, count: 0 }
             }
         }
+    }
+
+    /// Sets the object with this number at the device's own front: as the set method of its class sets it at a peer that no
+    /// lock refuses. A refusal changes no object.
+    pub fn set(&mut self, ono: Ono, value: LocalValue) -> Result<(), SetFault>
+        ensures tree { self.new ≡ after_set self.old ono.0 value }
+        ensures refused { OnErr result (self.new ≡ self.old) }
+        ensures told { result_err result ≡ set_fault self.old ono.0 value }
+    {
+        set(
+            &mut self.objects,
+            &mut self.locks,
+            &mut self.recent,
+            ono,
+            value,
+        )
     }
 
     /// Takes every lock of the peer off. Where no lock is held it looks at no object.

@@ -1,5 +1,5 @@
 -- How a command fares that is sent over a network (*profile*).
-use Rattle.std.specs.Prelude.{◌≡◌, ℕ, ◌+◌, ◌≤◌, ◌<◌, ◌==◌, Bool, ◌||◌, true, if◌then◌else◌, List, codes, IsTrue, Option, Some, None, Result, Ok, Err}
+use Rattle.std.specs.Prelude.{◌≡◌, ℕ, ◌+◌, ◌≤◌, ◌<◌, ◌==◌, Bool, ◌||◌, true, if◌then◌else◌, List, codes, Some, None, Result, Ok, Err}
 use Rattle.oca_types.specs.declared.words.Handle.{Handle}
 use Rattle.oca_net.specs.Ends.{last_u64}
 use Rattle.oca_control.specs.declared.fault.ControlFault.{ControlFault}
@@ -8,8 +8,8 @@ use Rattle.oca_control.specs.declared.report.DriveReport.{DriveReport}
 use Rattle.oca_control.specs.Answers.{answer_fields}
 use Rattle.oca_control.specs.Links.{LinkState, Request, submission, submitted, taken}
 use Rattle.oca_control.specs.Untaken.{answer_under}
-use Rattle.oca_net.specs.Deliveries.{Delivery, Sent}
-use Rattle.oca_control.specs.Driving.{DrivesAny, DrivesTelling}
+use Rattle.oca_net.specs.EndStates.{EndState}
+use Rattle.oca_control.specs.Driving.{DrivesEnd}
 use Rattle.ocactl.specs.declared.exchange.Outcome.{Outcome}
 use Rattle.ocactl.specs.declared.exchange.Outcome.TheVariants as outcomes
 use Rattle.ocactl.specs.Printing.{answer_text, refusal_text}
@@ -28,35 +28,19 @@ outcome_status (outcomes.Refused fault) = 3
 outcome_status outcomes.Lost = 3
 outcome_status outcomes.Unanswered = 3
 
--- What an end delivered and took, where it tells.
-pub record Told : Type 0 where
-  pub tells : Bool
-  pub delivered : List Delivery
-  pub taken : List Sent
-
-abbrev pub told : Bool → List Delivery → List Sent → Told
-told tells delivered taken = record { tells = tells; delivered = delivered; taken = taken }
-
--- The link was driven over an end, from what the end told to what it tells then: over an end that tells, it made the steps for what
--- the end delivered, and the end took what it gave out but for the sends that failed.
-pub record DrivesOver (old new : LinkState) (report : DriveReport) (before after : Told) : Type 0 where
-  pub any : DrivesAny old new report
-  pub telling : IsTrue before.tells → DrivesTelling old new before.delivered after.delivered before.taken after.taken report
-  pub tells : after.tells ≡ before.tells
-
 -- The link was driven, time after time.
-pub data HasDriven : (old new : LinkState) (before after : Told) → Type 0 where
-  NotYet : {l : LinkState} {e : Told} → HasDriven l l e e
-  OnceMore : {old l new : LinkState} {d e f : Told} (report : DriveReport) → HasDriven old l d e → DrivesOver l new report e f → HasDriven old new d f
+pub data HasDriven : (old new : LinkState) (before after : EndState) → Type 0 where
+  NotYet : {l : LinkState} {e : EndState} → HasDriven l l e e
+  OnceMore : {old l new : LinkState} {d e f : EndState} (report : DriveReport) → HasDriven old l d e → DrivesEnd l new e f report → HasDriven old new d f
 
 -- From a link under whose handle h an answer is waited for, to the link after it. The link is driven; an answer is the one that
 -- it then holds, and is taken.
-abbrev pub Waits : ℕ → LinkState → Outcome → LinkState → Told → Told → Type 0
+abbrev pub Waits : ℕ → LinkState → Outcome → LinkState → EndState → EndState → Type 0
 Waits h old (outcomes.Answered a) new before after =
     (l : LinkState) × HasDriven old l before after × (answer_under h l.untaken ≡ Some (answer_fields a)) × (new ≡ taken h l)
 Waits h old (outcomes.Refused fault) new before after = ⊥
 Waits h old outcomes.Lost new before after =
-    (l : LinkState) × (e : Told) × (report : DriveReport) × HasDriven old l before e × DrivesOver l new report e after × (report.lost ≡ true)
+    (l : LinkState) × (e : EndState) × (report : DriveReport) × HasDriven old l before e × DrivesEnd l new e after report × (report.lost ≡ true)
 Waits h old outcomes.Unanswered new before after = HasDriven old new before after × (answer_under h new.untaken ≡ None)
 
 -- How often the end was asked meanwhile, where so many turns were allowed: at most so often, and just so often where no answer came.
@@ -74,7 +58,7 @@ refused_by faults.SpanFull = outcomes.Refused faults.SpanFull
 refused_by faults.TooLong = outcomes.Refused faults.TooLong
 
 -- The command was submitted at moment 0, and its answer waited for; or it was refused, which changes nothing.
-abbrev pub Sends : Request → Result Handle ControlFault → LinkState → Outcome → LinkState → Told → Told → Type 0
+abbrev pub Sends : Request → Result Handle ControlFault → LinkState → Outcome → LinkState → EndState → EndState → Type 0
 Sends request (Ok handle) old outcome new before after = Waits handle.0 (submitted request 0 old) outcome new before after
 Sends request (Err fault) old outcome new before after = (outcome ≡ refused_by fault) × (new ≡ old) × (after ≡ before)
 
@@ -82,9 +66,10 @@ Sends request (Err fault) old outcome new before after = (outcome ≡ refused_by
 abbrev pub most_turns : ℕ
 most_turns = 4294967295
 
--- The command was sent, and how it fared is printed; `lost` says whether a command got no answer so far, `before` what the end told, and
--- `asked` how often it was asked.
-abbrev pub Exchanges : LinkState → Bool → Told → ℕ → Request → LinkState → Bool → Told → ℕ → List ℕ → Type 0
-Exchanges old lost before asked request new lost' after asked' text =
-    (outcome : Outcome) × Sends request (submission request old) old outcome new before after × (asked' < last_u64 → AsksEnd most_turns outcome asked asked')
+-- The command was sent, and how it fared is printed; `lost` says whether a command got no answer so far, `before` what the end said of
+-- itself.
+abbrev pub Exchanges : LinkState → Bool → EndState → Request → LinkState → Bool → EndState → List ℕ → Type 0
+Exchanges old lost before request new lost' after text =
+    (outcome : Outcome) × Sends request (submission request old) old outcome new before after
+    × (after.receives < last_u64 → AsksEnd most_turns outcome before.receives after.receives)
     × (text ≡ outcome_text outcome) × (lost' ≡ (lost || outcome_status outcome == 3))

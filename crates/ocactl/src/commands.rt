@@ -5,7 +5,7 @@ ghost use Rattle.oca_script.specs.Printing.{Prints};
 ghost use Rattle.oca_script.specs.Replaying.{Outcome as ReplayOutcome, Replays};
 ghost use Rattle.oca_control.specs.Links.{Request};
 ghost use Rattle.ocactl.specs.Requests.{asked_command};
-ghost use Rattle.ocactl.specs.Exchanges.{Exchanges, told, outcome_status};
+ghost use Rattle.ocactl.specs.Exchanges.{Exchanges, outcome_status};
 ghost use Rattle.ocactl.specs.PrivateRequests.{request_in};
 ghost use Rattle.ocactl.specs.PrivateExchanges.{ExchangesAndPrints};
 
@@ -49,7 +49,7 @@ impl<E: End> Language for Commands<E> {
 
     ghost asked = { asked_command };
 
-    ghost serves = { λ old request new text. Exchanges old.link old.lost (told (E.tells old.end) (E.delivered old.end) (E.taken old.end)) (E.receives old.end) request new.link new.lost (told (E.tells new.end) (E.delivered new.end) (E.taken new.end)) (E.receives new.end) text };
+    ghost serves = { λ old request new text. Exchanges old.link old.lost (E.state old.end) request new.link new.lost (E.state new.end) text };
 
     /// Reads the command of the line, sends it, and prints how it fared.
     fn serve_line<W: Sink>(
@@ -74,7 +74,7 @@ fn exchange<E: End, W: Sink>(
     command: Submission<'_>,
     printer: &mut Printer<W>,
 ) -> Result<(), WriteFailed>
-    ensures { ExchangesAndPrints session.old.link session.old.lost (told (E.tells session.old.end) (E.delivered session.old.end) (E.taken session.old.end)) (E.receives session.old.end) (request_in command.entry) session.new.link session.new.lost (told (E.tells session.new.end) (E.delivered session.new.end) (E.taken session.new.end)) (E.receives session.new.end) result printer.old printer.new }
+    ensures { ExchangesAndPrints session.old.link session.old.lost (E.state session.old.end) (request_in command.entry) session.new.link session.new.lost (E.state session.new.end) result printer.old printer.new }
 {
     let outcome = send(&mut session.link, &mut session.end, command, TURNS);
     session.lost = gets_none(session.lost, &outcome);
@@ -98,10 +98,10 @@ pub fn send_all<E: End, R: Source, W: Sink>(
 ) -> Result<(), ReplayFault>
     // Where the bytes that the source had are known, the commands of their lines were sent, and how each fared was printed.
     ensures known { IfSome (R.remaining reader.old) (λ given.
-        Replays asked_command (λ old request new text. Exchanges old.link old.lost (told (E.tells old.end) (E.delivered old.end) (E.taken old.end)) (E.receives old.end) request new.link new.lost (told (E.tells new.end) (E.delivered new.end) (E.taken new.end)) (E.receives new.end) text) session.old session.new printer.old printer.new result given) }
+        Replays asked_command (λ old request new text. Exchanges old.link old.lost (E.state old.end) request new.link new.lost (E.state new.end) text) session.old session.new printer.old printer.new result given) }
     // Whatever source: there are bytes, those that it gave where it tells them, and the rest of what it had, and the same holds of
     // these.
-    ensures reads { ReplayOutcome asked_command (λ old request new text. Exchanges old.link old.lost (told (E.tells old.end) (E.delivered old.end) (E.taken old.end)) (E.receives old.end) request new.link new.lost (told (E.tells new.end) (E.delivered new.end) (E.taken new.end)) (E.receives new.end) text) session.old session.new printer.old printer.new
+    ensures reads { ReplayOutcome asked_command (λ old request new text. Exchanges old.link old.lost (E.state old.end) request new.link new.lost (E.state new.end) text) session.old session.new printer.old printer.new
         (input (R.remaining reader.old) (R.failed reader.old)) (input (R.remaining reader.new) (R.failed reader.new)) result }
 {
     let mut room = [0; MOST_BYTES];

@@ -3,7 +3,7 @@ ghost use Rattle.std.specs.Prelude.{◌≡◌, ◌<◌, ◌+◌};
 ghost use Rattle.oca_net.specs.Ends.{last_u64};
 ghost use Rattle.oca_script.specs.Printing.{Prints};
 ghost use Rattle.oca_control.specs.Links.{submission};
-ghost use Rattle.ocactl.specs.Exchanges.{Waits, AsksEnd, told, Sends, refused_by, outcome_text, outcome_status};
+ghost use Rattle.ocactl.specs.Exchanges.{Waits, AsksEnd, Sends, refused_by, outcome_text, outcome_status};
 ghost use Rattle.ocactl.specs.PrivateRequests.{request_in};
 
 use super::line::{Line, print_line};
@@ -40,8 +40,8 @@ impl Outcome {
 
 /// Submits the command at moment 0, and waits for its answer at most so many turns, of at most 50 ms each at a socket.
 pub fn send<E: End>(link: &mut Link, end: &mut E, command: Submission<'_>, turns: u32) -> Outcome
-    ensures sends { Sends (request_in command.entry) (submission (request_in command.entry) link.old) link.old result link.new (told (E.tells end.old) (E.delivered end.old) (E.taken end.old)) (told (E.tells end.new) (E.delivered end.new) (E.taken end.new)) }
-    ensures turns { E.receives end.new < last_u64 → AsksEnd turns result (E.receives end.old) (E.receives end.new) }
+    ensures sends { Sends (request_in command.entry) (submission (request_in command.entry) link.old) link.old result link.new (E.state end.old) (E.state end.new) }
+    ensures turns { (E.state end.new).receives < last_u64 → AsksEnd turns result (E.state end.old).receives (E.state end.new).receives }
 {
     match link.submit(
         command.target,
@@ -70,8 +70,8 @@ fn refused(fault: ControlFault) -> Outcome
 /// Drives the link, a turn at a time, until there is an answer under the handle, which is looked for first and taken; or the
 /// link is lost; or so many turns were taken.
 pub fn wait_for<E: End>(link: &mut Link, end: &mut E, handle: Handle, turns: u32) -> Outcome
-    ensures waits { Waits handle.0 link.old result link.new (told (E.tells end.old) (E.delivered end.old) (E.taken end.old)) (told (E.tells end.new) (E.delivered end.new) (E.taken end.new)) }
-    ensures turns { E.receives end.new < last_u64 → AsksEnd turns result (E.receives end.old) (E.receives end.new) }
+    ensures waits { Waits handle.0 link.old result link.new (E.state end.old) (E.state end.new) }
+    ensures turns { (E.state end.new).receives < last_u64 → AsksEnd turns result (E.state end.old).receives (E.state end.new).receives }
 {
     for _turn in 0..turns {
         if let Some(answer) = link.take(handle) {

@@ -5,7 +5,7 @@ use Rattle.oca_tree.specs.declared.object.Object.{Object}
 use Rattle.oca_pdu.specs.Faults.{fault_number}
 use Rattle.oca_device.specs.declared.verdict.Verdict.{Verdict}
 use Rattle.oca_device.specs.declared.verdict.Verdict.TheVariants as verdicts
-use Rattle.oca_device.specs.Events.{Event, Datagram, Tick}
+use Rattle.oca_device.specs.Events.{Event, Datagram, Tick, Local}
 use Rattle.oca_device.specs.Answers.{packets, verdict}
 use Rattle.oca_script.specs.Fields.{hex_text}
 
@@ -29,6 +29,7 @@ unfoldable pub event_text : ℕ → List Object → List Event → Event → Lis
 event_text w tree events (Datagram from bytes now) =
     verdict_text (verdict w tree events from bytes now) ++ flat_map packet_text (packets w tree events (Datagram from bytes now))
 event_text w tree events (Tick now) = codes "quiet\n"
+event_text w tree events (Local ono value) = []
 
 -- further events after events; the latest stands first in the result, as in each list of a device's events
 abbrev pub events_then : List Event → List Event → List Event

@@ -139,6 +139,11 @@ fn put_outcome(alloc: Global, out: &mut String, outcome: &Outcome) -> Result<(),
         Outcome::Link(Reception::Malformed) => writeln!(out, "malformed")?,
         Outcome::Link(Reception::NothingNew) => writeln!(out, "nothing new")?,
         Outcome::Ticked => writeln!(out, "quiet")?,
+        Outcome::Front(None) => writeln!(out, "set")?,
+        Outcome::Front(Some(fault)) => {
+            let number = *fault as u8;
+            writeln!(out, "not set {number}")?;
+        }
         Outcome::Answer(answer) => put_answer(alloc, out, answer)?,
         Outcome::NoAnswer => writeln!(out, "none")?,
     }

@@ -29,7 +29,7 @@ fn script(alloc: Global) -> Result<Vec<Scripted>, Fail> {
 
 /// Asks for an end that tells.
 fn is_told<E: End>(_end: &E) -> bool
-    requires { IsTrue (E.tells _end.now) }
+    requires { IsTrue (E.state _end.now).tells }
 {
     true
 }

@@ -1,18 +1,27 @@
-use Rattle.std.proofs.Common.{◌≡◌, ℕ, ap, sym, refl, subst, List, []}
-use Rattle.oca_net.specs.Deliveries.{Sent}
-use Rattle.oca_control.specs.Links.{decision}
-use Rattle.oca_net.specs.Ends.{TakesAllBut}
+use Rattle.std.proofs.Common.{ap, ◌∙◌, sym, refl, true}
 use Rattle.oca_control.specs.declared.report.DriveReport.{DriveReport}
-use Rattle.oca_control.proofs.Turns.{takes_none, takes_as, gives_nothing, gives_lost}
+use Rattle.oca_control.specs.Links.{decision}
+use Rattle.oca_control.proofs.Turns.{sends, keeps_alive, gives_nothing, gives_lost, gave_out, gave_nothing}
 use Rattle.oca_control.proofs.driving.give_one.Goals as goal
 
-nothing_taken : (k : ℕ) (t xs : List Sent) → k ≡ 0 → xs ≡ [] → TakesAllBut k t t xs
-nothing_taken k t xs e f = subst (λ (n : ℕ). TakesAllBut n t t xs) (sym e) (takes_as 0 t t [] xs (sym f) (takes_none t t refl))
+pub returns-in-Send-clause-gives : goal.returns-in-Send-clause-gives
+returns-in-Send-clause-gives g c =
+    let gives = sends c.device-device.result (decision c.args.now c.args.link.now) c.due.result c.due.ensures.answer c.in-Send.field-0.0 c.in-Send.is in
+    gave_out _ c.due.ensures.link c.device-device.ensures c.due.ensures.packet
+    (gives.0, gives.1, ap (λ (q : DriveReport). let r : DriveReport = record q { sent = 1; failed_sends = c.send.result } in r) c.nothing.ensures ∙ sym (gives.2 c.send.result)) refl c.send.ensures.sends
 
-pub returns-in-Nothing-clause-taken : goal.returns-in-Nothing-clause-taken
-returns-in-Nothing-clause-taken g c = λ tells.
-    nothing_taken _ _ _ (ap (λ (r : DriveReport). r.failed_sends) c.nothing-in-Nothing.ensures) (gives_nothing c.args.link.now.device (decision c.args.now c.args.link.now) c.due.result c.due.ensures.answer c.in-Nothing.is)
+pub returns-in-KeepAlive-clause-gives : goal.returns-in-KeepAlive-clause-gives
+returns-in-KeepAlive-clause-gives g c =
+    let gives = keeps_alive c.device-device.result (decision c.args.now c.args.link.now) c.due.result c.due.ensures.answer c.in-KeepAlive.is in
+    gave_out _ c.due.ensures.link c.device-device.ensures c.due.ensures.packet
+    (gives.0, gives.1, ap (λ (q : DriveReport). let r : DriveReport = record q { keep_alives = 1; failed_sends = c.send-in-KeepAlive.result } in r) c.nothing-in-KeepAlive.ensures ∙ sym (gives.2 c.send-in-KeepAlive.result)) refl c.send-in-KeepAlive.ensures.sends
 
-pub returns-in-Lost-clause-taken : goal.returns-in-Lost-clause-taken
-returns-in-Lost-clause-taken g c = λ tells.
-    nothing_taken _ _ _ (ap (λ (r : DriveReport). r.failed_sends) c.nothing-in-Lost.ensures) (gives_lost c.args.link.now.device (decision c.args.now c.args.link.now) c.due.result c.due.ensures.answer c.in-Lost.is)
+pub returns-in-Nothing-clause-gives : goal.returns-in-Nothing-clause-gives
+returns-in-Nothing-clause-gives g c =
+    let gives = gives_nothing c.args.link.now.device (decision c.args.now c.args.link.now) c.due.result c.due.ensures.answer c.in-Nothing.is in
+    gave_nothing _ _ c.due.ensures.link (gives.0, gives.1, c.nothing-in-Nothing.ensures ∙ gives.2)
+
+pub returns-in-Lost-clause-gives : goal.returns-in-Lost-clause-gives
+returns-in-Lost-clause-gives g c =
+    let gives = gives_lost c.args.link.now.device (decision c.args.now c.args.link.now) c.due.result c.due.ensures.answer c.in-Lost.is in
+    gave_nothing _ _ c.due.ensures.link (gives.0, gives.1, ap (λ (q : DriveReport). let r : DriveReport = record q { lost = true } in r) c.nothing-in-Lost.ensures ∙ gives.2)

@@ -1,8 +1,12 @@
-use Rattle.oca_control.proofs.Turns.{takes_sent, takes_missed}
+use Rattle.std.proofs.Common.{ℕ, List, [], ◌∷◌, subst}
+use Rattle.oca_net.specs.EndStates.{SendsAllBut}
+use Rattle.oca_net.proofs.Sending.{sends_one}
 use Rattle.oca_control.proofs.driving.send.Goals as goal
 
-pub returns-then-send-clause-taken : goal.returns-then-send-clause-taken
-returns-then-send-clause-taken g c = λ tells. takes_sent _ _ c.args.to _ _ c.send.result (c.send.ensures.taken tells) c.as_slice.ensures.value c.if-send.true
+pub returns-then-send-clause-sends : goal.returns-then-send-clause-sends
+returns-then-send-clause-sends g c =
+    subst (λ (bytes : List ℕ). SendsAllBut 0 (g.E.End.state c.args.end.now) (g.E.End.state c.send.new.self) ((record { to = c.args.to; bytes = bytes }) ∷ [])) c.as_slice.ensures.value (sends_one c.if-send.ensures)
 
-pub returns-else-send-clause-taken : goal.returns-else-send-clause-taken
-returns-else-send-clause-taken g c = λ tells. takes_missed _ _ _ c.send.result c.args.to _ (c.send.ensures.taken tells) c.if-send.false
+pub returns-else-send-clause-sends : goal.returns-else-send-clause-sends
+returns-else-send-clause-sends g c =
+    subst (λ (bytes : List ℕ). SendsAllBut 1 (g.E.End.state c.args.end.now) (g.E.End.state c.send.new.self) ((record { to = c.args.to; bytes = bytes }) ∷ [])) c.as_slice.ensures.value (sends_one c.if-send.ensures)

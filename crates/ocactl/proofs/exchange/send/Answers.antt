@@ -13,4 +13,4 @@ returns-in-Err-clause-sends g c =
     c.in-Err.is c.submit.ensures.answer c.submit.ensures.link c.refused.ensures
 
 pub returns-in-Err-clause-turns : goal.returns-in-Err-clause-turns
-returns-in-Err-clause-turns g c = λ _. asks-nothing c.in-Err.fault _ c.args.turns (g.E.End.receives c.args.end.now) c.refused.ensures
+returns-in-Err-clause-turns g c = λ _. asks-nothing c.in-Err.fault _ c.args.turns (g.E.End.state c.args.end.now).receives c.refused.ensures

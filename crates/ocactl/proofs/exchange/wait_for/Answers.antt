@@ -1,4 +1,4 @@
-use Rattle.std.proofs.Common.{◌≡◌, ℕ, ◌+◌, sym, ap, ◌∙◌, arith}
+use Rattle.std.proofs.Common.{sym, ap, ◌∙◌, arith}
 use Rattle.std.specs.Option.{option_map}
 use Rattle.oca_control.specs.Answers.{answer_fields}
 use Rattle.ocactl.specs.Exchanges.{NotYet, OnceMore}
@@ -13,8 +13,8 @@ loop-turn-preserved g c = record {
   driven = OnceMore c.drive.result
       (still-driven c.args.link.now c.loop-turn.link c.take.new.self _ _ c.args.handle.0 (option_map answer_fields c.take.result) c.loop-turn.invariant.driven
       (ap (option_map answer_fields) c.in_default.is) c.take.ensures.answer c.take.ensures.link)
-      (record { any = c.drive.ensures.any_end; telling = c.drive.ensures.telling; tells = c.drive.ensures.tells });
-  receives = asked-further (g.E.End.receives c.args.end.now) (g.E.End.receives c.loop-turn.end) (g.E.End.receives c.drive.new.end) c.loop-turn._turn c.drive.result
+      c.drive.ensures.driven;
+  receives = asked-further (g.E.End.state c.args.end.now).receives (g.E.End.state c.loop-turn.end).receives (g.E.End.state c.drive.new.end).receives c.loop-turn._turn c.drive.result
       c.loop-turn.invariant.receives c.drive.ensures.receives c.drive.ensures.turns c.if-drive.false;
 }
 
@@ -29,7 +29,7 @@ returns-then-drive-clause-waits g c = (
   c.drive.result,
   still-driven c.args.link.now c.loop-turn.link c.take.new.self _ _ c.args.handle.0 (option_map answer_fields c.take.result) c.loop-turn.invariant.driven
       (ap (option_map answer_fields) c.in_default.is) c.take.ensures.answer c.take.ensures.link,
-  (record { any = c.drive.ensures.any_end; telling = c.drive.ensures.telling; tells = c.drive.ensures.tells }),
+  c.drive.ensures.driven,
   c.if-drive.true,
 )
 
@@ -47,5 +47,5 @@ returns-in-None-clause-waits g c =
 
 pub returns-then-drive-clause-turns : goal.returns-then-drive-clause-turns
 returns-then-drive-clause-turns g c =
-    asked-last (g.E.End.receives c.args.end.now) (g.E.End.receives c.loop-turn.end) (g.E.End.receives c.drive.new.end) c.loop-turn._turn c.args.turns c.drive.result
+    asked-last (g.E.End.state c.args.end.now).receives (g.E.End.state c.loop-turn.end).receives (g.E.End.state c.drive.new.end).receives c.loop-turn._turn c.args.turns c.drive.result
     c.loop-turn.invariant.receives c.drive.ensures.receives c.drive.ensures.turns c.if-drive.true c.loop-turn-test.true

@@ -1,0 +1,53 @@
+-- What an end says of itself, and what its calls do to that (*profile*).
+use Rattle.std.specs.Prelude.{◌≡◌, ℕ, ◌+◌, ◌<◌, Bool, ◌||◌, List, ◌++◌, IsTrue}
+use Rattle.oca_types.specs.declared.words.Peer.{Peer}
+use Rattle.oca_net.specs.declared.end.Heard.{Heard}
+use Rattle.oca_net.specs.Deliveries.{Delivery, Sent}
+use Rattle.oca_net.specs.Ends.{Delivers, HoldsOnlyADatagram, is_closed, failures_after, failures_sent, taken_after, one_more, last_u64, TakesAllBut}
+
+-- Whether the end tells what it delivers and takes; what it delivered and what it took (the latest last), which say nothing
+-- of an end that does not tell; whether it has answered Closed; how many calls failed, and how often `receive` was called,
+-- failed and closed calls too: 64-bit numbers that stay at their last value.
+pub record EndState : Type 0 where
+  pub tells : Bool
+  pub delivered : List Delivery
+  pub taken : List Sent
+  pub closed : Bool
+  pub failures : ℕ
+  pub receives : ℕ
+
+-- A receive answered this, and the packet then held these bytes.
+pub record Receives (heard : Heard) (bytes : List ℕ) (old new : EndState) : Type 0 where
+  pub telling : new.tells ≡ old.tells
+  pub delivered : IsTrue old.tells → Delivers heard bytes old.delivered new.delivered
+  pub taken : IsTrue old.tells → new.taken ≡ old.taken
+  pub packet : HoldsOnlyADatagram heard bytes
+  pub closed : new.closed ≡ (old.closed || is_closed heard)
+  pub failures : new.failures ≡ failures_after heard old.failures
+  pub receives : new.receives ≡ one_more old.receives
+
+-- A send of these bytes to a peer answered whether the end took them.
+pub record Sends (was_taken : Bool) (to : Peer) (bytes : List ℕ) (old new : EndState) : Type 0 where
+  pub telling : new.tells ≡ old.tells
+  pub delivered : IsTrue old.tells → new.delivered ≡ old.delivered
+  pub taken : IsTrue old.tells → new.taken ≡ taken_after was_taken to bytes old.taken
+  pub closed : new.closed ≡ old.closed
+  pub failures : new.failures ≡ failures_sent was_taken old.failures
+  pub receives : new.receives ≡ old.receives
+
+-- These datagrams were sent, in order, and so many of the sends failed.
+pub record SendsAllBut (failed : ℕ) (old new : EndState) (all : List Sent) : Type 0 where
+  pub telling : new.tells ≡ old.tells
+  pub delivered : IsTrue old.tells → new.delivered ≡ old.delivered
+  pub taken : IsTrue old.tells → TakesAllBut failed old.taken new.taken all
+  pub closed : new.closed ≡ old.closed
+  pub failures : new.failures < last_u64 → new.failures ≡ old.failures + failed
+  pub receives : new.receives ≡ old.receives
+
+-- These were delivered and these given out, and so many receives and sends failed: where the end tells, it delivered the ones
+-- and took the others but for those whose send failed.
+pub record Runs (deliveries : List Delivery) (all : List Sent) (failed_receives failed_sends : ℕ) (old new : EndState) : Type 0 where
+  pub telling : new.tells ≡ old.tells
+  pub delivered : IsTrue old.tells → new.delivered ≡ old.delivered ++ deliveries
+  pub taken : IsTrue old.tells → TakesAllBut failed_sends old.taken new.taken all
+  pub failures : new.failures < last_u64 → new.failures ≡ old.failures + (failed_receives + failed_sends)

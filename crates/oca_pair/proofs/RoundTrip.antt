@@ -1,0 +1,536 @@
+-- A command that came to the device comes back to its link as an answer.
+use Rattle.std.proofs.Common.{append-nil, append_assoc, ◌≡◌, ℕ, ◌+◌, ◌*◌, ◌<◌, ◌≤◌, ◌^◌, Bool, true, false, cond, List, [], ◌∷◌, ◌++◌, length, Option, Some, None, refl, sym, ap, ◌∙◌, zero, suc, ◌⊎◌, inl, inr}
+use Rattle.std.specs.Prelude.{nat_eq, ◌&&◌, ◌||◌, map, is_some, is_none, Result, Ok, Err}
+use Rattle.std.specs.List.{AllByRecursion, slice_get, slice_set}
+use Rattle.std.proofs.lemmas.List.Folds.{list_any-append}
+use Rattle.std.proofs.lemmas.Option.{slice_get-map, same_Some}
+use Rattle.std.specs.Option.{option_map}
+use Rattle.oca_types.specs.declared.words.Peer.{Peer}
+use Rattle.oca_types.specs.declared.words.Handle.{Handle}
+use Rattle.oca_types.specs.Peers.{same_peer, CommandFields}
+use Rattle.oca_pdu.specs.Messages.{Msg, Response, KeepAlive, Command, ResponseFields}
+use Rattle.oca_pdu.specs.Encoding.{pdu_encoding}
+use Rattle.oca_pdu.specs.Laws.{WrittenIsReadBack}
+use Rattle.oca_tree.specs.declared.object.Object.{Object}
+use Rattle.oca_device.specs.Events.{Datagram}
+use Rattle.oca_device.specs.Notes.{Noted, Admitted, Heartbeat, Executed, Note}
+use Rattle.oca_device.specs.Groups.{pdu_of}
+use Rattle.oca_device.specs.Answers.{packets, response}
+use Rattle.oca_control.specs.declared.fault.ControlFault.{ControlFault}
+use Rattle.oca_control.specs.Answers.{AnswerFields, answer_in}
+use Rattle.oca_control.specs.Untaken.{Untaken, new_untaken, answered, hears_all, answer_under, without_handle, holds}
+use Rattle.oca_control.specs.Links.{LinkState, Request, command_under, submission, after_submission, Decision, GivesCommand, GivesKeepAlive, GivesNothing, IsLost, decision, after_due, gone_on, hears_content, received, taken, present}
+use Rattle.oca_pair.specs.declared.start.Start.{Start}
+use Rattle.oca_pair.specs.Networks.{Network, PeerLink, SentDatagram, SubmittedCommand, TakenAnswer, device_address, started, opening}
+use Rattle.oca_pair.specs.Steps.{Step, Submit, Due, ToDevice, ToLink, Other, Take, has_link, sendings, with_link, submitted_by, after_submit, after_due_step, after_delivery, messages_read, content_of, hears_datagram, after_reception, taken_by, after_take, after_step, after_steps}
+use Rattle.oca_pair.specs.Steps as steps
+use Rattle.oca_pair.specs.Premises.{are_apart, StepFits, Fit}
+use Rattle.oca_pair.specs.Laws.{Execution, executed_in, executed_for, executions_for, CarriesUntaken, IsAnswered}
+use Rattle.oca_pair.specs.RoundTrip.{HoldsUntaken, IsAnswerTo, HoldsItsAnswer, GotItsAnswer, asked, meanwhile, ComesBack, RoundTrips}
+use Rattle.oca_pair.proofs.Lists.{IsIn, contains_in, in_contains, in_more, in_last, each_at, each_in, each_set, same_of, same_is, equal_self}
+use Rattle.oca_pair.proofs.Wire.{IsSendable, read_response}
+use Rattle.oca_pair.proofs.Fitting.{response_to, reply_fits}
+use Rattle.oca_pair.proofs.Truths.{Past, past, state_of, IsSubmitted, IsHonest, IsTrueAnswer, IsOwn}
+use Rattle.oca_pair.proofs.Fair.{end_of, IsFair, AreOwn}
+use Rattle.oca_pair.proofs.Delivering.{held_answer}
+use Rattle.oca_pair.proofs.Span.{holds_given_out, holds_answered, holds_without}
+use Rattle.oca_pair.proofs.Networks.{LinkSound, Sound, hears_peer, sound_step, sound_steps, sound_after}
+use Rattle.oca_pair.proofs.Lawful.{true_answer, never_old_law}
+
+-- ---- what was sent to links and what was submitted is never lost
+
+pub record Grown (n m : Network) : Type 0 where
+  pub sent : List SentDatagram
+  pub to_links : m.to_links ≡ n.to_links ++ sent
+  pub more : List SubmittedCommand
+  pub submitted : m.submitted ≡ n.submitted ++ more
+
+grown_not : (n : Network) → Grown n n
+grown_not n = record { sent = []; to_links = sym (append-nil n.to_links); more = []; submitted = sym (append-nil n.submitted) }
+
+grown_step : (step : Step) (n : Network) → Grown n (after_step step n)
+grown_step step n = one step
+  where
+    none_sent : n.to_links ≡ n.to_links ++ []
+    none_sent = sym (append-nil n.to_links)
+
+    none_more : n.submitted ≡ n.submitted ++ []
+    none_more = sym (append-nil n.submitted)
+
+    by_submit : (i : ℕ) (r : Request) (now : ℕ) (o : Option PeerLink) → Grown n (after_submit i r now o n)
+    by_submit i r now None = grown_not n
+    by_submit i r now (Some l) = record { sent = []; to_links = none_sent; more = submitted_by l.peer r (submission r l.link); submitted = refl }
+
+    by_due : (i now : ℕ) (o : Option PeerLink) → Grown n (after_due_step i now o n)
+    by_due i now None = grown_not n
+    by_due i now (Some l) = record { sent = []; to_links = none_sent; more = []; submitted = none_more }
+
+    by_delivery : (now : ℕ) (o : Option SentDatagram) → Grown n (after_delivery now o n)
+    by_delivery now None = grown_not n
+    by_delivery now (Some d) = record { sent = sendings d.peer (packets n.window n.tree n.events (Datagram d.peer d.bytes now)); to_links = refl; more = []; submitted = none_more }
+
+    by_reception : (now : ℕ) (o : Option SentDatagram) → Grown n (after_reception now o n)
+    by_reception now None = grown_not n
+    by_reception now (Some d) = record { sent = []; to_links = none_sent; more = []; submitted = none_more }
+
+    by_other : (from : Peer) (bytes : List ℕ) (now : ℕ) (b : Bool) → (let m : Network = cond b n (record n { events = Datagram from bytes now ∷ n.events }) in Grown n m)
+    by_other from bytes now true = grown_not n
+    by_other from bytes now false = record { sent = []; to_links = none_sent; more = []; submitted = none_more }
+
+    by_take : (i h : ℕ) (o : Option PeerLink) → Grown n (after_take i h o n)
+    by_take i h None = grown_not n
+    by_take i h (Some l) = record { sent = []; to_links = none_sent; more = []; submitted = none_more }
+
+    one : (step : Step) → Grown n (after_step step n)
+    one (Submit i r now) = by_submit i r now (slice_get n.links i)
+    one (Due i now) = by_due i now (slice_get n.links i)
+    one (ToDevice k now) = by_delivery now (slice_get n.to_device k)
+    one (ToLink k now) = by_reception now (slice_get n.to_links k)
+    one (Other from bytes now) = by_other from bytes now (has_link from n.links)
+    one (steps.Tick now) = record { sent = []; to_links = none_sent; more = []; submitted = none_more }
+    one (steps.Front ono value) = record { sent = []; to_links = none_sent; more = []; submitted = none_more }
+    one (Take i h) = by_take i h (slice_get n.links i)
+
+grown_on : (n m o : Network) → Grown n m → Grown m o → Grown n o
+grown_on n m o a b = record {
+  sent = a.sent ++ b.sent;
+  to_links = b.to_links ∙ ap (λ xs. xs ++ b.sent) a.to_links ∙ append_assoc n.to_links a.sent b.sent;
+  more = a.more ++ b.more;
+  submitted = b.submitted ∙ ap (λ xs. xs ++ b.more) a.submitted ∙ append_assoc n.submitted a.more b.more;
+}
+
+grown_steps : (es : List Step) (n : Network) → Grown n (after_steps es n)
+grown_steps [] n = grown_not n
+grown_steps (e ∷ es) n = grown_on n (after_step e n) (after_steps es (after_step e n)) (grown_step e n) (grown_steps es (after_step e n))
+
+-- what stands behind a list stays there
+stays_at : {X : Type 0} (xs : List X) (x : X) (more ys zs : List X) → ys ≡ xs ++ x ∷ [] → zs ≡ ys ++ more → slice_get zs (length xs) ≡ Some x
+stays_at {X = X} xs x more ys zs e f = rw (f, e) (at xs)
+  where
+    at : (xs : List X) → slice_get ((xs ++ x ∷ []) ++ more) (length xs) ≡ Some x
+    at [] = refl
+    at (y ∷ ys) = at ys
+
+-- ---- each link is one to the device
+
+abbrev pub AreToDevice : List PeerLink → Type 0
+AreToDevice links = AllByRecursion (λ l. l.link.device ≡ device_address) links
+
+to_device_step : (step : Step) (n : Network) → AreToDevice n.links → AreToDevice (after_step step n).links
+to_device_step step n a = one step
+  where
+    by_answer : (l : LinkState) (r : Request) (now : ℕ) (x : Result Handle ControlFault) → (after_submission x r now l).device ≡ l.device
+    by_answer l r now (Ok h) = refl
+    by_answer l r now (Err fault) = refl
+
+    by_decision : (l : LinkState) (now : ℕ) (d : Decision) → (after_due d now l).device ≡ l.device
+    by_decision l now (GivesCommand c) = refl
+    by_decision l now GivesKeepAlive = refl
+    by_decision l now GivesNothing = refl
+    by_decision l now IsLost = refl
+
+    put : (i : ℕ) (l : PeerLink) (state : LinkState) → slice_get n.links i ≡ Some l → state.device ≡ l.link.device → AreToDevice (with_link i l state n.links)
+    put i l state e same = each_set (λ (x : PeerLink). x.link.device ≡ device_address) n.links i (record { peer = l.peer; link = state })
+        (same ∙ each_at (λ (x : PeerLink). x.link.device ≡ device_address) n.links i l a e) a
+
+    by_submit : (i : ℕ) (r : Request) (now : ℕ) (o : Option PeerLink) → slice_get n.links i ≡ o → AreToDevice (after_submit i r now o n).links
+    by_submit i r now None e = a
+    by_submit i r now (Some l) e = put i l (after_submission (submission r l.link) r now l.link) e (by_answer l.link r now (submission r l.link))
+
+    by_due : (i now : ℕ) (o : Option PeerLink) → slice_get n.links i ≡ o → AreToDevice (after_due_step i now o n).links
+    by_due i now None e = a
+    by_due i now (Some l) e = put i l (gone_on now l.link) e (by_decision l.link (present now l.link) (decision now l.link))
+
+    by_delivery : (now : ℕ) (o : Option SentDatagram) → AreToDevice (after_delivery now o n).links
+    by_delivery now None = a
+    by_delivery now (Some d) = a
+
+    hearing : (d : SentDatagram) (now : ℕ) (l : PeerLink) → l.link.device ≡ device_address → (hears_datagram d now l).link.device ≡ device_address
+    hearing d now l q = by_test (same_peer l.peer d.peer)
+      where
+        by_test : (b : Bool) → (let y : PeerLink = cond b (record { peer = l.peer; link = received device_address (content_of d.bytes) now l.link }) l in y).link.device ≡ device_address
+        by_test true = q
+        by_test false = q
+
+    hear : (d : SentDatagram) (now : ℕ) (ls : List PeerLink) → AreToDevice ls → AreToDevice (map (hears_datagram d now) ls)
+    hear d now [] q = tt
+    hear d now (l ∷ ls) q = (hearing d now l q.0, hear d now ls q.1)
+
+    by_reception : (now : ℕ) (o : Option SentDatagram) → AreToDevice (after_reception now o n).links
+    by_reception now None = a
+    by_reception now (Some d) = hear d now n.links a
+
+    by_other : (from : Peer) (bytes : List ℕ) (now : ℕ) (b : Bool) → AreToDevice (let m : Network = cond b n (record n { events = Datagram from bytes now ∷ n.events }) in m).links
+    by_other from bytes now true = a
+    by_other from bytes now false = a
+
+    by_take : (i h : ℕ) (o : Option PeerLink) → slice_get n.links i ≡ o → AreToDevice (after_take i h o n).links
+    by_take i h None e = a
+    by_take i h (Some l) e = put i l (taken h l.link) e refl
+
+    one : (step : Step) → AreToDevice (after_step step n).links
+    one (Submit i r now) = by_submit i r now (slice_get n.links i) refl
+    one (Due i now) = by_due i now (slice_get n.links i) refl
+    one (ToDevice k now) = by_delivery now (slice_get n.to_device k)
+    one (ToLink k now) = by_reception now (slice_get n.to_links k)
+    one (Other from bytes now) = by_other from bytes now (has_link from n.links)
+    one (steps.Tick now) = a
+    one (steps.Front ono value) = a
+    one (Take i h) = by_take i h (slice_get n.links i) refl
+
+to_device_steps : (es : List Step) (n : Network) → AreToDevice n.links → AreToDevice (after_steps es n).links
+to_device_steps [] n a = a
+to_device_steps (e ∷ es) n a = to_device_steps es (after_step e n) (to_device_step e n a)
+
+to_device_opening : (w s : ℕ) (tree : List Object) (starts : List Start) → AreToDevice (opening w s tree starts).links
+to_device_opening w s tree starts = each starts
+  where
+    each : (xs : List Start) → AreToDevice (map (started s) xs)
+    each [] = tt
+    each (x ∷ xs) = (refl, each xs)
+
+-- ---- a command is held until its answer is taken
+
+-- this answer was taken from the link of this peer, under the handle
+abbrev pub IsTaken : Peer → ℕ → AnswerFields → List TakenAnswer → Type 0
+IsTaken p h a handed = let it : TakenAnswer = record { peer = p; handle = h; answer = a } in IsIn it handed
+
+abbrev pub IsKept : Peer → ℕ → List Untaken → List TakenAnswer → Type 0
+IsKept p h us handed = (holds h us ≡ true) ⊎ ((a : AnswerFields) × IsTaken p h a handed)
+
+-- the link of this number is of the peer, and holds a command under the handle, or its answer was taken
+pub record Stands (i : ℕ) (p : Peer) (h : ℕ) (links : List PeerLink) (handed : List TakenAnswer) : Type 0 where
+  pub link : PeerLink
+  pub there : slice_get links i ≡ Some link
+  pub peer : link.peer ≡ p
+  pub kept : IsKept p h link.link.untaken handed
+
+-- an element is put in at a place: there it stands, and the others stand as before
+put_at : {X : Type 0} (xs : List X) (k i : ℕ) (l y z : X) → slice_get xs k ≡ Some l → slice_get xs i ≡ Some z →
+    ((l ≡ z) × (slice_get (slice_set xs k y) i ≡ Some y)) ⊎ (slice_get (slice_set xs k y) i ≡ Some z)
+put_at [] k i l y z e f = cc
+put_at (x ∷ xs) zero zero l y z e f = inl (same_Some l z (sym e ∙ f), refl)
+put_at (x ∷ xs) zero (suc i) l y z e f = inr f
+put_at (x ∷ xs) (suc k) zero l y z e f = inr f
+put_at (x ∷ xs) (suc k) (suc i) l y z e f = put_at xs k i l y z e f
+
+stands_put : (i k h : ℕ) (p : Peer) (l : PeerLink) (state : LinkState) (links : List PeerLink) (handed more : List TakenAnswer) → slice_get links k ≡ Some l →
+    (holds h l.link.untaken ≡ true → l.peer ≡ p → IsKept p h state.untaken (handed ++ more)) → Stands i p h links handed → Stands i p h (with_link k l state links) (handed ++ more)
+stands_put i k h p l state links handed more e f g = elim (put_at links k i l y g.link e g.there) [
+  | inl (same, at) ↦ record { link = y; there = at; peer = ap (λ (z : PeerLink). z.peer) same ∙ g.peer; kept = mine same g.kept }
+  | inr at ↦ record { link = g.link; there = at; peer = g.peer; kept = other g.kept }
+]
+  where
+    y : PeerLink
+    y = record { peer = l.peer; link = state }
+
+    other : IsKept p h g.link.link.untaken handed → IsKept p h g.link.link.untaken (handed ++ more)
+    other (inl held) = inl held
+    other (inr (a, t)) = inr (a, in_more _ handed more t)
+
+    mine : l ≡ g.link → IsKept p h g.link.link.untaken handed → IsKept p h state.untaken (handed ++ more)
+    mine same (inl held) = f (ap (λ (z : PeerLink). holds h z.link.untaken) same ∙ held) (ap (λ (z : PeerLink). z.peer) same ∙ g.peer)
+    mine same (inr (a, t)) = inr (a, in_more _ handed more t)
+
+as_before : (i h : ℕ) (p : Peer) (links : List PeerLink) (handed : List TakenAnswer) → Stands i p h links (handed ++ []) → Stands i p h links handed
+as_before i h p links handed g = rw append-nil at g
+
+holds_heard : (ms : List Msg) (x : ℕ) (us : List Untaken) → holds x (hears_all ms us) ≡ holds x us
+holds_heard [] x us = refl
+holds_heard (Response r ∷ ms) x us = holds_heard ms x (map (answered r.handle (answer_in r)) us) ∙ holds_answered r.handle x (answer_in r) us
+holds_heard (KeepAlive form ∷ ms) x us = holds_heard ms x us
+holds_heard (Command respond c ∷ ms) x us = holds_heard ms x us
+
+holds_received : (b : Bool) (content : Option (List Msg)) (x : ℕ) (us : List Untaken) → holds x (cond b (hears_content content us) us) ≡ holds x us
+holds_received true None x us = refl
+holds_received true (Some ms) x us = holds_heard ms x us
+holds_received false content x us = refl
+
+either : (a b : Bool) → a ≡ true → (a || b) ≡ true
+either a b q = cc
+
+stands_step : (i h : ℕ) (p : Peer) (step : Step) (n : Network) → Stands i p h n.links n.taken → Stands i p h (after_step step n).links (after_step step n).taken
+stands_step i h p step n g = one step
+  where
+    by_answer : (l : LinkState) (r : Request) (now : ℕ) (x : Result Handle ControlFault) → holds h l.untaken ≡ true → holds h (after_submission x r now l).untaken ≡ true
+    by_answer l r now (Ok k) q =
+        let new = new_untaken (command_under k.0 r) in
+        list_any-append (λ (u : Untaken). nat_eq u.command.handle h) l.untaken (new ∷ []) ∙ either (holds h l.untaken) (holds h (new ∷ [])) q
+    by_answer l r now (Err fault) q = q
+
+    by_decision : (l : LinkState) (now : ℕ) (d : Decision) → holds h l.untaken ≡ true → holds h (after_due d now l).untaken ≡ true
+    by_decision l now (GivesCommand c) q = holds_given_out now c.handle h l.untaken ∙ q
+    by_decision l now GivesKeepAlive q = q
+    by_decision l now GivesNothing q = q
+    by_decision l now IsLost q = q
+
+    by_submit : (k : ℕ) (r : Request) (now : ℕ) (o : Option PeerLink) → slice_get n.links k ≡ o → Stands i p h (after_submit k r now o n).links (after_submit k r now o n).taken
+    by_submit k r now None e = g
+    by_submit k r now (Some l) e =
+        let state = after_submission (submission r l.link) r now l.link in
+        as_before i h p (with_link k l state n.links) n.taken (stands_put i k h p l state n.links n.taken [] e (λ q s. inl (by_answer l.link r now (submission r l.link) q)) g)
+
+    by_due : (k now : ℕ) (o : Option PeerLink) → slice_get n.links k ≡ o → Stands i p h (after_due_step k now o n).links (after_due_step k now o n).taken
+    by_due k now None e = g
+    by_due k now (Some l) e =
+        let state = gone_on now l.link in
+        as_before i h p (with_link k l state n.links) n.taken (stands_put i k h p l state n.links n.taken [] e (λ q s. inl (by_decision l.link (present now l.link) (decision now l.link) q)) g)
+
+    by_delivery : (now : ℕ) (o : Option SentDatagram) → Stands i p h (after_delivery now o n).links (after_delivery now o n).taken
+    by_delivery now None = g
+    by_delivery now (Some d) = record { link = g.link; there = g.there; peer = g.peer; kept = g.kept }
+
+    hearing : (d : SentDatagram) (now : ℕ) (l : PeerLink) → holds h (hears_datagram d now l).link.untaken ≡ holds h l.link.untaken
+    hearing d now l = by_test (same_peer l.peer d.peer)
+      where
+        by_test : (b : Bool) → (let y : PeerLink = cond b (record { peer = l.peer; link = received device_address (content_of d.bytes) now l.link }) l in holds h y.link.untaken) ≡ holds h l.link.untaken
+        by_test true = holds_received (same_peer device_address l.link.device) (content_of d.bytes) h l.link.untaken
+        by_test false = refl
+
+    heard : (d : SentDatagram) (now : ℕ) → IsKept p h g.link.link.untaken n.taken → IsKept p h (hears_datagram d now g.link).link.untaken n.taken
+    heard d now (inl held) = inl (hearing d now g.link ∙ held)
+    heard d now (inr t) = inr t
+
+    by_reception : (now : ℕ) (o : Option SentDatagram) → Stands i p h (after_reception now o n).links (after_reception now o n).taken
+    by_reception now None = g
+    by_reception now (Some d) = record {
+      link = hears_datagram d now g.link;
+      there = slice_get-map (hears_datagram d now) n.links i ∙ ap (λ o. option_map (hears_datagram d now) o) g.there;
+      peer = hears_peer d now g.link ∙ g.peer;
+      kept = heard d now g.kept;
+    }
+
+    by_other : (from : Peer) (bytes : List ℕ) (now : ℕ) (b : Bool) →
+        (let m : Network = cond b n (record n { events = Datagram from bytes now ∷ n.events }) in Stands i p h m.links m.taken)
+    by_other from bytes now true = g
+    by_other from bytes now false = g
+
+    -- an answer is taken from the link that holds the command
+    without : (k : ℕ) (us : List Untaken) (b : Bool) → holds h (without_handle k us) ≡ b → holds h us ≡ true → (a : AnswerFields) → IsKept p h (without_handle k us) (n.taken ++ taken_by p k (Some a))
+    without k us true e q a = inl e
+    without k us false e q a = elim (holds_without k h us e) [
+      | inl same ↦ rw same (inr (a, in_last _ n.taken))
+      | inr none ↦ cc
+    ]
+
+    by_taken : (k : ℕ) (l : PeerLink) (o : Option AnswerFields) → holds h l.link.untaken ≡ true → l.peer ≡ p →
+        IsKept p h (cond (is_some o) (without_handle k l.link.untaken) l.link.untaken) (n.taken ++ taken_by l.peer k o)
+    by_taken k l None q same = inl q
+    by_taken k l (Some a) q same = rw same (without k l.link.untaken (holds h (without_handle k l.link.untaken)) refl q a)
+
+    by_take : (k j : ℕ) (o : Option PeerLink) → slice_get n.links k ≡ o → Stands i p h (after_take k j o n).links (after_take k j o n).taken
+    by_take k j None e = g
+    by_take k j (Some l) e =
+        stands_put i k h p l (taken j l.link) n.links n.taken (taken_by l.peer j (answer_under j l.link.untaken)) e
+        (λ q same. by_taken j l (answer_under j l.link.untaken) q same) g
+
+    one : (step : Step) → Stands i p h (after_step step n).links (after_step step n).taken
+    one (Submit k r now) = by_submit k r now (slice_get n.links k) refl
+    one (Due k now) = by_due k now (slice_get n.links k) refl
+    one (ToDevice k now) = by_delivery now (slice_get n.to_device k)
+    one (ToLink k now) = by_reception now (slice_get n.to_links k)
+    one (Other from bytes now) = by_other from bytes now (has_link from n.links)
+    one (steps.Tick now) = record { link = g.link; there = g.there; peer = g.peer; kept = g.kept }
+    one (steps.Front ono value) = record { link = g.link; there = g.there; peer = g.peer; kept = g.kept }
+    one (Take k j) = by_take k j (slice_get n.links k) refl
+
+stands_steps : (i h : ℕ) (p : Peer) (es : List Step) (n : Network) → Stands i p h n.links n.taken → Stands i p h (after_steps es n).links (after_steps es n).taken
+stands_steps i h p [] n g = g
+stands_steps i h p (e ∷ es) n g = stands_steps i h p es (after_step e n) (stands_step i h p e n g)
+
+-- a member's handle is held
+holds_in : (h : ℕ) (u : Untaken) (us : List Untaken) → IsIn u us → u.command.handle ≡ h → holds h us ≡ true
+holds_in h u [] i e = absurd i
+holds_in h u (x ∷ us) (inl q) e = let same : x.command.handle ≡ h = ap (λ (z : Untaken). z.command.handle) q ∙ e in either (nat_eq x.command.handle h) (holds h us) (rw same (equal_self h))
+holds_in h u (x ∷ us) (inr i) e = second (nat_eq x.command.handle h) (holds h us) (holds_in h u us i e)
+  where
+    second : (a b : Bool) → b ≡ true → (a || b) ≡ true
+    second true b q = refl
+    second false b q = q
+
+-- ---- a response comes to the link
+
+-- a held command has an answer then, this one or an earlier one
+has_answer : (h : ℕ) (a : AnswerFields) (us : List Untaken) → holds h us ≡ true → (b : AnswerFields) × (answer_under h (map (answered h a) us) ≡ Some b)
+has_answer h a [] q = cc
+has_answer h a (u ∷ us) q = by_test (nat_eq u.command.handle h) u.answer q (has_answer h a us)
+  where
+    by_test : (b : Bool) (o : Option AnswerFields) → (b || holds h us) ≡ true → (holds h us ≡ true → (c : AnswerFields) × (answer_under h (map (answered h a) us) ≡ Some c)) →
+        (c : AnswerFields) × (cond b (cond (b && is_none o) (Some a) o) (answer_under h (map (answered h a) us)) ≡ Some c)
+    by_test true None q rest = (a, refl)
+    by_test true (Some x) q rest = (x, refl)
+    by_test false o q rest = rest q
+
+-- ---- what was executed was executed honestly
+
+honest_of : (p : Peer) (g : Past) (x : Execution) (ns : List Note) → AreOwn p g ns → IsIn x (executed_for p ns) → IsHonest p x g
+honest_of p g x [] own i = absurd i
+honest_of p g x (n ∷ ns) own i = by_test (same_peer n.peer p) refl i (honest_of p g x ns own.1)
+  where
+    by_what : (what : Noted) → IsOwn p g what → IsIn x (executed_in what ++ executed_for p ns) → (IsIn x (executed_for p ns) → IsHonest p x g) → IsHonest p x g
+    by_what (Admitted ms) o i rest = rest i
+    by_what (Heartbeat ms) o i rest = rest i
+    by_what (Executed objects c r) o (inl q) rest = rw q at o
+    by_what (Executed objects c r) o (inr i) rest = rest i
+
+    by_test : (b : Bool) → same_peer n.peer p ≡ b → IsIn x (cond b (executed_in n.what) [] ++ executed_for p ns) → (IsIn x (executed_for p ns) → IsHonest p x g) → IsHonest p x g
+    by_test true q i rest = by_what n.what (own.0 (same_is n.peer p q)) i rest
+    by_test false q i rest = rest i
+
+-- so the response with its reply is read as what it is
+read_sent : WrittenIsReadBack → (p : Peer) (h : ℕ) (x : Execution) (g : Past) → h < 2 ^ 32 → IsHonest p x g →
+    content_of (pdu_encoding (pdu_of (response h x.reply))) ≡ Some (Response (response_to h x.reply) ∷ [])
+read_sent law p h x g low t =
+    let small = reply_fits x.objects p x.command h low in
+    ap messages_read (read_response law (response_to h x.reply) (rw t.reply small.0) (rw t.reply small.1))
+
+-- ---- the response comes to the link
+
+-- the network after the datagram came
+abbrev pub arrived : ℕ → SentDatagram → Network → Network
+arrived later x m = after_reception later (Some x) m
+
+pub record Arrives (i : ℕ) (c : CommandFields) (l : PeerLink) (m m' : Network) : Type 0 where
+  pub held : holds c.handle l.link.untaken ≡ true → HoldsItsAnswer i c m'
+  pub got : IsKept l.peer c.handle l.link.untaken m.taken → GotItsAnswer i c m'
+
+arrives : (s i later : ℕ) (m : Network) (x : SentDatagram) (r : ResponseFields) (l : PeerLink) (c : CommandFields) → Sound s (arrived later x m) →
+    slice_get m.links i ≡ Some l → l.link.device ≡ device_address → l.peer ≡ x.peer → content_of x.bytes ≡ Some (Response r ∷ []) → r.handle ≡ c.handle →
+    IsSubmitted l.peer c m.submitted → Arrives i c l m (arrived later x m)
+arrives s i later m x r l c sound there device peer content handle sub = record { held = holding; got = got }
+  where
+    m' : Network
+    m' = arrived later x m
+
+    l' : PeerLink
+    l' = record { peer = l.peer; link = received device_address (content_of x.bytes) later l.link }
+
+    there' : slice_get m'.links i ≡ Some l'
+    there' =
+        slice_get-map (hears_datagram x later) m.links i ∙ ap (λ o. option_map (hears_datagram x later) o) there
+        ∙ ap (λ b. let y : PeerLink = cond b l' l in Some y) (same_of l.peer x.peer peer)
+
+    of : LinkSound s m' l'
+    of = each_at (LinkSound s m') m'.links i l' sound.each there'
+
+    untaken_is : l'.link.untaken ≡ map (answered c.handle (answer_in r)) l.link.untaken
+    untaken_is =
+        ap (λ b. cond b (hears_content (content_of x.bytes) l.link.untaken) l.link.untaken) (same_of device_address l.link.device (sym device))
+        ∙ ap (λ o. hears_content o l.link.untaken) content ∙ ap (λ h. map (answered h (answer_in r)) l.link.untaken) handle
+
+    is_its : (a : AnswerFields) → IsTrueAnswer l.peer c.handle a (past m') → IsAnswerTo c l.peer a m'
+    is_its a t =
+        let its = true_answer l.peer c.handle a m' of.kept t in
+        record { of_its_command = its; command = of.fair.unique its.execution.command c (contains_in _ m'.submitted its.submitted) sub its.handle }
+
+    holding : holds c.handle l.link.untaken ≡ true → HoldsItsAnswer i c m'
+    holding q =
+        let b = has_answer c.handle (answer_in r) l.link.untaken q in
+        let held : answer_under c.handle l'.link.untaken ≡ Some b.0 = ap (answer_under c.handle) untaken_is ∙ b.1 in
+        record { link = l'; there = there'; answer = b.0; held = held; is_its = is_its b.0 (rw held at (held_answer l.peer (past m') c.handle l'.link.untaken of.fair.untaken)) }
+
+    got : IsKept l.peer c.handle l.link.untaken m.taken → GotItsAnswer i c m'
+    got (inl q) = let t = holding q in record { link = t.link; there = t.there; answer = t.answer; got = inl t.held; is_its = t.is_its }
+    got (inr (a, t)) = record {
+      link = l';
+      there = there';
+      answer = a;
+      got = inr (in_contains _ m'.taken t);
+      is_its = is_its a (each_in (λ (y : TakenAnswer). y.peer ≡ l.peer → IsTrueAnswer l.peer y.handle y.answer (past m')) _ m'.taken of.fair.was_taken t refl);
+    }
+
+-- ---- there and back
+
+comes_back : WrittenIsReadBack → (s : ℕ) (n : Network) (k now i later : ℕ) (d : SentDatagram) (l : PeerLink) (c : CommandFields) (between : List Step) → Sound s n → AreToDevice n.links →
+    slice_get n.to_device k ≡ Some d → slice_get n.links i ≡ Some l → CarriesUntaken d l c → AllByRecursion StepFits between → IsAnswered k now n d c →
+    ComesBack k now between later i c l.peer n
+comes_back law s n k now i later d l c between sound devices sent_to own carries fits is_answered = record {
+  sent_back = record { datagram = back; peer = sym carries.peer; sent = is_answered.sent; delivered = delivered };
+  held = λ h. rw delivered (then.held (still h));
+  got = rw delivered (then.got kept_own);
+}
+  where
+    p : Peer
+    p = l.peer
+
+    n1 : Network
+    n1 = asked k now n
+
+    n2 : Network
+    n2 = meanwhile k now between n
+
+    x : Execution
+    x = is_answered.execution
+
+    back : SentDatagram
+    back = record { peer = d.peer; bytes = pdu_encoding (pdu_of (response c.handle x.reply)) }
+
+    sound1 : Sound s n1
+    sound1 = sound_step law s (ToDevice k now) n tt sound
+
+    sound3 : Sound s (after_step (ToLink (length n.to_links) later) n2)
+    sound3 = sound_step law s (ToLink (length n.to_links) later) n2 tt (sound_steps law s between n1 fits sound1)
+
+    own1 : slice_get n1.links i ≡ Some l
+    own1 = rw sent_to own
+
+    of : LinkSound s n l
+    of = each_at (LinkSound s n) n.links i l sound.each own
+
+    of1 : LinkSound s n1 l
+    of1 = each_at (LinkSound s n1) n1.links i l sound1.each own1
+
+    held : IsIn carries.untaken l.link.untaken
+    held = contains_in carries.untaken l.link.untaken carries.held
+
+    sub : IsSubmitted p c n.submitted
+    sub = rw carries.command at (each_in (IsFair p (past n)) carries.untaken l.link.untaken of.fair.untaken held).0
+
+    sendable : IsSendable c
+    sendable = (each_in (λ (y : SubmittedCommand). y.peer ≡ p → IsSendable y.command × (y.command.handle < end_of l.link.next)) _ n.submitted of.fair.sendable sub refl).0
+
+    honest : IsHonest p x (past n1)
+    honest = honest_of p (past n1) x (state_of (past n1)).notes of1.fair.own (contains_in x (executions_for p n1) (rw carries.peer is_answered.executed))
+
+    grown : Grown n1 n2
+    grown = grown_steps between n1
+
+    grown2 : Grown n n2
+    grown2 = grown_on n n1 n2 (grown_step (ToDevice k now) n) grown
+
+    delivered : slice_get n2.to_links (length n.to_links) ≡ Some back
+    delivered = stays_at n.to_links back grown.sent n1.to_links n2.to_links is_answered.sent grown.to_links
+
+    stands : Stands i p c.handle n2.links n2.taken
+    stands = stands_steps i c.handle p between n1
+        (record { link = l; there = own1; peer = refl; kept = inl (holds_in c.handle carries.untaken l.link.untaken held (ap (λ (y : CommandFields). y.handle) carries.command)) })
+
+    to_device : AreToDevice n2.links
+    to_device = to_device_steps between n1 (to_device_step (ToDevice k now) n devices)
+
+    sub2 : IsSubmitted p c n2.submitted
+    sub2 = rw grown2.submitted (in_more _ n.submitted grown2.more sub)
+
+    l2 : PeerLink
+    l2 = stands.link
+
+    then : Arrives i c l2 n2 (arrived later back n2)
+    then = arrives s i later n2 back (response_to c.handle x.reply) l2 c (rw delivered at sound3) stands.there
+        (each_at (λ (y : PeerLink). y.link.device ≡ device_address) n2.links i l2 to_device stands.there)
+        (stands.peer ∙ carries.peer) (read_sent law p c.handle x (past n1) sendable.fits.handle honest) refl (rw stands.peer sub2)
+
+    kept_own : IsKept l2.peer c.handle l2.link.untaken n2.taken
+    kept_own = rw stands.peer stands.kept
+
+    still : HoldsUntaken i c n2 → holds c.handle l2.link.untaken ≡ true
+    still h =
+        let same : h.link ≡ l2 = same_Some h.link l2 (sym h.there ∙ stands.there) in
+        ap (λ (y : PeerLink). holds c.handle y.link.untaken) (sym same)
+        ∙ holds_in c.handle h.untaken h.link.link.untaken (contains_in h.untaken h.link.link.untaken h.held) (ap (λ (y : CommandFields). y.handle) h.command)
+
+pub round_trip_law : WrittenIsReadBack → (w s : ℕ) (tree : List Object) (starts : List Start) (es : List Step) → 0 < s → 2 * s ≤ w + 1 → are_apart starts ≡ true → Fit starts es →
+    RoundTrips (after_steps es (opening w s tree starts))
+round_trip_law law w s tree starts es some wide apart fit k now i d l c peers between later sent_to own carries keeps small come fits =
+    comes_back law s (after_steps es (opening w s tree starts)) k now i later d l c between (sound_after law w s tree starts es apart fit)
+    (to_device_steps es (opening w s tree starts) (to_device_opening w s tree starts)) sent_to own carries fits
+    (never_old_law law w s tree starts es some wide apart fit k now i d l c peers sent_to own carries keeps small come)

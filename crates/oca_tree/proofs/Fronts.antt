@@ -1,0 +1,159 @@
+-- What setting an object does, from what each of its steps found.
+use Rattle.std.proofs.Common.{◌≡◌, ℕ, ◌≤◌, length, arith, Bool, true, false, cond, List, [], get_or, set, refl, sym, ap, ◌∙◌}
+use Rattle.std.specs.Prelude.{Option, Some, None, not}
+use Rattle.std.specs.List.{position}
+use Rattle.oca_types.specs.declared.words.Peer.{Peer}
+use Rattle.oca_types.specs.Peers.{CommandFields}
+use Rattle.oca_types.specs.declared.class.Access.{Access}
+use Rattle.oca_types.specs.declared.class.Method.{Method}
+use Rattle.oca_types.specs.declared.class.MethodKind.{MethodKind}
+use Rattle.oca_types.specs.declared.class.MethodKind.TheVariants.{Known, LeftOut, Unknown}
+use Rattle.oca_types.specs.Methods.{access}
+use Rattle.oca_types.specs.declared.status.Status.TheVariants as statuses
+use Rattle.oca_tree.specs.declared.object.Lock.{Lock}
+use Rattle.oca_tree.specs.declared.object.Object.{Object}
+use Rattle.oca_tree.specs.declared.object.Value.{Value}
+use Rattle.oca_tree.specs.declared.object.Value.TheVariants as values
+use Rattle.oca_tree.specs.declared.request.SwitchRequest.TheVariants as switches
+use Rattle.oca_tree.specs.declared.setting.LocalValue.{LocalValue}
+use Rattle.oca_tree.specs.declared.setting.LocalValue.TheVariants as local
+use Rattle.oca_tree.specs.declared.setting.SetFault.{SetFault}
+use Rattle.oca_tree.specs.declared.setting.SetFault.TheVariants as faults
+use Rattle.oca_tree.specs.Objects.{class_of, object_of, has_number, with_object}
+use Rattle.oca_tree.specs.Locks.{lock_refuses}
+use Rattle.oca_tree.specs.Places.{is_block_value}
+use Rattle.oca_tree.specs.Requests.{request_of, is_out_of_range, is_invalid}
+use Rattle.oca_tree.specs.Execution.{Execution, changed, execution, answer, joined, parameters, switch_parameters, kind_at, request_at, is_locked}
+use Rattle.oca_tree.specs.Settings.{request_for, is_set_by, fault_at, fault_in, set_fault, front, set_where, after_set, AnyPeerSetsTheSame, FrontSetsAsPeersDo}
+use Rattle.oca_tree.specs.Trees.{IsTree}
+use Rattle.oca_tree.proofs.Asked.{FitsPositions}
+use Rattle.oca_tree.proofs.Executing.{found_at, within_at, sound_at, placed, known_access, request_ok, exec_refused, exec_ok}
+use Rattle.oca_tree.proofs.Sound.{changed_place, changed_ono, changed_sound, written_tree}
+
+pub any_peer : AnyPeerSetsTheSame
+unfolding changed
+any_peer o peer (local.State n) = refl
+any_peer o peer (local.Position n) = refl
+any_peer o peer (local.Truth truth) = refl
+any_peer o peer (local.Number n) = refl
+
+valid : (lockable : Bool) (lock : Option Lock) (value : LocalValue) → is_invalid lockable lock (request_for value) ≡ false
+unfolding is_invalid
+valid lockable lock (local.State n) = refl
+valid lockable lock (local.Position n) = refl
+valid lockable lock (local.Truth truth) = refl
+valid lockable lock (local.Number n) = refl
+
+fits : (held : Value) (value : LocalValue) → FitsPositions held (request_for value)
+unfolding FitsPositions
+fits held (local.State n) = tt
+fits held (local.Position n) = tt
+fits held (local.Truth truth) = tt
+fits held (local.Number n) = tt
+
+in_range : (held : Value) (value : LocalValue) → fault_at held value ≡ None → is_out_of_range held (request_for value) ≡ false
+in_range held value e = by (is_block_value held) (is_set_by held value) (is_out_of_range held (request_for value)) e
+  where
+    by : (a b out : Bool) → cond a (Some faults.NoSetting) (cond (not b) (Some faults.OtherKind) (cond out (Some faults.OutOfRange) None)) ≡ None → out ≡ false
+    by a b false h = refl
+    by true b true h = cc
+    by false true true h = cc
+    by false false true h = cc
+
+-- a command to the object of this number, for what was found by the number
+abbrev to : ℕ → CommandFields
+to number = record { handle = 0; target = number; level = 0; index = 0; count = 0; params = [] }
+
+pub fault_none : (tree : List Object) (number : ℕ) (value : LocalValue) → object_of tree number ≡ None → set_fault tree number value ≡ Some faults.NoObject
+unfolding set_fault
+fault_none tree number value e = ap (λ x. fault_in x value) e
+
+pub unset : (tree : List Object) (number : ℕ) (value : LocalValue) (f : SetFault) → set_fault tree number value ≡ Some f → after_set tree number value ≡ tree
+unfolding after_set
+unset tree number value f e = rw e refl
+
+module _ (tree : List Object) (number i : ℕ) (o : Object) (place : Some i ≡ position (has_number number) tree) (here : o ≡ get_or tree i o) (value : LocalValue) where
+  found : object_of tree number ≡ Some o
+  found = found_at tree front (to number) i o place here
+
+  pub fault_there : set_fault tree number value ≡ fault_at o.value value
+  unfolding set_fault
+  fault_there = ap (λ x. fault_in x value) found
+
+  module _ (fine : fault_at o.value value ≡ None) where
+    pub set_there : after_set tree number value ≡ set tree i (changed o front (request_for value))
+    unfolding after_set
+    set_there =
+        ap (λ f. set_where f tree (object_of tree number) value) (fault_there ∙ fine)
+        ∙ ap (λ x. set_where None tree x value) found
+        ∙ placed tree front (to number) i o place here (changed o front (request_for value)) (changed_ono o front (request_for value))
+
+    pub tree_there : IsTree tree → IsTree (set tree i (changed o front (request_for value)))
+    tree_there sound =
+        let new = changed_sound o front (request_for value) (sound_at tree front (to number) i o place here sound) (in_range o.value value fine) (valid o.lockable o.lock value) (fits o.value value) in
+        written_tree tree i o (changed o front (request_for value)) (within_at tree front (to number) i o place here) here (changed_place o front (request_for value)) new sound
+
+-- ---- the front sets as a peer's command does
+
+no_switch_answer : (held : Value) (n : ℕ) → switch_parameters held (switches.SetPosition n) ≡ []
+no_switch_answer values.Block n = refl
+no_switch_answer (values.Mute state) n = refl
+no_switch_answer (values.Polarity state) n = refl
+no_switch_answer (values.Switch switch) n = refl
+no_switch_answer (values.Boolean truth) n = refl
+no_switch_answer (values.Number range) n = refl
+
+no_answer : (tree : List Object) (o : Object) (value : LocalValue) → parameters tree o (request_for value) ≡ []
+unfolding parameters
+no_answer tree o (local.State n) = refl
+no_answer tree o (local.Position n) = no_switch_answer o.value n
+no_answer tree o (local.Truth truth) = refl
+no_answer tree o (local.Number n) = refl
+
+-- an object that takes a value is no block
+no_block : (held : Value) (value : LocalValue) → is_set_by held value ≡ true → is_block_value held ≡ false
+unfolding is_set_by
+no_block values.Block value e = cc
+no_block (values.Mute state) value e = refl
+no_block (values.Polarity state) value e = refl
+no_block (values.Switch switch) value e = refl
+no_block (values.Boolean truth) value e = refl
+no_block (values.Number range) value e = refl
+
+-- then the fault is whether the value is out of range
+fault_taken : (held : Value) (value : LocalValue) (out : Bool) → is_set_by held value ≡ true → is_out_of_range held (request_for value) ≡ out →
+    fault_at held value ≡ cond out (Some faults.OutOfRange) None
+fault_taken held value out takes e = rw (no_block held value takes, takes, e) refl
+
+pub as_peers : FrontSetsAsPeersDo
+unfolding set_fault after_set
+as_peers tree peer c o value found takes free asked = by_kind (kind_at (Some o) c) refl free asked
+  where
+    fault_is : (out : Bool) → is_out_of_range o.value (request_for value) ≡ out → set_fault tree c.target value ≡ cond out (Some faults.OutOfRange) None
+    fault_is out e = ap (λ x. fault_in x value) found ∙ fault_taken o.value value out takes e
+
+    set_here : is_out_of_range o.value (request_for value) ≡ false → after_set tree c.target value ≡ set_where None tree (Some o) value
+    set_here e = ap (λ f. set_where f tree (object_of tree c.target) value) (fault_is false e) ∙ ap (λ x. set_where None tree x value) found
+
+    by_range : (method : Method) → kind_at (Some o) c ≡ Known method (access method) → lock_refuses o.lock peer (access method) ≡ false →
+        request_of o.value method c.count c.params ≡ Some (request_for value) → (out : Bool) → is_out_of_range o.value (request_for value) ≡ out →
+        (execution tree peer c).tree ≡ after_set tree c.target value
+    by_range method kind free asked true e =
+        let refused = exec_refused tree peer c o found statuses.ParameterOutOfRange (λ t. rw (kind, free, asked, e) refl) in
+        ap (λ (x : Execution). x.tree) refused ∙ sym (unset tree c.target value faults.OutOfRange (fault_is true e))
+    by_range method kind free asked false e =
+        let r = request_for value in
+        let ok = request_ok o peer c method r (kind, free) asked e (valid o.lockable o.lock value) in
+        let none : answer tree o r ≡ [] = ap joined (no_answer tree o value) in
+        let short : length (answer tree o r) ≤ 1452 = rw none (omega arith) in
+        ap (λ (x : Execution). x.tree) (exec_ok tree peer c o found r ok short)
+        ∙ ap (with_object tree) (any_peer o peer value)
+        ∙ sym (set_here e)
+
+    by_kind : (k : MethodKind) → kind_at (Some o) c ≡ k → is_locked (Some o) k peer ≡ false → request_at (Some o) k c ≡ Some (request_for value) →
+        (execution tree peer c).tree ≡ after_set tree c.target value
+    by_kind (Known method reached) kind free asked =
+        let is = known_access (class_of o.value) (record { level = c.level; index = c.index }) method reached kind in
+        by_range method (kind ∙ ap (Known method) is) (ap (lock_refuses o.lock peer) (sym is) ∙ free) asked (is_out_of_range o.value (request_for value)) refl
+    by_kind LeftOut kind free asked = cc
+    by_kind Unknown kind free asked = cc
