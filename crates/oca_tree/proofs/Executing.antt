@@ -19,6 +19,7 @@ use Rattle.oca_tree.specs.Objects.{object_of, has_number, with_object}
 use Rattle.oca_tree.specs.Requests.{request_of, is_out_of_range, is_invalid}
 use Rattle.oca_tree.specs.Execution.{execution, refused, carried_out, parameters, answer, answer_count, changed, status_of, by_status, request_at, kind_at}
 use Rattle.oca_tree.specs.Trees.{IsTree, IsSound}
+use Rattle.oca_tree.specs.Written.{is_ok}
 use Rattle.oca_tree.specs.PrivateSteps.{plain_request, MayCall, IsRefusedAt, IsRequestFor, PutsAll, Executes}
 use Rattle.oca_tree.proofs.Plain.{plain_asks, plain_in_range, plain_valid, plain_unchanged}
 use Rattle.oca_tree.proofs.Positions.{find_some, find_passes, place_found, with_object_at, same_element}
@@ -121,4 +122,4 @@ module _ (tree : List Object) (peer : Peer) (c : CommandFields) (i : ℕ) (o : O
       ap (set tree i) (plain_unchanged method r plain o peer ∙ here) ∙ set-get_or tree i o in
       done_at r (plain_ok o peer c method r may plain none empty) out count puts short
       ∙ ap (λ t. record { tree = t; status = statuses.Ok; count = count; parameters = out }) same
-  read_at method r may plain none empty (Err s) out puts short = (full_at r (plain_ok o peer c method r may plain none empty) out s puts, refl)
+  read_at method r may plain none empty (Err s) out puts short = (full_at r (plain_ok o peer c method r may plain none empty) out s puts, refl, ap is_ok puts.0)

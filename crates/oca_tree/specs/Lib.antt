@@ -5,6 +5,7 @@ pub mod Locks
 pub mod Parameters
 pub mod Requests
 pub mod Execution
+pub mod Written
 pub mod Trees
 pub mod Building
 pub mod Bench

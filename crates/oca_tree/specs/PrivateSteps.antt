@@ -22,6 +22,7 @@ use Rattle.oca_tree.specs.Places.{places, reaches}
 use Rattle.oca_tree.specs.Locks.{lock_refuses}
 use Rattle.oca_tree.specs.Requests.{request_of, is_out_of_range, is_invalid}
 use Rattle.oca_tree.specs.Execution.{identification_encoding, block_member_encoding, joined, answer, kind_at, request_at, status_of, by_status, refused, execution}
+use Rattle.oca_tree.specs.Written.{is_ok}
 use Rattle.oca_tree.specs.Trees.{IsTree, IsSoundValue}
 use Rattle.oca_tree.specs.Building.{add_fault, object_of_spec, is_bad_value}
 use Rattle.oca_tree.specs.Settings.{request_for, fault_at}
@@ -64,7 +65,7 @@ IsRefusedAt s o peer c = (tree : List Object) → by_status tree peer (Some o) (
 
 abbrev pub IsMethodFor : Result Method Status → Object → Peer → CommandFields → Type 0
 IsMethodFor (Ok method) o peer c = MayCall method o peer c
-IsMethodFor (Err s) o peer c = IsRefusedAt s o peer c
+IsMethodFor (Err s) o peer c = IsRefusedAt s o peer c × (is_ok s ≡ false)
 
 -- A command is understood at an object, and then only the answer can be too long, or it is refused whatever the tree.
 abbrev pub IsRequestFor : Result Request Status → Object → Peer → CommandFields → Type 0
@@ -72,12 +73,12 @@ IsRequestFor (Ok r) o peer c =
     (request_at (Some o) (kind_at (Some o) c) c ≡ Some r)
     × (is_out_of_range o.value r ≡ false) × (is_invalid o.lockable o.lock r ≡ false)
     × ((tree : List Object) → status_of tree peer (Some o) c ≡ (if nat_lt 1452 (length (answer tree o r)) then status.BufferOverflow else status.Ok))
-IsRequestFor (Err s) o peer c = IsRefusedAt s o peer c
+IsRequestFor (Err s) o peer c = IsRefusedAt s o peer c × (is_ok s ≡ false)
 
 -- A command was carried out, or refused with nothing changed, as its execution says.
 abbrev pub Executes : Result ℕ Status → List Object → List Object → List ℕ → Peer → CommandFields → Type 0
 Executes (Ok count) old new out peer c = execution old peer c ≡ record { tree = new; status = status.Ok; count = count; parameters = out }
-Executes (Err s) old new out peer c = (execution old peer c ≡ refused old s) × (new ≡ old)
+Executes (Err s) old new out peer c = (execution old peer c ≡ refused old s) × (new ≡ old) × (is_ok s ≡ false)
 
 -- A value is made where it is in range.
 abbrev pub MakesValue : Option Value → Value → Type 0

@@ -1,11 +1,14 @@
 //! Executing a command: whether it is refused, what it answers and what it changes.
-ghost use Rattle.std.specs.Prelude.{◌≡◌, [], slice_index_or, Some};
+ghost use Rattle.std.specs.Prelude.{◌≡◌, [], slice_index_or, Some, OnOk};
 ghost use Rattle.std.specs.List.{position};
 ghost use Rattle.oca_types.specs.Peers.{fields_of};
 ghost use Rattle.oca_tree.specs.Objects.{has_number};
 ghost use Rattle.oca_tree.specs.Locks.{lock_count};
 ghost use Rattle.oca_tree.specs.Trees.{IsTree, IsSound};
 ghost use Rattle.oca_tree.specs.PrivateSteps.{MayCall, IsMethodFor, IsRequestFor, Executes};
+ghost use Rattle.oca_types.specs.declared.class.MethodKind.TheVariants.{Known};
+ghost use Rattle.oca_types.specs.Methods.{access};
+ghost use Rattle.oca_tree.specs.Written.{is_write, calls_a_write};
 ghost use Rattle.oca_tree.specs.declared.object.Object.{Object as AnObject};
 
 use crate::answer::put_answer;
@@ -13,7 +16,7 @@ use crate::object::Object;
 use crate::objects::Objects;
 use crate::place::index_from;
 use crate::request::Request;
-use oca_types::{Command, Method, MethodKind, Params, Peer, Status, method_of};
+use oca_types::{Access, Command, Method, MethodKind, Params, Peer, Status, access_of, method_of};
 
 /// The method that a command calls, or why the peer cannot call it.
 fn method_for(object: &Object, peer: Peer, command: &Command<'_>) -> Result<Method, Status>
@@ -81,8 +84,16 @@ fn carry_out_at(
     Ok(count)
 }
 
+/// Whether a method writes.
+fn is_write(method: Method) -> bool
+    ensures { result ≡ is_write (Known method (access method)) }
+{
+    matches!(access_of(method), Access::Write)
+}
+
 /// Carries out a command, if it is not refused, and puts the answer into empty parameters. `locks` counts the locks that are
-/// held, and `recent` is where an object was found last. What only reads and has no parameters is answered at once.
+/// held, `recent` is where an object was found last, and `writes` is then whether the method of a command that was not refused
+/// writes. What only reads and has no parameters is answered at once.
 pub(crate) fn carry_out(
     objects: &mut Objects,
     locks: &mut usize,
@@ -90,11 +101,13 @@ pub(crate) fn carry_out(
     peer: Peer,
     command: &Command<'_>,
     out: &mut Params,
+    writes: &mut bool,
 ) -> Result<u8, Status>
     requires empty { out.old.items ≡ [] }
     requires tree { IsTree objects.old }
     requires count { locks.old ≡ lock_count objects.old }
     ensures done { Executes result objects.old objects.new out.new.items peer (fields_of command.now) }
+    ensures writes { OnOk result (writes.new ≡ calls_a_write objects.old (fields_of command.now)) }
     ensures tree { IsTree objects.new }
     ensures count { locks.new ≡ lock_count objects.new }
 {
@@ -109,7 +122,9 @@ pub(crate) fn carry_out(
     {
         let answered = put_answer(out, objects, object, &request);
         prove!(out.len() <= 1452);
+        *writes = false;
         return answered;
     }
+    *writes = is_write(method);
     carry_out_at(objects, at, method, locks, peer, command, out)
 }

@@ -5,6 +5,7 @@ ghost use Rattle.std.specs.Result.{result_err};
 ghost use Rattle.oca_tree.specs.Locks.{released, lock_count};
 ghost use Rattle.oca_tree.specs.Trees.{IsTree};
 ghost use Rattle.oca_tree.specs.Execution.{execution};
+ghost use Rattle.oca_tree.specs.Written.{wrote};
 ghost use Rattle.oca_tree.specs.Settings.{after_set, set_fault};
 ghost use Rattle.oca_tree.specs.Readers.{info_of, info_at, lock_at, value_setting, setting_at};
 
@@ -16,13 +17,16 @@ use crate::setting::{LocalValue, SetFault, set};
 use oca_types::{Class, Command, Ono, Params, Peer, Status, Text};
 use std::marker::Model;
 
-/// What executing a command gave: the status and the ParamCount of the answer.
+/// What executing a command gave: the status and the ParamCount of the answer, and whether it wrote.
 #[derive(Clone, Copy, Debug, PartialEq, Eq)]
 pub struct Done {
     /// How it went.
     pub status: Status,
     /// ParamCount: how many parameters the answer has, 0 where the status is not OK.
     pub count: u8,
+    /// Whether the command wrote to its object: the status is OK, and its method is one that writes. One that takes the lock or
+    /// gives it back does not.
+    pub wrote: bool,
 }
 
 /// What an object is.
@@ -103,9 +107,11 @@ impl Tree {
         ensures tree { self.new ≡ (execution self.old peer (fields_of command.now)).tree }
         ensures status { result.status ≡ (execution self.old peer (fields_of command.now)).status }
         ensures count { result.count ≡ (execution self.old peer (fields_of command.now)).count }
+        ensures wrote { result.wrote ≡ wrote self.old peer (fields_of command.now) }
         ensures parameters { out.new.items ≡ (execution self.old peer (fields_of command.now)).parameters }
     {
         empty(out);
+        let mut writes = false;
         match carry_out(
             &mut self.objects,
             &mut self.locks,
@@ -113,14 +119,20 @@ impl Tree {
             peer,
             command,
             out,
+            &mut writes,
         ) {
             Ok(count) => Done {
                 status: Status::Ok,
                 count,
+                wrote: writes,
             },
             Err(status) => {
                 empty(out);
-                Done { status, count: 0 }
+                Done {
+                    status,
+                    count: 0,
+                    wrote: false,
+                }
             }
         }
     }

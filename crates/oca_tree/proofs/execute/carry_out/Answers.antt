@@ -7,13 +7,13 @@ use Rattle.oca_tree.proofs.Executing.{exec_none, exec_refused, read_at}
 use Rattle.oca_tree.proofs.execute.carry_out.Goals as goal
 
 pub returns-in_default-clause-done : goal.returns-in_default-clause-done
-returns-in_default-clause-done c = (exec_none c.args.objects.now c.args.peer (fields_of c.args.command.now) c.in_default.ensures.absent, refl)
+returns-in_default-clause-done c = (exec_none c.args.objects.now c.args.peer (fields_of c.args.command.now) c.in_default.ensures.absent, refl, refl)
 
 pub returns-in_err-method-clause-done : goal.returns-in_err-method-clause-done
 returns-in_err-method-clause-done c =
     let p = err_from_is_err_and c.from_residual.result c.from_residual.ensures.1 in
     let found = c.in-Some.ensures.found c.object_at-object.result.now ∙ ap Some (sym c.object_at-object.ensures) in
-    rw (p.1, p.2) (exec_refused c.args.objects.now c.args.peer (fields_of c.args.command.now) c.object_at-object.result.now found _ c.in_err-method.ensures, refl)
+    rw (p.1, p.2) (exec_refused c.args.objects.now c.args.peer (fields_of c.args.command.now) c.object_at-object.result.now found _ c.in_err-method.ensures.0, refl, c.in_err-method.ensures.1)
 
 pub put_answer-answered-requires-clause-range : goal.put_answer-answered-requires-clause-range
 put_answer-answered-requires-clause-range c = plain_in_range c.in_ok-method.method c.in-Some-plain.request (sym c.in-Some-plain.ensures) c.object_at-object.result.now.value

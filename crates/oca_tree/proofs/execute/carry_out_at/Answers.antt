@@ -2,6 +2,7 @@ use Rattle.std.proofs.Common.{sym, ap, ◌∙◌, refl, arith, set}
 use Rattle.std.proofs.lemmas.Result.{err_from_is_err_and}
 use Rattle.oca_types.specs.Peers.{fields_of}
 use Rattle.oca_tree.specs.Execution.{changed}
+use Rattle.oca_tree.specs.Written.{is_ok}
 use Rattle.oca_tree.proofs.Executing.{exec_refused, found_at, full_at, done_at, tree_at}
 use Rattle.oca_tree.proofs.execute.carry_out_at.Goals as goal
 
@@ -12,7 +13,7 @@ returns-in_err-request-clause-done c =
     let here = c.object_at-object.ensures in
     let may = rw (← here) at (c.requires.method o) in
     let found = found_at c.args.objects.now c.args.peer (fields_of c.args.command.now) c.args.at o (sym c.requires.place) here in
-    rw (p.1, p.2) (exec_refused c.args.objects.now c.args.peer (fields_of c.args.command.now) o found _ (c.in_err-request.ensures c.args.peer may), refl)
+    rw (p.1, p.2) (exec_refused c.args.objects.now c.args.peer (fields_of c.args.command.now) o found _ (c.in_err-request.ensures c.args.peer may).0, refl, (c.in_err-request.ensures c.args.peer may).1)
 
 pub returns-in_err-count-clause-done : goal.returns-in_err-count-clause-done
 returns-in_err-count-clause-done c =
@@ -22,7 +23,7 @@ returns-in_err-count-clause-done c =
     let may = rw (← here) at (c.requires.method o) in
     let asked = c.in_ok-request.ensures c.args.peer may in
     let puts = rw c.requires.empty at c.in_err-count.ensures in
-    rw (p.1, p.2) (full_at c.args.objects.now c.args.peer (fields_of c.args.command.now) c.args.at o (sym c.requires.place) here c.in_ok-request.request asked c.put_answer.new.out.items _ puts, refl)
+    rw (p.1, p.2) (full_at c.args.objects.now c.args.peer (fields_of c.args.command.now) c.args.at o (sym c.requires.place) here c.in_ok-request.request asked c.put_answer.new.out.items _ puts, refl, ap is_ok puts.0)
 
 pub returns-clause-done : goal.returns-clause-done
 returns-clause-done c =
