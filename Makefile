@@ -4,13 +4,15 @@
 # make lossy   both programs over a network that loses, doubles, delays and reorders: COMMANDS=200 SEED=1
 # make fuzz    both programs against a second implementation of the profile, on random scripts: SECONDS=60 SEED=1
 # make world   schedules for both ends, held against the laws and the second implementation: SCHEDULES=8000 SEED=1
+# make law     histories of events, held against the law by events, and wrong devices: HISTORIES=2000 SEED=1
 # make bench   instructions, memory, requests a second
 COMMANDS = 200
 SECONDS = 60
 SCHEDULES = 8000
+HISTORIES = 2000
 SEED = 1
 PROGRAMS = ocadev ocactl trials amplifier panel
-.PHONY: build demo test lossy fuzz world bench clean
+.PHONY: build demo test lossy fuzz world law bench clean
 
 demo:
 	@echo "Building by 'rt try' and running the examples; nothing is proved yet by that. This takes about a minute."
@@ -42,6 +44,10 @@ fuzz:
 world:
 	@test -x bin/trials || $(MAKE) build
 	@python3 tools/world.py bin $(SCHEDULES) $(SEED)
+
+law:
+	@test -x bin/trials || $(MAKE) build
+	@python3 tools/law.py bin $(HISTORIES) $(SEED)
 
 bench: build
 	python3 bench/run.py bin

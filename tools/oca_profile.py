@@ -1,6 +1,10 @@
-"""A second, plain implementation of the profile in docs/PROTOCOL.md: a device, a controller, both over a network, and the texts of
-`ocadev replay`, `ocactl replay` and `trials world`. It is written from the rules of the profile and not from the programs' code, to compare them with it.
+"""A second, plain implementation of the profile in docs/PROTOCOL.md: a device, a controller, both over a network, and
+the texts of
+`ocadev replay`, `ocactl replay` and `trials world`. It is written from the rules of the profile and not from the
+programs' code, to compare them with it.
 It favours plain lists over speed. Python 3, standard library only."""
+
+import copy
 
 U32, U64 = 2**32 - 1, 2**64 - 1
 LARGEST = 1472
@@ -109,7 +113,8 @@ CLASSES = {
     "int64": (1, 1, 1, 1, 5), "uint8": (1, 1, 1, 1, 6), "uint16": (1, 1, 1, 1, 7), "uint32": (1, 1, 1, 1, 8),
     "uint64": (1, 1, 1, 1, 9)}
 WIDTHS = {name: (int(name.lstrip("uint")) // 8, name[0] == "i") for name in CLASSES if name.startswith(("int", "uint"))}
-OK, LOCKED, BAD_ONO, PARAMETER_ERROR, OUT_OF_RANGE, NOT_IMPLEMENTED, INVALID, BAD_METHOD, OVERFLOW = 0, 3, 5, 6, 7, 8, 9, 11, 14
+OK, LOCKED, BAD_ONO, PARAMETER_ERROR, OUT_OF_RANGE = 0, 3, 5, 6, 7
+NOT_IMPLEMENTED, INVALID, BAD_METHOD, OVERFLOW = 8, 9, 11, 14
 
 
 class Object:
@@ -119,9 +124,19 @@ class Object:
         self.state, self.names, self.low, self.high = state, names, low, high
         self.enableds = [True] * len(names) if names else None
 
+    def copy(self):
+        new = copy.copy(self)
+        new.names, new.enableds = list(self.names or ()) or None, list(self.enableds or ()) or None
+        return new
 
-def bench():
-    return [
+    def setting(self):
+        """The state, the position, the truth or the number as a number; None of a block."""
+        return None if self.state is None else int(self.state)
+
+
+def bench(channels=0):
+    """The bench device's objects, and behind them so many channel strips."""
+    own = [
         Object(100, "block", 0, "root"),
         Object(4096, "block", 100, "desk"),
         Object(4097, "mute", 4096, "mute", state=1),
@@ -131,6 +146,14 @@ def bench():
         Object(4101, "boolean", 4096, "lamp", state=False),
         Object(4102, "uint8", 4096, "dim", lockable=False, state=10, low=0, high=100),
     ]
+    for first in range(4103, 4103 + 4 * channels, 4):
+        own += [
+            Object(first, "block", 100, "strip"),
+            Object(first + 1, "mute", first, "mute", state=1),
+            Object(first + 2, "polarity", first, "polarity", state=1),
+            Object(first + 3, "int16", first, "trim", state=0, low=-600, high=600),
+        ]
+    return own
 
 
 class Bad(Exception):
@@ -200,7 +223,8 @@ def descendants(tree, ono):
 
 def method(obj, level, index):
     """(access, number of parameters, name), "left out", or None."""
-    common = {(1, 1): ("R", 0), (1, 2): ("R", 0), (1, 3): ("L", 0), (1, 4): ("L", 0), (1, 5): ("R", 0), (1, 6): ("L", 0),
+    common = {(1, 1): ("R", 0), (1, 2): ("R", 0), (1, 3): ("L", 0), (1, 4): ("L", 0), (1, 5): ("R", 0),
+              (1, 6): ("L", 0),
               (2, 1): ("R", 0), (2, 2): ("W", 1), (2, 8): ("R", 0), (2, 9): ("W", 1), (2, 10): ("R", 0)}
     if (level, index) in common:
         return common[(level, index)]
@@ -313,7 +337,8 @@ def answer(tree, obj, key, args):
         return [u16(len(own)) + b"".join(o.ono.to_bytes(4, "big") + class_bytes(o) for o in own)]
     if level == 3 and index == 6:
         own = descendants(tree, obj.ono)
-        return [u16(len(own)) + b"".join(o.ono.to_bytes(4, "big") + class_bytes(o) + o.container.to_bytes(4, "big") for o in own)]
+        return [u16(len(own))
+                + b"".join(o.ono.to_bytes(4, "big") + class_bytes(o) + o.container.to_bytes(4, "big") for o in own)]
     if level == 4 and obj.kind in ("mute", "polarity") and index == 1:
         return [bytes([obj.state])]
     if level == 4 and obj.kind == "switch":
@@ -362,6 +387,29 @@ def change(obj, peer, key, args):
         obj.state = args[0]
 
 
+# ---- changes at the front
+
+NO_OBJECT, NO_SETTING, OTHER_KIND, TOO_FAR = 1, 2, 3, 4
+TAKEN_BY = {"mute": "state", "polarity": "state", "switch": "position", "boolean": "truth"}
+
+
+def set_local(tree, ono, kind, value):
+    """Sets an object as its class's set method would, whoever has locked it. The number of the fault, which changes
+    nothing, or None."""
+    obj = next((o for o in tree if o.ono == ono), None)
+    if obj is None:
+        return NO_OBJECT
+    if obj.kind == "block":
+        return NO_SETTING
+    if TAKEN_BY.get(obj.kind, "number") != kind:
+        return OTHER_KIND
+    if (kind == "state" and value not in (1, 2)) or (kind == "number" and not obj.low <= value <= obj.high) \
+            or (kind == "position" and not (value < len(obj.names) and obj.enableds[value])):
+        return TOO_FAR
+    obj.state = bool(value) if kind == "truth" else value
+    return None
+
+
 # ---- the device
 
 
@@ -369,6 +417,15 @@ class Session:
     def __init__(self, peer, now):
         self.peer, self.heard, self.heartbeat = peer, now, 5000
         self.accepted = []  # (command, reply), never cut
+
+    def beat(self, ms):
+        self.heartbeat = max(250, min(ms, 30000))
+
+    def is_lapsed(self, now):
+        return now - self.heard > 3 * self.heartbeat
+
+    def stays(self, now):
+        return now - self.heard <= 120000
 
     def judge(self, window, command):
         handles = [c.handle for c, _ in self.accepted]
@@ -382,17 +439,28 @@ class Session:
 
 
 class Device:
-    def __init__(self, tree=None, window=32):
-        self.tree, self.window, self.now, self.sessions = tree or bench(), window, 0, []
+    def __init__(self, tree=None, window=32, peers=16):
+        self.tree, self.window, self.peers, self.now, self.sessions = tree or bench(), window, peers, 0, []
+
+    def release(self, peer):
+        for o in self.tree:
+            if o.lock and o.lock[1] == peer:
+                o.lock = None
 
     def advance(self, now):
         self.now = max(self.now, now)
         for s in self.sessions:
-            if self.now - s.heard > 3 * s.heartbeat:
-                for o in self.tree:
-                    if o.lock and o.lock[1] == s.peer:
-                        o.lock = None
-        self.sessions = [s for s in self.sessions if self.now - s.heard <= 120000]
+            if s.is_lapsed(self.now):
+                self.release(s.peer)
+        self.sessions = [s for s in self.sessions if s.stays(self.now)]
+
+    def session_for(self, peer):
+        """The session of a peer, opened where there is none; None where there is no room."""
+        session = next((s for s in self.sessions if s.peer == peer), None)
+        if session is None and len(self.sessions) < self.peers:
+            session = Session(peer, self.now)
+            self.sessions.append(session)
+        return session
 
     def datagram(self, peer, data, now):
         """(the verdict's text, the packets)"""
@@ -401,40 +469,45 @@ class Device:
             messages = check(data)
         except Fault as f:
             return f"malformed {f.kind} at {f.at}", []
-        session = next((s for s in self.sessions if s.peer == peer), None)
+        session = self.session_for(peer)
         if session is None:
-            if len(self.sessions) == 16:
-                return "no-room", []
-            session = Session(peer, self.now)
-            self.sessions.append(session)
+            return "no-room", []
         session.heard = self.now
         counts = {"fresh": 0, "duplicate": 0, "old": 0, "reused": 0}
         answers = []
         for message in messages:
             if message[0] == "keep-alive":
-                ms = number(message[1]) * (1000 if len(message[1]) == 2 else 1)
-                session.heartbeat = max(250, min(ms, 30000))
+                session.beat(number(message[1]) * (1000 if len(message[1]) == 2 else 1))
                 answers.append(("keep-alive", message[1]))
             elif message[0] == "command":
-                _, respond, command = message
-                verdict, reply = session.judge(self.window, command)
-                counts[verdict] += 1
-                if verdict == "fresh":
-                    reply = execute(self.tree, peer, command)
-                    session.accepted.append((command, reply))
-                if respond and verdict in ("fresh", "duplicate"):
-                    answers.append(("response", response_body(command.handle, *reply)))
+                counted, answer = self.command(session, *message[1:])
+                counts[counted] += 1
+                answers += answer
         text = f"served {counts['fresh']} {counts['duplicate']} {counts['old']}"
         if counts["reused"]:
             text += f" reused {counts['reused']}"
         return text, packets(answers)
+
+    def command(self, session, respond, command):
+        """As what a command counts, and its answer, if it gets one."""
+        judged, reply = session.judge(self.window, command)
+        if judged == "fresh":
+            reply = execute(self.tree, session.peer, command)
+            session.accepted.append((command, reply))
+        answered = respond and judged in ("fresh", "duplicate")
+        return judged, [("response", response_body(command.handle, *reply))] if answered else []
+
+    def set(self, ono, kind, value):
+        """A change at the front: nothing, or the number of the fault."""
+        return set_local(self.tree, ono, kind, value)
 
 
 def packets(answers):
     """Neighbouring responses share one PDU while the datagram has at most 1,472 bytes; each keep-alive is alone."""
     groups = []
     for kind, body in answers:
-        if kind == "response" and groups and groups[-1][0] == "response" and len(pdu(3, groups[-1][1] + [body])) <= LARGEST:
+        if kind == "response" and groups and groups[-1][0] == "response" and len(pdu(3,
+            groups[-1][1] + [body])) <= LARGEST:
             groups[-1][1].append(body)
         else:
             groups.append((kind, [body]))
@@ -511,8 +584,10 @@ DEVICE = (127, 0, 0, 1, 65000)
 
 
 class Network:
-    """A device at 127.0.0.1:65000, a link for each start (a peer and a first handle), and two lists of datagrams that only grow: those
-    sent to the device and those sent to links, each a pair of the link's peer and the bytes. A step is a tuple, as `step_line` writes it."""
+    """A device at 127.0.0.1:65000, a link for each start (a peer and a first handle), and two lists of datagrams that
+    only grow: those
+    sent to the device and those sent to links, each a pair of the link's peer and the bytes. A step is a tuple, as
+    `step_line` writes it."""
 
     def __init__(self, window, span, starts):
         self.device = Device(window=window)
@@ -644,14 +719,16 @@ def link_line(link, fields):
     if keyword == "from":
         peer = need(peer_of(fields[2]), "peer")
         return [link.datagram(peer, need(hex_of(fields[3]), "hex"), now)]
-    numbers = [digits(fields[2], 10, U32), digits(fields[3], 5, 65535), digits(fields[4], 5, 65535), digits(fields[5], 3, 255)]
+    numbers = [digits(fields[2], 10, U32), digits(fields[3], 5, 65535), digits(fields[4], 5, 65535),
+               digits(fields[5], 3, 255)]
     if None in numbers:
         raise LineFault("number")
     return [link.submit(*numbers, need(hex_of(fields[6]), "hex"), now)]
 
 
 def replay(script, serve):
-    """(standard output, the fault's line or None, the exit status) of a script's bytes; serve answers a line's fields."""
+    """(standard output, the fault's line or None, the exit status) of a script's bytes; serve answers a line's
+    fields."""
     limit = 16777216
     over = len(script) > limit
     lines = script[:limit].split(b"\n")

@@ -1,0 +1,522 @@
+#!/usr/bin/env python3
+"""The law by events (oca_law.py) held against transcripts of the built program.
+
+Usage: law.py BIN [HISTORIES] [SEED]     BIN is the folder with the programs
+
+ law      directed and random histories, run by the program: of each event its verdict, its packets, the objects and the
+          number of
+          sessions after it are what the law says
+ wrong    wrong devices, the second implementation with one rule changed: the law refuses a history of each, by the
+          sentence that it breaks
+ altered  transcripts of the program in which one line was altered: refused at that event, by the sentence that the line
+          belongs to
+
+The last line is 'N passed, M failed'."""
+import collections
+import multiprocessing
+import random
+import subprocess
+import sys
+
+import oca_profile as oca
+from fuzz import Panel, datagram
+from oca_law import LARGEST_DATAGRAM, Break, Datagram, Local, Tick, Told, shown_objects, walk
+from wrong_devices import wrong_rules
+
+# ---- histories
+
+
+LONGEST = 2000  # so that a line of a script has at most 4,096 bytes
+
+
+class History:
+    def __init__(self, window=32, peers=16, channels=0):
+        self.window, self.peers, self.channels, self.events, self.now = window, peers, channels, [], 0
+
+    def says(self, number, *pdus, data=None):
+        whole = b"".join(pdus) if data is None else data
+        self.events.append(Datagram(peer(number), whole[:LONGEST], self.now))
+        return self
+
+    def at(self, now):
+        self.now = now
+        return self
+
+    def tick(self, now):
+        self.now = now
+        self.events.append(Tick(now))
+        return self
+
+    def sets(self, ono, kind, value):
+        self.events.append(Local(ono, (kind, value)))
+        return self
+
+    def text(self):
+        lines = [f"history {self.window} {self.peers} {self.channels}"]
+        for e in self.events:
+            if isinstance(e, Local):
+                lines.append(f"set {e.ono} {e.value[0]} {e.value[1]}")
+            elif isinstance(e, Tick):
+                lines.append(f"{e.now} quiet")
+            else:
+                lines.append(f"{e.now} {oca.peer_text(e.sender)} {oca.hex_text(e.data)}")
+        return lines
+
+
+def peer(number):
+    return (127, 0, 0, 1 + number % 3, 9001 + number)
+
+
+def ask(handle, target, level, index, count=0, params=b"", respond=True):
+    return oca.pdu(int(respond), [oca.Command(handle, target, level, index, count, params).body()])
+
+
+def get(handle, respond=True):
+    return ask(handle, 4097, 4, 1, respond=respond)
+
+
+def trim(handle, value, respond=True):
+    return ask(handle, 4100, 5, 2, 1, value.to_bytes(2, "big", signed=True), respond)
+
+
+def lock(handle, target=4097, kind=3):
+    return ask(handle, target, 1, kind)
+
+
+def beat(ms):
+    return oca.pdu(4, [ms.to_bytes(4, "big")])
+
+
+def lapses(r):
+    """A lock, and moments about three heartbeats after its peer was last heard, of heartbeats in and outside their
+    limits."""
+    h = History(r.choice([1, 8, 32]))
+    ms = r.choice([None, 0, 100, 249, 250, 251, 1000, 29999, 30000, 30001, 100000, 2**32 - 1])
+    kept = 5000 if ms is None else max(250, min(ms, 30000))
+    h.at(r.choice([0, 7])).says(0, *([beat(r.choice([1, 60000])), beat(ms)] if ms is not None else []), lock(1),
+                                lock(2, 4100, 6)).says(1, lock(1, 4098))
+    start, other = h.now, r.choice([None, start_of_noise(r)])
+    if other:
+        h.at(start + kept).says(0, data=other)
+    for late in sorted(r.sample([3 * kept - 1, 3 * kept, 3 * kept + 1, 4 * kept, 5 * kept, 5 * kept + 1, 9 * kept], 4)):
+        h.at(start + late)
+        kind = r.randrange(4)
+        if kind == 0:
+            h.tick(h.now)
+        elif kind == 1:
+            h.says(1, lock(1 + len(h.events), 4097, 3))
+        elif kind == 2:
+            h.says(2, data=b"\0")
+        else:
+            h.says(0, get(1 + len(h.events)))
+    return h
+
+
+def start_of_noise(r):
+    """A datagram that is malformed, or that holds what is not served."""
+    return r.choice([b"\0", b"", get(1)[:-1], get(1) + b"\0", oca.pdu(3, [oca.response_body(1, 0, 0, b"")]), get(1)])
+
+
+def forgetting(r):
+    """Silences of about 120,000 ms, with duplicates, locks, and a heartbeat of before."""
+    h = History(r.choice([1, 2, 32]))
+    h.at(5).says(0, beat(30000), trim(1, 5), lock(2)).says(1, get(1))
+    for _ in range(3):
+        h.at(h.now + r.choice([119999, 120000, 120000, 120001, 120001, 240000, 90001]))
+        kind = r.randrange(3)
+        if kind == 0:
+            h.tick(h.now)
+        if kind != 1:
+            h.says(r.randrange(2), trim(1, 5), lock(2), trim(1, 7))
+        else:
+            h.says(1, lock(3 + len(h.events))).says(0, data=start_of_noise(r))
+    return h.at(h.now + 15001).says(2, get(1)).says(0, lock(9))
+
+
+def crowds(r):
+    """One peer more than there is room for, and peers that are forgotten as late ones come."""
+    h = History(r.choice([1, 32]), r.choice(SIZES))
+    count = h.peers + r.choice([1, 1, 2])
+    order = list(range(count))
+    for n in order:
+        h.at(h.now + r.choice([0, 1, 1000])).says(n, *([lock(1, 4097)] if n == 0 else [get(1)]))
+    for _ in range(6):
+        h.at(h.now + r.choice([0, 1, 60000, 119000, 120000, 120001]))
+        for n in r.sample(order, min(len(order), r.choice([1, 2, 5]))):
+            h.says(n, get(len(h.events)), *([beat(250)] if r.randrange(4) == 0 else []))
+        if r.randrange(4) == 0:
+            h.at(max(0, h.now - r.choice([1, 5000, 119000])))
+    return h
+
+
+def windows(r):
+    """A window filled, with handles in another order, copies of what is in it and behind it, other commands and types
+    under a handle."""
+    w = r.choice([1, 2, 3, 4, 5, 8, 16, 31, 32, 33, 63, 64])
+    h = History(w)
+    handles = [r.choice([1, 1000, oca.U32 - 3 * w - 9]) + k for k in range(2 * w + 4)]
+    for k in range(0, len(handles), max(1, w // 2)):
+        part = handles[k:k + max(1, w // 2)]
+        handles[k:k + len(part)] = r.sample(part, len(part))
+    sent, k = [], 0
+    while k < len(handles):
+        part = handles[k:k + r.choice([1, 2, 40])][:60]
+        k += len(part)
+        made = [r.choice([get, get, lambda x: trim(x, x % 1300 - 650)])(x) for x in part]
+        sent += made
+        h.says(0, *made)
+        if r.randrange(3):
+            copies = [r.choice(sent[-w - 2:]) for _ in range(3)] + [sent[max(0, len(sent) - w - 1)],
+                                                                    sent[-min(w, len(sent))]]
+            h.says(0, *r.sample(copies, r.choice([1, 3, 5])))
+        if r.randrange(4) == 0:
+            x = r.choice(handles[:k][-w - 1:])
+            h.says(0, r.choice([trim(x, 1), get(x, False), trim(x, x % 1300 - 650, False), ask(x, 4097, 1, 5),
+                                ask(x, 4097, 4, 1, 1)]))
+        if r.randrange(6) == 0:
+            h.says(0, get(max(0, min(handles[:k]) - 1)))
+    return h.says(1, ask(1, 4100, 5, 1))
+
+
+def packings(r):
+    """Many answers in one datagram, of lengths about the limit, with keep-alives, borders of PDUs and messages without
+    an answer between."""
+    h = History(r.choice([1, 8, 64]))
+    for n, size in enumerate(r.choice([[64] * 3, [60, 64, 1], [0, 64, 33]])):
+        h.says(0, ask(n + 1, 4099, 4, 4, 2, oca.u16(n) + oca.text_bytes("x" * size)))
+    h.says(0, ask(9, 4097, 2, 9, 1, oca.text_bytes("y" * r.randrange(65))))
+    kinds = [(4099, 4, 5), (4097, 2, 8), (100, 3, 6), (4097, 1, 1), (4097, 4, 1)]
+    at = 10
+    for _ in range(4):
+        parts, size = [], 0
+        for _ in range(r.choice([2, 4, 20])):
+            body = [oca.Command(at + i, *r.choice(kinds), 0, b"").body() for i in range(r.choice([1, 2, 7]))]
+            at += len(body)
+            part = r.choice([oca.pdu(1, body)] * 5
+                + [oca.pdu(0, body), beat(5000), oca.pdu(4, [oca.u16(3)]),
+                   oca.pdu(3, [oca.response_body(1, 0, 0, b"")]), get(at - 1)])
+            if size + len(part) <= LARGEST_DATAGRAM:
+                parts.append(part)
+                size += len(part)
+        h.says(0, *parts)
+    return h
+
+
+def limits(r):
+    """Responses whose PDU has about 1,472 bytes: n answers with a label, and m with a state."""
+    h = History(64)
+    label, n, m = r.choice([(label, n, m) for label in range(20, 65) for n in range(1, 40) for m in range(4)
+                            if n + m <= 80 and 1471 <= 10 + n * (12 + label) + 11 * m <= 1474])
+    h.says(0, ask(1, 4097, 2, 9, 1, oca.text_bytes("z" * label)))
+    wanted = [(4097, 2, 8)] * n + [(4097, 4, 1)] * m
+    return h.says(0, oca.pdu(1, [oca.Command(2 + k, *w, 0, b"").body() for k, w in enumerate(wanted)]))
+
+
+def fronts(r):
+    """Changes at the front between commands, under locks, in and outside ranges."""
+    h = History(r.choice([1, 32]))
+    h.says(0, lock(1, 4100), lock(2, 4097, 6))
+    for n in range(12):
+        ono = r.choice([100, 4096, 4097, 4098, 4099, 4100, 4101, 4102, 5000])
+        kind = r.choice(["state", "position", "truth", "number"])
+        value = {"state": r.choice([0, 1, 2, 3, 255]), "position": r.choice([0, 1, 2, 3, 65535]),
+                 "truth": r.randrange(2),
+                 "number": r.choice([0, 600, 601, -600, -601, 100, 101, -1, 2**127 - 1, -2**127])}[kind]
+        if r.randrange(3):
+            kind, value = {4097: ("state", r.choice([1, 2])), 4099: ("position", r.randrange(4)),
+                           4100: ("number", r.randrange(-601, 602))}.get(ono, (kind, value))
+        h.sets(ono, kind, value)
+        if r.randrange(3) == 0:
+            h.at(h.now + r.choice([0, 1, 5001, 15001, 120001])).says(r.randrange(2),
+                r.choice([get(n + 5), trim(n + 5, n), ask(n + 5, 4099, 4, 8, 2, oca.u16(1) + b"\0")]))
+    return h
+
+
+def reading(h, number, handle):
+    """What a panel asks that reads every object."""
+    h.says(number, *(ask(handle + k, *wanted) for k, wanted in enumerate(
+        [(4097, 4, 1), (4098, 4, 1), (4099, 4, 1), (4100, 5, 1), (4101, 5, 1), (4102, 5, 1), (4097, 2, 8),
+         (4099, 4, 5), (4099, 4, 9)])))
+
+
+def wander(r):
+    """Any datagrams of some peers."""
+    h = History(r.choice([1, 2, 3, 8, 31, 32, 32, 32, 63, 64]), r.choice(SIZES))
+    numbers = range(r.choice([1, 2, 3, h.peers + 2]))
+    panels, handle = {n: Panel(r) for n in numbers}, 1
+    for _ in range(r.choice([20, 40, 60, 100])):
+        kind = r.randrange(12)
+        step = r.choice([0, 0, 1, 5, 100, 251, 750, 2500, 3001, 7500, 15001, 90001, 119999, 120000, 120001, -50, -5000,
+                         -130000])
+        h.at(max(0, h.now + (step if r.randrange(3) == 0 or step < 3000 else 1)))
+        if kind == 0:
+            h.tick(h.now)
+        elif kind == 1:
+            reading(h, 40, handle)
+            handle += 9
+        elif kind == 2 and FRONT:
+            h.sets(*r.choice([(4097, "state", 1 + r.randrange(2)), (4100, "number", r.randrange(-601, 602)),
+                              (4099, "position", r.randrange(4))]))
+        elif kind == 3:
+            n = r.choice(numbers)
+            h.says(n, ask(min(oca.U32, r.choice([panels[n].next + 1, 1])), r.choice([4097, 4098, 4100]), 1,
+                          r.choice([3, 3, 6, 4])))
+        else:
+            h.says(r.choice(numbers), data=datagram(r, panels[r.choice(numbers)]))
+    reading(h.at(h.now + 1), 41, 1)
+    return h
+
+
+SIZES, FRONT = [16], False
+KINDS = [lapses, forgetting, crowds, windows, packings, limits, wander, wander, wander]
+
+
+def made(seed, number):
+    r = random.Random(f"{seed} {number}")
+    kinds = KINDS + [fronts] if FRONT else KINDS
+    return kinds[number % len(kinds)](r)
+
+
+# ---- tales: what was said of the events of a history
+
+
+def verdict_of(text):
+    words = text.split(" ")
+    if words[0] == "malformed":
+        return ("malformed", int(words[1]), int(words[3]))
+    if words[0] == "served":
+        return ("served", *map(int, words[1:4]), int(words[5]) if len(words) > 4 else 0)
+    return (words[0], *map(int, words[1:]))
+
+
+def tale_of(history, device):
+    """What the second implementation says."""
+    tale = []
+    for event in history.events:
+        packets, written = [], ()
+        if isinstance(event, Datagram):
+            text, packets = device.datagram(event.sender, event.data, event.now)
+        elif isinstance(event, Tick):
+            device.advance(event.now)
+            text = "quiet"
+        else:
+            fault = device.set(event.ono, *event.value)
+            text = "set" if fault is None else f"refused {fault}"
+        tale.append(Told(verdict_of(text), tuple(packets), written, len(device.sessions), shown_objects(device.tree)))
+    return tale
+
+
+def lock_of(text):
+    return None if not text else ({"t": "total", "r": "read-only"}[text[0]], oca.peer_of(text[1:]))
+
+
+def objects_of(line):
+    """An `objects` line: a word for each object."""
+    read = []
+    for word in line.split(" ")[1:]:
+        ono, rest = word.split("=")
+        setting, _, held = rest.partition("/")
+        read.append((int(ono), None if setting == "-" else int(setting), lock_of(held)))
+    return tuple(read)
+
+
+def tale_in(lines):
+    """The tale of one history's lines; in those of `ocadev replay` there are no sessions and no objects."""
+    tale = []
+    for line in lines:
+        word = line.split(" ")[0]
+        if word == ">":
+            tale[-1] = tale[-1]._replace(packets=tale[-1].packets + (bytes.fromhex(line[2:]),))
+        elif word == "written":
+            tale[-1] = tale[-1]._replace(written=tuple(map(int, line.split(" ")[1:])))
+        elif word == "sessions":
+            tale[-1] = tale[-1]._replace(sessions=int(line.split(" ")[1]))
+        elif word == "objects":
+            tale[-1] = tale[-1]._replace(objects=objects_of(line))
+        else:
+            tale.append(Told(verdict_of(line), (), (), None, None))
+    return tale
+
+
+def tales(folder, histories):
+    """What the built program says of each history: by `ocadev replay`, one after another."""
+    for h in histories:
+        script = "\n".join(h.text()[1:]) + "\n"
+        done = subprocess.run([f"{folder}/ocadev", "replay", "--window", str(h.window)], input=script.encode(),
+                              capture_output=True, timeout=120)
+        if done.returncode != 0:
+            raise RuntimeError(f"status {done.returncode}: {done.stderr.decode()!r}")
+        yield tale_in(done.stdout.decode().splitlines())
+
+
+def shown(history, tale, fault):
+    """A history to where it breaks, with what was said."""
+    lines = history.text()
+    out = lines[:1]
+    for line, told in list(zip(lines[1:], tale))[:fault.number + 1]:
+        out += [line, f"    {' '.join(map(str, told.verdict))}"] + [f"    > {packet.hex()}" for packet in told.packets]
+    return "\n".join(out + [f"BREAK of '{fault.sentence}' at event {fault.number}: {fault.what}"])
+
+
+# ---- altered transcripts
+
+
+def altered(r, history, tale):
+    """(the sentence, the event, the tale with one line of it altered), or None."""
+    at = r.randrange(len(tale))
+    told, kind = tale[at], r.randrange(9)
+    verdict, packets = told.verdict, list(told.packets)
+    if kind == 0 and verdict[0] == "served":
+        place = r.randrange(1, 5)
+        new = "verdict_is", told._replace(verdict=verdict[:place] + (verdict[place] + 1,) + verdict[place + 1:])
+    elif kind == 1 and verdict[0] == "malformed":
+        new = "verdict_is", told._replace(verdict=("malformed", verdict[1] + r.choice([0, 1]), verdict[2] + 1))
+    elif kind == 2 and isinstance(history.events[at], Datagram):
+        new = "verdict_is", told._replace(verdict=("served", 0, 0, 0, 0) if verdict == ("no-room",) else ("no-room",))
+    elif kind == 3 and packets:
+        k = r.randrange(len(packets))
+        new = "answers_are", told._replace(packets=tuple(packets[:k] + packets[k + 1:]))
+    elif kind == 4 and packets:
+        k = r.randrange(len(packets))
+        last = len(packets[k]) - 1  # the last parameter, or a ParamCount; of a keep-alive its time
+        packets[k] = packets[k][:last] + bytes([packets[k][last] ^ 1])
+        new = "answers_are", told._replace(packets=tuple(packets))
+    elif kind == 5 and len(packets) > 1:
+        new = "packets_are", told._replace(packets=(b"".join(packets[:2]), *packets[2:]))
+    elif kind == 6 and any(p[7] == 3 and p[9] > 1 for p in packets):
+        new = "packets_are", told._replace(packets=tuple(part for p in packets for part in parted(p)))
+    elif kind == 7 and told.objects:
+        k = r.randrange(len(told.objects))
+        ono, setting, held = told.objects[k]
+        one = (ono, setting, None if held else ("total", peer(0))) if setting is None or r.randrange(2) else (ono,
+            setting ^ 1, held)
+        new = "objects_are", told._replace(objects=told.objects[:k] + (one,) + told.objects[k + 1:])
+    elif kind == 8 and told.sessions is not None:
+        new = "sessions_are", told._replace(sessions=told.sessions + r.choice([-1, 1]))
+    else:
+        return None
+    return new[0], at, tale[:at] + [new[1]] + tale[at + 1:]
+
+
+def parted(packet):
+    """A packet of several responses as two."""
+    if packet[7] != 3 or packet[9] < 2:
+        return [packet]
+    bodies = [oca.response_body(*m[1:]) for m in oca.check(packet)]
+    return [oca.pdu(3, bodies[:1]), oca.pdu(3, bodies[1:])]
+
+
+# ---- wrong devices
+
+
+def refuses(job):
+    """Whether the law refuses a history of the wrong device of this name by its sentence, that sentence, and how."""
+    seed, name = job
+    sentence, owner, method, body = wrong_rules(FRONT)[name]
+    kept = getattr(owner, method)
+    setattr(owner, method, body)
+    first = None
+    try:
+        for number in range(WRONG_HISTORIES):
+            history = made(f"{seed} {name}", number)
+            try:
+                walk(history, tale_of(history, oca.Device(oca.bench(history.channels), history.window, history.peers)))
+            except Break as fault:
+                first = first or fault.sentence
+                if fault.sentence == sentence:
+                    return True, sentence, f"{name}: '{sentence}' refuses history {number}, at event {fault.number}"
+    finally:
+        setattr(owner, method, kept)
+    return False, sentence, f"{name}: no break of '{sentence}'" + (f", but of '{first}'" if first else "")
+
+
+WRONG_HISTORIES = 200
+
+
+# ---- the whole
+
+
+def count_of(tale):
+    """What was said how often."""
+    total = collections.Counter(events=len(tale), packets=sum(len(told.packets) for told in tale))
+    for told in tale:
+        total["said " + told.verdict[0]] += 1
+        total["with objects"] += told.objects is not None
+        if told.verdict[0] == "served":
+            total.update(dict(zip(("executed", "duplicates", "old", "reused"), told.verdict[1:])))
+    return total
+
+
+def alterations(r, history, tale):
+    """Of some lines altered, how many were refused where they stand, by the sentence that they belong to."""
+    total = collections.Counter()
+    for change in filter(None, (altered(r, history, tale) for _ in range(3))):
+        sentence, at, other = change
+        total["altered"] += 1
+        try:
+            walk(history, other)
+            print(f"altered for '{sentence}' at event {at}, not refused")
+        except Break as fault:
+            total["altered, refused"] += (fault.sentence, fault.number) == (sentence, at)
+            if (fault.sentence, fault.number) != (sentence, at):
+                print(f"altered for '{sentence}' at event {at}, refused by '{fault.sentence}' at {fault.number}")
+    return total
+
+
+def work(job):
+    """The counts of a range of numbers, and the text of the first break or None."""
+    folder, seed, numbers = job
+    histories, total = [made(seed, n) for n in numbers], collections.Counter()
+    r = random.Random(f"{seed} {numbers[0]} altered")
+    for history, tale in zip(histories, tales(folder, histories), strict=True):
+        try:
+            walk(history, tale)
+        except Break as fault:
+            return total, shown(history, tale, fault)
+        total["histories"] += 1
+        total += count_of(tale) + alterations(r, history, tale)
+    return total, None
+
+
+def summary(seed, total, wrong):
+    print(f"law: seed {seed}: {total['histories']} histories of {total['events']} events: "
+          f"{total['executed']} executed, {total['duplicates']} duplicates, {total['old']} old, {total['reused']} reused, "
+          f"{total['said malformed']} malformed, {total['said no-room']} without room, {total['packets']} packets")
+    print(f"changes at the front: {total['said set']}, refused {total['said refused']}; "
+          f"objects and sessions compared after {total['with objects']} events; 0 breaks")
+    sentences = collections.Counter(sentence for _, sentence, _ in wrong)
+    refused = sum(found for found, _, _ in wrong)
+    print(f"wrong devices refused by the sentence that they break: {refused} of {len(wrong)} "
+          f"({', '.join(f'{name} {n}' for name, n in sorted(sentences.items()))})")
+    print(f"altered lines refused where they stand, by the sentence that they belong to: "
+          f"{total['altered, refused']} of {total['altered']}")
+
+
+def main():
+    folder = sys.argv[1]
+    count = int(sys.argv[2]) if len(sys.argv) > 2 else 300
+    seed = int(sys.argv[3]) if len(sys.argv) > 3 else 1
+    total = collections.Counter()
+    jobs = [(folder, seed, range(first, min(first + 9, count))) for first in range(0, count, 9)]
+    with multiprocessing.Pool(min(4, multiprocessing.cpu_count())) as pool:
+        for counts, fault in pool.imap(work, jobs):
+            total += counts
+            if fault:
+                print(fault)
+                print(f"law: seed {seed}: a break after {total['histories']} histories without one")
+                print("0 passed, 1 failed")
+                return 1
+        wrong = pool.map(refuses, [(seed, name) for name in wrong_rules(FRONT)], chunksize=1)
+    for found, _, said in wrong:
+        if not found:
+            print(f"FAILED: {said}")
+    summary(seed, total, wrong)
+    met = ["executed", "duplicates", "old", "reused", "said malformed", "said no-room", "packets"]
+    checks = [total["histories"] == count and all(total[name] for name in met), all(found for found, _, _ in wrong),
+              total["altered"] > count and total["altered, refused"] == total["altered"]]
+    print(f"{sum(map(bool, checks))} passed, {sum(not passed for passed in checks)} failed")
+    return 0 if all(checks) else 1
+
+
+if __name__ == "__main__":
+    sys.exit(main())
