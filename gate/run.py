@@ -1,39 +1,71 @@
 #!/usr/bin/env python3
-"""The gate: `rt ci`, and then each step of the file `steps` beside this one. The last line is 'N passed, M failed' over all of
-it, and the exit status 1 where anything failed."""
+"""The gate: `rt ci`, and then the steps of the file `steps` beside this one. The steps of a paragraph run two at a time,
+and what each prints is shown as a whole when it ends, with how long it took; a paragraph begins when the one before it
+is over. The last line is 'N passed, M failed' over all of it, and the exit status 1 where anything failed.
+`run.py steps` runs the steps alone."""
 import re
 import subprocess
 import sys
+import time
+from concurrent.futures import ThreadPoolExecutor
 from pathlib import Path
 
 HERE = Path(__file__).resolve().parent
+BESIDE = 2
 
 
-def run(command):
-    """Runs a command, shows what it prints, and answers how many checks passed and failed in it."""
+def started(command):
+    return subprocess.Popen(command, shell=True, cwd=HERE.parent, stdin=subprocess.DEVNULL, stdout=subprocess.PIPE,
+                            stderr=subprocess.STDOUT, text=True, errors="replace")
+
+
+def counted(last, status):
+    """How many checks passed and failed, by the last line and the exit status."""
+    counts = re.fullmatch(r"(\d+) passed, (\d+) failed", last)
+    passed, failed = map(int, counts.groups()) if counts else (int(status == 0), 0)
+    return passed, 1 if status != 0 and failed == 0 else failed
+
+
+def took(command, begun):
+    return f"gate: {(time.monotonic() - begun) / 60:.1f} minutes for {command[:60]}"
+
+
+def watched(command):
+    """Runs a command, and shows what it prints as it prints it."""
     print(f"gate: {command}", flush=True)
-    last = ""
-    with subprocess.Popen(
-            command, shell=True, cwd=HERE.parent, stdin=subprocess.DEVNULL, stdout=subprocess.PIPE,
-            stderr=subprocess.STDOUT, text=True, errors="replace") as process:
+    begun, last = time.monotonic(), ""
+    with started(command) as process:
         for line in process.stdout:
             print(line, end="", flush=True)
             last = line.strip() or last
-    counts = re.fullmatch(r"(\d+) passed, (\d+) failed", last)
-    passed, failed = map(int, counts.groups()) if counts else (int(process.returncode == 0), 0)
-    if process.returncode != 0 and failed == 0:
-        failed = 1
-    return passed, failed
+    print(took(command, begun), flush=True)
+    return counted(last, process.returncode)
+
+
+def kept(command):
+    """Runs a command, and answers its counts and what it printed."""
+    begun = time.monotonic()
+    with started(command) as process:
+        text = process.communicate()[0]
+    last = next((line.strip() for line in reversed(text.splitlines()) if line.strip()), "")
+    return counted(last, process.returncode), f"gate: {command}\n{text}{took(command, begun)}"
+
+
+def paragraphs():
+    """The steps, a list for each paragraph."""
+    lines = (HERE / "steps").read_text().splitlines()
+    text = "\n".join(line for line in lines if not line.startswith("#"))
+    return [part.splitlines() for part in re.split(r"\n\s*\n", text.strip("\n"))]
 
 
 def main():
-    lines = (HERE / "steps").read_text().splitlines()
-    steps = [line for line in lines if line.strip() and not line.startswith("#")]
-    passed = failed = 0
-    for command in ["rt ci", *steps]:
-        more_passed, more_failed = run(command)
-        passed += more_passed
-        failed += more_failed
+    counts = [] if sys.argv[1:] == ["steps"] else [watched("rt ci")]
+    with ThreadPoolExecutor(BESIDE) as pool:
+        for steps in paragraphs():
+            for count, text in pool.map(kept, steps):
+                print(text, flush=True)
+                counts.append(count)
+    passed, failed = (sum(of) for of in zip(*counts))
     print(f"{passed} passed, {failed} failed")
     sys.exit(1 if failed else 0)
 

@@ -1,0 +1,82 @@
+#!/usr/bin/env python3
+"""Holds man/ocadev.1 and man/ocactl.1 against `--help`: the same commands, and of each the same options with the same
+values.
+
+Usage: manual.py BIN     BIN is the folder with the two programs
+
+In a page a command is a `.SS`, and an option of it a `.BI \\-\\-NAME " VALUE"` or, without a value, a `.B \\-\\-NAME`.
+Where groff is installed, it must find nothing to warn of. The last line is 'N passed, M failed'."""
+import re
+import shutil
+import subprocess
+import sys
+from pathlib import Path
+
+PAGES = Path(__file__).resolve().parent.parent / "man"
+
+
+def help_of(program, *words):
+    return subprocess.run([program, *words, "--help"], capture_output=True, text=True, timeout=30, check=True).stdout
+
+
+def section(text, name):
+    """The lines under a heading of the help, to the next empty line."""
+    found = re.search(rf"^{name}:\n((?:.+\n)+)", text, re.MULTILINE)
+    return found[1].splitlines() if found else []
+
+
+def options_in_help(text):
+    """Each option with its value or none; but `--help`, which every command has."""
+    pattern = r"\s+(?:-\w, )?--([a-z-]+)(?:[ =]<([^>]+)>)?"
+    found = [re.match(pattern, line) for line in section(text, "Options")]
+    return {m[1]: m[2] for m in found if m and m[1] != "help"}
+
+
+def commands_in_help(program):
+    return {line.split()[0] for line in section(help_of(program), "Commands")} - {"help"}
+
+
+def commands_in_page(text):
+    """The options of each command, each with its value or none."""
+    commands = {}
+    body = re.search(r"^\.SH COMMANDS\n(.*?)^\.SH ", text, re.MULTILINE | re.DOTALL)[1]
+    for part in re.split(r"^\.SS ", body, flags=re.MULTILINE)[1:]:
+        name, rest = part.split("\n", 1)
+        found = re.findall(r'^\.BI? ((?:\\-)+[a-z\\-]+)(?: " ([^"]+)")?$', rest, re.MULTILINE)
+        commands[name] = {option.replace("\\", "").lstrip("-"): value or None for option, value in found}
+    return commands
+
+
+def faults_of(page, program):
+    """What differs, a line each, and how much was compared."""
+    text = page.read_text()
+    documented, there = commands_in_page(text), commands_in_help(program)
+    faults = [f"command {name} is in one of both alone" for name in documented.keys() ^ there]
+    count = len(there)
+    for name in sorted(documented.keys() & there):
+        said = options_in_help(help_of(program, name))
+        count += len(said)
+        for option in sorted(documented[name].keys() | said.keys()):
+            page_has, help_has = documented[name].get(option, "nothing"), said.get(option, "nothing")
+            if page_has != help_has:
+                faults.append(f"{name} --{option}: {page_has!r} in the page, {help_has!r} in the help")
+    if shutil.which("groff"):
+        warned = subprocess.run(["groff", "-man", "-Tutf8", "-ww", str(page)], capture_output=True, text=True).stderr
+        faults += [f"groff: {line}" for line in warned.splitlines()]
+    return faults, count
+
+
+def main():
+    passed = failed = 0
+    for name in ("ocadev", "ocactl"):
+        faults, count = faults_of(PAGES / f"{name}.1", f"{sys.argv[1]}/{name}")
+        for fault in faults:
+            print(f"{name}.1: {fault}")
+        failed += len(faults)
+        passed += max(0, count - len(faults))
+    print(f"{passed} passed, {failed} failed")
+    return 1 if failed else 0
+
+
+if __name__ == "__main__":
+    sys.exit(main())
