@@ -134,7 +134,7 @@ other_session w n ns q h =
 -- The clock moves.
 pub table_moved : (w t : ℕ) (s : State) → s.moment ≤ t → with_moment_and_sessions (table_of w s) t (staying t (table_of w s).sessions) ≡ table_of w (moved_to t s)
 table_moved w t s le =
-    ap (λ ss. let x : Table = record { window = w; moment = t; sessions = ss } in x)
+    ap (λ ss. let x : Table = record { sizes = record { window = w; peers = 16 }; moment = t; sessions = ss } in x)
     (filter_mapped (stays t) (session_for w s.notes) (known s.moment s.notes)
     ∙ ap (map (session_for w s.notes)) (known_later s.moment t s.notes le w))
 

@@ -27,7 +27,7 @@ abbrev session_in : ℕ → Peer → ℕ → List Note → Session
 session_in w p t own = record { peer = p; heard = t; heartbeat = heartbeat_of own; retained = retained_of w (accepted own) }
 
 abbrev table_at : ℕ → ℕ → List Session → Table
-table_at w t ss = record { window = w; moment = t; sessions = ss }
+table_at w t ss = record { sizes = record { window = w; peers = 16 }; moment = t; sessions = ss }
 
 -- ---- the clock moves
 
@@ -117,10 +117,11 @@ pub hears_opened : (w : ℕ) (s : State) (p : Peer) (t : ℕ) (old new : Table) 
     (true ≡ admits s p) × ((ms : List Msg) → new ≡ table_of w (noted p (Admitted ms) s))
 hears_opened w s p t old new was now h =
     let k = new_there w s p old was h.0 in
-    let few : length (known s.moment s.notes) < 16 = subst (λ (n : ℕ). n < 16) (count_known w s old was) h.1 in (
+    let few : length (known s.moment s.notes) < 16 =
+    subst (λ (n : ℕ). n < 16) (count_known w s old was) (subst (λ (n : ℕ). length old.sessions < n) (ap (λ (x : Table). x.sizes.peers) was) h.1) in (
       sym (ap (λ b. b || nat_lt (length (known s.moment s.notes)) 16) k ∙ room (length (known s.moment s.notes)) few),
-      λ ms. h.2 ∙ ap (λ (u : ℕ). with_moment_and_sessions old u (old.sessions ++ opened_session old.window p u ∷ [])) now
-          ∙ ap (λ (x : Table). with_moment_and_sessions x s.moment (x.sessions ++ opened_session x.window p s.moment ∷ [])) was
+      λ ms. h.2 ∙ ap (λ (u : ℕ). with_moment_and_sessions old u (old.sessions ++ opened_session old.sizes.window p u ∷ [])) now
+          ∙ ap (λ (x : Table). with_moment_and_sessions x s.moment (x.sessions ++ opened_session x.sizes.window p s.moment ∷ [])) was
           ∙ admitted_new w s p ms k,
     )
 
@@ -128,7 +129,8 @@ pub hears_no_room : (w : ℕ) (s : State) (p : Peer) (t : ℕ) (old new : Table)
     (false ≡ admits s p) × (new ≡ table_of w s)
 hears_no_room w s p t old new was now h =
     let k = new_there w s p old was h.0 in
-    let many : 16 ≤ length (known s.moment s.notes) = subst (λ (n : ℕ). 16 ≤ n) (count_known w s old was) h.1 in (
+    let many : 16 ≤ length (known s.moment s.notes) =
+    subst (λ (n : ℕ). 16 ≤ n) (count_known w s old was) (subst (λ (n : ℕ). n ≤ length old.sessions) (ap (λ (x : Table). x.sizes.peers) was) h.1) in (
       sym (ap (λ b. b || nat_lt (length (known s.moment s.notes)) 16) k ∙ no_room (length (known s.moment s.notes)) many),
       h.2 ∙ ap (λ (u : ℕ). with_moment_and_sessions old u old.sessions) now ∙ ap (λ (x : Table). with_moment_and_sessions x s.moment x.sessions) was,
     )

@@ -2,6 +2,7 @@
 use Rattle.std.specs.Prelude.{◌≡◌, ℕ, List, map}
 use Rattle.oca_types.specs.declared.words.Peer.{Peer}
 use Rattle.oca_tree.specs.declared.object.Object.{Object}
+use Rattle.oca_session.specs.Limits.{most_sessions}
 use Rattle.oca_session.specs.Accepted.{retained_of}
 use Rattle.oca_session.specs.Table.{Session, Table}
 use Rattle.oca_device.specs.Events.{Event}
@@ -22,7 +23,7 @@ session_for w notes p =
 
 -- the clock, and the sessions of the known peers in order of opening
 abbrev pub table_of : ℕ → State → Table
-table_of w s = record { window = w; moment = s.moment; sessions = map (session_for w s.notes) (known s.moment s.notes) }
+table_of w s = record { sizes = record { window = w; peers = most_sessions }; moment = s.moment; sessions = map (session_for w s.notes) (known s.moment s.notes) }
 
 -- the device is what the state says
 pub record IsIn (w : ℕ) (d : DeviceState) (s : State) : Type 0 where

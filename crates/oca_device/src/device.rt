@@ -35,7 +35,7 @@ pub struct Device {
     tree: Tree,
     sessions: Sessions,
     /// The peers that had lapsed when the clock moved last: a place for them, which is not made anew at each datagram.
-    lapsed: ArrayVec<Peer, 16>,
+    lapsed: ArrayVec<Peer, 64>,
     /// The room in which a command is executed: its reply is made here once, and read where it is needed.
     reply: Reply,
 }

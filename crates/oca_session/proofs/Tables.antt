@@ -418,3 +418,15 @@ quiet_staying w q moment (s ∷ ss) all quiet le =
     let still = lapsed_or_stays w moment s (all 0 s (omega arith)) (no_lapse q moment s here le) in
     rw still (ap (λ ts. s ∷ ts) (quiet_staying w q moment ss (All-tail (IsSession w) s ss all)
     (All-tail (λ s. q ≤ s.heard + 3 * s.heartbeat) s ss quiet) le))
+
+-- ---- how many lapse
+
+-- at most all
+pub lapsed_few : (moment : ℕ) (ss : List Session) → length (lapsed moment ss) ≤ length ss
+lapsed_few moment [] = omega arith
+lapsed_few moment (s ∷ ss) = by_test (is_lapsed moment s) (lapsed_few moment ss)
+  where
+    by_test : (b : Bool) → length (lapsed moment ss) ≤ length ss →
+        length (peers_of (cond b (s ∷ filter (is_lapsed moment) ss) (filter (is_lapsed moment) ss))) ≤ length (s ∷ ss)
+    by_test true h = omega (arith, h)
+    by_test false h = omega (arith, h)

@@ -3,11 +3,12 @@ use Rattle.std.specs.Prelude.{◌≡◌, ℕ, ◌*◌, ◌-◌, ◌<◌, ◌≤�
 use Rattle.std.specs.List.{find}
 use Rattle.oca_types.specs.declared.words.Peer.{Peer}
 use Rattle.oca_types.specs.Peers.{same_peer}
+use Rattle.oca_types.specs.Sizes.{DeviceSizes}
 use Rattle.oca_session.specs.declared.sessions.Admission.{Admission}
 use Rattle.oca_session.specs.declared.sessions.Admission.TheVariants as answer
 use Rattle.oca_session.specs.Accepted.{Entry, Retained, retained_of, Agrees}
 use Rattle.oca_session.specs.Judging.{retained_after}
-use Rattle.oca_session.specs.Limits.{most_sessions, longest_silence, first_heartbeat, within_heartbeats}
+use Rattle.oca_session.specs.Limits.{longest_silence, first_heartbeat, within_heartbeats}
 
 -- A session: whose it is, when its last datagram was heard, its heartbeat, and what its reply window retains (profile).
 pub record Session : Type 0 where
@@ -16,17 +17,17 @@ pub record Session : Type 0 where
   pub heartbeat : ℕ
   pub retained : Retained
 
--- The size of the reply windows, the present moment, and the sessions in order of opening, the latest last (profile).
+-- The chosen sizes, the present moment, and the sessions in order of opening, the latest last (profile).
 pub record Table : Type 0 where
-  pub window : ℕ
+  pub sizes : DeviceSizes
   pub moment : ℕ
   pub sessions : List Session
 
--- the same window size, with another moment and other sessions (profile)
+-- the same sizes, with another moment and other sessions (profile)
 abbrev pub with_moment_and_sessions : Table → ℕ → List Session → Table
-with_moment_and_sessions t moment ss = record { window = t.window; moment = moment; sessions = ss }
+with_moment_and_sessions t moment ss = record { sizes = t.sizes; moment = moment; sessions = ss }
 
--- the same window size and moment, with other sessions (profile)
+-- the same sizes and moment, with other sessions (profile)
 abbrev pub with_sessions : Table → List Session → Table
 with_sessions t ss = with_moment_and_sessions t t.moment ss
 
@@ -98,10 +99,10 @@ abbrev pub Hears : Peer → ℕ → Table → Admission → Table → Type 0
 Hears p moment old answer.Known new =
     IsSome (session_of p old.sessions) × (new ≡ with_moment_and_sessions old moment (changed p (heard_at moment) old.sessions))
 Hears p moment old answer.Opened new =
-    (session_of p old.sessions ≡ None) × (length old.sessions < most_sessions)
-    × (new ≡ with_moment_and_sessions old moment (old.sessions ++ opened_session old.window p moment ∷ []))
+    (session_of p old.sessions ≡ None) × (length old.sessions < old.sizes.peers)
+    × (new ≡ with_moment_and_sessions old moment (old.sessions ++ opened_session old.sizes.window p moment ∷ []))
 Hears p moment old answer.NoRoom new =
-    (session_of p old.sessions ≡ None) × (most_sessions ≤ length old.sessions) × (new ≡ with_moment_and_sessions old moment old.sessions)
+    (session_of p old.sessions ≡ None) × (old.sizes.peers ≤ length old.sessions) × (new ≡ with_moment_and_sessions old moment old.sessions)
 
 -- who has a session after an answer (profile)
 abbrev pub IsKnownAfter : Admission → Peer → List Session → Type 0

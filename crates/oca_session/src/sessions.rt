@@ -2,7 +2,7 @@
 ghost use Rattle.std.specs.Prelude.{◌≡◌, ℕ, ◌<◌, ◌≤◌, List, [], ◌∷◌, ◌++◌, length, IfOk, IsSome, IfSome, is_some, Some, vec_len, take, position, All, Contains, ◌==◌};
 ghost use Rattle.oca_types.specs.declared.words.Peer.{Peer};
 ghost use Rattle.oca_types.specs.Peers.{fields_of};
-ghost use Rattle.oca_types.specs.Sizes.{window_size};
+ghost use Rattle.oca_types.specs.Sizes.{window_size, sizes_of};
 ghost use Rattle.oca_session.specs.Accepted.{Entry, judgement, Fresh};
 ghost use Rattle.oca_session.specs.Judging.{as_judgement, judgement_by_window};
 ghost use Rattle.oca_session.specs.Table.{is_of, session_of, peers_of, lapsed, staying, forgotten};
@@ -12,12 +12,9 @@ ghost use Rattle.oca_session.specs.PrivateQuiet.{IsQuietUntil};
 use crate::slot::Slot;
 use crate::window::Judged;
 use arrayvec::ArrayVec;
-use oca_types::{Command, NoMemory, Peer, Reply, Window};
+use oca_types::{Command, NoMemory, Peer, Peers, Reply, Sizes, Window};
 use std::alloc::{AllocError, Global};
 use std::marker::Model;
-
-/// At most so many sessions.
-const SESSIONS: usize = 16;
 
 /// What hearing a peer did.
 #[derive(Clone, Copy, Debug, PartialEq, Eq)]
@@ -26,18 +23,18 @@ pub enum Admission {
     Known,
     /// A session was opened for the peer.
     Opened,
-    /// The peer has no session, and 16 others have one: no session was changed.
+    /// The peer has no session, and as many others as were chosen have one: no session was changed.
     NoRoom,
 }
 
-/// The sessions of at most 16 peers, in order of opening (profile).
+/// The sessions of peers, at most as many as were chosen, in order of opening (profile).
 ///
 /// A peer is *known* while it has a session. The present moment is the latest that `advance` and `hear`
 /// were given, in milliseconds, and 0 at first. The *silence* of a session is the present moment less the
 /// moment when its peer was last heard.
 #[derive(Drop)]
 pub struct Sessions {
-    window: usize,
+    sizes: Sizes,
     moment: u64,
     /// Up to this moment no session lapses, and so none is forgotten.
     quiet_until: u64,
@@ -50,16 +47,17 @@ pub struct Sessions {
 
 impl Model for Sessions {
     ghost use Rattle.std.specs.Prelude.{◌≡◌, ◌<◌, ◌≤◌, length, take, All};
+    ghost use Rattle.oca_types.specs.Sizes.{window_size, sizes_of};
     ghost use Rattle.oca_session.specs.Table.{Table};
     ghost use Rattle.oca_session.specs.Sound.{IsSession, IsOnePerPeer};
     ghost use Rattle.oca_session.specs.PrivateQuiet.{IsQuietUntil};
 
     ghost Value = { Table };
 
-    ghost view = { λ a. record { window = a.window; moment = a.moment; sessions = take a.count a.slots.items } };
+    ghost view = { λ a. record { sizes = sizes_of a.sizes; moment = a.moment; sessions = take a.count a.slots.items } };
 
-    ghost invariant = { λ a. (0 < a.window) × (a.count ≤ 16) × (length a.slots.items ≡ 16)
-        × All (IsSession a.window) a.slots.items × IsOnePerPeer (take a.count a.slots.items)
+    ghost invariant = { λ a. (a.count ≤ (sizes_of a.sizes).peers) × (length a.slots.items ≡ (sizes_of a.sizes).peers)
+        × All (IsSession (sizes_of a.sizes).window) a.slots.items × IsOnePerPeer (take a.count a.slots.items)
         × IsQuietUntil a.quiet_until (take a.count a.slots.items) × (0 < a.count → a.recent < a.count) };
 }
 
@@ -67,15 +65,33 @@ impl Sessions {
     ghost use Rattle.oca_session.specs.Table.{with_moment_and_sessions, with_sessions, present, changed, with_heartbeat, with_entry, with_accepted, Hears, IsKnownAfter, AgreesAt};
     ghost use Rattle.oca_session.specs.Sound.{IsTable};
 
-    /// No session, at the moment 0. Each session will have a reply window of this size, for as long as there are
-    /// these sessions. Takes all the memory that they will need, and answers `NoMemory` where that is refused.
+    /// No session, at the moment 0, with room for 16. Each session will have a reply window of this size, for as long
+    /// as there are these sessions. Takes all the memory that they will need, and answers `NoMemory` where that is
+    /// refused.
     pub fn new(alloc: Global, window: Window) -> Result<Sessions, NoMemory>
-        ensures { IfOk result (λ t. t ≡ record { window = window_size window; moment = 0; sessions = [] }) }
+        ensures { IfOk result (λ t. t ≡ record { sizes = record { window = window_size window; peers = 16 }; moment = 0; sessions = [] }) }
     {
-        let window = usize::from(window.get());
-        match spare_slots(alloc, window) {
-            Ok(slots) => Ok(Sessions {
+        Sessions::with_sizes(
+            alloc,
+            Sizes {
                 window,
+                peers: Peers::default(),
+            },
+        )
+    }
+
+    /// No session, at the moment 0, with room for as many as these sizes say, each with a reply window of their size.
+    /// Takes all the memory that they will need, and answers `NoMemory` where that is refused.
+    pub fn with_sizes(alloc: Global, sizes: Sizes) -> Result<Sessions, NoMemory>
+        ensures { IfOk result (λ t. t ≡ record { sizes = sizes_of sizes; moment = 0; sessions = [] }) }
+    {
+        let (window, peers) = (
+            usize::from(sizes.window.get()),
+            usize::from(sizes.peers.get()),
+        );
+        match spare_slots(alloc, window, peers) {
+            Ok(slots) => Ok(Sessions {
+                sizes,
                 moment: 0,
                 quiet_until: 0,
                 count: 0,
@@ -86,7 +102,7 @@ impl Sessions {
         }
     }
 
-    /// The number of sessions: at most 16.
+    /// The number of sessions: at most as many as were chosen.
     pub fn len(&self) -> usize
         ensures len { result ≡ length self.now.sessions }
         ensures sound { IsTable self.now }
@@ -111,22 +127,27 @@ impl Sessions {
 
     /// Goes on to a moment, in milliseconds; one that is earlier than the present moment counts as the present.
     ///
-    /// Answers, in order of opening, each peer whose silence passes three of its heartbeats (again at each
-    /// later call while it is silent). Then forgets each session whose silence passes 120,000 ms: its peer is
-    /// among those answered.
+    /// Answers, in order of opening, the first 16 of the peers whose silence passes three of their heartbeats (again
+    /// at each later call while they are silent): all of them where at most 16 sessions were chosen. Then forgets each
+    /// session whose silence passes 120,000 ms: its peer is one of those whose silence passes three heartbeats.
     pub fn advance(&mut self, now: u64) -> ArrayVec<Peer, 16>
-        ensures lapsed { result.items ≡ lapsed (present self.old now) self.old.sessions }
+        ensures lapsed { result.items ≡ take 16 (lapsed (present self.old now) self.old.sessions) }
+        ensures all { self.old.sizes.peers ≤ 16 → result.items ≡ lapsed (present self.old now) self.old.sessions }
         ensures staying { self.new ≡ with_moment_and_sessions self.old (present self.old now) (staying (present self.old now) self.old.sessions) }
-        ensures forgotten { All (Contains result.items) (peers_of (forgotten (present self.old now) self.old.sessions)) }
+        ensures forgotten { self.old.sizes.peers ≤ 16 → All (Contains result.items) (peers_of (forgotten (present self.old now) self.old.sessions)) }
     {
+        // At most as many sessions as were chosen.
+        let _ = &self.sizes;
+        let mut all = ArrayVec::new();
+        self.advance_into(now, &mut all);
         let mut peers = ArrayVec::new();
-        self.advance_into(now, &mut peers);
+        let _ = peers.try_extend_from_slice(&all.as_slice()[..all.len().min(16)]);
         peers
     }
 
-    /// As `advance`, but the peers whose silence passes three heartbeats are put into `peers`, in the place of what
-    /// it held.
-    pub fn advance_into(&mut self, now: u64, peers: &mut ArrayVec<Peer, 16>)
+    /// Goes on to a moment and forgets, as `advance` does. All peers whose silence passes three heartbeats are put into
+    /// `peers`, in order of opening, in the place of what it held.
+    pub fn advance_into(&mut self, now: u64, peers: &mut ArrayVec<Peer, 64>)
         ensures lapsed { peers.new.items ≡ lapsed (present self.old now) self.old.sessions }
         ensures staying { self.new ≡ with_moment_and_sessions self.old (present self.old now) (staying (present self.old now) self.old.sessions) }
         ensures forgotten { All (Contains peers.new.items) (peers_of (forgotten (present self.old now) self.old.sessions)) }
@@ -142,7 +163,7 @@ impl Sessions {
     /// Puts the peers that are lapsed at the present moment into `peers`, in the place of what it held, and then
     /// forgets. It stands apart so that the quiet case is inlined.
     #[inline(never)]
-    fn lapse(&mut self, peers: &mut ArrayVec<Peer, 16>)
+    fn lapse(&mut self, peers: &mut ArrayVec<Peer, 64>)
         ensures lapsed { peers.new.items ≡ lapsed self.old.moment self.old.sessions }
         ensures staying { self.new ≡ with_sessions self.old (staying self.old.moment self.old.sessions) }
         ensures forgotten { All (Contains peers.new.items) (peers_of (forgotten self.old.moment self.old.sessions)) }
@@ -155,12 +176,12 @@ impl Sessions {
 
     /// Notes that a peer was heard at a moment, in milliseconds. A known peer's silence ends. For another a
     /// session is opened, the last in order, with an empty window, no floor and the heartbeat 5,000; but where
-    /// there are 16 sessions already, no session changes. In all cases the present moment goes on to `now`,
+    /// there are as many sessions as were chosen already, no session changes. In all cases the present moment goes on to `now`,
     /// unless that is earlier.
     pub fn hear(&mut self, peer: Peer, now: u64) -> Admission
         ensures hears { Hears peer (present self.old now) self.old result self.new }
         ensures known { IsKnownAfter result peer self.new.sessions }
-        ensures window { self.new.window ≡ self.old.window }
+        ensures sizes { self.new.sizes ≡ self.old.sizes }
     {
         self.moment = self.moment.max(now);
         if let Some(at) = index_of(&self.slots[..self.count], self.recent, peer) {
@@ -170,7 +191,7 @@ impl Sessions {
             self.recent = at;
             return Admission::Known;
         }
-        if self.count == SESSIONS {
+        if self.count == self.slots.len() {
             return Admission::NoRoom;
         }
         let slot = &mut self.slots[self.count];
@@ -228,7 +249,7 @@ impl Sessions {
     fn index_of_known(&self, peer: Peer) -> usize
         requires { IsSome (session_of peer self.now.sessions) }
         ensures place { position (is_of peer) self.now.sessions ≡ Some result }
-        ensures within { result < 16 }
+        ensures within { result < self.now.sizes.peers }
     {
         if self.slots[self.recent].is_of(peer) {
             return self.recent;
@@ -242,7 +263,7 @@ impl Sessions {
     fn search_known(&self, peer: Peer) -> usize
         requires { IsSome (session_of peer self.now.sessions) }
         ensures place { position (is_of peer) self.now.sessions ≡ Some result }
-        ensures within { result < 16 }
+        ensures within { result < self.now.sizes.peers }
     {
         match search(&self.slots[..self.count], peer) {
             Some(at) => at,
@@ -284,7 +305,7 @@ fn search(slots: &[Slot], peer: Peer) -> Option<usize>
 }
 
 /// Takes all peers out. Clearing is a call that overwrites the cells, so an empty list is left alone.
-fn empty(peers: &mut ArrayVec<Peer, 16>)
+fn empty(peers: &mut ArrayVec<Peer, 64>)
     ensures { peers.new.items ≡ [] }
 {
     if !peers.is_empty() {
@@ -294,8 +315,8 @@ fn empty(peers: &mut ArrayVec<Peer, 16>)
 
 /// Puts the peers of the sessions that are lapsed at a moment into `peers`, in their order, in the place of what it
 /// held.
-fn put_lapsed(slots: &[Slot], moment: u64, peers: &mut ArrayVec<Peer, 16>)
-    requires { length slots.now ≤ 16 }
+fn put_lapsed(slots: &[Slot], moment: u64, peers: &mut ArrayVec<Peer, 64>)
+    requires { length slots.now ≤ 64 }
     ensures { peers.new.items ≡ lapsed moment slots.now }
 {
     peers.clear();
@@ -336,13 +357,13 @@ fn forget(slots: &mut Vec<Slot>, count: usize, moment: u64) -> usize
     kept
 }
 
-/// Sixteen slots for sessions with windows of this size.
-fn spare_slots(alloc: Global, window: usize) -> Result<Vec<Slot>, AllocError>
+/// So many slots for sessions with windows of this size.
+fn spare_slots(alloc: Global, window: usize, count: usize) -> Result<Vec<Slot>, AllocError>
     requires { 0 < window }
-    ensures { IfOk result (λ v. (length v.items ≡ 16) × All (IsSession window) v.items) }
+    ensures { IfOk result (λ v. (length v.items ≡ count) × All (IsSession window) v.items) }
 {
-    let mut slots = Vec::with_capacity(alloc, SESSIONS)?;
-    for _i in 0..SESSIONS {
+    let mut slots = Vec::with_capacity(alloc, count)?;
+    for _i in 0..count {
         slots.push_reserved(Slot::spare(alloc, window)?);
     }
     Ok(slots)

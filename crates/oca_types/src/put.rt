@@ -5,6 +5,7 @@ ghost use Rattle.std.specs.Int.{w8, w16, w32, w64};
 ghost use Rattle.oca_types.specs.Numbers.{unsigned_encoding, signed_encoding, bool_encoding};
 ghost use Rattle.oca_types.specs.Texts.{text_encoding};
 ghost use Rattle.oca_types.specs.Putting.{Puts};
+ghost use Rattle.oca_types.specs.Sizes.{most_parameter_bytes};
 ghost use Rattle.oca_types.specs.Classes.{class_identification_encoding};
 
 use crate::class::{Class, class_fields};
@@ -14,7 +15,7 @@ use crate::words::{MOST_PARAMETER_BYTES, Params};
 
 /// Appends bytes.
 fn put_bytes(params: &mut Params, bytes: &[u8]) -> Result<(), PutFault>
-    ensures full { IsErr result ↔ (1452 < length params.old.items + length bytes.now) }
+    ensures full { IsErr result ↔ (most_parameter_bytes < length params.old.items + length bytes.now) }
     ensures puts { Puts result params.old.items params.new.items bytes.now }
     ensures err { OnErr result (params.new ≡ params.old) }
 {
@@ -25,7 +26,7 @@ fn put_bytes(params: &mut Params, bytes: &[u8]) -> Result<(), PutFault>
 
 /// Appends a Uint8 (AES70-3). Refusal: `Full`, and the parameters are unchanged.
 pub fn put_u8(params: &mut Params, value: u8) -> Result<(), PutFault>
-    ensures full { IsErr result ↔ (1452 < length params.old.items + 1) }
+    ensures full { IsErr result ↔ (most_parameter_bytes < length params.old.items + 1) }
     ensures puts { Puts result params.old.items params.new.items (unsigned_encoding w8 value) }
     ensures err { OnErr result (params.new ≡ params.old) }
 {
@@ -34,7 +35,7 @@ pub fn put_u8(params: &mut Params, value: u8) -> Result<(), PutFault>
 
 /// Appends a Uint16 (AES70-3). Refusal: `Full`, and the parameters are unchanged.
 pub fn put_u16(params: &mut Params, value: u16) -> Result<(), PutFault>
-    ensures full { IsErr result ↔ (1452 < length params.old.items + 2) }
+    ensures full { IsErr result ↔ (most_parameter_bytes < length params.old.items + 2) }
     ensures puts { Puts result params.old.items params.new.items (unsigned_encoding w16 value) }
     ensures err { OnErr result (params.new ≡ params.old) }
 {
@@ -43,7 +44,7 @@ pub fn put_u16(params: &mut Params, value: u16) -> Result<(), PutFault>
 
 /// Appends a Uint32 (AES70-3). Refusal: `Full`, and the parameters are unchanged.
 pub fn put_u32(params: &mut Params, value: u32) -> Result<(), PutFault>
-    ensures full { IsErr result ↔ (1452 < length params.old.items + 4) }
+    ensures full { IsErr result ↔ (most_parameter_bytes < length params.old.items + 4) }
     ensures puts { Puts result params.old.items params.new.items (unsigned_encoding w32 value) }
     ensures err { OnErr result (params.new ≡ params.old) }
 {
@@ -52,7 +53,7 @@ pub fn put_u32(params: &mut Params, value: u32) -> Result<(), PutFault>
 
 /// Appends a Uint64 (AES70-3). Refusal: `Full`, and the parameters are unchanged.
 pub fn put_u64(params: &mut Params, value: u64) -> Result<(), PutFault>
-    ensures full { IsErr result ↔ (1452 < length params.old.items + 8) }
+    ensures full { IsErr result ↔ (most_parameter_bytes < length params.old.items + 8) }
     ensures puts { Puts result params.old.items params.new.items (unsigned_encoding w64 value) }
     ensures err { OnErr result (params.new ≡ params.old) }
 {
@@ -61,7 +62,7 @@ pub fn put_u64(params: &mut Params, value: u64) -> Result<(), PutFault>
 
 /// Appends an Int8 (AES70-3). Refusal: `Full`, and the parameters are unchanged.
 pub fn put_i8(params: &mut Params, value: i8) -> Result<(), PutFault>
-    ensures full { IsErr result ↔ (1452 < length params.old.items + 1) }
+    ensures full { IsErr result ↔ (most_parameter_bytes < length params.old.items + 1) }
     ensures puts { Puts result params.old.items params.new.items (signed_encoding w8 value) }
     ensures err { OnErr result (params.new ≡ params.old) }
 {
@@ -70,7 +71,7 @@ pub fn put_i8(params: &mut Params, value: i8) -> Result<(), PutFault>
 
 /// Appends an Int16 (AES70-3). Refusal: `Full`, and the parameters are unchanged.
 pub fn put_i16(params: &mut Params, value: i16) -> Result<(), PutFault>
-    ensures full { IsErr result ↔ (1452 < length params.old.items + 2) }
+    ensures full { IsErr result ↔ (most_parameter_bytes < length params.old.items + 2) }
     ensures puts { Puts result params.old.items params.new.items (signed_encoding w16 value) }
     ensures err { OnErr result (params.new ≡ params.old) }
 {
@@ -79,7 +80,7 @@ pub fn put_i16(params: &mut Params, value: i16) -> Result<(), PutFault>
 
 /// Appends an Int32 (AES70-3). Refusal: `Full`, and the parameters are unchanged.
 pub fn put_i32(params: &mut Params, value: i32) -> Result<(), PutFault>
-    ensures full { IsErr result ↔ (1452 < length params.old.items + 4) }
+    ensures full { IsErr result ↔ (most_parameter_bytes < length params.old.items + 4) }
     ensures puts { Puts result params.old.items params.new.items (signed_encoding w32 value) }
     ensures err { OnErr result (params.new ≡ params.old) }
 {
@@ -88,7 +89,7 @@ pub fn put_i32(params: &mut Params, value: i32) -> Result<(), PutFault>
 
 /// Appends an Int64 (AES70-3). Refusal: `Full`, and the parameters are unchanged.
 pub fn put_i64(params: &mut Params, value: i64) -> Result<(), PutFault>
-    ensures full { IsErr result ↔ (1452 < length params.old.items + 8) }
+    ensures full { IsErr result ↔ (most_parameter_bytes < length params.old.items + 8) }
     ensures puts { Puts result params.old.items params.new.items (signed_encoding w64 value) }
     ensures err { OnErr result (params.new ≡ params.old) }
 {
@@ -97,7 +98,7 @@ pub fn put_i64(params: &mut Params, value: i64) -> Result<(), PutFault>
 
 /// Appends an OcaBoolean (AES70-3), as 0 or 1. Refusal: `Full`, and the parameters are unchanged.
 pub fn put_bool(params: &mut Params, value: bool) -> Result<(), PutFault>
-    ensures full { IsErr result ↔ (1452 < length params.old.items + 1) }
+    ensures full { IsErr result ↔ (most_parameter_bytes < length params.old.items + 1) }
     ensures puts { Puts result params.old.items params.new.items (bool_encoding value) }
     ensures err { OnErr result (params.new ≡ params.old) }
 {
@@ -115,7 +116,7 @@ fn scalar_count(text: &str) -> u16
 /// Appends an OcaString (AES70-3): a Uint16 with the number of Unicode scalar values, then the UTF-8.
 /// Refusal: `Full`, and the parameters are unchanged.
 pub fn put_text(params: &mut Params, value: &Text) -> Result<(), PutFault>
-    ensures full { IsErr result ↔ (1452 < length params.old.items + length (text_encoding value.now)) }
+    ensures full { IsErr result ↔ (most_parameter_bytes < length params.old.items + length (text_encoding value.now)) }
     ensures puts { Puts result params.old.items params.new.items (text_encoding value.now) }
     ensures err { OnErr result (params.new ≡ params.old) }
 {
@@ -130,7 +131,7 @@ pub fn put_text(params: &mut Params, value: &Text) -> Result<(), PutFault>
 /// Appends an OcaClassIdentification (AES70-2): the class's identifier, and its version, which is 2
 /// (*profile*). Refusal: `Full`, and the parameters are unchanged.
 pub fn put_class_identification(params: &mut Params, class: Class) -> Result<(), PutFault>
-    ensures full { IsErr result ↔ (1452 < length params.old.items + length (class_identification_encoding class)) }
+    ensures full { IsErr result ↔ (most_parameter_bytes < length params.old.items + length (class_identification_encoding class)) }
     ensures puts { Puts result params.old.items params.new.items (class_identification_encoding class) }
     ensures err { OnErr result (params.new ≡ params.old) }
 {

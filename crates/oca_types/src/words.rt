@@ -37,6 +37,10 @@ pub const MOST_BYTES: usize = 1472;
 /// and the other fields of one response (*profile*).
 pub const MOST_PARAMETER_BYTES: usize = 1452;
 
+/// How many bytes the parameters of a command have at most: those that a datagram holds beside the header of a PDU and
+/// the other fields of one command (*profile*).
+pub const MOST_COMMAND_PARAMETER_BYTES: usize = 1445;
+
 /// The parameters of a response: at most 1,452 bytes.
 pub type Params = ArrayVec<u8, MOST_PARAMETER_BYTES>;
 

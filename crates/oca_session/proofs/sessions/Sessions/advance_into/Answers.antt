@@ -1,6 +1,7 @@
 use Rattle.std.proofs.Common.{ℕ, List, ◌∙◌, ap, sym, subst, take}
 use Rattle.std.specs.Prelude.{All, Contains}
 use Rattle.std.proofs.lemmas.List.Elements.{All-take}
+use Rattle.oca_types.specs.Sizes.{sizes_of}
 use Rattle.oca_session.specs.Table.{Session, Table, lapsed, peers_of, forgotten, staying}
 use Rattle.oca_session.specs.Sound.{IsSession}
 use Rattle.oca_session.proofs.Tables.{forgotten_lapsed, quiet_lapsed, quiet_staying}
@@ -16,15 +17,15 @@ returns-clause-lapsed c =
     let a = c.self.inside in
     let m = c.max-self-inside in
     let ss = take a.count a.slots.items in
-    rw (← c.self.view_is) (c.empty.ensures ∙ sym (quiet_lapsed a.quiet_until m.result ss c.self.invariant.5 c.if-self.false) ∙ ap (λ t. lapsed t ss) m.ensures)
+    rw (← c.self.view_is) (c.empty.ensures ∙ sym (quiet_lapsed a.quiet_until m.result ss c.self.invariant.4 c.if-self.false) ∙ ap (λ t. lapsed t ss) m.ensures)
 
 pub returns-clause-staying : goal.returns-clause-staying
 returns-clause-staying c =
     let a = c.self.inside in
     let m = c.max-self-inside in
     let ss = take a.count a.slots.items in
-    let table = λ (t : ℕ) (ts : List Session). let x : Table = record { window = a.window; moment = t; sessions = ts } in x in
-    let stay = quiet_staying a.window a.quiet_until m.result ss (All-take (IsSession a.window) a.count a.slots.items c.self.invariant.3) c.self.invariant.5 c.if-self.false in
+    let table = λ (t : ℕ) (ts : List Session). let x : Table = record { sizes = sizes_of a.sizes; moment = t; sessions = ts } in x in
+    let stay = quiet_staying a.sizes.window.size a.quiet_until m.result ss (All-take (IsSession a.sizes.window.size) a.count a.slots.items c.self.invariant.2) c.self.invariant.4 c.if-self.false in
     rw (← c.self.view_is) (ap (table m.result) (sym stay) ∙ ap (λ (t : ℕ). table t (staying t ss)) m.ensures)
 
 pub returns-clause-forgotten : goal.returns-clause-forgotten
@@ -32,8 +33,8 @@ returns-clause-forgotten c =
     let a = c.self.inside in
     let m = c.max-self-inside in
     let ss = take a.count a.slots.items in
-    let among = forgotten_lapsed a.window m.result ss (All-take (IsSession a.window) a.count a.slots.items c.self.invariant.3) in
-    let answered = c.empty.ensures ∙ sym (quiet_lapsed a.quiet_until m.result ss c.self.invariant.5 c.if-self.false) in
+    let among = forgotten_lapsed a.sizes.window.size m.result ss (All-take (IsSession a.sizes.window.size) a.count a.slots.items c.self.invariant.2) in
+    let answered = c.empty.ensures ∙ sym (quiet_lapsed a.quiet_until m.result ss c.self.invariant.4 c.if-self.false) in
     rw (← c.self.view_is)
     (subst (λ t. All (Contains c.empty.new.peers.items) (peers_of (forgotten t ss))) m.ensures
     (subst (λ qs. All (Contains qs) (peers_of (forgotten m.result ss))) (sym answered) among))

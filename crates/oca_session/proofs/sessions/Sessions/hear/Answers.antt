@@ -2,6 +2,7 @@ use Rattle.std.proofs.Common.{ℕ, List, take, length, length-take, ◌≡◌, �
 use Rattle.std.specs.Prelude.{is_some, position}
 use Rattle.std.proofs.Math.ListN.{length-set}
 use Rattle.std.proofs.lemmas.List.Elements.{All-set}
+use Rattle.oca_types.specs.Sizes.{sizes_of}
 use Rattle.oca_session.specs.Table.{Session, Table, is_of, session_of, heard_at, changed, opened_session}
 use Rattle.oca_session.specs.Sound.{IsSession, IsOnePerPeer}
 use Rattle.oca_session.proofs.Tables.{changed_in, one_in, sound_in, heard_sound, known_by_place, known_same, peers_of-changed, none_known, opened_in, opened_sound, known-push, same_peer-self, IsOnePerPeer-push, quiet_in, quiet_push, placed_within}
@@ -15,13 +16,12 @@ invariant_of-self c =
     let f = heard_at m in
     let placed = sym c.index_of.ensures ∙ c.in-Some.is in (
       c.self.invariant.0,
-      c.self.invariant.1,
-      length-set a.slots.items at _ ∙ c.self.invariant.2,
-      sound_in a.window c.args.peer f (heard_sound a.window m) a.slots.items c.deref.result.now a.count at _ _
-          c.self.invariant.3 c.deref.ensures.value placed c.index_mut-slot.ensures.value c.note.ensures,
+      length-set a.slots.items at _ ∙ c.self.invariant.1,
+      sound_in a.sizes.window.size c.args.peer f (heard_sound a.sizes.window.size m) a.slots.items c.deref.result.now a.count at _ _
+          c.self.invariant.2 c.deref.ensures.value placed c.index_mut-slot.ensures.value c.note.ensures,
       one_in c.args.peer f (λ s. refl) a.slots.items c.deref.result.now a.count at _ _
-          c.self.invariant.4 c.deref.ensures.value placed c.index_mut-slot.ensures.value c.note.ensures,
-      quiet_in a.quiet_until c.min-self-inside.result a.slots.items a.count at _ c.self.invariant.5 (omega arith) (omega (arith, c.quiet_until.ensures)),
+          c.self.invariant.3 c.deref.ensures.value placed c.index_mut-slot.ensures.value c.note.ensures,
+      quiet_in a.quiet_until c.min-self-inside.result a.slots.items a.count at _ c.self.invariant.4 (omega arith) (omega (arith, c.quiet_until.ensures)),
       λ some. placed_within c.args.peer a.slots.items c.deref.result.now a.count at c.deref.ensures.value placed,
     )
 
@@ -32,11 +32,11 @@ returns-in-Some-clause-hears c =
     let at = c.in-Some.at in
     let placed = sym c.index_of.ensures ∙ c.in-Some.is in
     let there : position (is_of c.args.peer) (take a.count a.slots.items) ≡ Some at = rw (← c.deref.ensures.value) placed in
-    let table = λ (t : ℕ) (ss : List Session). let x : Table = record { window = a.window; moment = t; sessions = ss } in x in
+    let table = λ (t : ℕ) (ss : List Session). let x : Table = record { sizes = sizes_of a.sizes; moment = t; sessions = ss } in x in
     rw (← c.self.view_is) (
       sym (known_by_place c.args.peer (take a.count a.slots.items)) ∙ ap is_some there,
       ap (table m.result) (changed_in c.args.peer (heard_at m.result) a.slots.items c.deref.result.now a.count at _ _
-          c.self.invariant.4 c.deref.ensures.value placed c.index_mut-slot.ensures.value c.note.ensures)
+          c.self.invariant.3 c.deref.ensures.value placed c.index_mut-slot.ensures.value c.note.ensures)
           ∙ ap (λ (t : ℕ). table t (changed c.args.peer (heard_at t) (take a.count a.slots.items))) m.ensures,
     )
 
@@ -48,25 +48,25 @@ returns-in-Some-clause-known c =
     let placed = sym c.index_of.ensures ∙ c.in-Some.is in
     let there : position (is_of c.args.peer) (take a.count a.slots.items) ≡ Some at = rw (← c.deref.ensures.value) placed in
     ap (λ ss. is_some (session_of c.args.peer ss)) (changed_in c.args.peer (heard_at m) a.slots.items c.deref.result.now a.count at _ _
-    c.self.invariant.4 c.deref.ensures.value placed c.index_mut-slot.ensures.value c.note.ensures)
+    c.self.invariant.3 c.deref.ensures.value placed c.index_mut-slot.ensures.value c.note.ensures)
     ∙ known_same c.args.peer _ (take a.count a.slots.items) (peers_of-changed c.args.peer (heard_at m) (λ s. refl) (take a.count a.slots.items))
     ∙ sym (known_by_place c.args.peer (take a.count a.slots.items)) ∙ ap is_some there
 
-pub returns-then-self-eq-SESSIONS-clause-hears : goal.returns-then-self-eq-SESSIONS-clause-hears
-returns-then-self-eq-SESSIONS-clause-hears c =
+pub returns-then-self-len-clause-hears : goal.returns-then-self-len-clause-hears
+returns-then-self-len-clause-hears c =
     let a = c.self.inside in
     let m = c.max-self-inside in
     let ss = take a.count a.slots.items in
     let unplaced : position (is_of c.args.peer) ss ≡ None = rw (← c.deref.ensures.value) (sym c.index_of.ensures ∙ c.in_default.is) in
-    let table = λ (t : ℕ). let x : Table = record { window = a.window; moment = t; sessions = ss } in x in
+    let table = λ (t : ℕ). let x : Table = record { sizes = sizes_of a.sizes; moment = t; sessions = ss } in x in
     rw (← c.self.view_is) (
       none_known c.args.peer ss unplaced,
-      omega (arith, length-take a.count a.slots.items, c.self.invariant.2, c.if-self-eq-SESSIONS.true),
+      omega (arith, length-take a.count a.slots.items, c.self.invariant.1, c.if-self-len.true),
       ap table m.ensures,
     )
 
-pub returns-then-self-eq-SESSIONS-clause-known : goal.returns-then-self-eq-SESSIONS-clause-known
-returns-then-self-eq-SESSIONS-clause-known c =
+pub returns-then-self-len-clause-known : goal.returns-then-self-len-clause-known
+returns-then-self-len-clause-known c =
     let a = c.self.inside in
     let unplaced : position (is_of c.args.peer) (take a.count a.slots.items) ≡ None = rw (← c.deref.ensures.value) (sym c.index_of.ensures ∙ c.in_default.is) in
     none_known c.args.peer (take a.count a.slots.items) unplaced
@@ -77,19 +77,18 @@ invariant_of-self-2 c =
     let m = c.max-self-inside.result in
     let ss = take a.count a.slots.items in
     let unplaced : position (is_of c.args.peer) ss ≡ None = rw (← c.deref.ensures.value) (sym c.index_of.ensures ∙ c.in_default.is) in
-    let free : a.count < 16 = omega (arith, c.self.invariant.1, c.if-self-eq-SESSIONS.false) in
-    let below : a.count < length a.slots.items = omega (arith, c.self.invariant.2) in
-    let last = opened_in c.args.peer a.window m a.slots.items a.count _ _ below c.self.invariant.3 c.index_mut-slot-2.ensures.value c.open.ensures in
-    let before : IsSession a.window c.index_mut-slot-2.result.now =
-    subst (IsSession a.window) (sym c.index_mut-slot-2.ensures.value) (c.self.invariant.3 a.count c.index_mut-slot-2.result.now below) in
-    let new : c.open.new.self ≡ opened_session a.window c.args.peer m = c.open.ensures ∙ ap (λ n. opened_session n c.args.peer m) before.size in
+    let free : a.count < a.sizes.peers.count = omega (arith, c.self.invariant.0, c.self.invariant.1, c.if-self-len.false) in
+    let below : a.count < length a.slots.items = omega (arith, c.self.invariant.1) in
+    let last = opened_in c.args.peer a.sizes.window.size m a.slots.items a.count _ _ below c.self.invariant.2 c.index_mut-slot-2.ensures.value c.open.ensures in
+    let before : IsSession a.sizes.window.size c.index_mut-slot-2.result.now =
+    subst (IsSession a.sizes.window.size) (sym c.index_mut-slot-2.ensures.value) (c.self.invariant.2 a.count c.index_mut-slot-2.result.now below) in
+    let new : c.open.new.self ≡ opened_session a.sizes.window.size c.args.peer m = c.open.ensures ∙ ap (λ n. opened_session n c.args.peer m) before.size in
     let quiet : c.quiet_until-2.result ≤ m + 3 * 5000 = rw new at c.quiet_until-2.ensures in (
-      c.self.invariant.0,
       omega arith,
-      length-set a.slots.items a.count _ ∙ c.self.invariant.2,
-      All-set (IsSession a.window) a.slots.items a.count _ (subst (IsSession a.window) (sym new) (opened_sound a.window c.args.peer m)) c.self.invariant.3,
-      subst IsOnePerPeer (sym last) (IsOnePerPeer-push ss (opened_session a.window c.args.peer m) (none_known c.args.peer ss unplaced) c.self.invariant.4),
-      quiet_push a.quiet_until c.min-self-inside-2.result ss _ (opened_session a.window c.args.peer m) last c.self.invariant.5 (omega arith) (omega (arith, quiet)),
+      length-set a.slots.items a.count _ ∙ c.self.invariant.1,
+      All-set (IsSession a.sizes.window.size) a.slots.items a.count _ (subst (IsSession a.sizes.window.size) (sym new) (opened_sound a.sizes.window.size c.args.peer m)) c.self.invariant.2,
+      subst IsOnePerPeer (sym last) (IsOnePerPeer-push ss (opened_session a.sizes.window.size c.args.peer m) (none_known c.args.peer ss unplaced) c.self.invariant.3),
+      quiet_push a.quiet_until c.min-self-inside-2.result ss _ (opened_session a.sizes.window.size c.args.peer m) last c.self.invariant.4 (omega arith) (omega (arith, quiet)),
       λ some. omega arith,
     )
 
@@ -99,21 +98,21 @@ returns-clause-hears c =
     let m = c.max-self-inside in
     let ss = take a.count a.slots.items in
     let unplaced : position (is_of c.args.peer) ss ≡ None = rw (← c.deref.ensures.value) (sym c.index_of.ensures ∙ c.in_default.is) in
-    let free : a.count < 16 = omega (arith, c.self.invariant.1, c.if-self-eq-SESSIONS.false) in
-    let below : a.count < length a.slots.items = omega (arith, c.self.invariant.2) in
-    let last = opened_in c.args.peer a.window m.result a.slots.items a.count _ _ below c.self.invariant.3 c.index_mut-slot-2.ensures.value c.open.ensures in
-    let table = λ (t : ℕ) (ts : List Session). let x : Table = record { window = a.window; moment = t; sessions = ts } in x in
+    let free : a.count < a.sizes.peers.count = omega (arith, c.self.invariant.0, c.self.invariant.1, c.if-self-len.false) in
+    let below : a.count < length a.slots.items = omega (arith, c.self.invariant.1) in
+    let last = opened_in c.args.peer a.sizes.window.size m.result a.slots.items a.count _ _ below c.self.invariant.2 c.index_mut-slot-2.ensures.value c.open.ensures in
+    let table = λ (t : ℕ) (ts : List Session). let x : Table = record { sizes = sizes_of a.sizes; moment = t; sessions = ts } in x in
     rw (← c.self.view_is) (
       none_known c.args.peer ss unplaced,
       omega (arith, length-take a.count a.slots.items),
-      ap (table m.result) last ∙ ap (λ (t : ℕ). table t (ss ++ opened_session a.window c.args.peer t ∷ [])) m.ensures,
+      ap (table m.result) last ∙ ap (λ (t : ℕ). table t (ss ++ opened_session a.sizes.window.size c.args.peer t ∷ [])) m.ensures,
     )
 
 pub returns-clause-known : goal.returns-clause-known
 returns-clause-known c =
     let a = c.self.inside in
     let m = c.max-self-inside.result in
-    let below : a.count < length a.slots.items = omega (arith, c.self.invariant.1, c.self.invariant.2, c.if-self-eq-SESSIONS.false) in
-    let last = opened_in c.args.peer a.window m a.slots.items a.count _ _ below c.self.invariant.3 c.index_mut-slot-2.ensures.value c.open.ensures in
+    let below : a.count < length a.slots.items = omega (arith, c.self.invariant.0, c.self.invariant.1, c.if-self-len.false) in
+    let last = opened_in c.args.peer a.sizes.window.size m a.slots.items a.count _ _ below c.self.invariant.2 c.index_mut-slot-2.ensures.value c.open.ensures in
     ap (λ ss. is_some (session_of c.args.peer ss)) last
-    ∙ known-push c.args.peer (take a.count a.slots.items) (opened_session a.window c.args.peer m) (same_peer-self c.args.peer)
+    ∙ known-push c.args.peer (take a.count a.slots.items) (opened_session a.sizes.window.size c.args.peer m) (same_peer-self c.args.peer)

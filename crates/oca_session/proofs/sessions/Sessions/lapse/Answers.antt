@@ -12,12 +12,11 @@ use Rattle.oca_session.proofs.sessions.Sessions.lapse.Goals as goal
 pub invariant_of-self : goal.invariant_of-self
 invariant_of-self c =
     let after = c.forget-self-inside.ensures in (
-      c.self.invariant.0,
       omega (arith, after.fewer),
-      omega (arith, after.length, c.self.invariant.2),
-      after.sound c.self.inside.window c.self.invariant.3,
+      omega (arith, after.length, c.self.invariant.1),
+      after.sound c.self.inside.sizes.window.size c.self.invariant.2,
       subst IsOnePerPeer (sym after.front)
-          (AllPairs-filter (λ s t. same_peer s.peer t.peer ≡ false) (stays c.self.inside.moment) (take c.self.inside.count c.self.inside.slots.items) c.self.invariant.4),
+          (AllPairs-filter (λ s t. same_peer s.peer t.peer ≡ false) (stays c.self.inside.moment) (take c.self.inside.count c.self.inside.slots.items) c.self.invariant.3),
       subst (IsQuietUntil c.quiet_until-self-inside.result) (ap (take c.forget-self-inside.result) c.deref-2.ensures.value) c.quiet_until-self-inside.ensures,
       λ some. (omega (arith, some)),
     )
@@ -26,6 +25,6 @@ pub returns-clause-forgotten : goal.returns-clause-forgotten
 returns-clause-forgotten c =
     let a = c.self.inside in
     let ss = take a.count a.slots.items in
-    let among = forgotten_lapsed a.window a.moment ss (All-take (IsSession a.window) a.count a.slots.items c.self.invariant.3) in
+    let among = forgotten_lapsed a.sizes.window.size a.moment ss (All-take (IsSession a.sizes.window.size) a.count a.slots.items c.self.invariant.2) in
     let answered = c.put_lapsed.ensures ∙ ap (λ xs. lapsed a.moment (take a.count xs)) c.deref.ensures.value in
     rw (← c.self.view_is) (subst (λ qs. All (Contains qs) (peers_of (forgotten a.moment ss))) (sym answered) among)

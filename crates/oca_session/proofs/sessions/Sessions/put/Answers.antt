@@ -4,6 +4,7 @@ use Rattle.std.specs.Prelude.{Option, IfSome}
 use Rattle.oca_types.specs.declared.words.Command.{Command}
 use Rattle.oca_types.specs.declared.words.Reply.{Reply}
 use Rattle.oca_types.specs.Peers.{fields_of}
+use Rattle.oca_types.specs.Sizes.{sizes_of}
 use Rattle.oca_session.specs.Accepted.{Entry, Fresh}
 use Rattle.oca_session.specs.Judging.{judgement_by_window}
 use Rattle.oca_session.specs.Table.{Session, Table, session_of, with_entry}
@@ -29,21 +30,20 @@ invariant_of-self c =
     let at = c.index_of_known-at in
     let f = with_entry (kept c.args.command.now c.args.reply.now) in (
       c.self.invariant.0,
-      c.self.invariant.1,
-      length-set a.slots.items at.result _ ∙ c.self.invariant.2,
-      sound_in a.window c.args.peer f (entry_sound a.window _) a.slots.items c.self.inside.slots.items a.count at.result _ _
-          c.self.invariant.3 refl (rw (← c.self.view_is) at at.ensures.place) c.index_mut.ensures.value c.keep.ensures,
+      length-set a.slots.items at.result _ ∙ c.self.invariant.1,
+      sound_in a.sizes.window.size c.args.peer f (entry_sound a.sizes.window.size _) a.slots.items c.self.inside.slots.items a.count at.result _ _
+          c.self.invariant.2 refl (rw (← c.self.view_is) at at.ensures.place) c.index_mut.ensures.value c.keep.ensures,
       one_in c.args.peer f (λ s. refl) a.slots.items c.self.inside.slots.items a.count at.result _ _
-          c.self.invariant.4 refl (rw (← c.self.view_is) at at.ensures.place) c.index_mut.ensures.value c.keep.ensures,
+          c.self.invariant.3 refl (rw (← c.self.view_is) at at.ensures.place) c.index_mut.ensures.value c.keep.ensures,
       quiet_kept c.args.peer _ a.quiet_until a.slots.items c.self.inside.slots.items a.count at.result _ _
-          c.self.invariant.5 refl (rw (← c.self.view_is) at at.ensures.place) c.index_mut.ensures.value c.keep.ensures,
-      c.self.invariant.6,
+          c.self.invariant.4 refl (rw (← c.self.view_is) at at.ensures.place) c.index_mut.ensures.value c.keep.ensures,
+      c.self.invariant.5,
     )
 
 pub returns-clause-retained : goal.returns-clause-retained
 returns-clause-retained c =
     let a = c.self.inside in
     let at = c.index_of_known-at in
-    rw (← c.self.view_is) (ap (λ ss. let t : Table = record { window = a.window; moment = a.moment; sessions = ss } in t)
+    rw (← c.self.view_is) (ap (λ ss. let t : Table = record { sizes = sizes_of a.sizes; moment = a.moment; sessions = ss } in t)
     (changed_in c.args.peer (with_entry (kept c.args.command.now c.args.reply.now)) a.slots.items c.self.inside.slots.items a.count at.result _ _
-    c.self.invariant.4 refl (rw (← c.self.view_is) at at.ensures.place) c.index_mut.ensures.value c.keep.ensures))
+    c.self.invariant.3 refl (rw (← c.self.view_is) at at.ensures.place) c.index_mut.ensures.value c.keep.ensures))
