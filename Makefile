@@ -5,7 +5,7 @@
 # make fuzz    both programs against a second implementation of the profile, on random scripts: SECONDS=60 SEED=1
 # make world   schedules for both ends, held against the laws and the second implementation: SCHEDULES=8000 SEED=1
 # make law     histories of events, held against the law by events, and wrong devices: HISTORIES=2000 SEED=1
-# make bench   instructions, memory, requests a second
+# make bench   instructions, memory by size, requests a second beside bare loops, with the goals
 COMMANDS = 200
 SECONDS = 60
 SCHEDULES = 8000
@@ -52,6 +52,7 @@ law:
 bench: build
 	python3 bench/run.py bin
 	python3 bench/core.py bin
+	python3 bench/memory.py bin
 	python3 bench/sockets.py bin
 
 clean:

@@ -1,11 +1,12 @@
 #!/usr/bin/env python3
 """Prints what `ocadev replay` needs for three scripts and `ocactl replay` for one: instructions (valgrind
---tool=callgrind), misses of the first data cache (--tool=cachegrind), largest resident memory. Usage: run.py BIN [LINES]
+--tool=callgrind), misses of the first data cache (--tool=cachegrind), largest resident memory.
+Usage: run.py BIN [LINES]
 
 BIN is the folder with the programs.
 single: one new command a datagram, one peer. packed: 86 new commands a datagram (a line for forty of the others).
 copies: 16 peers, each command ten times in a row, so that nine of ten are duplicates. rounds: submit, due, the response
-from the device, take; a line for each of the four."""
+from the device, take; a line for each of the four. The goals are for 20,000 lines."""
 import os
 import re
 import subprocess
@@ -55,7 +56,8 @@ def counted(tool, pattern, words, path):
     """What valgrind counts while the program runs on the script."""
     with open(path) as script:
         run = subprocess.run(
-            ["valgrind", *tool, *words], stdin=script, stdout=subprocess.DEVNULL, stderr=subprocess.PIPE, text=True, check=True)
+            ["valgrind", *tool, *words],
+            stdin=script, stdout=subprocess.DEVNULL, stderr=subprocess.PIPE, text=True, check=True)
     return int(re.search(pattern, run.stderr).group(1).replace(",", ""))
 
 
@@ -64,7 +66,8 @@ def instructions(words, path):
 
 
 def misses(words, path):
-    return counted(["--tool=cachegrind", "--cache-sim=yes", "--cachegrind-out-file=/dev/null"], r"D1  misses: +([\d,]+)", words, path)
+    return counted(["--tool=cachegrind", "--cache-sim=yes", "--cachegrind-out-file=/dev/null"],
+                   r"D1  misses: +([\d,]+)", words, path)
 
 
 def resident(words, path):
@@ -76,18 +79,23 @@ def resident(words, path):
     return int(run.stderr.split()[-1])
 
 
+GOALS = {"single": 37.0, "packed": 34.0, "copies": 38.5}  # millions of instructions
+
+
 def measured(name, content, words, folder):
     """Prints the row of a script."""
     path = os.path.join(folder, name)
     with open(path, "w") as script:
         script.writelines(content)
     count = sum(1 for _ in open(path))
-    print(f"{name:7} {count:6} {instructions(words, path) / 1e6:24.1f} {misses(words, path):15} {resident(words, path):11}", flush=True)
+    goal = f"  at most {GOALS[name]}" if name in GOALS else ""
+    print(f"{name:7} {count:6} {instructions(words, path) / 1e6:24.1f} {misses(words, path):15} "
+          f"{resident(words, path):11}{goal}", flush=True)
 
 
 def main():
     folder, lines = sys.argv[1], int(sys.argv[2]) if len(sys.argv) > 2 else 20000
-    print("script   lines instructions-in-millions D1-cache-misses resident-kB")
+    print("script   lines instructions-in-millions D1-cache-misses resident-kB  goal (instructions)")
     with tempfile.TemporaryDirectory() as work:
         for name, content in scripts(lines):
             measured(name, content, [f"{folder}/ocadev", "replay"], work)
