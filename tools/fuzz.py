@@ -1,5 +1,6 @@
 #!/usr/bin/env python3
-"""Compares `ocadev replay` and `ocactl replay` with the second implementation of the profile (oca_profile.py) on random scripts.
+"""Compares `ocadev replay` and `ocactl replay` with the second implementation of the profile (oca_profile.py) on random
+scripts.
 
 Usage: fuzz.py BIN SECONDS [SEED]     BIN is the folder with the two programs
 
@@ -26,7 +27,8 @@ USUAL = [
     (4101, (5, 1), 0, lambda r: b""), (4099, (4, 1), 0, lambda r: b""),
     (4099, (4, 2), 1, lambda r: oca.u16(r.randrange(4))), (4099, (4, 3), 1, lambda r: oca.u16(r.randrange(4))),
     (4099, (4, 4), 2, lambda r: oca.u16(r.randrange(4)) + text(r)), (4099, (4, 5), 0, lambda r: b""),
-    (4099, (4, 6), 1, lambda r: oca.u16(3) + text(r) + text(r) + text(r)), (4099, (4, 7), 1, lambda r: oca.u16(r.randrange(3))),
+    (4099, (4, 6), 1, lambda r: oca.u16(3) + text(r) + text(r) + text(r)), (4099, (4, 7), 1,
+        lambda r: oca.u16(r.randrange(3))),
     (4099, (4, 8), 2, lambda r: oca.u16(r.randrange(3)) + bytes([r.randrange(3)])), (4099, (4, 9), 0, lambda r: b""),
     (4099, (4, 10), 1, lambda r: oca.u16(3) + bytes(r.randrange(2) for _ in range(3))),
     (4097, (1, 3), 0, lambda r: b""), (4097, (1, 4), 0, lambda r: b""), (4097, (1, 6), 0, lambda r: b""),
@@ -114,7 +116,8 @@ def moment(r, now):
     return max(0, now + (step if r.randrange(3) == 0 or step < 3000 else 1))
 
 
-BAD = ["", "#", "# a comment", "0", "0 quiet ", " 0 quiet", "0  quiet", "x quiet", "18446744073709551616 quiet", "0 127.0.0.1:9001",
+BAD = ["", "#", "# a comment", "0", "0 quiet ", " 0 quiet", "0  quiet", "x quiet", "18446744073709551616 quiet",
+       "0 127.0.0.1:9001",
        "0 127.0.0.1:9001 3b0", "0 127.0.0.1:9001 zz", "0 127.0.0.256:1 -", "0 1.2.3.4:70000 -", "0 1.2.3:1 -", "+1 quiet",
        "00000000000000000000 quiet", "000000000000000000000 quiet", "take", "take 1 ", "take due", "0 take 1", "0 due x",
        "0 submit 1 2 3 4", "0 submit 4294967296 4 1 0 -", "0 submit 1 65536 1 0 -", "0 submit 1 1 1 256 -", "0 submit 1 1 1 1 a",
@@ -176,7 +179,8 @@ def link_script(r):
             lines.append("{} from {}.{}.{}.{}:{} {}".format(now, *sender, hexed(r, data)))
             link.datagram(sender, data, now)
         else:
-            handle = r.choice([u[0].handle for u in link.untaken]) if link.untaken and r.randrange(4) else r.randrange(40)
+            handle = r.choice([u[0].handle
+                               for u in link.untaken]) if link.untaken and r.randrange(4) else r.randrange(40)
             lines.append(f"take {handle}")
             link.take(handle)
     words = ["replay", "--device", "127.0.0.1:65000", "--first-handle", str(first), "--span", str(span)]

@@ -480,7 +480,8 @@ def work(job):
 
 def summary(seed, total, wrong):
     print(f"law: seed {seed}: {total['histories']} histories of {total['events']} events: "
-          f"{total['executed']} executed, {total['duplicates']} duplicates, {total['old']} old, {total['reused']} reused, "
+          f"{total['executed']} executed, {total['duplicates']} duplicates, {total['old']} old, "
+          f"{total['reused']} reused, "
           f"{total['said malformed']} malformed, {total['said no-room']} without room, {total['packets']} packets")
     print(f"changes at the front: {total['said set']}, refused {total['said refused']}; "
           f"objects and sessions compared after {total['with objects']} events; 0 breaks")

@@ -589,8 +589,8 @@ class Network:
     sent to the device and those sent to links, each a pair of the link's peer and the bytes. A step is a tuple, as
     `step_line` writes it."""
 
-    def __init__(self, window, span, starts):
-        self.device = Device(window=window)
+    def __init__(self, window, span, starts, peers=16):
+        self.device = Device(window=window, peers=peers)
         self.links = [(peer, Link(DEVICE, first, span)) for peer, first in starts]
         self.to_device, self.to_links = [], []
 
@@ -600,6 +600,9 @@ class Network:
         if kind == "tick":
             self.device.advance(step[1])
             return "quiet"
+        if kind == "set":
+            fault = self.device.set(*step[1:])
+            return "set" if fault is None else f"refused {fault}"
         if kind == "other":
             _, now, peer, data = step
             return None if any(p == peer for p, _ in self.links) else self.device.datagram(peer, data, now)[0]
@@ -642,8 +645,8 @@ def peer_text(peer):
 
 def step_line(step):
     kind = step[0]
-    if kind == "take":
-        return f"take {step[1]} {step[2]}"
+    if kind in ("take", "set"):
+        return " ".join(map(str, step))
     rest = [peer_text(f) if isinstance(f, tuple) else hex_text(f) if isinstance(f, bytes) else str(f) for f in step[2:]]
     return " ".join([str(step[1]), kind] + rest)
 

@@ -1,26 +1,33 @@
 #!/usr/bin/env python3
-"""Random and directed schedules for a device and links over a network, run by `trials world`, and each transcript held against the laws
-of networks and against the second implementation (oca_profile.py).
+"""Schedules for a device and links over a network (schedules.py), run by `trials world`, and each transcript held
+against the laws of networks and against the second implementation (oca_profile.py).
 
-Usage: world.py BIN COUNT [SEED]        COUNT schedules over every pair of sizes that fits; BIN is the folder with `trials`
-       world.py BIN broken W S          prints the directed schedule for a window of W and a span of S with what it led to
+Usage: world.py BIN COUNT [SEED]     COUNT schedules over every pair of sizes that fits; BIN is the folder with `trials`
+       world.py BIN broken W S       prints the directed schedule for a window of W and a span of S, with what it led to
 
-The checks, each written from the statement of the laws (docs/DEFINITIONS.md, section 8, and crates/oca_pair/specs) and made on a
-transcript alone:
- answers  an answer that a link holds or gave is what an execution gave of the very command that this link submitted under that handle,
-          for that link's peer. (What a link holds at the end is taken by the last steps; short schedules are run to each of their steps.)
- only     where the peer's session was never forgotten, it is the only execution for that peer under that handle
- untaken  a delivered command that its link holds untaken is executed now or answered from the window, and gets one datagram with
-          the reply of an execution of that command: where 2 * S <= W + 1, the peer's session was never forgotten and at most 16 peers came
- once     no command is executed twice where the peer's session was never forgotten
- second   the transcript is, byte for byte, that of the second implementation
- premises there are schedules within the premises that lose, double and overtake datagrams
- sizes    with W = 2 * S - 2 a schedule breaks 'untaken', at each of the 31 pairs; and random ones do at (2, 2) and (4, 3)
- lines    bad lines are refused with their number
- wrong    the laws alone refuse runs of wrong devices and links: the second implementation with one rule changed, each of seven
- altered  a transcript within the premises in which one answer, or what one copy led to, was altered is refused by the law that it breaks
-Some schedules end in a step that names what is not there, or start two links of one peer: these are refused by number, and by name.
-At the first break the schedule is printed, and the exit status is 1. The last line is 'N passed, M failed' over these checks."""
+The checks, each written from the statement of the laws (docs/DEFINITIONS.md, section 8, and crates/oca_pair/specs) and
+made on a transcript alone. A peer keeps its session where its admitted datagrams come at most 120,000 ms apart.
+ answers     an answer that a link holds or gave is what an execution gave of the very command that this link submitted
+             under that handle, for that link's peer. (What a link holds at the end is taken by the last steps; short
+             schedules are run to each of their steps.)
+ only        where the peer kept its session, it is the only execution for that peer under that handle
+ untaken     a delivered command that its link holds untaken is executed now or answered from the window, and gets one
+             datagram with the reply of an execution of that command: where 2 * S <= W + 1, the peer kept its session,
+             and no more peers came than have room
+ round trip  where that datagram comes to the link, at any later step, the link has the command's answer; where the peer
+             kept its session till then, the answer is the reply that the datagram carries
+ once        no command is executed twice where the peer kept its session
+ second      the transcript is, byte for byte, that of the second implementation
+ premises    there are schedules within the premises that lose, double and overtake datagrams
+ sizes       with W = 2 * S - 2 a schedule breaks 'untaken', at each of the 31 pairs; random ones do at (2, 2) and
+             (4, 3)
+ lines       bad lines are refused with their number
+ wrong       the laws alone refuse runs of wrong devices and links: the second implementation with one rule changed
+ altered     a transcript within the premises in which one answer, or what one copy led to, was altered is refused by
+             the law that it breaks
+Some schedules end in a step that names what is not there, or start two links of one peer: these are refused by number,
+and by name. At the first break the schedule is printed, and the exit status is 1. The last line is 'N passed, M failed'
+over these checks."""
 import collections
 import multiprocessing
 import random
@@ -28,204 +35,9 @@ import subprocess
 import sys
 
 import oca_profile as oca
-from fuzz import USUAL
+from schedules import PAIRS, Schedule, crowd, directed, wander
 
-PAIRS = [(w, s) for s in range(1, 33) for w in range(2 * s - 1, 65)]
 BATCH = 40
-
-
-# ---- schedules
-
-
-class Schedule:
-    """A schedule in the making. Each step is taken by the second implementation at once, so that the next can name what is there."""
-
-    def __init__(self, window, span, starts):
-        self.window, self.span, self.starts = window, span, starts
-        self.steps, self.outcomes, self.now, self.refusal = [], [], 0, None
-        self.network = oca.Network(window, span, starts)
-
-    def add(self, *step):
-        said = self.network.step(step)
-        assert said is not None, step
-        self.steps.append(step)
-        self.outcomes.append(said)
-        return said
-
-    def timed(self, kind, *fields):
-        return self.add(kind, self.now, *fields)
-
-    def take_all(self):
-        """What each link holds is taken."""
-        for i, (_, link) in enumerate(self.network.links):
-            for untaken in list(link.untaken):
-                self.add("take", i, untaken[0].handle)
-        return self
-
-    def text(self):
-        starts = "".join(f" {oca.peer_text(p)}/{first}" for p, first in self.starts)
-        return [f"schedule {self.window} {self.span}{starts}"] + [oca.step_line(s) for s in self.steps]
-
-    def refused(self, r):
-        """With one more step that names what is not there, or two starts of one peer or one of the device's."""
-        sent, kind = self.network, r.randrange(6)
-        step = [("to-device", self.now, len(sent.to_device)), ("to-link", self.now, len(sent.to_links)), ("take", len(self.starts), 1),
-                ("due", self.now, len(self.starts)), ("other", self.now, self.starts[-1][0], b""), None][kind]
-        if step is None:
-            self.starts, self.refusal = self.starts + [r.choice([(oca.DEVICE, 1), self.starts[0]])], "same peer"
-        else:
-            self.refusal = f"bad step {len(self.steps)}"
-            self.steps = self.steps + [step] + self.steps[:1]
-        return self
-
-    def expected(self):
-        return ["schedule", self.refusal] if self.refusal else self.network.transcript(self.outcomes)
-
-    def front(self, count):
-        """The first steps, and then all that links hold is taken."""
-        short = Schedule(self.window, self.span, self.starts)
-        for step in self.steps[:count]:
-            short.add(*step)
-        return short.take_all()
-
-
-def peer(number):
-    return (127, 0, 0, 1 + number % 3, 9001 + number)
-
-
-def starts(r, count):
-    return [(peer(n), r.choice([0, 1, 1, 5, 1000, 2**31, oca.U32 - 300, oca.U32 - 3])) for n in range(count)]
-
-
-CALM = [0] * 8 + [1, 1, 2, 5, 20, 100, 250, 300]
-WILD = CALM + [2500, 3001, 15001, 60000, 119999, 120000, 120001, -50, -5000, -130000]
-
-
-def later(r, now, steps):
-    if r.randrange(400) == 0 and steps is WILD:
-        return oca.U64
-    return min(oca.U64, max(0, now + r.choice(steps) - (r.choice([1, 40, 3000]) if r.randrange(12) == 0 else 0)))
-
-
-def some_datagram(r, count, delivered):
-    """The number of a datagram: one of the last, one that was not delivered yet, or any."""
-    kind = r.randrange(10)
-    if kind < 5:
-        return max(0, count - 1 - int(r.expovariate(0.4)))
-    left = [k for k in range(count) if k not in delivered] if kind < 8 else []
-    return r.choice(left) if left else r.randrange(count)
-
-
-def submit(r, schedule, link):
-    target, (level, index), count, make = r.choice(USUAL)
-    params = make(r) if r.randrange(60) else bytes(r.choice([1445, 1446]))
-    return schedule.timed("submit", link, target, level, index, count, params)
-
-
-def others_bytes(r):
-    c = oca.Command(r.randrange(5), 4097, 1, r.choice([3, 4, 5, 6]), 0, b"")
-    return r.choice([oca.pdu(1, [c.body()]), oca.pdu(4, [oca.u16(1)]), b"", b"\x3b\x00", oca.pdu(3, [oca.response_body(1, 0, 0, b"")]),
-                     oca.pdu(1, [c.body(), c.body()])])
-
-
-def wander(r, window, span):
-    """Any steps in any order."""
-    schedule = Schedule(window, span, starts(r, r.choice([1, 1, 1, 2, 2, 3, 4, 4, 16])))
-    network, pace = schedule.network, r.choice([CALM, CALM, WILD])
-    length, links = r.choice([10, 16, 24, 40, 80, 150, 250]), len(network.links)
-    strangers = [peer(n) for n in range(16, 16 + r.choice([0, 0, 1, 3, 20]))]
-    kinds = ["submit", "due", "to-device", "to-link", "take"] + ["tick"] * r.randrange(2) + ["other"] * (len(strangers) > 0)
-    weights = [r.choice([2, 3, 5]) for _ in kinds[:5]] + [1] * (len(kinds) - 5)
-    heard = {"to-device": set(), "to-link": set()}
-    if r.randrange(16) == 0:  # a link without answers, until it is lost
-        pace, length, weights = [250, 250, 260], 80, [2, 12, 1, 0.05, 1] + weights[5:]
-    while len(schedule.steps) < length:
-        schedule.now = later(r, schedule.now, pace)
-        kind, link = r.choices(kinds, weights)[0], r.randrange(links)
-        if kind == "submit":
-            submit(r, schedule, link)
-        elif kind == "due":
-            schedule.timed("due", link)
-        elif kind == "take":
-            answered = [u[0].handle for u in network.links[link][1].untaken if u[3] is not None]
-            schedule.add("take", link, r.choice(answered) if answered and r.randrange(8) else r.randrange(20))
-        elif kind == "tick":
-            schedule.timed("tick")
-        elif kind == "other":
-            schedule.timed("other", r.choice(strangers), others_bytes(r))
-        else:
-            sent = network.to_device if kind == "to-device" else network.to_links
-            if sent:
-                k = some_datagram(r, len(sent), heard[kind])
-                heard[kind].add(k)
-                schedule.timed(kind, k)
-    return schedule
-
-
-def noise(r, schedule):
-    """Now and then a copy of what was sent before, a clock reading, or other bytes."""
-    kind = r.randrange(12)
-    schedule.now = later(r, schedule.now, [0, 0, 0, 1, 7])
-    if kind == 0 and schedule.network.to_device:
-        schedule.timed("to-device", r.randrange(len(schedule.network.to_device)))
-    elif kind == 1 and schedule.network.to_links:
-        schedule.timed("to-link", r.randrange(len(schedule.network.to_links)))
-    elif kind == 2:
-        schedule.timed("other", peer(20), others_bytes(r))
-    elif kind == 3:
-        schedule.timed("tick")
-
-
-def directed(window, span, r=None):
-    """The last command of a full span overtakes the others and stays untaken, while the others are answered and taken and as many more
-    follow; then a copy of it comes. With r in another order, with noise, and several times."""
-    schedule = Schedule(window, span, [(peer(0), r.choice([1, 1, 1000]) if r else 1)])
-    network, step = schedule.network, (lambda: noise(r, schedule)) if r else (lambda: None)
-    mixed = (lambda xs: r.sample(xs, len(xs))) if r else list
-
-    def give_out(count):
-        numbers = []
-        for _ in range(count):
-            step()
-            if r:
-                submit(r, schedule, 0)
-            else:
-                schedule.timed("submit", 0, 4097, 4, 1, 0, b"")
-        for _ in range(count):
-            step()
-            said = schedule.timed("due", 0).split()
-            numbers += [int(said[1])] if said[0] == "sent" else []
-        return numbers
-
-    def deliver(numbers):
-        for k in numbers:
-            step()
-            schedule.timed("to-device", k)
-
-    def take_others(pinned):
-        for k in mixed(range(len(network.to_links))):
-            message = oca.check(network.to_links[k][1])[0]
-            if message[0] == "response" and message[1] != pinned and any(u[0].handle == message[1] and u[3] is None for u in network.links[0][1].untaken):
-                schedule.timed("to-link", k)
-        for u in list(network.links[0][1].untaken):
-            if u[3] is not None and u[0].handle != pinned:
-                schedule.add("take", 0, u[0].handle)
-
-    for _ in range(r.choice([1, 1, 2]) if r and span < 20 else 1):
-        first = give_out(span)
-        untaken = network.links[0][1].untaken
-        if not first or not untaken:
-            break
-        last = first[-1]
-        pinned = oca.check(network.to_device[last][1])[0]
-        pinned = pinned[2].handle if pinned[0] == "command" else untaken[-1][0].handle
-        deliver([last] + mixed(first[:-1]))
-        take_others(pinned)
-        deliver(mixed(give_out(span - 1)))
-        schedule.timed("to-device", last)
-        if r:
-            schedule.take_all()
-    return schedule
 
 
 # ---- the laws, on a transcript
@@ -238,11 +50,12 @@ class Break(Exception):
 
 
 class Laws:
-    """Walks along a schedule and what its steps led to, and holds each step against the laws. It knows the lists of datagrams, commands,
-    answers and executions, when datagrams came to the device, and nothing of what a device or a link is inside."""
+    """Walks along a schedule and what its steps led to, and holds each step against the laws. It knows the lists of
+    datagrams, commands, answers and executions, when datagrams came to the device, and nothing of what a device or a
+    link is inside."""
 
     def __init__(self, schedule, lines, fit):
-        self.fit, self.window, self.count = fit, schedule.window, collections.Counter()
+        self.fit, self.window, self.most, self.count = fit, schedule.window, schedule.peers, collections.Counter()
         self.places, self.number = collections.defaultdict(list), 0  # steps whose outcome a law speaks of
         self.peers = [p for p, _ in schedule.starts]
         self.steps = schedule.steps
@@ -256,7 +69,9 @@ class Laws:
         self.submitted = [{} for _ in self.peers]     # by handle
         self.untaken = [{} for _ in self.peers]
         self.executions = {p: [] for p in self.peers}  # (command, reply)
-        self.clock, self.came, self.forgotten, self.within = 0, {}, set(), False
+        self.clock, self.came, self.admitted, self.refused, self.forgotten = 0, set(), {}, set(), set()
+        self.within = False
+        self.trips, self.answered, self.owed = {}, [set() for _ in self.peers], [{} for _ in self.peers]
         self.answers_sent = 0
         self.heard = {"to-device": collections.Counter(), "to-link": collections.Counter()}
         self.latest = {}
@@ -268,7 +83,7 @@ class Laws:
             except Break as fault:
                 fault.step = self.number
                 raise
-            self.count["said " + said.split(" ")[0]] += 1
+            self.count[("front " if step[0] == "set" else "said ") + said.split(" ")[0]] += 1
             self.count["said too old"] += said == "served 0 0 1"
         if self.answers_sent != len(self.sent["to-link"]):
             raise Break("untaken", len(self.steps) - 1, "datagrams were sent to links that answer nothing")
@@ -276,7 +91,7 @@ class Laws:
         for way in self.heard:
             self.count["losses"] += len(self.sent[way]) - len(self.heard[way])
             self.count["doubles"] += sum(n - 1 for n in self.heard[way].values())
-        self.within = not self.forgotten and len(self.came) <= 16
+        self.within = not self.forgotten and len(self.came) <= self.most
         if self.fit and self.within:
             self.count["premises met"] = 1
             self.count["premises met, with loss, double and overtaking"] = \
@@ -284,7 +99,8 @@ class Laws:
         return self
 
     def note_delivery(self, way, k):
-        """Counts; an overtaking is a datagram that comes for the first time after a later one that was sent the same way."""
+        """Counts; an overtaking is a datagram that comes for the first time after a later one that was sent the same
+        way."""
         self.count["deliveries"] += 1
         key = (way, self.sent[way][k][0])
         if self.heard[way][k] == 0 and self.latest.get(key, -1) > k:
@@ -292,12 +108,22 @@ class Laws:
         self.heard[way][k] += 1
         self.latest[key] = max(self.latest.get(key, -1), k)
 
-    def came_from(self, p, now):
-        """A datagram of p came to the device: its session is forgotten where it comes more than 120,000 ms after the one before it."""
+    def came_from(self, p, now, data):
+        """A datagram of p came to the device. It is admitted where it is well-formed and p is known, or fewer than have
+        room are; and p does not keep its session where it is admitted more than 120,000 ms after the one before it."""
         self.clock = max(self.clock, now)
-        if p in self.came and self.clock - self.came[p] > 120000:
+        self.came.add(p)
+        try:
+            oca.check(data)
+        except oca.Fault:
+            return
+        known = [q for q, at in self.admitted.items() if self.clock - at <= 120000]
+        if p not in known and len(known) >= self.most:
+            self.refused.add(p)
+            return
+        if p in self.admitted and p not in known:
             self.forgotten.add(p)
-        self.came[p] = self.clock
+        self.admitted[p] = self.clock
 
     def submit(self, step, said):
         if said.startswith("handle "):
@@ -312,17 +138,39 @@ class Laws:
     def tick(self, step, said):
         self.clock = max(self.clock, step[1])
 
+    def set(self, step, said):
+        pass
+
     def other(self, step, said):
-        self.came_from(step[2], step[1])
+        self.came_from(step[2], step[1], step[3])
 
     def to_link(self, step, said):
         self.note_delivery("to-link", step[2])
+        if step[2] in self.trips:
+            self.came_back(said, *self.trips[step[2]])
+        p, data = self.sent["to-link"][step[2]]
+        message = oca.check(data)[0]
+        if message[0] == "response" and said == "answered 1":
+            self.answered[self.peers.index(p)].add(message[1])
+
+    def came_back(self, said, link, handle, reply):
+        """The datagram came that the device sent when a copy came of a command that this link held untaken."""
+        self.count["round trips"] += 1
+        if handle not in self.untaken[link]:
+            return
+        self.count["round trips of a command that is still untaken"] += 1
+        if handle not in self.answered[link]:
+            self.places["round trip"].append(self.number)
+            if said != "answered 1":
+                raise Break("round trip", 0, f"the answer to handle {handle} came, and its link says: {said}")
+        kept = self.peers[link] not in self.forgotten
+        self.owed[link][handle] = reply if kept else self.owed[link].get(handle)
 
     def to_device(self, step, said):
         _, now, k = step
         p, data = self.sent["to-device"][k]
         self.note_delivery("to-device", k)
-        self.came_from(p, now)
+        self.came_from(p, now, data)
         (message,) = oca.check(data)
         executed, kept = {"served 1 0 0": (1, 0), "served 0 1 0": (0, 1)}.get(said, (0, 0))
         answered = said.startswith("served") and (executed + kept > 0 or message[0] == "keep-alive")
@@ -354,22 +202,26 @@ class Laws:
 
     def untaken_came(self, p, command, said, reply):
         """A copy came of a command that the link of p holds untaken."""
-        if not self.fit or p in self.forgotten or len(self.came) > 16:
+        if not self.fit or p in self.forgotten or len(self.came) > self.most:
             return
         self.count["untaken"] += 1
         if said == "served 0 1 0":
             self.places["untaken"].append(self.number)
-            later = len(self.executions[p]) - 1 - max(i for i, (c, _) in enumerate(self.executions[p]) if c.handle == command.handle)
+            places = [i for i, (c, _) in enumerate(self.executions[p]) if c.handle == command.handle]
+            later = len(self.executions[p]) - 1 - max(places)
             self.count["untaken, the oldest of a full window"] += later == self.window - 1
         if said not in ("served 1 0 0", "served 0 1 0"):
             raise Break("untaken", 0, f"a copy of handle {command.handle}, which its link holds untaken: {said}")
-        if not any(c.handle == command.handle and c.asks() == command.asks() and r == reply for c, r in self.executions[p]) \
-                or reply[0] != command.handle:
+        under = [(c.asks(), r) for c, r in self.executions[p] if c.handle == command.handle]
+        if (command.asks(), reply) not in under or reply[0] != command.handle:
             raise Break("untaken", 0, f"a copy of handle {command.handle} gets a reply of no execution of it")
+        self.trips[self.answers_sent - 1] = self.peers.index(p), command.handle, reply
 
     def take(self, step, said):
         _, link, handle = step
         if said == "none":
+            if handle in self.owed[link]:
+                raise Break("round trip", 0, f"the answer to handle {handle} came, and its link has none")
             return
         _, status, count, params = said.split(" ")
         answer = (handle, int(status), int(count), oca.hex_of(params))
@@ -379,8 +231,11 @@ class Laws:
         under = [(c, r) for c, r in self.executions[p] if c.handle == handle]
         if command is None or not any(c.asks() == command.asks() and r == answer for c, r in under):
             raise Break("answers", 0, f"the answer under {handle} is none of an execution of its command")
+        if self.owed[link].pop(handle, None) not in (None, answer):
+            raise Break("round trip", 0, f"the answer to handle {handle} is another than the one that came")
         if p not in self.forgotten:
             self.count["only"] += 1
+            self.count["only, of a peer that found no room before"] += p in self.refused
             if len(under) != 1:
                 raise Break("only", 0, f"{len(under)} executions under {handle}")
         self.untaken[link].pop(handle, None)
@@ -396,7 +251,7 @@ def transcripts(program, schedules):
     begins = [i for i, line in enumerate(lines) if line == "schedule"] + [len(lines)]
     runs = [lines[a:b] for a, b in zip(begins, begins[1:])]
     if done.returncode != 0 or len(runs) != len(schedules):
-        raise RuntimeError(f"status {done.returncode}, {len(runs)} of {len(schedules)} schedules, {done.stderr.decode()!r}")
+        raise RuntimeError(f"status {done.returncode}, {len(runs)} of {len(schedules)} runs, {done.stderr.decode()!r}")
     return runs
 
 
@@ -410,14 +265,16 @@ def hold(schedule, lines):
     walk = None if schedule.refusal else Laws(schedule, lines, fits(schedule.window, schedule.span)).walk()
     if lines != expected:
         at = next((i for i, (a, b) in enumerate(zip(lines, expected)) if a != b), min(len(lines), len(expected)))
-        raise Break("second", min(max(at - 1, 0), len(schedule.steps) - 1), f"{lines[at:at + 1]}, and the second implementation {expected[at:at + 1]}")
+        raise Break("second", min(max(at - 1, 0), len(schedule.steps) - 1),
+                    f"{lines[at:at + 1]}, and the second implementation {expected[at:at + 1]}")
     return walk
 
 
 def shown(schedule, lines, fault):
     """A schedule with what its steps led to."""
     text = schedule.text()
-    return [text[0]] + [f"{line:44}{said}" for line, said in zip(text[1:], lines[1:])] + [f"BREAK of '{fault.law}' at step {fault.step}: {fault.what}"]
+    return [text[0]] + [f"{line:44}{said}" for line,
+        said in zip(text[1:], lines[1:])] + [f"BREAK of '{fault.law}' at step {fault.step}: {fault.what}"]
 
 
 def made(seed, number):
@@ -425,12 +282,13 @@ def made(seed, number):
     r = random.Random(f"{seed} {number}")
     if number < len(PAIRS):
         return [directed(*PAIRS[number]).take_all()]
-    window, span = r.choice(PAIRS) if r.randrange(2) else (lambda s: (min(64, 2 * s - 1 + r.choice([0, 0, 1])), s))(r.choice([1, 2, 2, 3, 4, 8, 16, 32]))
+    window, span = r.choice(PAIRS) if r.randrange(2) else (lambda s: (min(64, 2 * s - 1 + r.choice([0, 0, 1])),
+        s))(r.choice([1, 2, 2, 3, 4, 8, 16, 32]))
     if r.randrange(12) == 0:  # sizes that do not fit
         window, span = r.randrange(1, 65), r.randrange(1, 33)
     if r.randrange(3) == 0:
         return [directed(window, span, r).take_all()]
-    schedule = wander(r, window, span)
+    schedule = crowd(r, window, span) if r.randrange(12) == 0 else wander(r, window, span)
     if r.randrange(20) == 0:
         return [schedule.refused(r)]
     if len(schedule.steps) <= 24 and r.randrange(8) == 0:
@@ -445,8 +303,9 @@ def altered(r, walk, lines):
     law = r.choice(sorted(walk.places))
     at = 1 + r.choice(walk.places[law])
     status, count, params = (lines[at].split(" ") + [""] * 4)[1:4]
-    new = {"answers": f"answer {int(status) ^ 1} {count} {params}" if r.randrange(2) else lines[at].removesuffix("-") + "00",
-           "untaken": "served 0 0 1", "once": "served 1 0 0"}[law]
+    new = {"answers": f"answer {int(status) ^ 1} {count} {params}" if r.randrange(2) else lines[at].removesuffix("-")
+           + "00",
+           "untaken": "served 0 0 1", "once": "served 1 0 0", "round trip": "nothing new"}[law]
     return law, lines[:at] + [new] + lines[at + 1:]
 
 
@@ -483,7 +342,7 @@ def work(job):
 
 def wrong_rules():
     """Devices and links with one rule changed, each with the law that must refuse them and what is changed."""
-    judge, submit_to, serve = oca.Session.judge, oca.Link.submit, oca.Device.datagram
+    judge, submit_to, serve, hear = oca.Session.judge, oca.Link.submit, oca.Device.datagram, oca.Link.datagram
 
     def no_floor(session, window, command):
         kept = [reply for c, reply in session.accepted[-window:] if c.handle == command.handle]
@@ -509,18 +368,41 @@ def wrong_rules():
         return "answered 1"
 
     def fewer_sessions(device, sender, data, now):
-        if len(device.sessions) >= 15 and all(s.peer != sender for s in device.sessions):
+        if len(device.sessions) >= device.peers - 1 and all(s.peer != sender for s in device.sessions):
             return "no-room", []
         return serve(device, sender, data, now)
 
+    def hears_once(link, sender, data, now):
+        again = [u for u in link.untaken if u[1] > 1]
+        for u in again:
+            link.untaken.remove(u)
+        said = hear(link, sender, data, now)
+        link.untaken = sorted(link.untaken + again, key=lambda u: u[0].handle)
+        return said
+
+    def one_answer(link, sender, data, now):
+        return "nothing new" if any(u[3] is not None for u in link.untaken) else hear(link, sender, data, now)
+
+    def last_answer(link, sender, data, now):
+        kept = {u[0].handle: u[3] for u in link.untaken}
+        said = hear(link, sender, data, now)
+        for u in link.untaken:
+            if u[3] is not None and any(kept.values()) and kept.get(u[0].handle):
+                u[3] = None if said.startswith("answered") else u[3]
+        return said
+
     return {
-        "a window that is one smaller": ("untaken", oca.Session, "judge", lambda session, window, command: judge(session, window - 1, command)),
+        "a window that is one smaller": ("untaken", oca.Session, "judge", lambda session, window,
+                                         command: judge(session, window - 1, command)),
         "copies are executed": ("once", oca.Session, "judge", lambda session, window, command: ("fresh", None)),
         "no handle is too old": ("once", oca.Session, "judge", no_floor),
         "a copy gets the latest reply": ("untaken", oca.Session, "judge", latest_reply),
         "a span that is one larger": ("untaken", oca.Link, "submit", wider),
         "an answer goes to the lowest command": ("answers", oca.Link, "datagram", lowest),
-        "room for 15 sessions": ("untaken", oca.Device, "datagram", fewer_sessions),
+        "room for one fewer": ("untaken", oca.Device, "datagram", fewer_sessions),
+        "no answer to what was given out twice": ("round trip", oca.Link, "datagram", hears_once),
+        "one answer at a time": ("round trip", oca.Link, "datagram", one_answer),
+        "an answer takes the others' place": ("round trip", oca.Link, "datagram", last_answer),
     }
 
 
@@ -583,12 +465,18 @@ def sizes(program, seed):
 
 # a line that is refused, and the word for it; a step stands behind the line `schedule 1 1 127.0.0.1:1/1`
 BAD_LINES = [
-    ("schedule 0 1", "number"), ("schedule 65 1", "number"), ("schedule 1 33", "number"), ("schedule 1 0", "number"), ("schedule 1", "form"),
-    ("schedule 1 1 127.0.0.1:1", "form"), ("schedule 1 1 127.0.0.1/1", "peer"), ("schedule 1 1 127.0.0.1:1/4294967296", "number"),
-    ("schedule 1 1 ", "form"), ("0 due", "form"), ("0 due x", "number"), ("x due 0", "moment"), ("0 due 0 0", "form"), ("0 jump", "form"),
-    ("18446744073709551616 tick", "moment"), ("0 tick ", "form"), ("0 to-device -1", "number"), ("0 to-link 4294967296", "number"),
-    ("0 other 1.2.3 -", "peer"), ("0 other 1.2.3.4:5 0", "hex"), ("0 other 1.2.3.4:5 zz", "hex"), ("0 other 1.2.3.4:5 ", "hex"),
-    ("0 other 1.2.3.4:5", "form"), ("take 0", "form"), ("take 0 4294967296", "number"), ("0 submit 0 1 1 1 256 -", "number"),
+    ("schedule 0 1", "number"), ("schedule 65 1", "number"), ("schedule 1 33", "number"), ("schedule 1 0",
+        "number"), ("schedule 1", "form"),
+    ("schedule 1 1 127.0.0.1:1", "form"), ("schedule 1 1 127.0.0.1/1", "peer"), ("schedule 1 1 127.0.0.1:1/4294967296",
+        "number"),
+    ("schedule 1 1 ", "form"), ("0 due", "form"), ("0 due x", "number"), ("x due 0", "moment"), ("0 due 0 0",
+        "form"), ("0 jump", "form"),
+    ("18446744073709551616 tick", "moment"), ("0 tick ", "form"), ("0 to-device -1",
+        "number"), ("0 to-link 4294967296", "number"),
+    ("0 other 1.2.3 -", "peer"), ("0 other 1.2.3.4:5 0", "hex"), ("0 other 1.2.3.4:5 zz",
+        "hex"), ("0 other 1.2.3.4:5 ", "hex"),
+    ("0 other 1.2.3.4:5", "form"), ("take 0", "form"), ("take 0 4294967296", "number"), ("0 submit 0 1 1 1 256 -",
+        "number"),
     ("0 submit 0 1 65536 1 0 -", "number"), ("0 submit 0 1 1 1 0", "form"), ("0  tick", "form")]
 
 
@@ -597,12 +485,45 @@ def lines_refused(program):
     refused = 0
     for line, word in [("0 tick", "form")] + BAD_LINES:
         before = [] if line == "0 tick" else ["# a comment", "", "schedule 1 1 127.0.0.1:1/1"]
-        done = subprocess.run([program, "world"], input="\n".join(before + [line]).encode(), capture_output=True, timeout=60)
+        done = subprocess.run([program, "world"], input="\n".join(before + [line]).encode(), capture_output=True,
+                              timeout=60)
         if (done.stderr.decode(), done.returncode) == (f"line {len(before) + 1}: {word}\n", 2):
             refused += 1
         else:
             print(f"WRONG: {line!r}: {done.stderr!r}, status {done.returncode}")
     return refused
+
+
+SHOWN = ["schedules", "of sizes that fit", "steps", "deliveries", "losses", "doubles", "overtakings", "executions",
+         "duplicates answered", "premises met", "premises met, with loss, double and overtaking"]
+HELD = [("answers", "answers"), ("only", "answers of an only execution"),
+        ("only, of a peer that found no room before", "of these, of a peer that found no room before"),
+        ("untaken", "deliveries of untaken commands"),
+        ("untaken, the oldest of a full window", "of these, of the oldest command of a full window"),
+        ("round trips", "round trips"),
+        ("round trips of a command that is still untaken", "of these, of a command that is still untaken"),
+        ("once", "executions of peers that kept their sessions")]
+MET = [("said too old", "old"), ("said no-room", "without room"), ("said refused", "refused submits"),
+       ("said lost", "lost"), ("refused", "refused schedules"), ("front set", "changes at the front"),
+       ("front refused", "refused ones")]
+
+
+def summary(total):
+    for name in SHOWN:
+        print(f"{name:48}{total[name]:9}")
+    print("held against the laws, without a break:")
+    for name, text in HELD:
+        print(f"  {text:46}{total[name]:9}")
+    print("also met: " + ", ".join(f"{total[name]} {text}" for name, text in MET))
+
+
+def verdicts(checks):
+    """Prints the checks that failed and the last line; answers the exit status."""
+    for name, passed in checks.items():
+        if not passed:
+            print(f"FAILED: {name}")
+    print(f"{sum(map(bool, checks.values()))} passed, {sum(not passed for passed in checks.values())} failed")
+    return 0 if all(checks.values()) else 1
 
 
 def main():
@@ -614,8 +535,9 @@ def main():
         return 0
     count, seed = int(sys.argv[2]), int(sys.argv[3]) if len(sys.argv) > 3 else 1
     total = collections.Counter()
+    jobs = [(program, seed, range(first, min(first + BATCH, count))) for first in range(0, count, BATCH)]
     with multiprocessing.Pool(min(4, multiprocessing.cpu_count())) as pool:
-        for counts, fault in pool.imap(work, [(program, seed, range(a, min(a + BATCH, count))) for a in range(0, count, BATCH)]):
+        for counts, fault in pool.imap(work, jobs):
             total += counts
             if fault:
                 print(fault)
@@ -626,25 +548,20 @@ def main():
     for _, said in wrong:
         print(said)
     good = sizes(program, seed)
-    print(f"seed {seed}, {sum(name.startswith('size') for name in total)} of {len(PAIRS)} pairs of sizes that fit")
-    for name in ("schedules", "of sizes that fit", "steps", "deliveries", "losses", "doubles", "overtakings", "executions", "duplicates answered",
-                 "premises met", "premises met, with loss, double and overtaking"):
-        print(f"{name:48}{total[name]:9}")
-    print(f"held against the laws: {total['answers']} answers, {total['only']} of them of an only execution; {total['untaken']} deliveries of untaken commands, "
-          f"{total['untaken, the oldest of a full window']} of them of the oldest command of a full window; {total['once']} executions; 0 breaks")
-    print(f"also met: {total['said too old']} old, {total['said no-room']} without room, {total['said refused']} refused submits, "
-          f"{total['said lost']} lost, {total['refused']} refused schedules")
-    lines = lines_refused(program)
+    fit = sum(name.startswith("size ") for name in total)
+    print(f"seed {seed}, {fit} of {len(PAIRS)} pairs of sizes that fit")
+    summary(total)
+    lines, altered_lines = lines_refused(program), (total["altered, refused"], total["altered"])
     print(f"bad lines refused: {lines} of {len(BAD_LINES) + 1}")
-    print(f"altered transcripts refused by the law that they break: {total['altered, refused']} of {total['altered']}")
-    checks = {"answers": total["answers"], "only": total["only"], "untaken": total["untaken, the oldest of a full window"], "once": total["once"],
-              "second": total["schedules"] >= count and total["refused"], "premises": total["premises met, with loss, double and overtaking"],
-              "sizes": good, "lines": lines == len(BAD_LINES) + 1, "wrong": all(found for found, _ in wrong), "altered": total["altered"] and total["altered, refused"] == total["altered"]}
-    for name, passed in checks.items():
-        if not passed:
-            print(f"FAILED: {name}")
-    print(f"{sum(map(bool, checks.values()))} passed, {sum(not passed for passed in checks.values())} failed")
-    return 0 if all(checks.values()) else 1
+    print("altered transcripts refused by the law that they break: {} of {}".format(*altered_lines))
+    return verdicts({
+        "answers": total["answers"], "only": total["only"] and total["only, of a peer that found no room before"],
+        "untaken": total["untaken, the oldest of a full window"], "once": total["once"],
+        "round trip": total["round trips of a command that is still untaken"],
+        "second": total["schedules"] >= count and total["refused"],
+        "premises": total["premises met, with loss, double and overtaking"], "sizes": good,
+        "lines": lines == len(BAD_LINES) + 1, "wrong": all(found for found, _ in wrong),
+        "altered": total["altered"] and altered_lines[0] == altered_lines[1]})
 
 
 if __name__ == "__main__":

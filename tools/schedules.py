@@ -1,0 +1,242 @@
+"""Schedules for a device and links over a network: random ones, and directed ones for pairs of sizes. tools/world.py
+runs them and holds them against the laws."""
+import oca_profile as oca
+from fuzz import USUAL
+
+PEERS, FRONT = [16], False
+PAIRS = [(w, s) for s in range(1, 33) for w in range(2 * s - 1, 65)]
+
+
+class Schedule:
+    """A schedule in the making. Each step is taken by the second implementation at once, so that the next can name what
+    is there."""
+
+    def __init__(self, window, span, starts, peers=16):
+        self.window, self.span, self.starts, self.peers = window, span, starts, peers
+        self.steps, self.outcomes, self.now, self.refusal = [], [], 0, None
+        self.network = oca.Network(window, span, starts, peers)
+
+    def add(self, *step):
+        said = self.network.step(step)
+        assert said is not None, step
+        self.steps.append(step)
+        self.outcomes.append(said)
+        return said
+
+    def timed(self, kind, *fields):
+        return self.add(kind, self.now, *fields)
+
+    def take_all(self):
+        """What each link holds is taken."""
+        for i, (_, link) in enumerate(self.network.links):
+            for untaken in list(link.untaken):
+                self.add("take", i, untaken[0].handle)
+        return self
+
+    def text(self):
+        starts = "".join(f" {oca.peer_text(p)}/{first}" for p, first in self.starts)
+        sizes = f"{self.window} {self.span}" + (f" {self.peers}" if self.peers != 16 else "")
+        return [f"schedule {sizes}{starts}"] + [oca.step_line(s) for s in self.steps]
+
+    def refused(self, r):
+        """With one more step that names what is not there, or two starts of one peer or one of the device's."""
+        sent, kind = self.network, r.randrange(6)
+        step = [("to-device", self.now, len(sent.to_device)), ("to-link", self.now, len(sent.to_links)),
+                ("take", len(self.starts), 1),
+                ("due", self.now, len(self.starts)), ("other", self.now, self.starts[-1][0], b""), None][kind]
+        if step is None:
+            self.starts, self.refusal = self.starts + [r.choice([(oca.DEVICE, 1), self.starts[0]])], "same peer"
+        else:
+            self.refusal = f"bad step {len(self.steps)}"
+            self.steps = self.steps + [step] + self.steps[:1]
+        return self
+
+    def expected(self):
+        return ["schedule", self.refusal] if self.refusal else self.network.transcript(self.outcomes)
+
+    def front(self, count):
+        """The first steps, and then all that links hold is taken."""
+        short = Schedule(self.window, self.span, self.starts, self.peers)
+        for step in self.steps[:count]:
+            short.add(*step)
+        return short.take_all()
+
+
+def peer(number):
+    return (127, 0, 0, 1 + number % 3, 9001 + number)
+
+
+def starts(r, count):
+    return [(peer(n), r.choice([0, 1, 1, 5, 1000, 2**31, oca.U32 - 300, oca.U32 - 3])) for n in range(count)]
+
+
+CALM = [0] * 8 + [1, 1, 2, 5, 20, 100, 250, 300]
+WILD = CALM + [2500, 3001, 15001, 60000, 119999, 120000, 120001, -50, -5000, -130000]
+
+
+def later(r, now, steps):
+    if r.randrange(400) == 0 and steps is WILD:
+        return oca.U64
+    return min(oca.U64, max(0, now + r.choice(steps) - (r.choice([1, 40, 3000]) if r.randrange(12) == 0 else 0)))
+
+
+def some_datagram(r, count, delivered):
+    """The number of a datagram: one of the last, one that was not delivered yet, or any."""
+    kind = r.randrange(10)
+    if kind < 5:
+        return max(0, count - 1 - int(r.expovariate(0.4)))
+    left = [k for k in range(count) if k not in delivered] if kind < 8 else []
+    return r.choice(left) if left else r.randrange(count)
+
+
+def submit(r, schedule, link):
+    target, (level, index), count, make = r.choice(USUAL)
+    params = make(r) if r.randrange(60) else bytes(r.choice([1445, 1446]))
+    return schedule.timed("submit", link, target, level, index, count, params)
+
+
+def others_bytes(r):
+    c = oca.Command(r.randrange(5), 4097, 1, r.choice([3, 4, 5, 6]), 0, b"")
+    return r.choice([oca.pdu(1, [c.body()]), oca.pdu(4, [oca.u16(1)]), b"", b"\x3b\x00",
+                     oca.pdu(3, [oca.response_body(1, 0, 0, b"")]),
+                     oca.pdu(1, [c.body(), c.body()])])
+
+
+def wander(r, window, span):
+    """Any steps in any order."""
+    schedule = Schedule(window, span, starts(r, r.choice([1, 1, 1, 2, 2, 3, 4, 4, 16])), r.choice(PEERS))
+    network, pace = schedule.network, r.choice([CALM, CALM, WILD])
+    length, links = r.choice([10, 16, 24, 40, 80, 150, 250]), len(network.links)
+    strangers = [peer(n) for n in range(16, 16 + r.choice([0, 0, 1, 3, 20]))]
+    kinds = ["submit", "due", "to-device", "to-link",
+             "take"] + ["tick"] * r.randrange(2) + ["other"] * (len(strangers) > 0) \
+        + ["set"] * (FRONT and r.randrange(3) == 0)
+    weights = [r.choice([2, 3, 5]) for _ in kinds[:5]] + [1] * (len(kinds) - 5)
+    heard = {"to-device": set(), "to-link": set()}
+    if r.randrange(16) == 0:  # a link without answers, until it is lost
+        pace, length, weights = [250, 250, 260], 80, [2, 12, 1, 0.05, 1] + weights[5:]
+    while len(schedule.steps) < length:
+        schedule.now = later(r, schedule.now, pace)
+        kind, link = r.choices(kinds, weights)[0], r.randrange(links)
+        if kind == "submit":
+            submit(r, schedule, link)
+        elif kind == "due":
+            schedule.timed("due", link)
+        elif kind == "take":
+            answered = [u[0].handle for u in network.links[link][1].untaken if u[3] is not None]
+            schedule.add("take", link, r.choice(answered) if answered and r.randrange(8) else r.randrange(20))
+        elif kind == "tick":
+            schedule.timed("tick")
+        elif kind == "other":
+            schedule.timed("other", r.choice(strangers), others_bytes(r))
+        elif kind == "set":
+            schedule.add("set", *some_setting(r))
+        else:
+            sent = network.to_device if kind == "to-device" else network.to_links
+            if sent:
+                k = some_datagram(r, len(sent), heard[kind])
+                heard[kind].add(k)
+                schedule.timed(kind, k)
+    return schedule
+
+
+def some_setting(r):
+    """A change at the device's own front, now and then one that is refused."""
+    return r.choice([(4097, "state", r.randrange(1, 4)), (4099, "position", r.randrange(4)),
+                     (4100, "number", r.randrange(-601, 602)),
+                     (4101, "truth", r.randrange(2)), (4096, "truth", 1), (4100, "state", 1), (5000, "number", 0)])
+
+
+def noise(r, schedule):
+    """Now and then a copy of what was sent before, a clock reading, or other bytes."""
+    kind = r.randrange(14)
+    schedule.now = later(r, schedule.now, [0, 0, 0, 1, 7])
+    if kind == 0 and schedule.network.to_device:
+        schedule.timed("to-device", r.randrange(len(schedule.network.to_device)))
+    elif kind == 1 and schedule.network.to_links:
+        schedule.timed("to-link", r.randrange(len(schedule.network.to_links)))
+    elif kind == 2:
+        schedule.timed("other", peer(20), others_bytes(r))
+    elif kind == 3:
+        schedule.timed("tick")
+    elif kind == 4 and FRONT:
+        schedule.add("set", *some_setting(r))
+
+
+def crowd(r, window, span):
+    """Others have all the room when a link's first datagrams come; later they are forgotten, and its commands are
+    executed."""
+    schedule = Schedule(window, span, starts(r, r.choice([1, 1, 2])), r.choice(PEERS))
+    links = range(len(schedule.starts))
+    for n in range(schedule.peers):
+        schedule.timed("other", peer(16 + n), oca.pdu(4, [oca.u16(1)]))
+    for _ in range(r.choice([1, 2])):
+        for i in links:
+            for _ in range(r.choice([1, 2, 4])):
+                submit(r, schedule, i)
+                schedule.timed("due", i)
+        for k in range(len(schedule.network.to_device)):
+            if r.randrange(3):
+                schedule.timed("to-device", k)
+        for k in range(len(schedule.network.to_links)):
+            schedule.timed("to-link", k)
+        schedule.take_all()
+        schedule.now += r.choice([119999, 120000, 120001, 200000])
+    for k in range(len(schedule.network.to_device)):
+        schedule.timed("to-device", k)
+    for k in range(len(schedule.network.to_links)):
+        schedule.timed("to-link", k)
+    return schedule
+
+
+def directed(window, span, r=None):
+    """The last command of a full span overtakes the others and stays untaken, while the others are answered and taken
+    and as many more follow; then a copy of it comes. With r in another order, with noise, and several times."""
+    schedule = Schedule(window, span, [(peer(0), r.choice([1, 1, 1000]) if r else 1)])
+    network, step = schedule.network, (lambda: noise(r, schedule)) if r else (lambda: None)
+    mixed = (lambda xs: r.sample(xs, len(xs))) if r else list
+
+    def give_out(count):
+        numbers = []
+        for _ in range(count):
+            step()
+            if r:
+                submit(r, schedule, 0)
+            else:
+                schedule.timed("submit", 0, 4097, 4, 1, 0, b"")
+        for _ in range(count):
+            step()
+            said = schedule.timed("due", 0).split()
+            numbers += [int(said[1])] if said[0] == "sent" else []
+        return numbers
+
+    def deliver(numbers):
+        for k in numbers:
+            step()
+            schedule.timed("to-device", k)
+
+    def take_others(pinned):
+        for k in mixed(range(len(network.to_links))):
+            message = oca.check(network.to_links[k][1])[0]
+            if message[0] == "response" and message[1] != pinned and any(u[0].handle == message[1] and u[3] is None
+                for u in network.links[0][1].untaken):
+                schedule.timed("to-link", k)
+        for u in list(network.links[0][1].untaken):
+            if u[3] is not None and u[0].handle != pinned:
+                schedule.add("take", 0, u[0].handle)
+
+    for _ in range(r.choice([1, 1, 2]) if r and span < 20 else 1):
+        first = give_out(span)
+        untaken = network.links[0][1].untaken
+        if not first or not untaken:
+            break
+        last = first[-1]
+        pinned = oca.check(network.to_device[last][1])[0]
+        pinned = pinned[2].handle if pinned[0] == "command" else untaken[-1][0].handle
+        deliver([last] + mixed(first[:-1]))
+        take_others(pinned)
+        deliver(mixed(give_out(span - 1)))
+        schedule.timed("to-device", last)
+        if r:
+            schedule.take_all()
+    return schedule
