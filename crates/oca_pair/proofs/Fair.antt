@@ -180,10 +180,10 @@ fair_tick p next us g out back handed now f = record {
   rising = f.rising;
 }
 
--- The front sets.
-pub fair_front : (p : Peer) (next : Option ℕ) (us : List Untaken) (g : Past) (out back : List SentDatagram) (handed : List TakenAnswer) (ono : ℕ) (value : LocalValue) →
+-- A change at the front.
+pub fair_local : (p : Peer) (next : Option ℕ) (us : List Untaken) (g : Past) (out back : List SentDatagram) (handed : List TakenAnswer) (ono : ℕ) (value : LocalValue) →
     Fair p next us g out back handed → Fair p next us (and_then (Local ono value) g) out back handed
-fair_front p next us g out back handed ono value f =
+fair_local p next us g out back handed ono value f =
     let e : Event = Local ono value in
     record {
       fits = f.fits;

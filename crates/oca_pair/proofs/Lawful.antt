@@ -263,7 +263,7 @@ window_kept (step ∷ es) n = window_kept es (after_step step n) ∙ one step
     one (ToLink k now) = by_reception now (slice_get n.to_links k)
     one (Other from bytes now) = by_other from bytes now (has_link from n.links)
     one (steps.Tick now) = refl
-    one (steps.Front ono value) = refl
+    one (steps.Local ono value) = refl
     one (Take i h) = by_take i h (slice_get n.links i)
 
 pub never_old_law : WrittenIsReadBack → (w s : ℕ) (tree : List Object) (starts : List Start) (es : List Step) → 0 < s → 2 * s ≤ w + 1 → are_apart starts ≡ true → Fit starts es →

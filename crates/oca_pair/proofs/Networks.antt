@@ -28,7 +28,7 @@ use Rattle.oca_pair.proofs.Lists.{both_true, not_true, same_is, same_turned, oth
 use Rattle.oca_pair.proofs.Clocks.{keeps_before}
 use Rattle.oca_pair.proofs.Wire.{IsSendable, read_command, read_keep_alive}
 use Rattle.oca_pair.proofs.Truths.{Past, past, and_then, state_of, IsSubmitted, IsTrueAnswer}
-use Rattle.oca_pair.proofs.Fair.{end_of, IsOut, IsBack, IsHeld, Fair, fair_other, fair_tick, fair_front}
+use Rattle.oca_pair.proofs.Fair.{end_of, IsOut, IsBack, IsHeld, Fair, fair_other, fair_tick, fair_local}
 use Rattle.oca_pair.proofs.Delivering.{granted, fair_command, fair_keep_alive, fair_submit, fair_submitted_by, fair_gone_on, fair_sent, fair_received, fair_taken, fair_taken_by, held_answer}
 use Rattle.oca_pair.proofs.Keeping.{Kept, accepted_by, IsGrown, delivers, kept_other, accepted_other, executed_has}
 use Rattle.oca_pair.proofs.Span.{Good, good_submit, good_submitted, good_given_out, good_answered, good_without, good_grown}
@@ -405,12 +405,12 @@ sound_tick s now n g = record {
   }) n.links g.each;
 }
 
-sound_front : (s ono : ℕ) (value : LocalValue) (n : Network) → Sound s n → Sound s (after_step (steps.Front ono value) n)
-sound_front s ono value n g = record {
+sound_local : (s ono : ℕ) (value : LocalValue) (n : Network) → Sound s n → Sound s (after_step (steps.Local ono value) n)
+sound_local s ono value n g = record {
   apart = g.apart;
   each = each_map (λ z w. record {
     span = w.span;
-    fair = fair_front z.peer z.link.next z.link.untaken (past n) n.to_device n.to_links n.taken ono value w.fair;
+    fair = fair_local z.peer z.link.next z.link.untaken (past n) n.to_device n.to_links n.taken ono value w.fair;
     kept = w.kept;
     good = w.good;
   }) n.links g.each;
@@ -433,7 +433,7 @@ sound_step law s (ToLink k now) n fits g = by_sent (slice_get n.to_links k) refl
     by_sent (Some d) e = sound_reception s now n g d k e
 sound_step law s (Other from bytes now) n fits g = sound_other s from bytes now n g
 sound_step law s (steps.Tick now) n fits g = sound_tick s now n g
-sound_step law s (steps.Front ono value) n fits g = sound_front s ono value n g
+sound_step law s (steps.Local ono value) n fits g = sound_local s ono value n g
 sound_step law s (Take i h) n fits g = sound_take s i h n g (slice_get n.links i) refl
 
 pub sound_steps : (law : WrittenIsReadBack) (s : ℕ) (es : List Step) (n : Network) → AllByRecursion StepFits es → Sound s n → Sound s (after_steps es n)

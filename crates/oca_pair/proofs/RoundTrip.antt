@@ -88,7 +88,7 @@ grown_step step n = one step
     one (ToLink k now) = by_reception now (slice_get n.to_links k)
     one (Other from bytes now) = by_other from bytes now (has_link from n.links)
     one (steps.Tick now) = record { sent = []; to_links = none_sent; more = []; submitted = none_more }
-    one (steps.Front ono value) = record { sent = []; to_links = none_sent; more = []; submitted = none_more }
+    one (steps.Local ono value) = record { sent = []; to_links = none_sent; more = []; submitted = none_more }
     one (Take i h) = by_take i h (slice_get n.links i)
 
 grown_on : (n m o : Network) → Grown n m → Grown m o → Grown n o
@@ -175,7 +175,7 @@ to_device_step step n a = one step
     one (ToLink k now) = by_reception now (slice_get n.to_links k)
     one (Other from bytes now) = by_other from bytes now (has_link from n.links)
     one (steps.Tick now) = a
-    one (steps.Front ono value) = a
+    one (steps.Local ono value) = a
     one (Take i h) = by_take i h (slice_get n.links i) refl
 
 to_device_steps : (es : List Step) (n : Network) → AreToDevice n.links → AreToDevice (after_steps es n).links
@@ -331,7 +331,7 @@ stands_step i h p step n g = one step
     one (ToLink k now) = by_reception now (slice_get n.to_links k)
     one (Other from bytes now) = by_other from bytes now (has_link from n.links)
     one (steps.Tick now) = record { link = g.link; there = g.there; peer = g.peer; kept = g.kept }
-    one (steps.Front ono value) = record { link = g.link; there = g.there; peer = g.peer; kept = g.kept }
+    one (steps.Local ono value) = record { link = g.link; there = g.there; peer = g.peer; kept = g.kept }
     one (Take k j) = by_take k j (slice_get n.links k) refl
 
 stands_steps : (i h : ℕ) (p : Peer) (es : List Step) (n : Network) → Stands i p h n.links n.taken → Stands i p h (after_steps es n).links (after_steps es n).taken

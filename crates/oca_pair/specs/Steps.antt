@@ -12,6 +12,7 @@ use Rattle.oca_device.specs.Events as event
 use Rattle.oca_device.specs.Answers.{packets, verdict}
 use Rattle.oca_device.specs.States.{state_after}
 use Rattle.oca_tree.specs.declared.setting.LocalValue.{LocalValue}
+use Rattle.oca_tree.specs.declared.setting.SetFault.{SetFault}
 use Rattle.oca_tree.specs.Settings.{set_fault}
 use Rattle.oca_control.specs.declared.fault.ControlFault.{ControlFault}
 use Rattle.oca_control.specs.Answers.{AnswerFields}
@@ -35,8 +36,8 @@ pub data Step : Type 0 where
   Other : (from : Peer) (bytes : List ℕ) (now : ℕ) → Step
   -- the device reads its clock
   Tick : (now : ℕ) → Step
-  -- the device's front sets an object
-  Front : (ono : ℕ) (value : LocalValue) → Step
+  -- an object is set at the device's own front
+  Local : (ono : ℕ) (value : LocalValue) → Step
   -- the answer to a command is asked of a link
   Take : (link : ℕ) (handle : ℕ) → Step
 
@@ -52,7 +53,7 @@ is_there (ToDevice k now) n = is_some (slice_get n.to_device k)
 is_there (ToLink k now) n = is_some (slice_get n.to_links k)
 is_there (Other from bytes now) n = not (has_link from n.links)
 is_there (Tick now) n = true
-is_there (Front ono value) n = true
+is_there (Local ono value) n = true
 is_there (Take link handle) n = is_some (slice_get n.links link)
 
 -- the datagrams of a peer with these bytes
@@ -145,6 +146,11 @@ abbrev pub take_outcome : Option AnswerFields → Outcome
 take_outcome (Some answer) = outcomes.Answer (record { status = answer.status; count = answer.count; params = record { items = answer.params } })
 take_outcome None = outcomes.NoAnswer
 
+-- ---- LOCAL: what the device says of a change at its own front
+abbrev pub set_outcome : Option SetFault → Outcome
+set_outcome None = outcomes.Set
+set_outcome (Some fault) = outcomes.NotSet fault
+
 -- ---- THE NETWORK AFTER A STEP. A step that names what is not there does nothing.
 abbrev pub after_step : Step → Network → Network
 after_step (Submit link request now) n = after_submit link request now (slice_get n.links link) n
@@ -153,7 +159,7 @@ after_step (ToDevice k now) n = after_delivery now (slice_get n.to_device k) n
 after_step (ToLink k now) n = after_reception now (slice_get n.to_links k) n
 after_step (Other from bytes now) n = if has_link from n.links then n else record n { events = Datagram from bytes now ∷ n.events }
 after_step (Tick now) n = record n { events = event.Tick now ∷ n.events }
-after_step (Front ono value) n = record n { events = event.Local ono value ∷ n.events }
+after_step (Local ono value) n = record n { events = event.Local ono value ∷ n.events }
 after_step (Take link handle) n = after_take link handle (slice_get n.links link) n
 
 -- THE NETWORK AFTER A SCHEDULE.
@@ -182,7 +188,7 @@ outcome_of (ToLink k now) n = reception_outcome (slice_get n.to_links k) n
 outcome_of (Other from bytes now) n =
     if has_link from n.links then [] else outcomes.Device (verdict n.window n.tree n.events from bytes now) ∷ []
 outcome_of (Tick now) n = outcomes.Ticked ∷ []
-outcome_of (Front ono value) n = outcomes.Front (set_fault (state_after n.window n.tree n.events).tree ono value) ∷ []
+outcome_of (Local ono value) n = set_outcome (set_fault (state_after n.window n.tree n.events).tree ono value) ∷ []
 outcome_of (Take link handle) n = on_link (λ l. take_outcome (answer_under handle l.link.untaken)) (slice_get n.links link)
 
 -- THE OUTCOMES OF A SCHEDULE, in order.

@@ -9,7 +9,7 @@ use Rattle.oca_pair.specs.declared.start.Start.{Start}
 use Rattle.oca_pair.specs.declared.step.Step as declared
 use Rattle.oca_pair.specs.declared.step.Step.TheVariants as given
 use Rattle.oca_pair.specs.Networks.{Network, opening}
-use Rattle.oca_pair.specs.Steps.{Step, Submit, Due, ToDevice, ToLink, Other, Tick, Front, Take, after_steps, outcomes_of, first_missing}
+use Rattle.oca_pair.specs.Steps.{Step, Submit, Due, ToDevice, ToLink, Other, Tick, Local, Take, after_steps, outcomes_of, first_missing}
 use Rattle.oca_pair.specs.Premises.{are_apart}
 
 -- a step without where its bytes lie in memory
@@ -21,7 +21,7 @@ step_of (given.ToDevice k now) = ToDevice k now
 step_of (given.ToLink k now) = ToLink k now
 step_of (given.Other from bytes now) = Other from bytes.now now
 step_of (given.Tick now) = Tick now
-step_of (given.Front ono value) = Front ono.0 value
+step_of (given.Local ono value) = Local ono.0 value
 step_of (given.Take link handle) = Take link handle.0
 
 -- The transcript of the steps from a network on: its lists, one outcome for each step, and a device that represents what came to it.

@@ -23,8 +23,10 @@ pub enum Outcome {
     Link(Reception),
     /// The device's clock was read.
     Ticked,
-    /// The device's front set an object, or this fault refused it.
-    Front(Option<SetFault>),
+    /// The object was set at the device's own front.
+    Set,
+    /// The object was not set at the device's own front, for this fault.
+    NotSet(SetFault),
     /// The link gave this answer.
     Answer(Answer),
     /// The link has no answer under the handle.

@@ -4,7 +4,7 @@ ghost use Rattle.oca_types.specs.Sizes.{window_size, span_size};
 ghost use Rattle.oca_control.specs.Links.{Request, submitted, submission, decision, gone_on, received, reception, taken};
 ghost use Rattle.oca_control.specs.Untaken.{answer_under};
 ghost use Rattle.oca_pair.specs.Networks.{Network, SentDatagram, started, opening, device_address};
-ghost use Rattle.oca_pair.specs.Steps.{Submit, Due as DueStep, ToDevice, ToLink, Other, Tick as TickStep, Front, Take, sendings, hears_datagram, submit_outcome, content_of, take_outcome};
+ghost use Rattle.oca_pair.specs.Steps.{Submit, Due as DueStep, ToDevice, ToLink, Other, Tick as TickStep, Local, Take, sendings, hears_datagram, submit_outcome, content_of, take_outcome};
 ghost use Rattle.oca_pair.specs.PrivateRunning.{first_heard};
 
 use crate::given::Given;
@@ -181,7 +181,7 @@ impl Running {
             Step::ToLink { k, now } => self.deliver_to_link(k, now),
             Step::Other { from, bytes, now } => self.deliver_other(from, bytes, now),
             Step::Tick { now } => Ok(self.tick(now)),
-            Step::Front { ono, value } => Ok(self.set(ono, value)),
+            Step::Local { ono, value } => Ok(self.set(ono, value)),
             Step::Take { link, handle } => self.take(link, handle),
         }
     }
@@ -286,11 +286,14 @@ impl Running {
         Outcome::Ticked
     }
 
-    /// Sets an object at the device's front.
+    /// Sets an object at the device's own front.
     fn set(&mut self, ono: Ono, value: LocalValue) -> Outcome
-        ensures { (n : Network) → Shows self.old n → Took (Ok result) (Front ono.0 value) n self.new }
+        ensures { (n : Network) → Shows self.old n → Took (Ok result) (Local ono.0 value) n self.new }
     {
-        Outcome::Front(self.device.set(ono, value).err())
+        match self.device.set(ono, value) {
+            Ok(()) => Outcome::Set,
+            Err(fault) => Outcome::NotSet(fault),
+        }
     }
 
     /// Takes an answer from a link.

@@ -40,8 +40,8 @@ pub enum Step<'a> {
     Tick {
         now: u64,
     },
-    /// The device's front sets an object.
-    Front {
+    /// An object is set at the device's own front. That has no moment: it happens at that of the device's clock.
+    Local {
         ono: Ono,
         value: LocalValue,
     },

@@ -42,7 +42,8 @@ enum Seen {
     Device(Verdict),
     Link(Reception),
     Ticked,
-    Front(Option<SetFault>),
+    Set,
+    NotSet(SetFault),
     Answer(u8, u8, usize),
     NoAnswer,
 }
@@ -58,7 +59,8 @@ fn shown(outcome: &Outcome) -> Seen {
         Outcome::Device(verdict) => Seen::Device(*verdict),
         Outcome::Link(reception) => Seen::Link(*reception),
         Outcome::Ticked => Seen::Ticked,
-        Outcome::Front(fault) => Seen::Front(*fault),
+        Outcome::Set => Seen::Set,
+        Outcome::NotSet(fault) => Seen::NotSet(*fault),
         Outcome::Answer(answer) => Seen::Answer(answer.status, answer.count, answer.params.len()),
         Outcome::NoAnswer => Seen::NoAnswer,
     }

@@ -3,25 +3,31 @@
 //! `trials`: damaged datagrams against a bench device. `trials calls`: the names of the calls that take memory, and `trials
 //! call NAME`: one of them. `trials bench KIND OBJECTS SESSIONS COUNT served|made`: datagrams in memory, handed to a device or only made.
 //! `trials echo COUNT`: so many datagrams answered by a bare loop at a socket. `trials world`: the schedules on standard input, run by
-//! `run_pair`, each with what its steps led to (`schedule` tells their lines).
+//! `run_pair`, each with what its steps led to (`schedule` tells their lines). `trials events`: the histories of devices on standard
+//! input, with what each device is after each event (`history` tells their lines).
 #![tactic(auto)]
 
 mod calls;
 mod core_bench;
 mod echo;
 mod ends;
+mod fields;
+mod history;
 mod hostile;
+mod lines;
 mod schedule;
 mod vectors;
 mod world;
 
 use calls::{Answered, NAMES, call};
 use core_bench::{Kind, Size};
+use history::histories;
+use lines::RunFault;
 use std::net::Net;
 use std::process::ExitCode;
 use std::rt::Runtime;
 use std::{env, io};
-use world::{WorldFault, worlds};
+use world::worlds;
 
 /// Runs the trial that the words name, with its status.
 fn main(rt: HostRuntime) -> ExitCode {
@@ -35,6 +41,7 @@ fn main(rt: HostRuntime) -> ExitCode {
         [_] => damaged(&rt),
         [_, word] if word.as_str() == "calls" => names(&rt),
         [_, word] if word.as_str() == "world" => schedules(&rt),
+        [_, word] if word.as_str() == "events" => events(&rt),
         [_, word, name] if word.as_str() == "call" => one_call(&rt, name.as_str()),
         [_, word, count] if word.as_str() == "echo" => echoed(&rt, count.as_str()),
         [_, word, kind, objects, sessions, count, way] if word.as_str() == "bench" => {
@@ -100,14 +107,27 @@ fn echoed<R: Runtime + Net>(rt: &R, count: &str) -> ExitCode {
 
 /// The schedules on standard input.
 fn schedules<R: Runtime + AllocGlobal>(rt: &R) -> ExitCode {
-    let Ok(text) = io::read_to_string(rt.alloc(), rt.reader()) else {
-        return said(rt, "read failed", 1);
-    };
-    match worlds(rt, text.as_str()) {
+    match io::read_to_string(rt.alloc(), rt.reader()) {
+        Ok(text) => ended(rt, worlds(rt, text.as_str())),
+        Err(_) => said(rt, "read failed", 1),
+    }
+}
+
+/// The histories on standard input.
+fn events<R: Runtime + AllocGlobal>(rt: &R) -> ExitCode {
+    match io::read_to_string(rt.alloc(), rt.reader()) {
+        Ok(text) => ended(rt, histories(rt, text.as_str())),
+        Err(_) => said(rt, "read failed", 1),
+    }
+}
+
+/// The status of a run over lines, whose fault is told on standard error.
+fn ended<R: Runtime>(rt: &R, run: Result<(), RunFault>) -> ExitCode {
+    match run {
         Ok(()) => ExitCode::SUCCESS,
-        Err(WorldFault::NoMemory) => said(rt, "no memory", 1),
-        Err(WorldFault::Write) => said(rt, "write failed", 1),
-        Err(WorldFault::Line(number, fault)) => {
+        Err(RunFault::NoMemory) => said(rt, "no memory", 1),
+        Err(RunFault::Write) => said(rt, "write failed", 1),
+        Err(RunFault::Line(number, fault)) => {
             let word = fault.word();
             let _ = eprintln!(rt; "line {number}: {word}");
             ExitCode::from(2)

@@ -7,131 +7,14 @@
 //!     N submit LINK ONO LEVEL INDEX COUNT HEX      N due LINK
 //!     N to-device K                                N to-link K
 //!     N other P HEX                                N tick
-//!     take LINK H
+//!     take LINK H                                  set ONO state|position|truth|number VALUE
+//!
+//! The last sets an object at the device's own front: VALUE is the number of a state, a position, 0 or 1, or an integer.
+use crate::fields::{Fields, LineFault, number_32};
 use oca_pair::{Start, Step};
-use oca_script::field::{first_field, moment, number, peer};
-use oca_types::{Handle, MethodId, Ono, Peer, Span, Window};
+use oca_script::field::{moment, peer};
+use oca_types::{Handle, MethodId, Ono, Span, Window};
 use std::alloc::Global;
-
-/// Why a line is refused.
-#[derive(Clone, Copy, Debug, PartialEq, Eq)]
-pub enum LineFault {
-    /// Memory was refused.
-    NoMemory,
-    /// A wrong number of fields or an unknown word, or a step before the first schedule.
-    Form,
-    /// A moment that is none.
-    Moment,
-    /// A number that is none or too large, a size that no window or span has included.
-    Number,
-    /// A peer that is none.
-    Peer,
-    /// Bytes that are none.
-    Hex,
-}
-
-impl LineFault {
-    /// The word for it.
-    pub fn word(self) -> &'static str {
-        match self {
-            LineFault::NoMemory => "no memory",
-            LineFault::Form => "form",
-            LineFault::Moment => "moment",
-            LineFault::Number => "number",
-            LineFault::Peer => "peer",
-            LineFault::Hex => "hex",
-        }
-    }
-}
-
-/// The fields of a line that were not read yet.
-#[derive(Drop)]
-struct Fields<'a> {
-    rest: Option<&'a [u8]>,
-}
-
-impl<'a> Fields<'a> {
-    /// All fields of a line.
-    fn new(line: &'a [u8]) -> Fields<'a> {
-        Fields { rest: Some(line) }
-    }
-
-    /// The next field.
-    fn next(&mut self) -> Result<&'a [u8], LineFault> {
-        let Some(text) = self.rest else {
-            return Err(LineFault::Form);
-        };
-        let (field, rest) = first_field(text);
-        self.rest = rest;
-        Ok(field)
-    }
-
-    /// Nothing is left.
-    fn end(&self) -> Result<(), LineFault> {
-        match self.rest {
-            None => Ok(()),
-            Some(_) => Err(LineFault::Form),
-        }
-    }
-
-    /// A number of 32 bits.
-    fn number(&mut self) -> Result<u32, LineFault> {
-        number_32(self.next()?)
-    }
-
-    /// A number of 16 bits.
-    fn short_number(&mut self) -> Result<u16, LineFault> {
-        match number(self.next()?, 5, 65535) {
-            Some(value) => Ok(value as u16),
-            None => Err(LineFault::Number),
-        }
-    }
-
-    /// A number of 8 bits.
-    fn byte(&mut self) -> Result<u8, LineFault> {
-        match number(self.next()?, 3, 255) {
-            Some(value) => Ok(value as u8),
-            None => Err(LineFault::Number),
-        }
-    }
-
-    /// The number of a link or a datagram.
-    fn place(&mut self) -> Result<usize, LineFault> {
-        Ok(self.number()? as usize)
-    }
-
-    /// A peer.
-    fn peer(&mut self) -> Result<Peer, LineFault> {
-        match peer(self.next()?) {
-            Some(peer) => Ok(peer),
-            None => Err(LineFault::Peer),
-        }
-    }
-
-    /// Bytes.
-    fn bytes(&mut self, alloc: Global) -> Result<Vec<u8>, LineFault> {
-        let text = self.next()?;
-        if text == b"-".as_slice() {
-            return Ok(Vec::new(alloc));
-        }
-        if text.is_empty() {
-            return Err(LineFault::Hex);
-        }
-        match hex::decode(alloc, text) {
-            Ok(bytes) => Ok(bytes),
-            Err(hex::FromHexError::OutOfMemory) => Err(LineFault::NoMemory),
-            Err(_) => Err(LineFault::Hex),
-        }
-    }
-}
-
-/// The number of 32 bits that the digits write.
-fn number_32(digits: &[u8]) -> Result<u32, LineFault> {
-    match number(digits, 10, 4294967295) {
-        Some(value) => Ok(value as u32),
-        None => Err(LineFault::Number),
-    }
-}
 
 /// A step with its own bytes.
 #[derive(Drop)]
@@ -253,6 +136,13 @@ fn step(alloc: Global, first: &[u8], fields: &mut Fields<'_>) -> Result<HeldStep
         fields.end()?;
         return Ok(HeldStep {
             step,
+            bytes: Vec::new(alloc),
+        });
+    }
+    if first == b"set".as_slice() {
+        let (ono, value) = fields.local()?;
+        return Ok(HeldStep {
+            step: Step::Local { ono, value },
             bytes: Vec::new(alloc),
         });
     }

@@ -1,27 +1,16 @@
 //! Schedules over a device and links, read as lines and run one after another.
-use crate::schedule::{Line, LineFault, Schedule, read_line};
+use crate::fields::LineFault;
+use crate::lines::{Full, RunFault, put_bytes, put_peer, put_set_fault, put_verdict};
+use crate::schedule::{Line, Schedule, read_line};
 use oca_control::{Answer, ControlFault, Reception};
-use oca_device::Verdict;
 use oca_pair::{Outcome, PairFault, Sent, Transcript, run_pair};
 use oca_tree::bench;
-use oca_types::Peer;
 use std::alloc::Global;
 use std::fmt::Write;
 
-/// Why the run ends.
-#[derive(Clone, Copy, Debug, PartialEq, Eq)]
-pub enum WorldFault {
-    /// Memory was refused.
-    NoMemory,
-    /// The line of this number, from 1, is refused.
-    Line(u64, LineFault),
-    /// Standard output takes no more.
-    Write,
-}
-
 /// Runs the schedules that the text has, and prints what each led to: `schedule`, a line for each step, the datagrams that were sent
 /// to the device and to links in order, and how many sessions the device has at the end; or, behind `schedule`, why it does not run.
-pub fn worlds<R: Print + AllocGlobal>(rt: &R, text: &str) -> Result<(), WorldFault> {
+pub fn worlds<R: Print + AllocGlobal>(rt: &R, text: &str) -> Result<(), RunFault> {
     let mut pending = None;
     let mut count = 0u64;
     for text in text.lines() {
@@ -37,30 +26,30 @@ pub fn worlds<R: Print + AllocGlobal>(rt: &R, text: &str) -> Result<(), WorldFau
             Ok(Line::Step(step)) => match &mut pending {
                 Some(schedule) => {
                     if schedule.steps.push(step).is_err() {
-                        return Err(WorldFault::NoMemory);
+                        return Err(RunFault::NoMemory);
                     }
                 }
-                None => return Err(WorldFault::Line(count, LineFault::Form)),
+                None => return Err(RunFault::Line(count, LineFault::Form)),
             },
-            Err(fault) => return Err(WorldFault::Line(count, fault)),
+            Err(fault) => return Err(RunFault::Line(count, fault)),
         }
     }
     finish(rt, pending)
 }
 
 /// Runs a schedule, where there is one, and prints what it led to.
-fn finish<R: Print + AllocGlobal>(rt: &R, pending: Option<Schedule>) -> Result<(), WorldFault> {
+fn finish<R: Print + AllocGlobal>(rt: &R, pending: Option<Schedule>) -> Result<(), RunFault> {
     let Some(schedule) = pending else {
         return Ok(());
     };
     let mut out = String::new(rt.alloc());
     let ran = run(rt.alloc(), &schedule);
     if put_run(rt.alloc(), &mut out, &ran).is_err() {
-        return Err(WorldFault::NoMemory);
+        return Err(RunFault::NoMemory);
     }
     match print!(rt; "{out}") {
         Ok(()) => Ok(()),
-        Err(_) => Err(WorldFault::Write),
+        Err(_) => Err(RunFault::Write),
     }
 }
 
@@ -83,17 +72,6 @@ fn run(alloc: Global, schedule: &Schedule) -> Result<Transcript, PairFault> {
         schedule.starts.as_slice(),
         steps.as_slice(),
     )
-}
-
-/// Memory was refused.
-#[derive(Drop)]
-struct Full;
-
-impl From<std::alloc::AllocError> for Full {
-    /// A refused request, whatever it was for.
-    fn from(_error: std::alloc::AllocError) -> Full {
-        Full
-    }
 }
 
 /// The lines of a run.
@@ -139,11 +117,8 @@ fn put_outcome(alloc: Global, out: &mut String, outcome: &Outcome) -> Result<(),
         Outcome::Link(Reception::Malformed) => writeln!(out, "malformed")?,
         Outcome::Link(Reception::NothingNew) => writeln!(out, "nothing new")?,
         Outcome::Ticked => writeln!(out, "quiet")?,
-        Outcome::Front(None) => writeln!(out, "set")?,
-        Outcome::Front(Some(fault)) => {
-            let number = *fault as u8;
-            writeln!(out, "not set {number}")?;
-        }
+        Outcome::Set => writeln!(out, "set")?,
+        Outcome::NotSet(fault) => put_set_fault(out, *fault)?,
         Outcome::Answer(answer) => put_answer(alloc, out, answer)?,
         Outcome::NoAnswer => writeln!(out, "none")?,
     }
@@ -161,30 +136,6 @@ fn put_refusal(out: &mut String, fault: ControlFault) -> Result<(), Full> {
     Ok(writeln!(out, "{text}")?)
 }
 
-/// The line of a delivery to the device.
-fn put_verdict(out: &mut String, verdict: Verdict) -> Result<(), Full> {
-    match verdict {
-        Verdict::Served {
-            executed,
-            kept,
-            old,
-            reused,
-        } => {
-            write!(out, "served {executed} {kept} {old}")?;
-            if reused != 0 {
-                write!(out, " reused {reused}")?;
-            }
-        }
-        Verdict::Malformed(fault) => {
-            let number = fault.kind.number();
-            let at = fault.at;
-            write!(out, "malformed {number} at {at}")?;
-        }
-        Verdict::NoRoom => write!(out, "no-room")?,
-    }
-    Ok(writeln!(out, "")?)
-}
-
 /// The line of an answer.
 fn put_answer(alloc: Global, out: &mut String, answer: &Answer) -> Result<(), Full> {
     let status = answer.status;
@@ -198,25 +149,8 @@ fn put_sent(alloc: Global, out: &mut String, way: &str, sent: &[Sent]) -> Result
     for datagram in sent {
         write!(out, "{way} ")?;
         put_peer(out, datagram.peer)?;
+        write!(out, " ")?;
         put_bytes(alloc, out, datagram.bytes.as_slice())?;
     }
     Ok(())
-}
-
-/// A peer and a space.
-fn put_peer(out: &mut String, peer: Peer) -> Result<(), Full> {
-    let [a, b, c, d] = peer.ip.to_be_bytes();
-    let port = peer.port;
-    Ok(write!(out, "{a}.{b}.{c}.{d}:{port} ")?)
-}
-
-/// Bytes in hexadecimal, `-` for none, and the end of the line.
-fn put_bytes(alloc: Global, out: &mut String, bytes: &[u8]) -> Result<(), Full> {
-    if bytes.is_empty() {
-        return Ok(writeln!(out, "-")?);
-    }
-    match hex::encode(alloc, bytes) {
-        Ok(text) => Ok(writeln!(out, "{text}")?),
-        Err(_) => Err(Full),
-    }
 }

@@ -1,0 +1,163 @@
+//! The fields of the lines of schedules and of histories.
+use oca_script::field::{first_field, number, peer};
+use oca_tree::LocalValue;
+use oca_types::{Ono, Peer};
+use std::alloc::Global;
+
+/// Why a line is refused.
+#[derive(Clone, Copy, Debug, PartialEq, Eq)]
+pub enum LineFault {
+    /// Memory was refused.
+    NoMemory,
+    /// A wrong number of fields or an unknown word, or a step before the first schedule or history.
+    Form,
+    /// A moment that is none.
+    Moment,
+    /// A number that is none or too large, a size that nothing has included.
+    Number,
+    /// A peer that is none.
+    Peer,
+    /// Bytes that are none.
+    Hex,
+}
+
+impl LineFault {
+    /// The word for it.
+    pub fn word(self) -> &'static str {
+        match self {
+            LineFault::NoMemory => "no memory",
+            LineFault::Form => "form",
+            LineFault::Moment => "moment",
+            LineFault::Number => "number",
+            LineFault::Peer => "peer",
+            LineFault::Hex => "hex",
+        }
+    }
+}
+
+/// The fields of a line that were not read yet.
+#[derive(Drop)]
+pub struct Fields<'a> {
+    rest: Option<&'a [u8]>,
+}
+
+impl<'a> Fields<'a> {
+    /// All fields of a line.
+    pub fn new(line: &'a [u8]) -> Fields<'a> {
+        Fields { rest: Some(line) }
+    }
+
+    /// The next field.
+    pub fn next(&mut self) -> Result<&'a [u8], LineFault> {
+        let Some(text) = self.rest else {
+            return Err(LineFault::Form);
+        };
+        let (field, rest) = first_field(text);
+        self.rest = rest;
+        Ok(field)
+    }
+
+    /// Nothing is left.
+    pub fn end(&self) -> Result<(), LineFault> {
+        match self.rest {
+            None => Ok(()),
+            Some(_) => Err(LineFault::Form),
+        }
+    }
+
+    /// A number of 32 bits.
+    pub fn number(&mut self) -> Result<u32, LineFault> {
+        number_32(self.next()?)
+    }
+
+    /// A number of 16 bits.
+    pub fn short_number(&mut self) -> Result<u16, LineFault> {
+        match number(self.next()?, 5, 65535) {
+            Some(value) => Ok(value as u16),
+            None => Err(LineFault::Number),
+        }
+    }
+
+    /// A number of 8 bits.
+    pub fn byte(&mut self) -> Result<u8, LineFault> {
+        match number(self.next()?, 3, 255) {
+            Some(value) => Ok(value as u8),
+            None => Err(LineFault::Number),
+        }
+    }
+
+    /// The number of a link or a datagram.
+    pub fn place(&mut self) -> Result<usize, LineFault> {
+        Ok(self.number()? as usize)
+    }
+
+    /// A peer.
+    pub fn peer(&mut self) -> Result<Peer, LineFault> {
+        match peer(self.next()?) {
+            Some(peer) => Ok(peer),
+            None => Err(LineFault::Peer),
+        }
+    }
+
+    /// Bytes.
+    pub fn bytes(&mut self, alloc: Global) -> Result<Vec<u8>, LineFault> {
+        let text = self.next()?;
+        if text == b"-".as_slice() {
+            return Ok(Vec::new(alloc));
+        }
+        if text.is_empty() {
+            return Err(LineFault::Hex);
+        }
+        match hex::decode(alloc, text) {
+            Ok(bytes) => Ok(bytes),
+            Err(hex::FromHexError::OutOfMemory) => Err(LineFault::NoMemory),
+            Err(_) => Err(LineFault::Hex),
+        }
+    }
+
+    /// What is set at the front, and to what: `ONO KIND VALUE`.
+    pub fn local(&mut self) -> Result<(Ono, LocalValue), LineFault> {
+        let ono = Ono(self.number()?);
+        let kind = self.next()?;
+        let value = if kind == b"state".as_slice() {
+            LocalValue::State(self.byte()?)
+        } else if kind == b"position".as_slice() {
+            LocalValue::Position(self.short_number()?)
+        } else if kind == b"truth".as_slice() {
+            LocalValue::Truth(self.truth()?)
+        } else if kind == b"number".as_slice() {
+            LocalValue::Number(self.integer()?)
+        } else {
+            return Err(LineFault::Form);
+        };
+        self.end()?;
+        Ok((ono, value))
+    }
+
+    /// A truth: 0 or 1.
+    fn truth(&mut self) -> Result<bool, LineFault> {
+        match number(self.next()?, 1, 1) {
+            Some(value) => Ok(value == 1),
+            None => Err(LineFault::Number),
+        }
+    }
+
+    /// An integer of 128 bits: decimal digits, behind a `-` where it is negative.
+    fn integer(&mut self) -> Result<i128, LineFault> {
+        let text = self.next()?;
+        match str::from_utf8(text) {
+            Ok(digits) if text.first() != Some(&b'+') => {
+                digits.parse::<i128>().map_err(|_| LineFault::Number)
+            }
+            _ => Err(LineFault::Number),
+        }
+    }
+}
+
+/// The number of 32 bits that the digits write.
+pub fn number_32(digits: &[u8]) -> Result<u32, LineFault> {
+    match number(digits, 10, 4294967295) {
+        Some(value) => Ok(value as u32),
+        None => Err(LineFault::Number),
+    }
+}
