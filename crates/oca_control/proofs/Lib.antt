@@ -8,3 +8,4 @@ pub mod Views
 pub mod Messages
 pub mod Receiving
 pub mod Turns
+pub mod Asks

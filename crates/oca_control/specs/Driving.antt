@@ -4,7 +4,7 @@ use Rattle.std.specs.List.{list_any, flat_map}
 use Rattle.oca_types.specs.declared.words.Peer.{Peer}
 use Rattle.oca_net.specs.Deliveries.{Delivery, Datagram, Quiet, Failed, Sent}
 use Rattle.oca_net.specs.Ends.{largest_datagram}
-use Rattle.oca_net.specs.EndStates.{EndState, Runs}
+use Rattle.oca_net.specs.EndStates.{EndState, SendsAllBut, Runs}
 use Rattle.oca_control.specs.declared.reception.Reception.{Reception}
 use Rattle.oca_control.specs.declared.reception.Reception.TheVariants as receptions
 use Rattle.oca_control.specs.declared.report.DriveReport.{DriveReport}
@@ -119,6 +119,14 @@ pub record DrivesEnd (old new : LinkState) (before after : EndState) (report : D
   pub drives : Drives deliveries old new decisions answered
   pub reported : report ≡ report_of deliveries decisions answered report.failed_sends
   pub runs : Runs deliveries (all_given_to old.device decisions) report.failed_receives report.failed_sends before after
+
+-- WHAT WAS DUE at a moment, in so many calls of `due`, WAS GIVEN OUT: it was handed to the end, for the device, and the report counts it
+-- and the sends that failed. No turn was taken.
+pub record GivesOut (now calls : ℕ) (old new : LinkState) (before after : EndState) (report : DriveReport) : Type 0 where
+  pub link : new ≡ link_from now calls old
+  pub device : new.device ≡ old.device
+  pub reported : report ≡ report_of [] (decisions_from now calls old) 0 report.failed_sends
+  pub sends : SendsAllBut report.failed_sends before after (all_given_to old.device (decisions_from now calls old))
 
 -- how often is received: once a turn, and once more where neither the turns nor a lost link ended the loop
 abbrev pub receives_of : DriveReport → ℕ → ℕ

@@ -8,5 +8,7 @@ pub mod Links
 pub mod Steps
 pub mod Histories
 pub mod Driving
+pub mod Asking
 pub mod PrivateSlots
 pub mod PrivateDriving
+pub mod PrivateAsking

@@ -2,7 +2,7 @@
 use Rattle.std.specs.Prelude.{ℕ, ◌+◌, ◌-◌, ◌==◌, nat_lt, nat_le, max, Bool, true, false, if◌then◌else◌, List, [], ◌∷◌, ◌++◌, map, length, Option, Some, None, is_some, Result, Ok, Err}
 use Rattle.oca_types.specs.declared.words.Peer.{Peer}
 use Rattle.oca_types.specs.declared.words.Handle.{Handle}
-use Rattle.oca_types.specs.Peers.{CommandFields, same_peer}
+use Rattle.oca_types.specs.Peers.{CommandFields, RequestFields, same_peer}
 use Rattle.oca_pdu.specs.declared.message.Form.TheVariants.{Seconds}
 use Rattle.oca_pdu.specs.Messages.{Msg, Commands, OneKeepAlive}
 use Rattle.oca_pdu.specs.Encoding.{pdu_encoding}
@@ -34,31 +34,28 @@ new_link device first now span =
 abbrev pub present : ℕ → LinkState → ℕ
 present now l = max l.moment now
 
--- SUBMIT. What a command asks, before it has a handle (AES70-3).
-pub record Request : Type 0 where
-  pub target : ℕ
-  pub level : ℕ
-  pub index : ℕ
-  pub count : ℕ
-  pub params : List ℕ
-
-abbrev pub command_under : ℕ → Request → CommandFields
+-- SUBMIT. The command of a request, under a handle (AES70-3).
+abbrev pub command_under : ℕ → RequestFields → CommandFields
 command_under h r =
     record { handle = h; target = r.target; level = r.level; index = r.index; count = r.count; params = r.params }
+
+-- the same under another name
+abbrev pub Request : Type 0
+Request = RequestFields
 
 -- A datagram of one command holds at most so many bytes of parameters.
 abbrev pub most_params : ℕ
 most_params = 1445
 
 -- the answer where this is the next handle, or none is left
-abbrev pub submission_under : Request → Option ℕ → LinkState → Result Handle ControlFault
+abbrev pub submission_under : RequestFields → Option ℕ → LinkState → Result Handle ControlFault
 submission_under r None l = Err faults.HandlesSpent
 submission_under r (Some h) l =
     if has_room l.span h l.untaken then (if nat_lt most_params (length r.params) then Err faults.TooLong else Ok (record { 0 = h }))
     else Err faults.SpanFull
 
 -- what `submit` answers
-abbrev pub submission : Request → LinkState → Result Handle ControlFault
+abbrev pub submission : RequestFields → LinkState → Result Handle ControlFault
 submission r l = if l.lost then Err faults.Lost else submission_under r l.next l
 
 -- After 4294967295 no handle is left.
@@ -66,12 +63,12 @@ abbrev pub handle_after : ℕ → Option ℕ
 handle_after h = if h == 4294967295 then None else Some (h + 1)
 
 -- the link after it: a refusal changes nothing, and keeps no moment
-abbrev pub after_submission : Result Handle ControlFault → Request → ℕ → LinkState → LinkState
+abbrev pub after_submission : Result Handle ControlFault → RequestFields → ℕ → LinkState → LinkState
 after_submission (Err fault) r now l = l
 after_submission (Ok h) r now l =
     record l { moment = present now l; next = handle_after h.0; untaken = l.untaken ++ new_untaken (command_under h.0 r) ∷ [] }
 
-abbrev pub submitted : Request → ℕ → LinkState → LinkState
+abbrev pub submitted : RequestFields → ℕ → LinkState → LinkState
 submitted r now l = after_submission (submission r l) r now l
 
 -- DUE. What is to be given out: a command, a keep-alive or nothing; or the link is lost.

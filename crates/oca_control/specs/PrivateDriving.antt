@@ -6,7 +6,7 @@ use Rattle.oca_net.specs.Ends.{one_more}
 use Rattle.oca_net.specs.EndStates.{EndState, Receives, SendsAllBut, Runs}
 use Rattle.oca_control.specs.declared.report.DriveReport.{DriveReport}
 use Rattle.oca_control.specs.Links.{LinkState, Decision, decision, gone_on}
-use Rattle.oca_control.specs.Driving.{DrivesTurn, report_of, goes_on, given_to, all_given_to, decisions_from, link_from}
+use Rattle.oca_control.specs.Driving.{DrivesTurn, report_of, goes_on, given_to, all_given_to}
 
 -- first the one, then the other
 abbrev pub added : DriveReport → DriveReport → DriveReport
@@ -40,13 +40,6 @@ pub record GivesOne (now : ℕ) (l l' : LinkState) (before after : EndState) (go
   pub goes : go ≡ goes_on (decision now l)
   pub reported : given ≡ given_report (decision now l ∷ []) given.failed_sends
   pub sends : SendsAllBut given.failed_sends before after (given_to l.device (decision now l))
-
--- all that was due in so many calls was given out
-pub record GaveAll (now left : ℕ) (start l : LinkState) (before after : EndState) (report : DriveReport) : Type 0 where
-  pub link : l ≡ link_from now left start
-  pub device : l.device ≡ start.device
-  pub reported : report ≡ given_report (decisions_from now left start) report.failed_sends
-  pub sends : SendsAllBut report.failed_sends before after (all_given_to start.device (decisions_from now left start))
 
 -- a turn
 pub record DrivesOnce (old new : LinkState) (before after : EndState) (turn : DriveReport) : Type 0 where

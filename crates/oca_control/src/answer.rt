@@ -2,7 +2,7 @@
 use oca_types::Params;
 
 /// What a device answered to a command (AES70-3): the number of the status, ParamCount, and the bytes of the parameters.
-#[derive(Drop)]
+#[derive(Debug, Drop)]
 pub struct Answer {
     /// The number of the status.
     pub status: u8,

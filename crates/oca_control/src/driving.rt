@@ -2,8 +2,8 @@
 ghost use Rattle.std.specs.Prelude.{◌≡◌, ◌+◌, ◌-◌, ◌<◌, ◌≤◌, ◌^◌, ℕ, [], ◌∷◌, IsTrue, IfSome, false};
 ghost use Rattle.oca_net.specs.Ends.{last_u64};
 ghost use Rattle.oca_net.specs.EndStates.{SendsAllBut};
-ghost use Rattle.oca_control.specs.Driving.{DrivesEnd, answered_by, receives_of};
-ghost use Rattle.oca_control.specs.PrivateDriving.{added, IsWithin, given_report, GivesOne, GaveAll, TakesTurn};
+ghost use Rattle.oca_control.specs.Driving.{DrivesEnd, GivesOut, answered_by, receives_of};
+ghost use Rattle.oca_control.specs.PrivateDriving.{added, IsWithin, given_report, GivesOne, TakesTurn};
 
 use crate::due::Due;
 use crate::link::Link;
@@ -39,6 +39,17 @@ pub fn drive<E: End>(link: &mut Link, end: &mut E, turns: u32) -> DriveReport
         }
     }
     report
+}
+
+/// Hands the end all that is due at this moment, for the device, and answers what was handed over; `turns` is 0.
+///
+/// `due` is called at this moment until it answers `Nothing` or `Lost`, and at most once more than the span has handles. Where a
+/// send fails, it is counted. Nothing is received. A moment that is earlier than one already seen counts as the one already seen.
+pub fn give_out<E: End>(link: &mut Link, end: &mut E, now: u64) -> DriveReport
+    ensures { GivesOut now (link.old.span + 1) link.old link.new (E.state end.old) (E.state end.new) result }
+{
+    let mut packet = Packet::new();
+    give_all(link, end, &mut packet, now)
 }
 
 /// Receives once, and does what there is to do. Answers what it did, or nothing at Closed.
@@ -86,7 +97,7 @@ fn count_of(reception: Reception) -> u64
 
 /// Hands what is due at this moment to the end, for the device, and answers what was handed over.
 fn give_all<E: End>(link: &mut Link, end: &mut E, packet: &mut Packet, now: u64) -> DriveReport
-    ensures gives { GaveAll now (link.old.span + 1) link.old link.new (E.state end.old) (E.state end.new) result }
+    ensures gives { GivesOut now (link.old.span + 1) link.old link.new (E.state end.old) (E.state end.new) result }
     ensures fits { IsWithin 4294967295 result }
 {
     let mut report = nothing();

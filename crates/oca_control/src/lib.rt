@@ -2,15 +2,18 @@
 //! the datagrams of OCP.1 (AES70-3).
 //!
 //! Begin with [`Link`], which opens no socket and reads no clock: it is given datagrams and moments, and gives out datagrams.
-//! [`drive`] runs it over an end of a network. Nothing here takes memory.
+//! Over an end of a network [`ask`] sends a command and waits for its answer, [`give_out`] sends what is due, and [`drive`] runs the
+//! link for many turns. Nothing here takes memory.
 #![tactic(auto)]
 
 mod answer;
+mod asking;
 mod driving;
 mod due;
 mod fault;
 mod law;
 mod link;
+mod outcome;
 mod reception;
 mod report;
 mod slot;
@@ -19,10 +22,12 @@ mod table;
 mod tests;
 
 pub use answer::Answer;
-pub use driving::drive;
+pub use asking::{ask, wait_for};
+pub use driving::{drive, give_out};
 pub use due::Due;
 pub use fault::ControlFault;
 pub use law::law_of_histories;
 pub use link::Link;
+pub use outcome::Outcome;
 pub use reception::Reception;
 pub use report::DriveReport;

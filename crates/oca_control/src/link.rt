@@ -1,13 +1,14 @@
 //! The link of a controller to a device.
 ghost use Rattle.std.specs.Prelude.{◌≡◌, ◌≤◌, ◌<◌, ℕ, max, if◌then◌else◌, length, List, Option, Some, None};
 ghost use Rattle.std.specs.Option.{option_map};
+ghost use Rattle.oca_types.specs.Peers.{RequestFields};
 ghost use Rattle.oca_types.specs.Sizes.{span_size};
 ghost use Rattle.oca_pdu.specs.Messages.{Msg, msg_of};
 ghost use Rattle.oca_pdu.specs.Datagrams.{messages_left};
 ghost use Rattle.oca_control.specs.Answers.{answer_fields};
 ghost use Rattle.oca_control.specs.Contents.{IsContent};
 ghost use Rattle.oca_control.specs.Untaken.{Untaken, hears, answers_by, hears_all, answers_by_all, answer_under};
-ghost use Rattle.oca_control.specs.Links.{Request, reception_counted, new_link, submission, submitted, decision, due_answer, due_bytes, gone_on, reception, received, taken};
+ghost use Rattle.oca_control.specs.Links.{reception_counted, new_link, submission, submitted, decision, due_answer, due_bytes, gone_on, reception, received, taken};
 ghost use Rattle.oca_control.specs.Steps.{ReceivesDatagram};
 ghost use Rattle.oca_control.specs.PrivateSlots.{AreShort, IsShort};
 
@@ -17,7 +18,7 @@ use crate::fault::ControlFault;
 use crate::reception::Reception;
 use crate::table::Table;
 use oca_pdu::{Form, Message, Messages, check, write_keepalive};
-use oca_types::{Handle, MethodId, Ono, Packet, Peer, Span};
+use oca_types::{Handle, MethodId, Ono, Packet, Peer, Request, Span};
 use std::marker::Model;
 
 /// A controller's link to one device.
@@ -83,9 +84,9 @@ impl Link {
         params: &[u8],
         now: u64,
     ) -> Result<Handle, ControlFault>
-        ensures answer { let request : Request = record { target = target.0; level = method.level; index = method.index; count = count; params = params.now } in
+        ensures answer { let request : RequestFields = record { target = target.0; level = method.level; index = method.index; count = count; params = params.now } in
             result ≡ submission request self.old }
-        ensures link { let request : Request = record { target = target.0; level = method.level; index = method.index; count = count; params = params.now } in
+        ensures link { let request : RequestFields = record { target = target.0; level = method.level; index = method.index; count = count; params = params.now } in
             self.new ≡ submitted request now self.old }
     {
         if self.lost {
@@ -101,7 +102,12 @@ impl Link {
             return Err(ControlFault::TooLong);
         }
         self.moment = self.moment.max(now);
-        self.table.submit(target, method, count, params);
+        self.table.submit(Request {
+            target,
+            method,
+            count,
+            params,
+        });
         Ok(handle)
     }
 
@@ -164,6 +170,14 @@ impl Link {
         ensures link { self.new ≡ taken handle.0 self.old }
     {
         self.table.take(handle)
+    }
+
+    /// Whether the link is lost: a command got no answer to 20 sendings. It stays so, and gives nothing out any more; answers that
+    /// still come are taken as before.
+    pub fn is_lost(&self) -> bool
+        ensures { result ≡ self.now.lost }
+    {
+        self.lost
     }
 }
 

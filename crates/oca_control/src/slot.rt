@@ -1,6 +1,7 @@
 //! The place of one command and its answer.
 ghost use Rattle.std.specs.Prelude.{◌≡◌, ◌<◌, ◌≤◌, [], ◌∷◌, length, Some, None, true, is_some, IsSomeAnd, IfSome, IsTrue, if◌then◌else◌, nat_lt};
 ghost use Rattle.std.specs.Option.{option_map};
+ghost use Rattle.oca_types.specs.Peers.{request_of};
 ghost use Rattle.oca_pdu.specs.Messages.{Commands};
 ghost use Rattle.oca_pdu.specs.Encoding.{pdu_encoding};
 ghost use Rattle.oca_control.specs.Answers.{answer_fields};
@@ -10,7 +11,7 @@ ghost use Rattle.oca_control.specs.PrivateSlots.{new_kept, kept_is_due, kept_wai
 use crate::answer::Answer;
 use arrayvec::ArrayVec;
 use oca_pdu::write_command;
-use oca_types::{Command, Handle, MethodId, Ono, Packet, Params};
+use oca_types::{Command, Handle, MethodId, Ono, Packet, Params, Request};
 use std::marker::Model;
 
 /// A place for one command and its answer. It is written in place: nothing of its size is moved.
@@ -93,19 +94,19 @@ impl Slot {
     }
 
     /// Puts a command in.
-    pub fn put(&mut self, target: Ono, method: MethodId, count: u8, params: &[u8])
-        requires { length params.now ≤ 1445 }
-        ensures { self.new ≡ Some (new_kept (record { target = target.0; level = method.level; index = method.index; count = count; params = params.now })) }
+    pub fn put(&mut self, request: Request<'_>)
+        requires { length request.params.now ≤ 1445 }
+        ensures { self.new ≡ Some (new_kept (request_of request.entry)) }
     {
         self.held = true;
         self.answered = false;
         self.times = 0;
         self.last = 0;
-        self.target = target;
-        self.method = method;
-        self.count = count;
+        self.target = request.target;
+        self.method = request.method;
+        self.count = request.count;
         self.params.clear();
-        let _ = self.params.try_extend_from_slice(params);
+        let _ = self.params.try_extend_from_slice(request.params);
     }
 
     /// Gives the command out once more, under its handle.

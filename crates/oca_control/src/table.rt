@@ -2,6 +2,7 @@
 ghost use Rattle.std.specs.Prelude.{◌≡◌, ◌+◌, ◌-◌, ◌%◌, ◌<◌, ◌≤◌, [], ◌∷◌, ◌++◌, map, length, Option, Some, None, true, is_some, if◌then◌else◌, slice_index_or};
 ghost use Rattle.std.specs.List.{list_any};
 ghost use Rattle.std.specs.Option.{option_map};
+ghost use Rattle.oca_types.specs.Peers.{request_of};
 ghost use Rattle.oca_control.specs.Answers.{answer_fields};
 ghost use Rattle.oca_control.specs.Untaken.{new_untaken, has_room, first_due, waits, answered, answer_under, without_handle};
 ghost use Rattle.oca_control.specs.Links.{command_under, due_answer};
@@ -10,7 +11,7 @@ ghost use Rattle.oca_control.specs.PrivateSlots.{IsTable, untaken_from, untaken_
 use crate::answer::Answer;
 use crate::due::Due;
 use crate::slot::Slot;
-use oca_types::{Handle, MethodId, Ono, Packet};
+use oca_types::{Handle, Packet, Request};
 use std::marker::Model;
 
 /// The untaken commands of a link. They have handles from `low` on and below `next`, at most 32 of them, and the command
@@ -61,16 +62,16 @@ impl Table {
     }
 
     /// Puts a command behind the others, under the next handle.
-    pub fn submit(&mut self, target: Ono, method: MethodId, count: u8, params: &[u8])
+    pub fn submit(&mut self, request: Request<'_>)
         requires left { self.old.next < 4294967296 }
         requires room { has_room 32 self.old.next self.old.untaken ≡ true }
-        requires short { length params.now ≤ 1445 }
+        requires short { length request.params.now ≤ 1445 }
         ensures { self.new ≡ record {
           next = self.old.next + 1;
-          untaken = self.old.untaken ++ new_untaken (command_under self.old.next (record { target = target.0; level = method.level; index = method.index; count = count; params = params.now })) ∷ [];
+          untaken = self.old.untaken ++ new_untaken (command_under self.old.next (request_of request.entry)) ∷ [];
         } }
     {
-        self.slots[place(self.next)].put(target, method, count, params);
+        self.slots[place(self.next)].put(request);
         self.next += 1;
     }
 

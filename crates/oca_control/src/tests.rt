@@ -1,4 +1,5 @@
 //! What the clauses leave open: that calls succeed, runs through a link's life, and a loop over an end in memory.
+mod asking;
 mod datagrams;
 mod driving;
 mod handles;

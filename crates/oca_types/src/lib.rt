@@ -28,5 +28,5 @@ pub use status::Status;
 pub use text::Text;
 pub use words::{
     Command, Handle, MOST_BYTES, MOST_COMMAND_PARAMETER_BYTES, MOST_PARAMETER_BYTES, MethodId,
-    NoMemory, Ono, Packet, Params, Peer, Reply,
+    NoMemory, Ono, Packet, Params, Peer, Reply, Request,
 };

@@ -63,6 +63,20 @@ pub struct Command<'a> {
     pub params: &'a [u8],
 }
 
+/// What a command asks for, before it has a handle: which object and method it calls, its ParamCount and the bytes of its
+/// parameters (AES70-3).
+#[derive(Clone, Copy)]
+pub struct Request<'a> {
+    /// The object that it is for.
+    pub target: Ono,
+    /// The method that it calls.
+    pub method: MethodId,
+    /// ParamCount: how many parameters it has.
+    pub count: u8,
+    /// The bytes of the parameters.
+    pub params: &'a [u8],
+}
+
 /// What executing a command gave: its status, and the ParamCount and the parameters of the response.
 #[derive(Drop)]
 pub struct Reply {
