@@ -1,21 +1,34 @@
-/* A test's layer over the C library, put before it by LD_PRELOAD: it refuses requests for memory, and fails or shortens reads
- * of standard input and writes of standard output. Numbers count from 1; what is not set does not happen.
+/* A test's layer over the C library, put before it by LD_PRELOAD: it refuses requests for memory, fails or shortens reads of
+ * standard input and writes of standard output, and interrupts, fails or stalls the calls of sockets. Numbers count from 1; what
+ * is not set does not happen.
  *   REFUSE=N         the request for memory number N is refused        REFUSE_FROM=N  it and every later one
  *   FAIL_READ=N      the read number N fails                           FAIL_WRITE=N   the write number N fails
- *   PIECE=N          reads and writes take at most N bytes             COUNTS=FILE    the three counts go to this file at the end */
+ *   PIECE=N          reads and writes take at most N bytes             COUNTS=FILE    the five counts go to this file at the end
+ *   SIGNALS=N        N signals a second interrupt the process
+ *   INTERRUPT=N      N signals come before each receive and each send does anything
+ *   FAIL_RECEIVE=N   the first N receives fail with ERRNO              FAIL_SEND=N    the first N sends fail with ERRNO
+ *   STALL=PORT       a send to this port finds no room: it waits as long as the socket lets it, for ever where it does */
 #define _GNU_SOURCE
 #include <dlfcn.h>
 #include <errno.h>
 #include <fcntl.h>
+#include <netinet/in.h>
+#include <signal.h>
 #include <stdio.h>
 #include <stdlib.h>
+#include <sys/socket.h>
+#include <sys/time.h>
+#include <time.h>
 #include <unistd.h>
 
 static void *(*real_malloc)(size_t);
 static void *(*real_realloc)(void *, size_t);
 static ssize_t (*real_read)(int, void *, size_t);
 static ssize_t (*real_write)(int, const void *, size_t);
+static ssize_t (*real_recvfrom)(int, void *, size_t, int, struct sockaddr *, socklen_t *);
+static ssize_t (*real_sendto)(int, const void *, size_t, int, const struct sockaddr *, socklen_t);
 static long requests, reads, writes, refuse, refuse_from, fail_read, fail_write, piece;
+static long receives, sends, interrupt, interrupted, fail_receive, fail_send, with, stall;
 static int started;
 
 static long set(const char *name) {
@@ -28,6 +41,18 @@ static void find(void) {
     real_realloc = dlsym(RTLD_NEXT, "realloc");
     real_read = dlsym(RTLD_NEXT, "read");
     real_write = dlsym(RTLD_NEXT, "write");
+    real_recvfrom = dlsym(RTLD_NEXT, "recvfrom");
+    real_sendto = dlsym(RTLD_NEXT, "sendto");
+}
+
+static void on_signal(int number) { (void)number; }
+
+/* So many signals a second, none of which restarts a system call. */
+static void send_signals(long a_second) {
+    struct sigaction action = {.sa_handler = on_signal};
+    struct itimerval every = {{0, 1000000 / a_second}, {0, 1000000 / a_second}};
+    sigaction(SIGALRM, &action, NULL);
+    setitimer(ITIMER_REAL, &every, NULL);
 }
 
 __attribute__((constructor)) static void start(void) {
@@ -37,6 +62,12 @@ __attribute__((constructor)) static void start(void) {
     fail_read = set("FAIL_READ");
     fail_write = set("FAIL_WRITE");
     piece = set("PIECE");
+    interrupt = set("INTERRUPT");
+    fail_receive = set("FAIL_RECEIVE");
+    fail_send = set("FAIL_SEND");
+    with = set("ERRNO");
+    stall = set("STALL");
+    if (set("SIGNALS")) send_signals(set("SIGNALS"));
     started = 1;
 }
 
@@ -76,14 +107,46 @@ ssize_t write(int file, const void *bytes, size_t size) {
     return real_write(file, bytes, size);
 }
 
+/* Whether a signal comes in place of the call. */
+static int is_interrupted(void) {
+    if (interrupted < interrupt) { interrupted++; errno = EINTR; return 1; }
+    interrupted = 0;
+    return 0;
+}
+
+ssize_t recvfrom(int file, void *bytes, size_t size, int flags, struct sockaddr *from, socklen_t *length) {
+    if (is_interrupted()) return -1;
+    if (++receives <= fail_receive) { errno = with; return -1; }
+    return real_recvfrom(file, bytes, size, flags, from, length);
+}
+
+/* What the system does with a send that finds no room. */
+static ssize_t wait_for_room(int file) {
+    struct timeval wait = {0, 0};
+    socklen_t length = sizeof wait;
+    getsockopt(file, SOL_SOCKET, SO_SNDTIMEO, &wait, &length);
+    int never_ends = wait.tv_sec == 0 && wait.tv_usec == 0;
+    struct timespec time = {never_ends ? 3600 : wait.tv_sec, wait.tv_usec * 1000};
+    if (!(fcntl(file, F_GETFL) & O_NONBLOCK) && nanosleep(&time, NULL)) { errno = EINTR; return -1; }
+    errno = EAGAIN;
+    return -1;
+}
+
+ssize_t sendto(int file, const void *bytes, size_t size, int flags, const struct sockaddr *to, socklen_t length) {
+    if (is_interrupted()) return -1;
+    if (++sends <= fail_send) { errno = with; return -1; }
+    if (stall && ntohs(((const struct sockaddr_in *)to)->sin_port) == stall) return wait_for_room(file);
+    return real_sendto(file, bytes, size, flags, to, length);
+}
+
 ssize_t __write(int file, const void *bytes, size_t size) { return write(file, bytes, size); }
 
 __attribute__((destructor)) static void finish(void) {
     const char *path = getenv("COUNTS");
     started = 0;
     if (!path) return;
-    char text[96];
-    int length = snprintf(text, sizeof text, "%ld %ld %ld\n", requests, reads, writes);
+    char text[160];
+    int length = snprintf(text, sizeof text, "%ld %ld %ld %ld %ld\n", requests, reads, writes, receives, sends);
     int file = open(path, O_WRONLY | O_CREAT | O_TRUNC, 0644);
     if (file >= 0) {
         if (real_write(file, text, length) != length) _exit(99);

@@ -6,13 +6,17 @@
 #![tactic(auto)]
 
 mod count;
+mod descriptors;
 mod end;
 mod memory;
+mod moments;
+mod socket;
 mod udp;
 
+pub use descriptors::fill_standard_descriptors;
 pub use end::{End, Heard};
 pub use memory::{MemoryEnd, Scripted};
-pub use udp::{BindFault, UdpEnd};
+pub use udp::{BindError, BindFault, UdpEnd};
 
 #[cfg(test)]
 mod tests;

@@ -2,8 +2,10 @@
 use oca_types::Peer;
 
 mod memory;
+mod moments;
 mod sockets;
 
+/// 127.0.0.1.
 const LOCALHOST: u32 = 0x7f00_0001;
 
 const A: Peer = Peer {

@@ -1,17 +1,19 @@
 //! An end at a UDP socket.
-ghost use Rattle.std.specs.Prelude.{◌≡◌, ◌≤◌, [], IfOk, OnErr, IfSome, false, length};
+ghost use Rattle.std.specs.Prelude.{◌≡◌, ◌≤◌, ◌↔◌, [], IfOk, IfSome, IsSome, IsTrue, false, length};
 ghost use Rattle.oca_net.specs.Ends.{HoldsOnlyADatagram, is_closed, is_failed, largest_datagram};
-ghost use Rattle.oca_net.specs.Sockets.{after_heard, after_sent, state_of_socket};
+ghost use Rattle.oca_net.specs.Sockets.{IsBoundAt, SaysMoment, after_heard, after_sent, fault_of, new_socket, state_of_socket};
 
 use crate::count::step;
 use crate::end::{End, Heard};
+use crate::moments::Moments;
+use crate::socket::{SEND_MS, Socket};
 use oca_types::{Packet, Peer};
 use std::alloc::Global;
 use std::io;
 use std::marker::Model;
-use std::net::{Ipv4Addr, Net, SocketAddr, SocketAddrV4, UdpSocket};
+use std::net::Net;
+use std::os::fd::{AsFd, AsRawFd, BorrowedFd, RawFd};
 use std::rt::Clock;
-use std::time::{Duration, Instant};
 use thiserror::Error;
 
 /// One more than the largest datagram, so that a larger one is seen to be larger.
@@ -20,8 +22,11 @@ const BUFFER: usize = 1473;
 /// How long a receive waits, in milliseconds.
 const WAIT_MS: u64 = 50;
 
-/// How often a system call is begun that signals interrupt.
-const TRIES: u32 = 16;
+/// How long a wait until a moment may be, in milliseconds: an hour.
+const LONGEST_WAIT_MS: u64 = 3_600_000;
+
+/// How often at most a call is begun again that signals interrupt, so that it ends even where the clock stands still.
+const TRIES: u32 = 65_536;
 
 /// Why no end was bound. The numbers are promised (*profile*).
 #[derive(Clone, Copy, Debug, Drop, PartialEq, Eq, Error)]
@@ -38,31 +43,65 @@ const _: () = prove!(BindFault::Io as u8 == 1);
 
 const _: () = prove!(BindFault::NoMemory as u8 == 2);
 
+/// Why no end was bound, with the system's reason, which it says in the system's words.
+#[derive(Clone, Copy, Debug, Drop, Error)]
+pub enum BindError {
+    /// The system refused.
+    #[error("{0}")]
+    Io(io::Error),
+    /// The receive buffer's memory was refused.
+    #[error("no memory")]
+    NoMemory,
+}
+
+impl BindError {
+    /// The fault, without its reason.
+    pub fn fault(&self) -> BindFault
+        ensures { result ≡ fault_of self.now }
+    {
+        match self {
+            BindError::Io(_) => BindFault::Io,
+            BindError::NoMemory => BindFault::NoMemory,
+        }
+    }
+}
+
 /// An end at a UDP socket of IPv4.
 ///
-/// A receive waits 50 ms for a datagram, and answers `Quiet` where none has come by then. Its moments are the milliseconds
-/// since `bind`. A datagram of more than 1,472 bytes is heard as `Oversize`. What comes faster than it is received waits in
-/// the system's buffer; beyond that the system drops it, and nothing tells. Whatever else the system answers is `Failed`,
-/// or `false` from `send`, and counts as a failure: a call that signals interrupted 16 times in turn, a network that can't be
-/// reached, a send without room. That a send was taken does not say that the datagram arrives. No call but `bind` takes
-/// memory.
+/// A receive waits 50 ms for a datagram, and answers `Quiet` where none has come by then; a signal does not end the wait. Its
+/// moments are the milliseconds since `bind`, and none is before an earlier one. A datagram of more than 1,472 bytes is heard
+/// as `Oversize`. What comes faster than it is received waits in the system's buffer; beyond that the system drops it, and
+/// nothing tells. Whatever else the system answers is `Failed`, once the 50 ms are over, and counts as a failure.
+///
+/// A send waits for room in the system's buffer, which datagrams to a host that does not answer fill: for a millisecond, by the
+/// system's tick (two where signals interrupt it). Then it is `false`, as where a network can't be reached, and counts as a
+/// failure. That a send was taken does not say that the datagram arrives. No call but `bind` takes memory.
 #[derive(Drop)]
 pub struct UdpEnd<'a, C: Clock> {
-    clock: &'a C,
-    start: Instant,
-    socket: UdpSocket,
+    moments: Moments<'a, C>,
+    socket: Socket,
     local: Peer,
     buffer: Vec<u8>,
     failures: u64,
     receives: u64,
+    failed_receive: Option<io::Error>,
+    failed_send: Option<io::Error>,
 }
 
 impl<'a, C: Clock> Model for UdpEnd<'a, C> {
+    ghost use Rattle.std.specs.Prelude.{is_some};
     ghost use Rattle.oca_net.specs.Sockets.{SocketState};
 
     ghost Value = { SocketState };
 
-    ghost view = { λ a. record { local = a.local; failures = a.failures; receives = a.receives } };
+    ghost view = { λ a. record {
+      local = a.local;
+      failures = a.failures;
+      receives = a.receives;
+      moment = a.moments.latest;
+      receive_failed = is_some a.failed_receive;
+      send_failed = is_some a.failed_send;
+    } };
 }
 
 impl<'a, C: Clock> UdpEnd<'a, C> {
@@ -71,20 +110,45 @@ impl<'a, C: Clock> UdpEnd<'a, C> {
     pub fn bind(alloc: Global, rt: &'a C, ip: u32, port: u16) -> Result<UdpEnd<'a, C>, BindFault>
     where
         C: Net,
-        ensures { IfOk result (λ e. (e.failures ≡ 0) × (e.receives ≡ 0)) }
+        ensures new { IfOk result (λ e. e ≡ new_socket e.local) }
+        ensures bound { IfOk result (λ e. IsBoundAt ip port e.local) }
     {
-        let buffer = vec![in alloc; 0u8; BUFFER].map_err(|_| BindFault::NoMemory)?;
-        let Ok((socket, local, start)) = open(rt, ip, port) else {
-            return Err(BindFault::Io);
+        match UdpEnd::bind_with_reason(alloc, rt, ip, port) {
+            Ok(end) => Ok(end),
+            Err(error) => Err(error.fault()),
+        }
+    }
+
+    /// As `bind`, and a refusal has the system's reason.
+    pub fn bind_with_reason(
+        alloc: Global,
+        rt: &'a C,
+        ip: u32,
+        port: u16,
+    ) -> Result<UdpEnd<'a, C>, BindError>
+    where
+        C: Net,
+        ensures new { IfOk result (λ e. e ≡ new_socket e.local) }
+        ensures bound { IfOk result (λ e. IsBoundAt ip port e.local) }
+    {
+        let buffer = vec![in alloc; 0u8; BUFFER].map_err(|_| BindError::NoMemory)?;
+        let (socket, local) = match Socket::open(rt, Peer { ip, port }, WAIT_MS) {
+            Ok(opened) => opened,
+            Err(reason) => return Err(BindError::Io(reason)),
+        };
+        let moments = match Moments::start(rt) {
+            Ok(moments) => moments,
+            Err(reason) => return Err(BindError::Io(reason)),
         };
         Ok(UdpEnd {
-            clock: rt,
-            start,
+            moments,
             socket,
             local,
             buffer,
             failures: 0,
             receives: 0,
+            failed_receive: None,
+            failed_send: None,
         })
     }
 
@@ -95,33 +159,68 @@ impl<'a, C: Clock> UdpEnd<'a, C> {
         self.local
     }
 
-    /// The milliseconds since `bind`.
-    fn now(&self) -> io::Result<u64> {
-        let since = self.start.elapsed(self.clock)?;
-        Ok(
-            since
-                .as_secs()
-                .saturating_mul(1000)
-                .saturating_add(u64::from(since.subsec_millis())),
-        )
+    /// The present moment: the milliseconds since `bind`. It is not before a moment that a receive has answered; where the
+    /// clock can't be read, it is the last of those.
+    pub fn now(&self) -> u64
+        ensures { self.now.moment ≤ result }
+    {
+        self.moments.now()
     }
 
-    /// Receives into the empty packet. The moment is read before the packet is filled.
-    fn hear(&mut self, packet: &mut Packet) -> io::Result<Heard>
-        requires { packet.old.items ≡ [] }
-        ensures ok { IfOk result (λ h. (is_failed h ≡ false) × (is_closed h ≡ false) × HoldsOnlyADatagram h packet.new.items) }
-        ensures err { OnErr result (packet.new.items ≡ []) }
-        ensures end { self.new ≡ self.old }
+    /// Why the last receive that failed did so.
+    pub fn last_failed_receive(&self) -> Option<io::Error>
+        ensures { IsSome result ↔ IsTrue self.now.receive_failed }
     {
-        let heard = wait(&self.socket, self.buffer.as_mut_slice())?;
-        let now = self.now()?;
-        Ok(match heard {
-            None => Heard::Quiet { now },
-            Some((n, from)) => match packet.try_extend_from_slice(&self.buffer[..n]) {
-                Ok(()) => Heard::Datagram { from, now },
-                Err(_) => Heard::Oversize { now },
+        self.failed_receive
+    }
+
+    /// Why the last send that failed did so.
+    pub fn last_failed_send(&self) -> Option<io::Error>
+        ensures { IsSome result ↔ IsTrue self.now.send_failed }
+    {
+        self.failed_send
+    }
+
+    /// As `receive`, and waits until this moment of its own in place of 50 ms: an hour at most, and not at all where the moment
+    /// is not still to come.
+    pub fn receive_by(&mut self, packet: &mut Packet, moment: u64) -> Heard
+        ensures packet { HoldsOnlyADatagram result packet.new.items }
+        ensures open { is_closed result ≡ false }
+        ensures said { SaysMoment result self.new.moment }
+        ensures later { self.old.moment ≤ self.new.moment }
+        ensures end { self.new ≡ after_heard result self.new.moment self.old }
+    {
+        let now = self.moments.now();
+        self.hear(packet, now, moment.min(now.saturating_add(LONGEST_WAIT_MS)))
+    }
+
+    /// Receives once, from this moment until that one at most.
+    fn hear(&mut self, packet: &mut Packet, now: u64, until: u64) -> Heard
+        ensures packet { HoldsOnlyADatagram result packet.new.items }
+        ensures open { is_closed result ≡ false }
+        ensures said { SaysMoment result self.new.moment }
+        ensures later { self.old.moment ≤ self.new.moment }
+        ensures end { self.new ≡ after_heard result self.new.moment self.old }
+    {
+        packet.clear();
+        step(&mut self.receives);
+        let buffer = self.buffer.as_mut_slice();
+        match wait(&mut self.socket, &self.moments, buffer, now, until) {
+            Ok(None) => Heard::Quiet {
+                now: self.moments.tell(),
             },
-        })
+            Ok(Some((n, from))) => {
+                let now = self.moments.tell();
+                fill(packet, &self.buffer[..n], from, now)
+            }
+            Err(reason) => {
+                step(&mut self.failures);
+                self.failed_receive = Some(reason);
+                self.moments
+                    .sleep_until(until.min(now.saturating_add(WAIT_MS)));
+                Heard::Failed
+            }
+        }
     }
 }
 
@@ -132,17 +231,12 @@ impl<'a, C: Clock> End for UdpEnd<'a, C> {
     fn receive(&mut self, packet: &mut Packet) -> Heard
         ensures packet { HoldsOnlyADatagram result packet.new.items }
         ensures open { is_closed result ≡ false }
-        ensures end { self.new ≡ after_heard result self.old }
+        ensures said { SaysMoment result self.new.moment }
+        ensures later { self.old.moment ≤ self.new.moment }
+        ensures end { self.new ≡ after_heard result self.new.moment self.old }
     {
-        packet.clear();
-        step(&mut self.receives);
-        match self.hear(packet) {
-            Ok(heard) => heard,
-            Err(_) => {
-                step(&mut self.failures);
-                Heard::Failed
-            }
-        }
+        let now = self.moments.now();
+        self.hear(packet, now, now.saturating_add(WAIT_MS))
     }
 
     /// Hands the datagram to the system: whether it took the whole of it.
@@ -150,67 +244,108 @@ impl<'a, C: Clock> End for UdpEnd<'a, C> {
         requires { length bytes.now ≤ largest_datagram }
         ensures { self.new ≡ after_sent result self.old }
     {
-        let was_taken = hand_over(&self.socket, to, bytes);
-        if !was_taken {
-            step(&mut self.failures);
+        match hand_over(&self.socket, &self.moments, to, bytes) {
+            Ok(()) => true,
+            Err(reason) => {
+                step(&mut self.failures);
+                self.failed_send = Some(reason);
+                false
+            }
         }
-        was_taken
     }
 }
 
-/// Waits for a datagram, and answers its length, cut to the buffer's, and its sender; nothing where none has come. A signal
-/// begins the wait anew.
-fn wait(socket: &UdpSocket, buffer: &mut [u8]) -> io::Result<Option<(usize, Peer)>>
+impl<'a, C: Clock> AsFd for UdpEnd<'a, C> {
+    /// The socket's descriptor, for a loop that waits for several.
+    fn as_fd(&self) -> BorrowedFd<'_> {
+        self.socket.as_fd()
+    }
+}
+
+impl<'a, C: Clock> AsRawFd for UdpEnd<'a, C> {
+    /// The number of the socket's descriptor.
+    fn as_raw_fd(&self) -> RawFd {
+        self.socket.as_raw_fd()
+    }
+}
+
+/// Waits for a datagram from this moment until that one at most, and answers its length, cut to the buffer's, and its sender;
+/// nothing where none has come. A wait that a signal interrupts goes on for what is left.
+fn wait<C: Clock>(
+    socket: &mut Socket,
+    moments: &Moments<'_, C>,
+    buffer: &mut [u8],
+    begun: u64,
+    until: u64,
+) -> io::Result<Option<(usize, Peer)>>
     ensures { IfOk result (λ o. IfSome o (λ d. d.0 ≤ length buffer.new)) }
 {
+    let mut now = begun;
     for _ in 0..TRIES {
-        match socket.recv_from(buffer) {
-            Ok((n, from)) => return Ok(Some((n, peer_of(from)?))),
+        match socket.receive(buffer, until.saturating_sub(now)) {
+            Ok(found) => return Ok(Some(found)),
             Err(e) => match e.kind() {
                 io::ErrorKind::WouldBlock | io::ErrorKind::TimedOut => return Ok(None),
                 io::ErrorKind::Interrupted => {}
                 _ => return Err(e),
             },
         }
-    }
-    Err(io::Error::from(io::ErrorKind::Interrupted))
-}
-
-/// Sends a datagram: whether the system took the whole of it. A send that a signal interrupts is begun anew.
-fn hand_over(socket: &UdpSocket, to: Peer, bytes: &[u8]) -> bool {
-    for _ in 0..TRIES {
-        match socket.send_to(bytes, address_of(to)) {
-            Ok(n) => return n == bytes.len(),
-            Err(e) => {
-                if e.kind() != io::ErrorKind::Interrupted {
-                    return false;
-                }
-            }
+        now = moments.now();
+        if until <= now {
+            return Ok(None);
         }
     }
-    false
+    Ok(None)
 }
 
-/// The address and port of a peer, as the system takes them.
-fn address_of(peer: Peer) -> SocketAddrV4 {
-    SocketAddrV4::new(Ipv4Addr::from_bits(peer.ip), peer.port)
-}
-
-/// The peer at an address; one of IPv6 is none.
-fn peer_of(address: SocketAddr) -> io::Result<Peer> {
-    match address {
-        SocketAddr::V4(a) => Ok(Peer {
-            ip: a.ip().to_bits(),
-            port: a.port(),
-        }),
-        SocketAddr::V6(_) => Err(io::Error::from(io::ErrorKind::InvalidData)),
+/// Puts a datagram in the empty packet.
+fn fill(packet: &mut Packet, bytes: &[u8], from: Peer, now: u64) -> Heard
+    requires { packet.old.items ≡ [] }
+    ensures packet { HoldsOnlyADatagram result packet.new.items }
+    ensures open { is_closed result ≡ false }
+    ensures failed { is_failed result ≡ false }
+    ensures said { SaysMoment result now }
+{
+    match packet.try_extend_from_slice(bytes) {
+        Ok(()) => Heard::Datagram { from, now },
+        Err(_) => Heard::Oversize { now },
     }
 }
 
-/// A socket whose receives wait 50 ms, with where it is bound and the moment of its opening.
-fn open<R: Net + Clock>(rt: &R, ip: u32, port: u16) -> io::Result<(UdpSocket, Peer, Instant)> {
-    let socket = UdpSocket::bind(rt, address_of(Peer { ip, port }))?;
-    socket.set_read_timeout(Some(Duration::from_millis(WAIT_MS)))?;
-    let local = peer_of(socket.local_addr()?)?;
-    Ok((socket, local, Instant::now(rt)?))
+/// Sends a datagram. A send that a signal interrupts is begun again, for a millisecond.
+fn hand_over<C: Clock>(
+    socket: &Socket,
+    moments: &Moments<'_, C>,
+    to: Peer,
+    bytes: &[u8],
+) -> io::Result<()> {
+    let sent = socket.send(to, bytes);
+    match sent {
+        Err(e) if e.kind() == io::ErrorKind::Interrupted => {
+            send_again(socket, moments, to, bytes, e)
+        }
+        _ => sent,
+    }
+}
+
+/// Sends a datagram that was interrupted, again and again for a millisecond.
+#[inline(never)]
+fn send_again<C: Clock>(
+    socket: &Socket,
+    moments: &Moments<'_, C>,
+    to: Peer,
+    bytes: &[u8],
+    interrupted: io::Error,
+) -> io::Result<()> {
+    let until = moments.now().saturating_add(SEND_MS);
+    for _ in 0..TRIES {
+        match socket.send(to, bytes) {
+            Err(e) if e.kind() == io::ErrorKind::Interrupted => {}
+            sent => return sent,
+        }
+        if until < moments.now() {
+            break;
+        }
+    }
+    Err(interrupted)
 }

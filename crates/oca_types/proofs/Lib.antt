@@ -5,3 +5,4 @@ pub mod First
 pub mod Texts
 pub mod GoesOn
 pub mod TextAt
+mod AddressTexts

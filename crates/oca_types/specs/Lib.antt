@@ -6,6 +6,7 @@ pub mod Taking
 pub mod Putting
 pub mod Status
 pub mod Peers
+pub mod Addresses
 pub mod Sizes
 pub mod Classes
 pub mod Methods

@@ -8,6 +8,7 @@
 mod class;
 mod cursor;
 mod fault;
+mod peer;
 mod put;
 mod sizes;
 mod status;

@@ -1,16 +1,16 @@
 //! Ends at UDP sockets, two in one process: what is sent lies at the socket until it is received, so no thread is needed.
 //! Each port is the system's choice. No clause says what goes through a socket, so these tests alone refuse an end that
-//! always answers Quiet or Failed, that drops datagrams, that sends nothing and answers true, whose moments stand still, or
-//! that is never bound.
+//! always answers Quiet or Failed, that drops datagrams, that sends nothing and answers true, or that is never bound.
 
 use super::{A, LARGEST, LOCALHOST};
-use crate::{BindFault, End, Heard, UdpEnd};
+use crate::{BindError, BindFault, End, Heard, UdpEnd, fill_standard_descriptors};
 use oca_types::{Packet, Peer};
+use std::io;
 use std::net::{Ipv4Addr, Net, UdpSocket};
+use std::os::fd::{AsFd, AsRawFd};
 use std::process::Abort;
 use std::rt::Clock;
 use std::test::Fail;
-use std::time::{Duration, Instant};
 
 /// An end on this machine.
 fn end_here<R: Net + Clock + AllocGlobal>(rt: &R) -> Result<UdpEnd<'_, R>, Fail> {
@@ -108,33 +108,6 @@ fn sends_1472_bytes_whole(rt: HostRuntime) -> Result<(), Fail> {
 }
 
 #[test]
-fn a_quiet_wait_takes_50_milliseconds(rt: HostRuntime) -> Result<(), Fail> {
-    let before = Instant::now(&rt)?;
-    let mut end = end_here(&rt)?;
-    let mut packet = Packet::new();
-    packet.try_extend_from_slice(&[1]).map_err(|_| "full")?;
-    let mut last = 0u64;
-    for _ in 0..3 {
-        let Heard::Quiet { now } = end.receive(&mut packet) else {
-            return Err("not quiet".into());
-        };
-        assert!(rt; packet.is_empty());
-        assert!(rt; now >= last.saturating_add(49), "{last} {now}");
-        last = now;
-    }
-    let local = end.local();
-    assert!(rt; end.send(local, &[1]));
-    let (from, now) = datagram(&mut end, &mut packet)?;
-    assert_eq!(rt; from, local);
-    assert!(rt; now >= last);
-    assert!(rt;
-        Duration::from_millis(now) <= before.elapsed(&rt)?,
-        "moments are milliseconds since `bind`"
-    );
-    Ok(())
-}
-
-#[test]
 fn a_port_in_use_is_refused(rt: HostRuntime) -> Result<(), Fail> {
     let end = end_here(&rt)?;
     let local = end.local();
@@ -162,10 +135,47 @@ fn a_port_in_use_is_refused(rt: HostRuntime) -> Result<(), Fail> {
 fn a_send_that_the_system_refuses_is_false(rt: HostRuntime) -> Result<(), Fail> {
     let mut end = end_here(&rt)?;
     assert!(rt; !end.send(Peer { ip: A.ip, port: 0 }, &[1]));
+    let Some(reason) = end.last_failed_send() else {
+        return Err("no reason".into());
+    };
+    assert_eq!(rt; reason.kind(), io::ErrorKind::InvalidInput);
+    assert!(rt; end.last_failed_receive().is_none());
     assert!(rt; end.send(end.local(), &[1]));
     let mut packet = Packet::new();
     let _ = datagram(&mut end, &mut packet)?;
     assert_eq!(rt; packet.as_slice(), [1].as_slice());
+    Ok(())
+}
+
+/// The system's reason why no end is bound there.
+fn refusal(rt: &HostRuntime, at: Peer) -> Result<io::Error, Fail> {
+    match UdpEnd::bind_with_reason(rt.alloc(), rt, at.ip, at.port) {
+        Ok(_) => Err("bound".into()),
+        Err(BindError::Io(reason)) => Ok(reason),
+        Err(BindError::NoMemory) => Err("no memory".into()),
+    }
+}
+
+#[test]
+fn a_refused_socket_has_the_systems_reason(rt: HostRuntime) -> Result<(), Fail> {
+    let end = end_here(&rt)?;
+    assert_eq!(rt; refusal(&rt, end.local())?.kind(), io::ErrorKind::AddrInUse);
+    let of_no_machine = Peer::from(([192, 0, 2, 1], 0));
+    assert_eq!(rt;
+        refusal(&rt, of_no_machine)?.kind(),
+        io::ErrorKind::AddrNotAvailable
+    );
+    let words = BindError::Io(refusal(&rt, end.local())?).to_string(rt.alloc())?;
+    assert_eq!(rt; words.as_str(), "Address already in use (os error 98)");
+    Ok(())
+}
+
+#[test]
+fn an_end_has_a_descriptor(rt: HostRuntime) -> Result<(), Fail> {
+    fill_standard_descriptors(&rt)?;
+    let end = end_here(&rt)?;
+    assert!(rt; end.as_raw_fd() > 2);
+    assert_eq!(rt; end.as_fd().as_raw_fd(), end.as_raw_fd());
     Ok(())
 }
 

@@ -1,0 +1,220 @@
+#!/usr/bin/env python3
+"""The built programs on a network that is not kind: signals, sends without room, failing sockets, closed descriptors, other addresses.
+
+Usage: network.py BIN     BIN is the folder with `ocadev` and `ocactl`
+
+Signals and failing calls come from the layer of `unreliable.c`. What the programs print and how long they take is compared; of
+what is timed the quickest of some runs counts, since a machine may be busy. The last line is 'N passed, M failed'."""
+import errno
+import os
+import re
+import socket
+import subprocess
+import sys
+import tempfile
+import time
+from pathlib import Path
+
+import oca_profile as oca
+
+HERE = Path(__file__).resolve().parent
+GET = (4097, 4, 1, 0, b"")
+WAIT_MS = 50
+
+
+def bound(ip="127.0.0.1", port=0):
+    s = socket.socket(socket.AF_INET, socket.SOCK_DGRAM)
+    s.bind((ip, port))
+    s.settimeout(10)
+    return s
+
+
+def free_port():
+    with bound() as s:
+        return s.getsockname()[1]
+
+
+def command(handle, *of):
+    return oca.pdu(1, [oca.Command(handle, *of).body()])
+
+
+def get_command(handle):
+    return command(handle, *GET)
+
+
+def response(handle, params=b"\1"):
+    return oca.pdu(3, [oca.response_body(handle, 0, 1, params)])
+
+
+def answer(peer, data, to):
+    """What a device answers to a datagram, which is sent again each 300 ms, as links send theirs."""
+    for _ in range(20):
+        peer.sendto(data, to)
+        peer.settimeout(0.3)
+        try:
+            return peer.recvfrom(2000)
+        except TimeoutError:
+            pass
+    return None, None
+
+
+class Checks:
+    def __init__(self, folder, layer):
+        self.folder, self.layer, self.passed, self.failed, self.runs = folder, layer, 0, 0, []
+
+    def expect(self, what, good, told=""):
+        if good:
+            self.passed += 1
+        else:
+            self.failed += 1
+            print(f"WRONG: {what}: {told}")
+
+    def same(self, what, got, expected):
+        self.expect(what, got == expected, f"{got!r:.300} in place of {expected!r:.300}")
+
+    def start(self, *words, stdin=subprocess.DEVNULL, close=(), **settings):
+        """A run with these descriptors closed and this done by the layer."""
+        env = dict(os.environ, **{name: str(value) for name, value in settings.items()})
+        if settings:
+            env["LD_PRELOAD"] = self.layer
+        run = subprocess.Popen([f"{self.folder}/{words[0]}", *map(str, words[1:])], stdin=stdin, stdout=subprocess.PIPE,
+                               stderr=subprocess.PIPE, text=True, env=env, preexec_fn=lambda: [os.close(fd) for fd in close])
+        self.runs.append(run)
+        return run
+
+    def serve(self, turns, *words, **settings):
+        """A device, and its port."""
+        run = self.start("ocadev", "serve", "--port", 0, "--turns", turns, *words, **settings)
+        listening = re.match(r"listening [\d.]+:(\d+)\n", run.stderr.readline())
+        return run, int(listening[1]) if listening else 0
+
+    def send(self, device, handle, *words, **settings):
+        """One command of `ocactl send`: what it prints, what it says of faults, and its status."""
+        target, level, index, count, params = GET
+        run = self.start("ocactl", "send", "--device", device, "--first-handle", handle, "--target", target, "--level", level,
+                         "--index", index, "--count", count, *words, **settings)
+        return (*run.communicate(timeout=60), run.returncode)
+
+
+def report(run):
+    """The counts of a report by name."""
+    words = run.communicate(timeout=60)[0].split()
+    return {name: int(value) for name, value in zip(words[::2], words[1::2])}
+
+
+def quiet_turns(checks):
+    """A turn without a datagram waits 50 ms, with signals too; each failing receive waits as long and is counted."""
+    turns = 20
+    for failing, settings in ((0, {}), (0, {"SIGNALS": 30}), (0, {"SIGNALS": 1000}), (0, {"INTERRUPT": 40}),
+                              (7, {"FAIL_RECEIVE": 7, "ERRNO": errno.ENETDOWN}),
+                              (20, {"FAIL_RECEIVE": 99, "ERRNO": errno.ENOBUFS, "SIGNALS": 1000})):
+        took = []
+        for _ in range(3):
+            run, _ = checks.serve(turns, **settings)
+            begun = time.monotonic()
+            counts = report(run)
+            took.append((time.monotonic() - begun) * 1000 / turns)
+            checks.same(f"{settings}: quiet turns and failed ones", (counts.get("quiet"), counts.get("failed-receives")), (turns - failing, failing))
+        checks.expect(f"{settings}: a turn takes 50 ms", WAIT_MS - 3 < min(took) < WAIT_MS * 1.7, f"{took} ms")
+
+
+def signals(checks):
+    """Commands are answered while signals come, and before each call of a socket some."""
+    for settings in ({"SIGNALS": 30}, {"SIGNALS": 1000}, {"INTERRUPT": 40}):
+        run, port = checks.serve(100000, **settings)
+        with bound() as peer:
+            for handle in range(1, 31):
+                checks.same(f"{settings}: answer {handle} of `serve`", answer(peer, get_command(handle), ("127.0.0.1", port))[0], response(handle))
+        for handle in range(1, 4):
+            got = checks.send(f"127.0.0.1:{port}", handle, **settings)
+            checks.same(f"{settings}: `send`", got, ("answer 0 1 01\n", "", 0))
+        run.kill()
+
+
+def refused_sends(checks):
+    """A send that the system refuses is counted, and the command is answered when it comes again."""
+    for number in (errno.ENETUNREACH, errno.ENOBUFS, errno.EPERM):
+        run, port = checks.serve(30, FAIL_SEND=1, ERRNO=number)
+        with bound() as peer:
+            checks.same(f"error {number}: the answer to a copy", answer(peer, get_command(5), ("127.0.0.1", port))[0], response(5))
+        counts = report(run)
+        checks.same(f"error {number}: counts", [counts[name] for name in ("executed", "kept", "failed-sends")], [1, 1, 1])
+
+
+def a_stalled_neighbour(checks):
+    """Datagrams to a host that takes none hold up nobody else."""
+    with bound() as stalled, bound() as peer:
+        run, port = checks.serve(100000, STALL=stalled.getsockname()[1])
+        slowest = []
+        for handle in range(1, 21):
+            for copy in range(5):
+                stalled.sendto(get_command(5 * handle + copy), ("127.0.0.1", port))
+            begun = time.monotonic()
+            checks.same(f"behind a stalled neighbour: answer {handle}", answer(peer, get_command(handle), ("127.0.0.1", port))[0], response(handle))
+            slowest.append((time.monotonic() - begun) * 1000)
+        checks.expect("behind five sends without room an answer comes soon", sorted(slowest)[10] < 60, f"{slowest} ms")
+        run.kill()
+
+
+def closed_descriptors(checks):
+    """A standard input that is closed is at its end, and no socket takes a number of the three."""
+    with bound() as device:
+        port, to = free_port(), device.getsockname()[1]
+        run = checks.start("ocactl", "run", "--device", f"127.0.0.1:{to}", "--first-handle", 1, "--port", port, close=(0,))
+        with bound() as stranger:
+            while run.poll() is None:
+                stranger.sendto(b"4097 4 1 0 -\n", ("127.0.0.1", port))
+                time.sleep(0.01)
+        checks.same("`run` without an input", (*run.communicate(timeout=60), run.returncode), ("", "", 0))
+        device.settimeout(0.1)
+        try:
+            checks.same("a stranger's line is sent", device.recv(2000), None)
+        except TimeoutError:
+            checks.passed += 1
+    run = checks.start("ocadev", "serve", "--port", 0, "--turns", 2, close=(1,))
+    err, status = run.communicate(timeout=60)[1], run.returncode
+    checks.same("`serve` without an output", (err.splitlines()[-1:], status), (["write failed"], 1))
+    run = checks.start("ocadev", "serve", "--port", 0, "--turns", 2, close=(2,))
+    out, status = run.communicate(timeout=60)[0], run.returncode
+    checks.same("`serve` without a place for faults", (out[:8], status), ("turns 2 ", 0))
+    run = checks.start("ocadev", "serve", "--port", 0, "--turns", 2, close=(0, 1, 2))
+    run.communicate(timeout=60)
+    checks.same("`serve` without any of the three", run.returncode, 1)
+
+
+def calls_in_a_row(checks):
+    """Forty commands from one port, each answered as the first."""
+    run, port = checks.serve(100000)
+    own = free_port()
+    for handle in range(1, 41):
+        checks.same(f"call {handle} in a row", checks.send(f"127.0.0.1:{port}", handle, "--port", own), ("answer 0 1 01\n", "", 0))
+    run.kill()
+
+
+def other_addresses(checks):
+    """A device at another address of the machine answers from there."""
+    run, port = checks.serve(100000, "--ip", "127.0.0.2")
+    checks.same("a device at 127.0.0.2", checks.send(f"127.0.0.2:{port}", 1), ("answer 0 1 01\n", "", 0))
+    with bound() as peer:
+        checks.same("its answer comes from there", answer(peer, get_command(9), ("127.0.0.2", port)), (response(9), ("127.0.0.2", port)))
+    run.kill()
+
+
+def main():
+    with tempfile.TemporaryDirectory() as made:
+        layer = f"{made}/unreliable.so"
+        subprocess.run(["gcc", "-O1", "-Wall", "-shared", "-fPIC", "-o", layer, str(HERE / "unreliable.c"), "-ldl"], check=True)
+        checks = Checks(os.path.abspath(sys.argv[1]), layer)
+        try:
+            for part in (quiet_turns, signals, refused_sends, a_stalled_neighbour, closed_descriptors, calls_in_a_row, other_addresses):
+                part(checks)
+        finally:
+            for run in checks.runs:
+                if run.poll() is None:
+                    run.kill()
+    print(f"{checks.passed} passed, {checks.failed} failed")
+    return 1 if checks.failed else 0
+
+
+if __name__ == "__main__":
+    sys.exit(main())
