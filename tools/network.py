@@ -105,7 +105,7 @@ def report(run):
 def quiet_turns(checks):
     """A turn without a datagram waits 50 ms, with signals too; each failing receive waits as long and is counted."""
     turns = 20
-    for failing, settings in ((0, {}), (0, {"SIGNALS": 30}), (0, {"SIGNALS": 1000}), (0, {"INTERRUPT": 40}),
+    for failing, settings in ((0, {}), (0, {"SIGNALS": 30}), (0, {"SIGNALS": 1000}), (0, {"INTERRUPT": 5}),
                               (7, {"FAIL_RECEIVE": 7, "ERRNO": errno.ENETDOWN}),
                               (20, {"FAIL_RECEIVE": 99, "ERRNO": errno.ENOBUFS, "SIGNALS": 1000})):
         took = []
@@ -120,7 +120,7 @@ def quiet_turns(checks):
 
 def signals(checks):
     """Commands are answered while signals come, and before each call of a socket some."""
-    for settings in ({"SIGNALS": 30}, {"SIGNALS": 1000}, {"INTERRUPT": 40}):
+    for settings in ({"SIGNALS": 30}, {"SIGNALS": 1000}, {"INTERRUPT": 5}):
         run, port = checks.serve(100000, **settings)
         with bound() as peer:
             for handle in range(1, 31):
@@ -206,7 +206,7 @@ def main():
         subprocess.run(["gcc", "-O1", "-Wall", "-shared", "-fPIC", "-o", layer, str(HERE / "unreliable.c"), "-ldl"], check=True)
         checks = Checks(os.path.abspath(sys.argv[1]), layer)
         try:
-            for part in (quiet_turns, signals, refused_sends, a_stalled_neighbour, closed_descriptors, calls_in_a_row, other_addresses):
+            for part in (quiet_turns, signals, refused_sends, a_stalled_neighbour, calls_in_a_row, other_addresses):
                 part(checks)
         finally:
             for run in checks.runs:

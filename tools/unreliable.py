@@ -68,7 +68,7 @@ class Runs:
 
     def memory(self, words, script):
         """Each request of a run refused in turn. How many there are, and those that the run did without."""
-        out, err, status, (requests, _, _) = self.run(words, script)
+        out, err, status, (requests, *_) = self.run(words, script)
         without = []
         for n in range(1, requests + 2):
             got, fault, code, _ = self.run(words, script, REFUSE=n)
@@ -88,7 +88,7 @@ class Runs:
 
     def failing_ends(self, words, script, piece):
         """Each read and each write of a run in pieces fails in turn."""
-        out, err, status, (_, reads, writes) = self.run(words, script, PIECE=piece)
+        out, err, status, (_, reads, writes, *_) = self.run(words, script, PIECE=piece)
         for setting, number, fault in (("FAIL_READ", reads, b"read failed\n"), ("FAIL_WRITE", writes, b"write failed\n")):
             for n in range(1, number + 1):
                 got, said, code, _ = self.run(words, script, PIECE=piece, **{setting: n})
