@@ -17,6 +17,8 @@ import oca_profile as oca
 ONOS = [100, 4096, 4097, 4098, 4099, 4100, 4101, 4102, 4103, 1, 0]
 METHODS = [(1, i) for i in range(0, 8)] + [(2, i) for i in range(1, 14)] + [(3, 4), (3, 5), (3, 6), (3, 20), (3, 21)] \
     + [(4, i) for i in range(1, 11)] + [(5, 1), (5, 2), (5, 3), (0, 1), (6, 1)]
+# how many peers have room, and how many channel strips stand behind the bench's own objects
+ROOMS, CHANNELS = [16], [0]
 # (target, method, ParamCount, a maker of parameters): what a panel would send
 USUAL = [
     (4097, (4, 1), 0, lambda r: b""), (4097, (4, 2), 1, lambda r: bytes([r.choice([1, 2, 2, 1, 3])])),
@@ -53,10 +55,12 @@ def text(r):
 
 
 class Panel:
-    """What one peer sends: commands whose handles rise, with copies, gaps, overtaking and reuse."""
+    """What one peer sends: commands whose handles rise, with copies, gaps, overtaking and reuse; to objects of the bench
+    and of channel strips."""
 
-    def __init__(self, r):
+    def __init__(self, r, channels=0):
         self.r, self.next, self.sent = r, r.choice([1, 1, 5, 1000, oca.U32 - 40]), []
+        self.channels = channels
 
     def command(self):
         r = self.r
@@ -76,10 +80,20 @@ class Panel:
         r = self.r
         if r.randrange(5):
             target, (level, index), count, make = r.choice(USUAL)
-            return oca.Command(handle, target, level, index, count, make(r))
+            return oca.Command(handle, self.in_a_strip(target), level, index, count, make(r))
         level, index = r.choice(METHODS)
         params = bytes(r.randrange(256) for _ in range(r.choice([0, 0, 1, 2, 3, 9])))
         return oca.Command(handle, r.choice(ONOS), level, index, r.randrange(3), params)
+
+
+    def in_a_strip(self, target):
+        """The number of an object, or now and then that of its like in a channel strip."""
+        if not self.channels or target not in STRIP or self.r.randrange(2):
+            return target
+        return 4103 + 4 * self.r.choice([0, self.channels - 1, self.r.randrange(self.channels)]) + STRIP[target]
+
+
+STRIP = {4096: 0, 4097: 1, 4098: 2, 4100: 3}
 
 
 def datagram(r, panel):
@@ -116,12 +130,14 @@ def moment(r, now):
     return max(0, now + (step if r.randrange(3) == 0 or step < 3000 else 1))
 
 
+# bad lines, and some good ones
 BAD = ["", "#", "# a comment", "0", "0 quiet ", " 0 quiet", "0  quiet", "x quiet", "18446744073709551616 quiet",
-       "0 127.0.0.1:9001",
-       "0 127.0.0.1:9001 3b0", "0 127.0.0.1:9001 zz", "0 127.0.0.256:1 -", "0 1.2.3.4:70000 -", "0 1.2.3:1 -", "+1 quiet",
-       "00000000000000000000 quiet", "000000000000000000000 quiet", "take", "take 1 ", "take due", "0 take 1", "0 due x",
-       "0 submit 1 2 3 4", "0 submit 4294967296 4 1 0 -", "0 submit 1 65536 1 0 -", "0 submit 1 1 1 256 -", "0 submit 1 1 1 1 a",
-       "0 from 1.2.3.4:5 -", "0 from 1.2.3.4 -", "0 from 1.2.3.4:5 0", "take 4294967296", "é quiet", "#é", "a" * 4097, "#" * 4097, "#" * 4096]
+       "0 127.0.0.1:9001", "0 127.0.0.1:9001 3b0", "0 127.0.0.1:9001 zz", "0 127.0.0.256:1 -", "0 1.2.3.4:70000 -",
+       "0 1.2.3:1 -", "+1 quiet", "00000000000000000000 quiet", "000000000000000000000 quiet", "take", "take 1 ",
+       "take due", "0 take 1", "0 due x", "0 submit 1 2 3 4", "0 submit 4294967296 4 1 0 -",
+       "0 submit 1 65536 1 0 -", "0 submit 1 1 1 256 -", "0 submit 1 1 1 1 a", "0 from 1.2.3.4:5 -",
+       "0 from 1.2.3.4 -", "0 from 1.2.3.4:5 0", "take 4294967296", "é quiet", "#é", "a" * 4097, "#" * 4097,
+       "#" * 4096]
 
 
 def hexed(r, data):
@@ -137,9 +153,9 @@ def finish(r, lines):
 
 
 def device_script(r):
-    window = r.choice([1, 2, 3, 8, 31, 32, 32, 32, 63, 64])
-    peers = [f"127.0.0.{1 + k % 3}:{9000 + k}" for k in range(r.choice([1, 2, 3, 18]))]
-    panels = {p: Panel(r) for p in peers}
+    window, room, channels = r.choice([1, 2, 3, 8, 31, 32, 32, 32, 63, 64]), r.choice(ROOMS), r.choice(CHANNELS)
+    peers = [f"127.0.0.{1 + k % 3}:{9000 + k}" for k in range(r.choice([1, 2, 3, room + 2]))]
+    panels = {p: Panel(r, channels) for p in peers}
     now, lines = 0, []
     for _ in range(r.choice([3, 10, 40, 120])):
         now = moment(r, now)
@@ -148,7 +164,10 @@ def device_script(r):
         else:
             p = r.choice(peers)
             lines.append(f"{now} {p} {hexed(r, datagram(r, panels[p]))}")
-    return ["replay", "--window", str(window)], finish(r, lines), lambda s: oca.device_replay(s, window)
+    words = ["replay", "--window", str(window)]
+    words += ["--peers", str(room)] if room != 16 else []
+    words += ["--channels", str(channels)] if channels else []
+    return words, finish(r, lines), lambda s: oca.device_replay(s, window, room, channels)
 
 
 def link_script(r):
@@ -232,7 +251,8 @@ def main():
                 return 1
             scripts[kind] += 1
             lines += script.count(b"\n") + 1
-    print(f"fuzz: seed {seed}: {scripts[0]} device scripts and {scripts[1]} controller scripts, {lines} lines, no difference")
+    print(f"fuzz: seed {seed}: {scripts[0]} device scripts and {scripts[1]} controller scripts, {lines} lines, "
+          "no difference")
     return 0
 
 

@@ -762,8 +762,8 @@ def text_of(lines):
     return "".join(line + "\n" for line in lines).encode()
 
 
-def device_replay(script, window=32):
-    device = Device(window=window)
+def device_replay(script, window=32, peers=16, channels=0):
+    device = Device(bench(channels), window, peers)
     return replay(script, lambda fields: device_line(device, fields))
 
 
