@@ -1,10 +1,10 @@
 #!/usr/bin/env python3
 """The law by events (oca_law.py) held against transcripts of the built program.
 
-Usage: law.py BIN [HISTORIES] [SEED]     BIN is the folder with the programs
+Usage: law.py BIN [HISTORIES] [SEED]     BIN is the folder with `trials`
 
- law      directed and random histories, run by the program: of each event its verdict, its packets, the objects and the
-          number of
+ law      directed and random histories, run by `trials events`: of each event its verdict, its packets, the objects and
+          the number of
           sessions after it are what the law says
  wrong    wrong devices, the second implementation with one rule changed: the law refuses a history of each, by the
           sentence that it breaks
@@ -91,7 +91,7 @@ def lapses(r):
     """A lock, and moments about three heartbeats after its peer was last heard, of heartbeats in and outside their
     limits."""
     h = History(r.choice([1, 8, 32]))
-    ms = r.choice([None, 0, 100, 249, 250, 251, 1000, 29999, 30000, 30001, 100000, 2**32 - 1])
+    ms = r.choice([None, 0, 100, 249, 250, 251, 1500, 1999, 29999, 30000, 30001, 100000, 2**32 - 1])
     kept = 5000 if ms is None else max(250, min(ms, 30000))
     h.at(r.choice([0, 7])).says(0, *([beat(r.choice([1, 60000])), beat(ms)] if ms is not None else []), lock(1),
                                 lock(2, 4100, 6)).says(1, lock(1, 4098))
@@ -143,7 +143,8 @@ def crowds(r):
     for _ in range(6):
         h.at(h.now + r.choice([0, 1, 60000, 119000, 120000, 120001]))
         for n in r.sample(order, min(len(order), r.choice([1, 2, 5]))):
-            h.says(n, get(len(h.events)), *([beat(250)] if r.randrange(4) == 0 else []))
+            asked = r.choice([get(len(h.events)), trim(len(h.events), len(h.events)), lock(len(h.events))])
+            h.says(n, asked, *([beat(250)] if r.randrange(4) == 0 else []))
         if r.randrange(4) == 0:
             h.at(max(0, h.now - r.choice([1, 5000, 119000])))
     return h
@@ -254,7 +255,7 @@ def wander(r):
         elif kind == 1:
             reading(h, 40, handle)
             handle += 9
-        elif kind == 2 and FRONT:
+        elif kind == 2:
             h.sets(*r.choice([(4097, "state", 1 + r.randrange(2)), (4100, "number", r.randrange(-601, 602)),
                               (4099, "position", r.randrange(4))]))
         elif kind == 3:
@@ -267,14 +268,13 @@ def wander(r):
     return h
 
 
-SIZES, FRONT = [16], False
-KINDS = [lapses, forgetting, crowds, windows, packings, limits, wander, wander, wander]
+SIZES = [16]
+KINDS = [lapses, forgetting, crowds, windows, packings, limits, fronts, wander, wander, wander]
 
 
 def made(seed, number):
     r = random.Random(f"{seed} {number}")
-    kinds = KINDS + [fronts] if FRONT else KINDS
-    return kinds[number % len(kinds)](r)
+    return KINDS[number % len(KINDS)](r)
 
 
 # ---- tales: what was said of the events of a history
@@ -321,7 +321,7 @@ def objects_of(line):
 
 
 def tale_in(lines):
-    """The tale of one history's lines; in those of `ocadev replay` there are no sessions and no objects."""
+    """The tale of one history's lines."""
     tale = []
     for line in lines:
         word = line.split(" ")[0]
@@ -339,14 +339,14 @@ def tale_in(lines):
 
 
 def tales(folder, histories):
-    """What the built program says of each history: by `ocadev replay`, one after another."""
-    for h in histories:
-        script = "\n".join(h.text()[1:]) + "\n"
-        done = subprocess.run([f"{folder}/ocadev", "replay", "--window", str(h.window)], input=script.encode(),
-                              capture_output=True, timeout=120)
-        if done.returncode != 0:
-            raise RuntimeError(f"status {done.returncode}: {done.stderr.decode()!r}")
-        yield tale_in(done.stdout.decode().splitlines())
+    """What the built program says of each history."""
+    text = "".join(line + "\n" for h in histories for line in h.text())
+    done = subprocess.run([f"{folder}/trials", "events"], input=text.encode(), capture_output=True, timeout=300)
+    lines = done.stdout.decode().splitlines()
+    begins = [i for i, line in enumerate(lines) if line == "history"] + [len(lines)]
+    if done.returncode != 0 or len(begins) != len(histories) + 1:
+        raise RuntimeError(f"status {done.returncode}: {done.stderr.decode()!r}")
+    return [tale_in(lines[first + 1:end]) for first, end in zip(begins, begins[1:])]
 
 
 def shown(history, tale, fault):
@@ -412,7 +412,7 @@ def parted(packet):
 def refuses(job):
     """Whether the law refuses a history of the wrong device of this name by its sentence, that sentence, and how."""
     seed, name = job
-    sentence, owner, method, body = wrong_rules(FRONT)[name]
+    sentence, owner, method, body = wrong_rules()[name]
     kept = getattr(owner, method)
     setattr(owner, method, body)
     first = None
@@ -430,7 +430,7 @@ def refuses(job):
     return False, sentence, f"{name}: no break of '{sentence}'" + (f", but of '{first}'" if first else "")
 
 
-WRONG_HISTORIES = 200
+WRONG_HISTORIES = 400
 
 
 # ---- the whole
@@ -507,12 +507,13 @@ def main():
                 print(f"law: seed {seed}: a break after {total['histories']} histories without one")
                 print("0 passed, 1 failed")
                 return 1
-        wrong = pool.map(refuses, [(seed, name) for name in wrong_rules(FRONT)], chunksize=1)
+        wrong = pool.map(refuses, [(seed, name) for name in wrong_rules()], chunksize=1)
     for found, _, said in wrong:
         if not found:
             print(f"FAILED: {said}")
     summary(seed, total, wrong)
-    met = ["executed", "duplicates", "old", "reused", "said malformed", "said no-room", "packets"]
+    met = ["executed", "duplicates", "old", "reused", "said malformed", "said no-room", "packets",
+           "said set", "said refused", "with objects"]
     checks = [total["histories"] == count and all(total[name] for name in met), all(found for found, _, _ in wrong),
               total["altered"] > count and total["altered, refused"] == total["altered"]]
     print(f"{sum(map(bool, checks))} passed, {sum(not passed for passed in checks)} failed")

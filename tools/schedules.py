@@ -3,7 +3,7 @@ runs them and holds them against the laws."""
 import oca_profile as oca
 from fuzz import USUAL
 
-PEERS, FRONT = [16], False
+PEERS = [16]
 PAIRS = [(w, s) for s in range(1, 33) for w in range(2 * s - 1, 65)]
 
 
@@ -110,7 +110,7 @@ def wander(r, window, span):
     strangers = [peer(n) for n in range(16, 16 + r.choice([0, 0, 1, 3, 20]))]
     kinds = ["submit", "due", "to-device", "to-link",
              "take"] + ["tick"] * r.randrange(2) + ["other"] * (len(strangers) > 0) \
-        + ["set"] * (FRONT and r.randrange(3) == 0)
+        + ["set"] * (r.randrange(3) == 0)
     weights = [r.choice([2, 3, 5]) for _ in kinds[:5]] + [1] * (len(kinds) - 5)
     heard = {"to-device": set(), "to-link": set()}
     if r.randrange(16) == 0:  # a link without answers, until it is lost
@@ -159,7 +159,7 @@ def noise(r, schedule):
         schedule.timed("other", peer(20), others_bytes(r))
     elif kind == 3:
         schedule.timed("tick")
-    elif kind == 4 and FRONT:
+    elif kind == 4:
         schedule.add("set", *some_setting(r))
 
 

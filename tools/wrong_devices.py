@@ -5,7 +5,7 @@ import oca_profile as oca
 from oca_law import LARGEST_DATAGRAM
 
 
-def wrong_rules(front):
+def wrong_rules():
     """Devices with one rule changed, by name: the sentence that must refuse them, the class and the method, and what
     stands in its place."""
     D, S = oca.Device, oca.Session
@@ -336,27 +336,30 @@ def wrong_rules(front):
                 pass
         return said
 
-    if front:
-        set_at = D.set
-        for name, body in {
-                "a lock binds the front": lambda d, ono, kind, value: None if any(o.ono == ono and o.lock
-                    for o in d.tree) else set_at(d, ono, kind, value),
-                "the front sets nothing": lambda d, ono, kind, value: None,
-                "a refused change is made": lambda d, ono, kind, value: sets_anyway(d, ono, kind, value),
-                "a change at the front takes locks off": lambda d, ono, kind, value: takes_off(d, ono, kind,
-                    value)}.items():
-            wrong(name, "objects_are", D, "set")(body)
+    # ---- the front
+    set_at = D.set
 
-        def sets_anyway(d, ono, kind, value):
-            fault = set_at(d, ono, kind, value)
-            for o in d.tree:
-                if fault == oca.TOO_FAR and o.ono == ono:
-                    o.state = value
-            return fault
+    @wrong("a lock binds the front", "objects_are", D, "set")
+    def bound_by_locks(d, ono, kind, value):
+        locked = any(o.ono == ono and o.lock for o in d.tree)
+        return None if locked else set_at(d, ono, kind, value)
 
-        def takes_off(d, ono, kind, value):
-            for o in d.tree:
-                if o.ono == ono:
-                    o.lock = None
-            return set_at(d, ono, kind, value)
+    @wrong("the front sets nothing", "objects_are", D, "set")
+    def sets_nothing(d, ono, kind, value):
+        return None
+
+    @wrong("a refused change is made", "objects_are", D, "set")
+    def sets_anyway(d, ono, kind, value):
+        fault = set_at(d, ono, kind, value)
+        for o in d.tree:
+            if fault == oca.TOO_FAR and o.ono == ono:
+                o.state = value
+        return fault
+
+    @wrong("a change at the front takes locks off", "objects_are", D, "set")
+    def takes_off(d, ono, kind, value):
+        for o in d.tree:
+            if o.ono == ono:
+                o.lock = None
+        return set_at(d, ono, kind, value)
     return rules
