@@ -1,0 +1,167 @@
+#!/usr/bin/env python3
+"""Runs the sessions of README.md and docs/EMBEDDING.md and compares what is printed, and finds their pieces of code in
+the files that they are of.
+
+Usage: snippets.py BIN     BIN is the folder with the programs, which sessions call `bin/`
+
+A session is an indented block, or a fenced one whose first word is `sh`, that begins with `$ `. Its commands are run in
+order in a folder of their own with the repository's files; the lines behind a command are what it must print. One that
+ends in ` &` goes on beside the others: as many lines as stand behind it are waited for. `$ kill %1` ends the first of
+these, and the others are waited for at the end of the block, where the rest of what they print must stand. In an
+expected line `...` stands for any text, alone for any lines; a number behind `quiet`, which is of time, is not
+compared. A session with a command of `make` is not run.
+
+A fenced block whose info string has a path behind its first word, as `rust crates/panel/src/main.rt`, must stand in
+that file line by line, but for its indentation; `...` alone on a line, or in a comment, stands for any lines.
+
+The last line is 'N passed, M failed'."""
+import os
+import re
+import signal
+import subprocess
+import sys
+import tempfile
+from pathlib import Path
+
+TOP = Path(__file__).resolve().parent.parent
+DOCUMENTS = ["README.md", "docs/EMBEDDING.md"]
+
+
+def blocks(text):
+    """The blocks of a document: the number of the first line, the info string (none of an indented one), the lines."""
+    lines, at = text.split("\n"), 0
+    while at < len(lines):
+        if lines[at].startswith("```"):
+            end = next((n for n in range(at + 1, len(lines)) if lines[n].startswith("```")), len(lines))
+            yield at + 2, lines[at][3:].strip(), lines[at + 1:end]
+            at = end
+        elif lines[at].startswith("    ") and (at == 0 or not lines[at - 1].strip()):
+            inside = lambda line: not line.strip() or line.startswith("    ")
+            end = next((n for n in range(at, len(lines)) if not inside(lines[n])), len(lines))
+            yield at + 1, "", [line[4:] for line in "\n".join(lines[at:end]).rstrip().split("\n")]
+            at = end - 1
+        at += 1
+
+
+def is_like(expected, printed):
+    """Whether the lines that were printed are those that stand there."""
+    pattern = ""
+    for line in expected:
+        words = re.escape(re.sub(r"quiet \d+", "quiet NUMBER", line)).replace(r"quiet\ NUMBER", r"quiet \d+")
+        pattern += r"(?:.*\n)*?" if line.strip() == "..." else words.replace(r"\.\.\.", ".*") + r"\n"
+    return re.fullmatch(pattern, "".join(line + "\n" for line in printed)) is not None
+
+
+class Session:
+    """Runs the commands of a block, and collects what they print in the order in which it is to stand."""
+
+    def __init__(self, folder):
+        self.folder, self.beside, self.printed = folder, [], []
+
+    def run(self, command, expected):
+        if command.endswith(" &"):
+            process = subprocess.Popen(
+                ["bash", "-c", f"exec {command[:-2]}"], cwd=self.folder, stdin=subprocess.DEVNULL,
+                stdout=subprocess.PIPE, stderr=subprocess.STDOUT, text=True)
+            self.beside.append(process)
+            self.printed += [process.stdout.readline().rstrip("\n") for _ in expected]
+        elif command.startswith("kill %"):
+            self.end(self.beside[int(command[6:]) - 1], signal.SIGTERM)
+        else:
+            done = subprocess.run(["bash", "-c", command], cwd=self.folder, stdin=subprocess.DEVNULL, timeout=120,
+                                  stdout=subprocess.PIPE, stderr=subprocess.STDOUT, text=True)
+            self.printed += done.stdout.splitlines()
+
+    def end(self, process, number=None):
+        """Waits for a command that went on beside the others, and takes the rest of what it printed."""
+        if number and process.poll() is None:
+            process.send_signal(number)
+        if not process.stdout.closed:
+            try:
+                self.printed += process.communicate(timeout=60)[0].splitlines()
+            except subprocess.TimeoutExpired:
+                process.kill()
+                self.printed.append("(it went on)")
+            process.stdout.close()
+
+    def end_all(self):
+        for process in self.beside:
+            self.end(process)
+
+
+def commands_of(lines):
+    """The commands of a session, each with the lines behind it; None where it is no session."""
+    found = []
+    for line in lines:
+        if line.startswith("$ "):
+            found.append((line[2:], []))
+        elif not found:
+            return None
+        else:
+            found[-1][1].append(line)
+    return found
+
+
+def fault_of_session(lines, programs):
+    """What differs, or None."""
+    commands, expected = commands_of(lines), [line for line in lines if not line.startswith("$ ")]
+    with tempfile.TemporaryDirectory() as folder:
+        for name in os.listdir(TOP):
+            if name != "bin":
+                os.symlink(TOP / name, f"{folder}/{name}")
+        os.symlink(programs, f"{folder}/bin")
+        session = Session(folder)
+        try:
+            for command, behind in commands:
+                session.run(command, behind)
+        finally:
+            session.end_all()
+    if is_like(expected, session.printed):
+        return None
+    return "printed\n" + "\n".join(session.printed) + "\nin place of\n" + "\n".join(expected)
+
+
+def is_in(code, text):
+    """Whether the lines stand one after another in the text, but for their indentation."""
+    parts, lines = [[]], [line.strip() for line in text.split("\n")]
+    for line in (line.strip() for line in code):
+        if line.lstrip("/# ") == "...":
+            parts.append([])
+        else:
+            parts[-1].append(line)
+    at = 0
+    for part in ("\n".join(part).strip("\n").split("\n") for part in parts if any(part)):
+        at = next((n + len(part) for n in range(at, len(lines)) if lines[n:n + len(part)] == part), None)
+        if at is None:
+            return False
+    return True
+
+
+def checks_of(name, programs):
+    """Of each block that is checked: where it stands, and what is wrong with it or None."""
+    for number, info, lines in blocks((TOP / name).read_text()):
+        where, words = f"{name}:{number}", info.split(" ")
+        commands = commands_of(lines)
+        if len(words) > 1 and "/" in words[1]:
+            path = TOP / words[1]
+            yield where, None if path.exists() and is_in(lines, path.read_text()) else f"is not in {words[1]}"
+        elif commands and words[0] in ("", "sh") and any(behind for _, behind in commands):
+            if any(re.match(r"(sudo )?(make|apt)", command) for command, _ in commands):
+                print(f"{where}: not run")
+            else:
+                yield where, fault_of_session(lines, programs)
+
+
+def main():
+    passed, failed = 0, 0
+    for name in DOCUMENTS:
+        for where, fault in checks_of(name, os.path.abspath(sys.argv[1])):
+            passed += fault is None
+            failed += fault is not None
+            print(f"{where}: {'as it stands' if fault is None else fault}")
+    print(f"{passed} passed, {failed} failed")
+    return 1 if failed else 0
+
+
+if __name__ == "__main__":
+    sys.exit(main())
