@@ -6,13 +6,15 @@
 # make world   schedules for both ends, held against the laws and the second implementation: SCHEDULES=8000 SEED=1
 # make law     histories of events, held against the law by events, and wrong devices: HISTORIES=2000 SEED=1
 # make bench   instructions, memory by size, requests a second beside bare loops, with the goals
+# make install puts the programs and their manual pages below PREFIX (of DESTDIR)
 COMMANDS = 200
 SECONDS = 60
 SCHEDULES = 8000
 HISTORIES = 2000
 SEED = 1
+PREFIX = /usr/local
 PROGRAMS = ocadev ocactl trials amplifier panel
-.PHONY: build demo test lossy fuzz world law bench clean
+.PHONY: build demo test lossy fuzz world law bench install clean
 
 demo:
 	@echo "Building by 'rt try' and running the examples; nothing is proved yet by that. This takes about a minute."
@@ -54,6 +56,12 @@ bench: build
 	python3 bench/core.py bin
 	python3 bench/memory.py bin
 	python3 bench/sockets.py bin
+
+install:
+	@test -x bin/ocactl || $(MAKE) build
+	install -d $(DESTDIR)$(PREFIX)/bin $(DESTDIR)$(PREFIX)/share/man/man1
+	install -m 755 bin/ocadev bin/ocactl $(DESTDIR)$(PREFIX)/bin
+	install -m 644 man/ocadev.1 man/ocactl.1 $(DESTDIR)$(PREFIX)/share/man/man1
 
 clean:
 	rm -rf bin crates/*/out out

@@ -21,7 +21,7 @@ import sys
 import oca_profile as oca
 from fuzz import Panel, datagram
 from oca_law import LARGEST_DATAGRAM, Break, Datagram, Local, Tick, Told, shown_objects, walk
-from wrong_devices import wrong_rules
+from wrong_devices import RULES
 
 # ---- histories
 
@@ -412,7 +412,7 @@ def parted(packet):
 def refuses(job):
     """Whether the law refuses a history of the wrong device of this name by its sentence, that sentence, and how."""
     seed, name = job
-    sentence, owner, method, body = wrong_rules()[name]
+    sentence, owner, method, body = RULES[name]
     kept = getattr(owner, method)
     setattr(owner, method, body)
     first = None
@@ -507,7 +507,7 @@ def main():
                 print(f"law: seed {seed}: a break after {total['histories']} histories without one")
                 print("0 passed, 1 failed")
                 return 1
-        wrong = pool.map(refuses, [(seed, name) for name in wrong_rules()], chunksize=1)
+        wrong = pool.map(refuses, [(seed, name) for name in RULES], chunksize=1)
     for found, _, said in wrong:
         if not found:
             print(f"FAILED: {said}")
