@@ -6,3 +6,4 @@ pub mod Texts
 pub mod GoesOn
 pub mod TextAt
 mod AddressTexts
+pub mod MethodIds

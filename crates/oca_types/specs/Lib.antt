@@ -10,3 +10,4 @@ pub mod Addresses
 pub mod Sizes
 pub mod Classes
 pub mod Methods
+pub mod PrivateMethods

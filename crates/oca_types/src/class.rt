@@ -1,7 +1,9 @@
 //! Classes and their methods.
-ghost use Rattle.std.specs.Prelude.{◌≡◌, ◌≤◌, ◌==◌, length};
+ghost use Rattle.std.specs.Prelude.{◌≡◌, ◌≤◌, ◌==◌, length, IfSome};
 ghost use Rattle.oca_types.specs.Classes.{class_fields_of};
-ghost use Rattle.oca_types.specs.Methods.{row_at, root_methods, worker_methods, block_methods, state_methods, switch_methods, setting_methods, method_kind, own_methods, access, is_left_out};
+ghost use Rattle.oca_types.specs.Methods.{row_at, root_methods, worker_methods, block_methods, state_methods, switch_methods, setting_methods, method_kind, own_methods, access, is_left_out, IsMethodId};
+ghost use Rattle.oca_types.specs.PrivateMethods.{place_of};
+ghost use Rattle.oca_types.specs.declared.class.MethodKind.TheVariants.{Known};
 
 use crate::words::MethodId;
 use arrayvec::ArrayVec;
@@ -258,6 +260,53 @@ pub fn method_of(class: Class, id: MethodId) -> MethodKind
         None if is_left_out(class, id) => MethodKind::LeftOut,
         None => MethodKind::Unknown,
     }
+}
+
+/// Where a method stands in the table, whichever class has it.
+fn place_of(method: Method) -> MethodId
+    ensures { result ≡ place_of method }
+{
+    let (level, index) = match method {
+        Method::GetClassIdentification => (1, 1),
+        Method::GetLockable => (1, 2),
+        Method::LockTotal => (1, 3),
+        Method::Unlock => (1, 4),
+        Method::GetRole => (1, 5),
+        Method::LockReadonly => (1, 6),
+        Method::GetEnabled => (2, 1),
+        Method::SetEnabled => (2, 2),
+        Method::GetLabel => (2, 8),
+        Method::SetLabel => (2, 9),
+        Method::GetOwner => (2, 10),
+        Method::GetMembers => (3, 5),
+        Method::GetMembersRecursive => (3, 6),
+        Method::GetState | Method::GetPosition => (4, 1),
+        Method::SetState | Method::SetPosition => (4, 2),
+        Method::GetPositionName => (4, 3),
+        Method::SetPositionName => (4, 4),
+        Method::GetPositionNames => (4, 5),
+        Method::SetPositionNames => (4, 6),
+        Method::GetPositionEnabled => (4, 7),
+        Method::SetPositionEnabled => (4, 8),
+        Method::GetPositionEnableds => (4, 9),
+        Method::SetPositionEnableds => (4, 10),
+        Method::GetSetting => (5, 1),
+        Method::SetSetting => (5, 2),
+    };
+    MethodId { level, index }
+}
+
+/// The DefLevel and MethodIndex by which a class has the method: the inverse of [`method_of`]. Nothing where the class does not
+/// have it.
+pub fn method_id(class: Class, method: Method) -> Option<MethodId>
+    ensures known { IfSome result (λ id. method_kind class id ≡ Known method (access method)) }
+    ensures only { IsMethodId class method result }
+{
+    let id = place_of(method);
+    let MethodKind::Known(known, _) = method_of(class, id) else {
+        return None;
+    };
+    if known == method { Some(id) } else { None }
 }
 
 /// The fields of the class's identifier (OcaClassID, AES70-2), as 1.1.1.2 of a mute.

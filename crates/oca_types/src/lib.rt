@@ -17,7 +17,7 @@ mod tests;
 mod text;
 mod words;
 
-pub use class::{Access, Class, Method, MethodKind, access_of, class_fields, method_of};
+pub use class::{Access, Class, Method, MethodKind, access_of, class_fields, method_id, method_of};
 pub use cursor::Cursor;
 pub use fault::{PutFault, ReadFault};
 pub use put::{

@@ -1,0 +1,101 @@
+//! The requests that set a value and that read it.
+ghost use Rattle.std.specs.Prelude.{◌≡◌, ◌≤◌, length};
+ghost use Rattle.oca_values.specs.Values.{class_of_value, set_method, get_method, value_encoding, Asks, AsksFor};
+
+use crate::value::Value;
+use arrayvec::ArrayVec;
+use oca_types::{Class, Method, MethodId, method_id};
+
+/// What is asked of an object: a command without its handle and its target.
+#[derive(Debug, Drop)]
+pub struct Request {
+    /// The method.
+    pub method: MethodId,
+    /// ParamCount.
+    pub count: u8,
+    /// The bytes of the parameters.
+    pub params: ArrayVec<u8, 8>,
+}
+
+/// The method that sets such a value.
+fn set_method(value: Value) -> Method
+    ensures { result ≡ set_method value }
+{
+    match value {
+        Value::Mute(_) | Value::Polarity(_) => Method::SetState,
+        Value::Switch(_) => Method::SetPosition,
+        _ => Method::SetSetting,
+    }
+}
+
+/// The method that reads how an object of the class is set; nothing for a block.
+fn get_method(class: Class) -> Option<Method>
+    ensures { result ≡ get_method class }
+{
+    match class {
+        Class::Block => None,
+        Class::Mute | Class::Polarity => Some(Method::GetState),
+        Class::Switch => Some(Method::GetPosition),
+        _ => Some(Method::GetSetting),
+    }
+}
+
+/// These bytes, of which there are at most 8.
+fn bytes(bytes: &[u8]) -> ArrayVec<u8, 8>
+    requires { length bytes.now ≤ 8 }
+    ensures { result.items ≡ bytes.now }
+{
+    let mut items = ArrayVec::new();
+    let _ = items.try_extend_from_slice(bytes);
+    items
+}
+
+/// The encoding of a value (AES70-3).
+#[tactic(auto, unfolding(crate::specs::Values::value_encoding))]
+fn encoding(value: Value) -> ArrayVec<u8, 8>
+    ensures { result.items ≡ value_encoding value }
+{
+    match value {
+        Value::Mute(state) => bytes(&[state as u8]),
+        Value::Polarity(state) => bytes(&[state as u8]),
+        Value::Switch(position) => bytes(&position.to_be_bytes()),
+        Value::Boolean(truth) => bytes(&[u8::from(truth)]),
+        Value::Int8(setting) => bytes(&setting.to_be_bytes()),
+        Value::Int16(setting) => bytes(&setting.to_be_bytes()),
+        Value::Int32(setting) => bytes(&setting.to_be_bytes()),
+        Value::Int64(setting) => bytes(&setting.to_be_bytes()),
+        Value::Uint8(setting) => bytes(&setting.to_be_bytes()),
+        Value::Uint16(setting) => bytes(&setting.to_be_bytes()),
+        Value::Uint32(setting) => bytes(&setting.to_be_bytes()),
+        Value::Uint64(setting) => bytes(&setting.to_be_bytes()),
+    }
+}
+
+/// What sets an object of the value's class to the value: the class's own set method with the value as its one parameter.
+pub fn set_request(value: Value) -> Request
+    ensures { Asks (class_of_value value) (set_method value) result 1 (value_encoding value) }
+{
+    let Some(method) = method_id(value.class(), set_method(value)) else {
+        unreachable!()
+    };
+    Request {
+        method,
+        count: 1,
+        params: encoding(value),
+    }
+}
+
+/// What reads how an object of the class is set: the class's own get method, which has no parameters. Nothing for a block, which
+/// has no setting.
+pub fn get_request(class: Class) -> Option<Request>
+    ensures { AsksFor (get_method class) class result }
+{
+    let Some(method) = method_id(class, get_method(class)?) else {
+        unreachable!()
+    };
+    Some(Request {
+        method,
+        count: 0,
+        params: ArrayVec::new(),
+    })
+}
