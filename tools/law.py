@@ -3,11 +3,9 @@
 
 Usage: law.py BIN [HISTORIES] [SEED]     BIN is the folder with `trials`
 
- law      directed and random histories, run by `trials events`: of each event its verdict, its packets, the objects and
-          the number of
-          sessions after it are what the law says
- wrong    wrong devices, the second implementation with one rule changed: the law refuses a history of each, by the
-          sentence that it breaks
+ law      directed and random histories, run by `trials events`: of each event its verdict, its packets, what it wrote
+          to, the objects and the number of sessions after it are what the law says
+ wrong    wrong devices (wrong_devices.py): the law refuses a history of each, by the sentence that it breaks
  altered  transcripts of the program in which one line was altered: refused at that event, by the sentence that the line
           belongs to
 
@@ -293,9 +291,10 @@ def tale_of(history, device):
     """What the second implementation says."""
     tale = []
     for event in history.events:
-        packets, written = [], ()
+        packets, written = [], None
         if isinstance(event, Datagram):
             text, packets = device.datagram(event.sender, event.data, event.now)
+            written = tuple(device.written)
         elif isinstance(event, Tick):
             device.advance(event.now)
             text = "quiet"
@@ -320,6 +319,9 @@ def objects_of(line):
     return tuple(read)
 
 
+NONE_WRITTEN = None
+
+
 def tale_in(lines):
     """The tale of one history's lines."""
     tale = []
@@ -334,7 +336,7 @@ def tale_in(lines):
         elif word == "objects":
             tale[-1] = tale[-1]._replace(objects=objects_of(line))
         else:
-            tale.append(Told(verdict_of(line), (), (), None, None))
+            tale.append(Told(verdict_of(line), (), NONE_WRITTEN, None, None))
     return tale
 
 
@@ -391,7 +393,7 @@ def altered(r, history, tale):
         one = (ono, setting, None if held else ("total", peer(0))) if setting is None or r.randrange(2) else (ono,
             setting ^ 1, held)
         new = "objects_are", told._replace(objects=told.objects[:k] + (one,) + told.objects[k + 1:])
-    elif kind == 8 and told.sessions is not None:
+    elif kind == 8:
         new = "sessions_are", told._replace(sessions=told.sessions + r.choice([-1, 1]))
     else:
         return None
@@ -441,7 +443,7 @@ def count_of(tale):
     total = collections.Counter(events=len(tale), packets=sum(len(told.packets) for told in tale))
     for told in tale:
         total["said " + told.verdict[0]] += 1
-        total["with objects"] += told.objects is not None
+        total["writes"] += len(told.written or ())
         if told.verdict[0] == "served":
             total.update(dict(zip(("executed", "duplicates", "old", "reused"), told.verdict[1:])))
     return total
@@ -484,7 +486,7 @@ def summary(seed, total, wrong):
           f"{total['reused']} reused, "
           f"{total['said malformed']} malformed, {total['said no-room']} without room, {total['packets']} packets")
     print(f"changes at the front: {total['said set']}, refused {total['said refused']}; "
-          f"objects and sessions compared after {total['with objects']} events; 0 breaks")
+          f"objects written: {total['writes']}; 0 breaks")
     sentences = collections.Counter(sentence for _, sentence, _ in wrong)
     refused = sum(found for found, _, _ in wrong)
     print(f"wrong devices refused by the sentence that they break: {refused} of {len(wrong)} "
@@ -513,7 +515,7 @@ def main():
             print(f"FAILED: {said}")
     summary(seed, total, wrong)
     met = ["executed", "duplicates", "old", "reused", "said malformed", "said no-room", "packets",
-           "said set", "said refused", "with objects"]
+           "said set", "said refused"]
     checks = [total["histories"] == count and all(total[name] for name in met), all(found for found, _, _ in wrong),
               total["altered"] > count and total["altered, refused"] == total["altered"]]
     print(f"{sum(map(bool, checks))} passed, {sum(not passed for passed in checks)} failed")

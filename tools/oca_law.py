@@ -272,7 +272,7 @@ def are_groups(answers, groups):
 
 # ---- objects: what executing one command gives, locks released, a change at the front
 
-EXECUTE, SET = oca.execute, oca.set_local
+EXECUTE, SET, WRITES = oca.execute, oca.set_local, oca.writes
 
 
 class Tree:
@@ -287,6 +287,7 @@ class Execution(NamedTuple):
     status: int
     count: int
     parameters: bytes
+    wrote: bool
 
 
 def with_copies(tree, ones):
@@ -297,7 +298,8 @@ def with_copies(tree, ones):
 def execution(tree, p, c):
     own = with_copies(tree, [c.target])
     status, count, parameters = EXECUTE(own, p, oca.Command(*c))
-    return Execution(Tree(own) if status == 0 else tree, status, count, parameters)
+    wrote = WRITES(own, oca.Command(*c), (status, count, parameters))
+    return Execution(Tree(own) if status == 0 else tree, status, count, parameters, wrote)
 
 
 def released(tree, p):
@@ -593,6 +595,11 @@ class Law:
             more.append((change, given))
         return done + tuple(more), tree
 
+    def written(self, H):
+        """What a datagram, with which this was the last that happened, wrote to."""
+        done = self.carried_out(H)[0][len(self.carried_out(H.before)[0]):]
+        return tuple(change.c.target for change, x in done if isinstance(change, Executes) and x.wrote)
+
     def objects(self, H):
         return self.carried_out(H)[1]
 
@@ -625,9 +632,8 @@ class Law:
 
 
 class Told(NamedTuple):
-    """What a device said of an event: the verdict, or the number of a refused change at the front; the packets; the
-    number of sessions and
-    the objects after it, where the transcript has them."""
+    """What a device said of an event: the verdict, or whether a change at the front was made; the packets; what a
+    datagram wrote to, or None where that is not told; the number of sessions and the objects after it."""
     verdict: tuple
     packets: tuple
     written: tuple
@@ -671,17 +677,16 @@ class Walk:
             self.expect([m for g in groups for m in messages_of(g)] == answers, "answers_are",
                         f"the answers to be are {answers}")
             self.expect(are_groups(answers, groups), "packets_are", "the grouping")
+            written = law.written(self.H)
+            self.expect(told.written in (None, written), "written_are", f"{told.written}, where {written} were written")
         elif isinstance(event, Local):
             fault = SET(with_copies(before, [event.ono]), event.ono, *event.value)
             self.expect(told.verdict == (("set",) if fault is None else ("refused", fault)), "set_fault",
                         f"{told.verdict}, where the fault is {fault}")
-        if told.objects is not None:
-            objects = shown_objects(law.objects(self.H).objects)
-            self.expect(told.objects == objects, "objects_are", f"the objects to be are {objects}")
-        if told.sessions is not None:
-            known = law.known(law.clock(self.H), law.admitted(self.H))
-            self.expect(told.sessions == len(known), "sessions_are",
-                        f"{told.sessions} in place of {len(known)} sessions")
+        objects = shown_objects(law.objects(self.H).objects)
+        self.expect(told.objects == objects, "objects_are", f"the objects to be are {objects}")
+        known = law.known(law.clock(self.H), law.admitted(self.H))
+        self.expect(told.sessions == len(known), "sessions_are", f"{told.sessions} in place of {len(known)} sessions")
         self.number += 1
 
 

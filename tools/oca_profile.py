@@ -317,6 +317,11 @@ def execute(tree, peer, c):
     return OK, len(items), params
 
 
+def writes(tree, c, reply):
+    """Whether the command wrote: it was carried out, and its method writes."""
+    return reply[0] == OK and method(next(o for o in tree if o.ono == c.target), c.level, c.index)[0] == "W"
+
+
 def answer(tree, obj, key, args):
     level, index = key
     flag = lambda b: bytes([1 if b else 0])
@@ -441,6 +446,7 @@ class Session:
 class Device:
     def __init__(self, tree=None, window=32, peers=16):
         self.tree, self.window, self.peers, self.now, self.sessions = tree or bench(), window, peers, 0, []
+        self.written = []  # the objects that the last datagram wrote to
 
     def release(self, peer):
         for o in self.tree:
@@ -465,6 +471,7 @@ class Device:
     def datagram(self, peer, data, now):
         """(the verdict's text, the packets)"""
         self.advance(now)
+        self.written = []
         try:
             messages = check(data)
         except Fault as f:
@@ -494,6 +501,8 @@ class Device:
         if judged == "fresh":
             reply = execute(self.tree, session.peer, command)
             session.accepted.append((command, reply))
+            if writes(self.tree, command, reply):
+                self.written.append(command.target)
         answered = respond and judged in ("fresh", "duplicate")
         return judged, [("response", response_body(command.handle, *reply))] if answered else []
 

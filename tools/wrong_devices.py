@@ -5,7 +5,8 @@ import oca_profile as oca
 from oca_law import LARGEST_DATAGRAM
 
 D, S = oca.Device, oca.Session
-advance, admit, command, judge, serve, check = D.advance, D.session_for, D.command, S.judge, D.datagram, oca.check
+advance, admit, command, judge, serve = D.advance, D.session_for, D.command, S.judge, D.datagram
+check, writes = oca.check, oca.writes
 RULES = {}
 
 
@@ -306,6 +307,34 @@ def refusal_not_retained(d, s, respond, c):
     if counted == "fresh" and s.accepted[-1][1][0] != 0:
         s.accepted.pop()
     return counted, answer
+
+
+# ---- what is written
+
+
+for name, body in {
+        "nothing is written": lambda tree, c, reply: False,
+        "what is read is written": lambda tree, c, reply: reply[0] == oca.OK,
+        "what is locked is written": lambda tree, c, reply: writes(tree, c, reply) or (reply[0], c.level) == (oca.OK,
+            1),
+        "what a refused command asks for is written": lambda tree, c, reply: reply[0] != oca.BAD_ONO}.items():
+    wrong(name, "written_are", oca, "writes")(body)
+
+
+@wrong("what a duplicate asks for is written", "written_are", D, "command")
+def written_again(d, s, respond, c):
+    said, answer = command(d, s, respond, c)
+    if said == "duplicate" and writes(d.tree, c, in_window(s, d.window, c)[1]):
+        d.written.append(c.target)
+    return said, answer
+
+
+@wrong("what was written before is still written", "written_are", D, "datagram")
+def still_written(d, p, data, now):
+    before = d.written
+    said = serve(d, p, data, now)
+    d.written = d.written or before
+    return said
 
 
 # ---- groups
