@@ -2,8 +2,10 @@
 """The gate: `rt ci`, and then the steps of the file `steps` beside this one. The steps of a paragraph run two at a time,
 and what each prints is shown as a whole when it ends, with how long it took; a paragraph begins when the one before it
 is over. The last line is 'N passed, M failed' over all of it, and the exit status 1 where anything failed.
-`run.py steps` runs the steps alone."""
+`run.py steps` runs the steps alone. A step that takes half an hour is ended, and has failed."""
+import os
 import re
+import signal
 import subprocess
 import sys
 import time
@@ -12,11 +14,27 @@ from pathlib import Path
 
 HERE = Path(__file__).resolve().parent
 BESIDE = 2
+LONGEST = 1800
+RUNNING = []
 
 
 def started(command):
-    return subprocess.Popen(command, shell=True, cwd=HERE.parent, stdin=subprocess.DEVNULL, stdout=subprocess.PIPE,
-                            stderr=subprocess.STDOUT, text=True, errors="replace")
+    """Starts a command, with a group of processes of its own, so that all that it starts can be ended with it."""
+    RUNNING.append(subprocess.Popen(
+        command, shell=True, cwd=HERE.parent, stdin=subprocess.DEVNULL, stdout=subprocess.PIPE,
+        stderr=subprocess.STDOUT, text=True, errors="replace", start_new_session=True))
+    return RUNNING[-1]
+
+
+def end(process):
+    if process.poll() is None:
+        os.killpg(process.pid, signal.SIGKILL)
+
+
+def interrupted(number, _):
+    for process in RUNNING:
+        end(process)
+    os._exit(128 + number)
 
 
 def counted(last, status):
@@ -46,7 +64,11 @@ def kept(command):
     """Runs a command, and answers its counts and what it printed."""
     begun = time.monotonic()
     with started(command) as process:
-        text = process.communicate()[0]
+        try:
+            text = process.communicate(timeout=LONGEST)[0]
+        except subprocess.TimeoutExpired:
+            end(process)
+            text = process.communicate()[0] + "it took too long and was ended\n"
     last = next((line.strip() for line in reversed(text.splitlines()) if line.strip()), "")
     return counted(last, process.returncode), f"gate: {command}\n{text}{took(command, begun)}"
 
@@ -59,6 +81,8 @@ def paragraphs():
 
 
 def main():
+    signal.signal(signal.SIGINT, interrupted)
+    signal.signal(signal.SIGTERM, interrupted)
     counts = [] if sys.argv[1:] == ["steps"] else [watched("rt ci")]
     with ThreadPoolExecutor(BESIDE) as pool:
         for steps in paragraphs():
