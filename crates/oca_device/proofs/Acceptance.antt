@@ -5,6 +5,7 @@ use Rattle.std.specs.List.{list_any, list_all, IsDistinct, AllByRecursion}
 use Rattle.std.proofs.lemmas.List.{append_assoc, append-nil, length-map}
 use Rattle.std.proofs.lemmas.Bool.Decides.{nat_tests}
 use Rattle.oca_types.specs.Peers.{CommandFields}
+use Rattle.oca_types.specs.Sizes.{DeviceSizes}
 use Rattle.oca_pdu.specs.Messages.{Msg, Command, Response, KeepAlive}
 use Rattle.oca_session.specs.Accepted.{Entry, window, outside, has_handle, is_below, accepts, entry_under, asks_the_same}
 use Rattle.oca_device.specs.LawByEvents.{accepts_handle, accepted_of, is_duplicate, is_reuse, with_command}
@@ -34,20 +35,20 @@ drop_mapped zero es = refl
 drop_mapped (suc n) [] = refl
 drop_mapped (suc n) (e ∷ es) = drop_mapped n es
 
-outside_mapped : (w : ℕ) (A : List Entry) → outside w (commands_of A) ≡ commands_of (outside w A)
-outside_mapped w A = ap (λ (n : ℕ). take (n - w) (commands_of A)) (length-map A (λ e. e.command)) ∙ take_mapped (length A - w) A
+outside_mapped : (w : DeviceSizes) (A : List Entry) → outside w.window (commands_of A) ≡ commands_of (outside w.window A)
+outside_mapped w A = ap (λ (n : ℕ). take (n - w.window) (commands_of A)) (length-map A (λ e. e.command)) ∙ take_mapped (length A - w.window) A
 
-pub window_mapped : (w : ℕ) (A : List Entry) → window w (commands_of A) ≡ commands_of (window w A)
-window_mapped w A = ap (λ (n : ℕ). drop (n - w) (commands_of A)) (length-map A (λ e. e.command)) ∙ drop_mapped (length A - w) A
+pub window_mapped : (w : DeviceSizes) (A : List Entry) → window w.window (commands_of A) ≡ commands_of (window w.window A)
+window_mapped w A = ap (λ (n : ℕ). drop (n - w.window) (commands_of A)) (length-map A (λ e. e.command)) ∙ drop_mapped (length A - w.window) A
 
 all_mapped : (h : ℕ) (es : List Entry) → list_all (is_below h) es ≡ list_all (λ x. nat_lt x.handle h) (commands_of es)
 all_mapped h [] = refl
 all_mapped h (e ∷ es) = ap (λ b. nat_lt e.command.handle h && b) (all_mapped h es)
 
-pub accepts_same : (w : ℕ) (A : List Entry) (h : ℕ) → accepts w A h ≡ accepts_handle w (commands_of A) h
+pub accepts_same : (w : DeviceSizes) (A : List Entry) (h : ℕ) → accepts w.window A h ≡ accepts_handle w (commands_of A) h
 accepts_same w A h =
-    ap (λ b. not b && list_all (is_below h) (outside w A)) (any_mapped h A)
-    ∙ ap (λ b. not (has h (commands_of A)) && b) (all_mapped h (outside w A) ∙ sym (ap (list_all (λ x. nat_lt x.handle h)) (outside_mapped w A)))
+    ap (λ b. not b && list_all (is_below h) (outside w.window A)) (any_mapped h A)
+    ∙ ap (λ b. not (has h (commands_of A)) && b) (all_mapped h (outside w.window A) ∙ sym (ap (list_all (λ x. nat_lt x.handle h)) (outside_mapped w A)))
 
 -- ---- the entry under a handle
 
@@ -81,8 +82,8 @@ accepted_is_new : (a b : Bool) → (not a && b) ≡ true → a ≡ false
 accepted_is_new true b p = absurd cc
 accepted_is_new false b p = refl
 
-pub new_where_accepted : (w : ℕ) (A : List Entry) (h : ℕ) → accepts w A h ≡ true → list_any (has_handle h) A ≡ false
-new_where_accepted w A h p = accepted_is_new (list_any (has_handle h) A) (list_all (is_below h) (outside w A)) p
+pub new_where_accepted : (w : DeviceSizes) (A : List Entry) (h : ℕ) → accepts w.window A h ≡ true → list_any (has_handle h) A ≡ false
+new_where_accepted w A h p = accepted_is_new (list_any (has_handle h) A) (list_all (is_below h) (outside w.window A)) p
 
 -- ---- each handle once
 
@@ -138,15 +139,15 @@ distinct_pushed c (x ∷ xs) d p =
     let parts = neither (nat_eq x.handle c.handle) (has c.handle xs) p in
     (all_pushed x c xs d.0 parts.0, distinct_pushed c xs d.1 parts.1)
 
-pub distinct_after : (w : ℕ) (A : List CommandFields) (c : CommandFields) → AreDistinct A → AreDistinct (with_command w A c)
+pub distinct_after : (w : DeviceSizes) (A : List CommandFields) (c : CommandFields) → AreDistinct A → AreDistinct (with_command w A c)
 distinct_after w A c d = by (accepts_handle w A c.handle) refl
   where
     by : (b : Bool) → accepts_handle w A c.handle ≡ b → AreDistinct (cond b (A ++ c ∷ []) A)
-    by true e = distinct_pushed c A d (accepted_is_new (has c.handle A) (list_all (λ x. nat_lt x.handle c.handle) (outside w A)) e)
+    by true e = distinct_pushed c A d (accepted_is_new (has c.handle A) (list_all (λ x. nat_lt x.handle c.handle) (outside w.window A)) e)
     by false e = d
 
 -- A after messages
-pub accepted_one : (w : ℕ) (A : List CommandFields) (respond : Bool) (c : CommandFields) (ms : List Msg) →
+pub accepted_one : (w : DeviceSizes) (A : List CommandFields) (respond : Bool) (c : CommandFields) (ms : List Msg) →
     A ++ accepted_of w A (Command respond c ∷ ms) ≡ with_command w A c ++ accepted_of w (with_command w A c) ms
 accepted_one w A respond c ms = by (accepts_handle w A c.handle)
   where
@@ -154,7 +155,7 @@ accepted_one w A respond c ms = by (accepts_handle w A c.handle)
     by true = sym (append_assoc A (c ∷ []) (accepted_of w (A ++ c ∷ []) ms))
     by false = refl
 
-pub distinct_of : (w : ℕ) (A : List CommandFields) (ms : List Msg) → AreDistinct A → AreDistinct (A ++ accepted_of w A ms)
+pub distinct_of : (w : DeviceSizes) (A : List CommandFields) (ms : List Msg) → AreDistinct A → AreDistinct (A ++ accepted_of w A ms)
 distinct_of w A [] d = subst_nil A d
   where
     subst_nil : (A : List CommandFields) → AreDistinct A → AreDistinct (A ++ [])
@@ -163,7 +164,7 @@ distinct_of w A (Command respond c ∷ ms) d = rw (accepted_one w A respond c ms
 distinct_of w A (KeepAlive form ∷ ms) d = distinct_of w A ms d
 distinct_of w A (Response r ∷ ms) d = distinct_of w A ms d
 
-pub accepted_both : (w : ℕ) (A : List CommandFields) (xs ys : List Msg) →
+pub accepted_both : (w : DeviceSizes) (A : List CommandFields) (xs ys : List Msg) →
     accepted_of w A (xs ++ ys) ≡ accepted_of w A xs ++ accepted_of w (A ++ accepted_of w A xs) ys
 accepted_both w A [] ys = ap (λ (B : List CommandFields). accepted_of w B ys) (sym (append-nil A))
 accepted_both w A (Command respond c ∷ xs) ys = by (accepts_handle w A c.handle) (accepted_both w (A ++ c ∷ []) xs ys) (accepted_both w A xs ys)
@@ -220,12 +221,12 @@ distinct_dropped zero xs d = d
 distinct_dropped (suc n) [] d = d
 distinct_dropped (suc n) (x ∷ xs) d = distinct_dropped n xs d.1
 
-module _ (w : ℕ) (A : List Entry) (c : CommandFields) (d : AreDistinct (commands_of A)) where
-  distinct_window : AreDistinct (commands_of (window w A))
-  distinct_window = rw (sym (drop_mapped (length A - w) A)) (distinct_dropped (length A - w) (commands_of A) d)
+module _ (w : DeviceSizes) (A : List Entry) (c : CommandFields) (d : AreDistinct (commands_of A)) where
+  distinct_window : AreDistinct (commands_of (window w.window A))
+  distinct_window = rw (sym (drop_mapped (length A - w.window) A)) (distinct_dropped (length A - w.window) (commands_of A) d)
 
-  pub duplicate_is : is_duplicate w (commands_of A) c ≡ asks_so (λ b. b) (entry_under c.handle (window w A)) c
-  duplicate_is = ap (list_any (λ x. nat_eq x.handle c.handle && asks_the_same x c)) (window_mapped w A) ∙ any_asks (λ b. b) c (window w A) distinct_window
+  pub duplicate_is : is_duplicate w (commands_of A) c ≡ asks_so (λ b. b) (entry_under c.handle (window w.window A)) c
+  duplicate_is = ap (list_any (λ x. nat_eq x.handle c.handle && asks_the_same x c)) (window_mapped w A) ∙ any_asks (λ b. b) c (window w.window A) distinct_window
 
-  pub reuse_is : is_reuse w (commands_of A) c ≡ asks_so not (entry_under c.handle (window w A)) c
-  reuse_is = ap (list_any (λ x. nat_eq x.handle c.handle && not (asks_the_same x c))) (window_mapped w A) ∙ any_asks not c (window w A) distinct_window
+  pub reuse_is : is_reuse w (commands_of A) c ≡ asks_so not (entry_under c.handle (window w.window A)) c
+  reuse_is = ap (list_any (λ x. nat_eq x.handle c.handle && not (asks_the_same x c))) (window_mapped w A) ∙ any_asks not c (window w.window A) distinct_window

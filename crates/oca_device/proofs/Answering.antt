@@ -5,6 +5,7 @@ use Rattle.std.specs.List.{list_any}
 use Rattle.std.proofs.lemmas.List.{append_assoc, append-nil}
 use Rattle.oca_types.specs.declared.words.Peer.{Peer}
 use Rattle.oca_types.specs.Peers.{same_peer, CommandFields}
+use Rattle.oca_types.specs.Sizes.{DeviceSizes}
 use Rattle.oca_pdu.specs.Messages.{Msg, Command, Response, KeepAlive}
 use Rattle.oca_tree.specs.declared.object.Object.{Object}
 use Rattle.oca_tree.specs.Execution.{execution}
@@ -25,7 +26,7 @@ pub record Grows (A A' : List Entry) : Type 0 where
   pub more : List Entry
   pub grew : A' ≡ A ++ more
 
-accepted_grows : (w : ℕ) (p : Peer) (ms : List Msg) (s : State) → is_known s.moment s.notes p ≡ true →
+accepted_grows : (w : DeviceSizes) (p : Peer) (ms : List Msg) (s : State) → is_known s.moment s.notes p ≡ true →
     Grows (accepted (run p s.notes)) (accepted (run p (after_messages w p ms s).notes))
 accepted_grows w p [] s k = record { more = []; grew = sym (append-nil (accepted (run p s.notes))) }
 accepted_grows w p (Command respond c ∷ ms) s k =
@@ -56,17 +57,17 @@ abbrev pub AnswersUnder : (ℕ → List Msg) → List Entry → Type 0
 AnswersUnder under done = (h : ℕ) (e : Entry) → entry_under h done ≡ Some e → under h ≡ response h e.reply ∷ []
 
 -- one command
-module _ (w : ℕ) (p : Peer) (c : CommandFields) (s : State) (under : ℕ → List Msg) where
+module _ (w : DeviceSizes) (p : Peer) (c : CommandFields) (s : State) (under : ℕ → List Msg) where
   abbrev A : List Entry
   A = accepted (run p s.notes)
 
   command_answered : AreDistinct (commands_of A) →
-      (accepts w A c.handle ≡ true → under c.handle ≡ response c.handle (reply_of s.tree p c) ∷ []) →
+      (accepts w.window A c.handle ≡ true → under c.handle ≡ response c.handle (reply_of s.tree p c) ∷ []) →
       ((e : Entry) → entry_under c.handle A ≡ Some e → under c.handle ≡ response c.handle e.reply ∷ []) →
       answer_to_command (judged_in w s p c) p c s ≡ cond (accepts_handle w (commands_of A) c.handle || is_duplicate w (commands_of A) c) (under c.handle) []
   command_answered d new old =
-      by (accepts w A c.handle) refl (entry_under c.handle (window w A)) (λ e f. old e (found_after (length A - w) c.handle A e d f))
-      ∙ ap (λ b. cond (b || asks_so (λ x. x) (entry_under c.handle (window w A)) c) (under c.handle) []) (accepts_same w A c.handle)
+      by (accepts w.window A c.handle) refl (entry_under c.handle (window w.window A)) (λ e f. old e (found_after (length A - w.window) c.handle A e d f))
+      ∙ ap (λ b. cond (b || asks_so (λ x. x) (entry_under c.handle (window w.window A)) c) (under c.handle) []) (accepts_same w A c.handle)
       ∙ ap (λ b. cond (accepts_handle w (commands_of A) c.handle || b) (under c.handle) []) (sym (duplicate_is w A c d))
     where
       by_asked : (e : Entry) (k : Bool) → under c.handle ≡ response c.handle e.reply ∷ [] →
@@ -74,13 +75,13 @@ module _ (w : ℕ) (p : Peer) (c : CommandFields) (s : State) (under : ℕ → L
       by_asked e true q = sym q
       by_asked e false q = refl
 
-      by : (b : Bool) → accepts w A c.handle ≡ b → (o : Option Entry) → ((e : Entry) → o ≡ Some e → under c.handle ≡ response c.handle e.reply ∷ []) →
+      by : (b : Bool) → accepts w.window A c.handle ≡ b → (o : Option Entry) → ((e : Entry) → o ≡ Some e → under c.handle ≡ response c.handle e.reply ∷ []) →
           answer_to_command (cond b Fresh (judge_unaccepted o c)) p c s ≡ cond (b || asks_so (λ x. x) o c) (under c.handle) []
       by true q o f = sym (new q)
       by false q None f = refl
       by false q (Some e) f = by_asked e (asks_the_same e.command c) (f e refl)
 
-pub messages_answered : (w : ℕ) (p : Peer) (ms : List Msg) (s : State) (under : ℕ → List Msg) → is_known s.moment s.notes p ≡ true → AreDistinct (executed_of p s.notes) →
+pub messages_answered : (w : DeviceSizes) (p : Peer) (ms : List Msg) (s : State) (under : ℕ → List Msg) → is_known s.moment s.notes p ≡ true → AreDistinct (executed_of p s.notes) →
     AnswersUnder under (accepted (run p (after_messages w p ms s).notes)) →
     answers_to_messages w p ms s ≡ replies w under (executed_of p s.notes) ms
 messages_answered w p [] s under k d u = refl
@@ -114,7 +115,7 @@ messages_answered w p (Command respond c ∷ ms) s under k d u =
     same_all is_not = subst (λ (x : State). AnswersUnder under (accepted (run p (after_messages w p ms x).notes)))
         (after_judged w p c s ∙ ap (λ b. cond b (fresh_state p c s) s) is_not) u
 
-    fresh_under : accepts_handle w (executed_of p s.notes) c.handle ≡ true → accepts w (accepted (run p s.notes)) c.handle ≡ true →
+    fresh_under : accepts_handle w (executed_of p s.notes) c.handle ≡ true → accepts w.window (accepted (run p s.notes)) c.handle ≡ true →
         under c.handle ≡ response c.handle (reply_of s.tree p c) ∷ []
     fresh_under is_so new = fresh_all is_so c.handle (entry_of p c s) (found_later c.handle _ _ (entry_of p c s)
         (accepted_grows w p ms (fresh_state p c s) (fresh_known p c s))
@@ -171,7 +172,7 @@ or_else : Entry → Option Entry → Entry
 or_else d None = d
 or_else d (Some e) = e
 
-replied_fresh : (w : ℕ) (p : Peer) (c : CommandFields) (s : State) (tree : List Object) (C : List Change) (A : List Entry) → accepts w A c.handle ≡ true → s.tree ≡ objects tree C →
+replied_fresh : (w : DeviceSizes) (p : Peer) (c : CommandFields) (s : State) (tree : List Object) (C : List Change) (A : List Entry) → accepts w.window A c.handle ≡ true → s.tree ≡ objects tree C →
     Replied tree C p A → Replied tree (C ++ Executes p c ∷ []) p (A ++ entry_of p c s ∷ [])
 unfolding or_else
 replied_fresh w p c s tree C A new same rep = λ h e f.
@@ -188,7 +189,7 @@ replied_fresh w p c s tree C A new same rep = λ h e f.
         ap (λ (o : Option Entry). response h (or_else e o).reply ∷ []) found
     by h e f false k = rep h e (sym (found_before h A (entry_of p c s) k) ∙ f)
 
-pub messages_replied : (w : ℕ) (p : Peer) (ms : List Msg) (s : State) (tree : List Object) (C : List Change) → is_known s.moment s.notes p ≡ true → s.tree ≡ objects tree C →
+pub messages_replied : (w : DeviceSizes) (p : Peer) (ms : List Msg) (s : State) (tree : List Object) (C : List Change) → is_known s.moment s.notes p ≡ true → s.tree ≡ objects tree C →
     Replied tree C p (accepted (run p s.notes)) →
     Replied tree (C ++ map (Executes p) (accepted_of w (executed_of p s.notes) ms)) p (accepted (run p (after_messages w p ms s).notes))
 messages_replied w p [] s tree C k same rep = subst (λ (x : List Change). Replied tree x p (accepted (run p s.notes))) (sym (append-nil C)) rep

@@ -8,6 +8,7 @@ use Rattle.oca_types.specs.declared.status.Status.{Status}
 use Rattle.oca_types.specs.declared.status.Status.TheVariants as status
 use Rattle.oca_types.specs.Peers.{same_peer, CommandFields}
 use Rattle.oca_types.specs.Status.{status_number}
+use Rattle.oca_types.specs.Sizes.{DeviceSizes}
 use Rattle.oca_pdu.specs.Messages.{Msg, Command, Response, KeepAlive}
 use Rattle.oca_tree.specs.declared.object.Object.{Object}
 use Rattle.oca_tree.specs.declared.request.Request.{Request}
@@ -100,17 +101,17 @@ where_answers : (b : Bool) (xs : List Msg) → AreAnswers xs → AreAnswers (con
 where_answers true xs h = h
 where_answers false xs h = tt
 
-replies_fit : (w : ℕ) (under : ℕ → List Msg) (A : List CommandFields) (ms : List Msg) → ((h : ℕ) → AreAnswers (under h)) → AreAnswers (replies w under A ms)
+replies_fit : (w : DeviceSizes) (under : ℕ → List Msg) (A : List CommandFields) (ms : List Msg) → ((h : ℕ) → AreAnswers (under h)) → AreAnswers (replies w under A ms)
 replies_fit w under A [] u = tt
 replies_fit w under A (Command respond c ∷ ms) u =
     both_answers _ _ (where_answers (respond && (accepts_handle w A c.handle || is_duplicate w A c)) (under c.handle) (u c.handle)) (replies_fit w under (with_command w A c) ms u)
 replies_fit w under A (KeepAlive form ∷ ms) u = (tt, replies_fit w under A ms u)
 replies_fit w under A (Response r ∷ ms) u = replies_fit w under A ms u
 
-pub answers_fit : (w : ℕ) (tree : List Object) (H : List Happening) → AllByRecursion IsAnswer (answers w tree H)
+pub answers_fit : (w : DeviceSizes) (tree : List Object) (H : List Happening) → AllByRecursion IsAnswer (answers w tree H)
 answers_fit w tree [] = tt
 answers_fit w tree (Passes now ∷ H) = tt
 answers_fit w tree (Sets ono value ∷ H) = tt
 answers_fit w tree (Says p ms ∷ H) =
-    replies_fit w (λ h. reply p h [] tree (changes w (Says p ms ∷ H))) (accepted_by w (clock H) p (admitted H)) (served_of p ms H)
+    replies_fit w (λ h. reply p h [] tree (changes w (Says p ms ∷ H))) (accepted_by w (clock H) p (admitted w H)) (served_of w p ms H)
     (λ h. reply_fits p h [] tree (changes w (Says p ms ∷ H)) tt)

@@ -4,6 +4,7 @@ use Rattle.std.specs.Prelude.{map, max, min, not, nat_eq, ◌*◌, ◌&&◌, ◌
 use Rattle.std.proofs.lemmas.List.{append_assoc, append-nil, map-append}
 use Rattle.oca_types.specs.declared.words.Peer.{Peer}
 use Rattle.oca_types.specs.Peers.{same_peer, CommandFields}
+use Rattle.oca_types.specs.Sizes.{DeviceSizes}
 use Rattle.oca_pdu.specs.declared.message.Form.{Form}
 use Rattle.oca_pdu.specs.declared.message.Form.TheVariants.{Seconds, Millis}
 use Rattle.oca_pdu.specs.Messages.{Msg, Command, Response, KeepAlive}
@@ -53,10 +54,10 @@ not_fresh p c s (Some e) = by (asks_the_same e.command c)
     by true = refl
     by false = refl
 
-pub after_judged : (w : ℕ) (p : Peer) (c : CommandFields) (s : State) →
+pub after_judged : (w : DeviceSizes) (p : Peer) (c : CommandFields) (s : State) →
     after_command (judged_in w s p c) p c s ≡ cond (accepts_handle w (executed_of p s.notes) c.handle) (fresh_state p c s) s
 after_judged w p c s =
-    by (accepts w (accepted (run p s.notes)) c.handle) (entry_under c.handle (window w (accepted (run p s.notes))))
+    by (accepts w.window (accepted (run p s.notes)) c.handle) (entry_under c.handle (window w.window (accepted (run p s.notes))))
     ∙ ap (λ b. cond b (fresh_state p c s) s) (accepts_same w (accepted (run p s.notes)) c.handle)
   where
     by : (b : Bool) (o : Option Entry) → after_command (cond b Fresh (judge_unaccepted o c)) p c s ≡ cond b (fresh_state p c s) s
@@ -82,7 +83,7 @@ alive_known p ms s = known_now (alive_note p ms s) s.notes
 
 -- ---- several messages of a known peer
 
-pub messages_executed : (w : ℕ) (p : Peer) (ms : List Msg) (s : State) → is_known s.moment s.notes p ≡ true →
+pub messages_executed : (w : DeviceSizes) (p : Peer) (ms : List Msg) (s : State) → is_known s.moment s.notes p ≡ true →
     executed_of p (after_messages w p ms s).notes ≡ executed_of p s.notes ++ accepted_of w (executed_of p s.notes) ms
 messages_executed w p [] s k = sym (append-nil (executed_of p s.notes))
 messages_executed w p (Command respond c ∷ ms) s k =
@@ -105,7 +106,7 @@ messages_executed w p (KeepAlive form ∷ ms) s k =
     ∙ ap (λ (B : List CommandFields). B ++ accepted_of w B ms) (alive_executed p (time_of form) s k)
 messages_executed w p (Response r ∷ ms) s k = messages_executed w p ms s k
 
-pub messages_tree : (w : ℕ) (p : Peer) (ms : List Msg) (s : State) → is_known s.moment s.notes p ≡ true →
+pub messages_tree : (w : DeviceSizes) (p : Peer) (ms : List Msg) (s : State) → is_known s.moment s.notes p ≡ true →
     (after_messages w p ms s).tree ≡ objects s.tree (map (Executes p) (accepted_of w (executed_of p s.notes) ms))
 messages_tree w p [] s k = refl
 messages_tree w p (Command respond c ∷ ms) s k =
@@ -127,7 +128,7 @@ messages_tree w p (KeepAlive form ∷ ms) s k =
     ∙ ap (λ (B : List CommandFields). objects s.tree (map (Executes p) (accepted_of w B ms))) (alive_executed p (time_of form) s k)
 messages_tree w p (Response r ∷ ms) s k = messages_tree w p ms s k
 
-pub messages_moment : (w : ℕ) (p : Peer) (ms : List Msg) (s : State) → (after_messages w p ms s).moment ≡ s.moment
+pub messages_moment : (w : DeviceSizes) (p : Peer) (ms : List Msg) (s : State) → (after_messages w p ms s).moment ≡ s.moment
 messages_moment w p [] s = refl
 messages_moment w p (Command respond c ∷ ms) s =
     ap (λ (x : State). (after_messages w p ms x).moment) (after_judged w p c s)
@@ -143,7 +144,7 @@ messages_moment w p (Response r ∷ ms) s = messages_moment w p ms s
 pub other_note : (n : Note) (notes : List Note) (q : Peer) → same_peer n.peer q ≡ false → notes_of q (n ∷ notes) ≡ notes_of q notes
 other_note n notes q h = ap (λ b. cond b (n ∷ notes_of q notes) (notes_of q notes)) h
 
-pub messages_other : (w : ℕ) (p q : Peer) (ms : List Msg) (s : State) → same_peer p q ≡ false → notes_of q (after_messages w p ms s).notes ≡ notes_of q s.notes
+pub messages_other : (w : DeviceSizes) (p q : Peer) (ms : List Msg) (s : State) → same_peer p q ≡ false → notes_of q (after_messages w p ms s).notes ≡ notes_of q s.notes
 messages_other w p q [] s h = refl
 messages_other w p q (Command respond c ∷ ms) s h =
     ap (λ (x : State). notes_of q (after_messages w p ms x).notes) (after_judged w p c s)
@@ -163,7 +164,7 @@ messages_other w p q (Response r ∷ ms) s h = messages_other w p q ms s h
 
 -- ---- the heartbeat
 
-heartbeat_command : (w : ℕ) (p : Peer) (c : CommandFields) (b : Bool) (s : State) → is_known s.moment s.notes p ≡ true →
+heartbeat_command : (w : DeviceSizes) (p : Peer) (c : CommandFields) (b : Bool) (s : State) → is_known s.moment s.notes p ≡ true →
     heartbeat_of (run p (cond b (fresh_state p c s) s).notes) ≡ heartbeat_of (run p s.notes)
 heartbeat_command w p c true s k = ap heartbeat_of (run_goes_on (fresh_note p c s) s.notes k)
 heartbeat_command w p c false s k = refl
@@ -173,7 +174,7 @@ known_command : (p : Peer) (c : CommandFields) (b : Bool) (s : State) → is_kno
 known_command p c true s k = fresh_known p c s
 known_command p c false s k = k
 
-pub messages_heartbeat : (w : ℕ) (p : Peer) (ms : List Msg) (s : State) → is_known s.moment s.notes p ≡ true →
+pub messages_heartbeat : (w : DeviceSizes) (p : Peer) (ms : List Msg) (s : State) → is_known s.moment s.notes p ≡ true →
     heartbeat_of (run p (after_messages w p ms s).notes) ≡ heartbeat (heartbeat_of (run p s.notes)) ms
 messages_heartbeat w p [] s k = refl
 messages_heartbeat w p (Command respond c ∷ ms) s k =
@@ -198,16 +199,16 @@ heartbeat_both b (Response r ∷ xs) ys = heartbeat_both b xs ys
 
 -- ---- the counts
 
-pub distinct_next : (w : ℕ) (p : Peer) (c : CommandFields) (s : State) → is_known s.moment s.notes p ≡ true → AreDistinct (executed_of p s.notes) →
+pub distinct_next : (w : DeviceSizes) (p : Peer) (c : CommandFields) (s : State) → is_known s.moment s.notes p ≡ true → AreDistinct (executed_of p s.notes) →
     accepts_handle w (executed_of p s.notes) c.handle ≡ true → AreDistinct (executed_of p (fresh_state p c s).notes)
 distinct_next w p c s k d is_so =
     subst (λ (x : List CommandFields). AreDistinct x) (sym (fresh_executed p c s k))
     (subst (λ (b : Bool). AreDistinct (cond b (executed_of p s.notes ++ c ∷ []) (executed_of p s.notes))) is_so (distinct_after w (executed_of p s.notes) c d))
 
-command_counted : (w : ℕ) (p : Peer) (c : CommandFields) (s : State) → AreDistinct (executed_of p s.notes) →
+command_counted : (w : DeviceSizes) (p : Peer) (c : CommandFields) (s : State) → AreDistinct (executed_of p s.notes) →
     count_of_command (judged_in w s p c) ≡ counted w (executed_of p s.notes) c
 command_counted w p c s d =
-    by (accepts w A c.handle) (entry_under c.handle (window w A))
+    by (accepts w.window A c.handle) (entry_under c.handle (window w.window A))
     ∙ ap (λ b. cond b (counts 1 0 0 0) (cond (asks_so (λ x. x) o c) (counts 0 1 0 0) (cond (asks_so not o c) (counts 0 0 0 1) (counts 0 0 1 0)))) (accepts_same w A c.handle)
     ∙ ap (λ b. cond (accepts_handle w (commands_of A) c.handle) (counts 1 0 0 0) (cond b (counts 0 1 0 0) (cond (asks_so not o c) (counts 0 0 0 1) (counts 0 0 1 0)))) (sym (duplicate_is w A c d))
     ∙ ap (λ b. cond (accepts_handle w (commands_of A) c.handle) (counts 1 0 0 0) (cond (is_duplicate w (commands_of A) c) (counts 0 1 0 0) (cond b (counts 0 0 0 1) (counts 0 0 1 0)))) (sym (reuse_is w A c d))
@@ -216,7 +217,7 @@ command_counted w p c s d =
     A = accepted (run p s.notes)
 
     o : Option Entry
-    o = entry_under c.handle (window w A)
+    o = entry_under c.handle (window w.window A)
 
     by_asked : (e : Entry) (k : Bool) → count_of_command (cond k (Duplicate e.reply) Reused) ≡ cond k (counts 0 1 0 0) (cond (not k) (counts 0 0 0 1) (counts 0 0 1 0))
     by_asked e true = refl
@@ -228,7 +229,7 @@ command_counted w p c s d =
     by false None = refl
     by false (Some e) = by_asked e (asks_the_same e.command c)
 
-pub messages_counted : (w : ℕ) (p : Peer) (ms : List Msg) (s : State) → is_known s.moment s.notes p ≡ true → AreDistinct (executed_of p s.notes) →
+pub messages_counted : (w : DeviceSizes) (p : Peer) (ms : List Msg) (s : State) → is_known s.moment s.notes p ≡ true → AreDistinct (executed_of p s.notes) →
     counts_of_messages w p ms s ≡ all_counted w (executed_of p s.notes) ms
 messages_counted w p [] s k d = refl
 messages_counted w p (Command respond c ∷ ms) s k d =

@@ -1,5 +1,6 @@
 -- A device that is in a state, seen as its parts.
 use Rattle.std.proofs.Common.{◌≡◌, ℕ, List, sym, subst}
+use Rattle.oca_types.specs.Sizes.{DeviceSizes}
 use Rattle.oca_tree.specs.declared.object.Object.{Object}
 use Rattle.oca_session.specs.Table.{Table}
 use Rattle.oca_device.specs.States.{State}
@@ -8,5 +9,5 @@ use Rattle.oca_device.specs.Devices.{DeviceState, IsIn}
 abbrev pub device_with : List Object → Table → DeviceState
 device_with tree sessions = record { tree = tree; sessions = sessions }
 
-pub parts_in : (tree : List Object) (sessions : Table) (d : DeviceState) (w : ℕ) (s : State) → device_with tree sessions ≡ d → IsIn w d s → IsIn w (device_with tree sessions) s
+pub parts_in : (tree : List Object) (sessions : Table) (d : DeviceState) (w : DeviceSizes) (s : State) → device_with tree sessions ≡ d → IsIn w d s → IsIn w (device_with tree sessions) s
 parts_in tree sessions d w s e h = subst (λ (x : DeviceState). IsIn w x s) (sym e) h

@@ -5,6 +5,7 @@ use Rattle.std.proofs.lemmas.Bool.Decides.{nat_tests}
 use Rattle.std.proofs.lemmas.List.Folds.{list_any-append}
 use Rattle.oca_types.specs.declared.words.Peer.{Peer}
 use Rattle.oca_types.specs.Peers.{same_peer}
+use Rattle.oca_types.specs.Sizes.{DeviceSizes}
 use Rattle.oca_pdu.specs.Messages.{Msg}
 use Rattle.oca_session.specs.Accepted.{retained_of}
 use Rattle.oca_session.specs.Table.{Session, Table, session_of, changed, lapsed, stays, is_lapsed, staying, with_moment_and_sessions}
@@ -115,7 +116,7 @@ known_begins n ns k =
         ∙ ap (is_within n.at) (other_notes n ns q s)
 
 -- who is known at a later moment
-known_later : (m t : ℕ) (ns : List Note) → m ≤ t → (w : ℕ) → filter (λ q. stays t (session_for w ns q)) (known m ns) ≡ known t ns
+known_later : (m t : ℕ) (ns : List Note) → m ≤ t → (w : DeviceSizes) → filter (λ q. stays t (session_for w ns q)) (known m ns) ≡ known t ns
 known_later m t ns le w = filter_both (λ q. stays t (session_for w ns q)) (is_known m ns) (is_known t ns) (λ q. by_notes (notes_of q ns)) (opened ns)
   where
     both_within : (a : ℕ) → (nat_le (m - a) 120000 && nat_le (t - a) 120000) ≡ nat_le (t - a) 120000
@@ -126,31 +127,31 @@ known_later m t ns le w = filter_both (λ q. stays t (session_for w ns q)) (is_k
     by_notes (n ∷ own) = both_within n.at
 
 -- other peers' sessions stay
-other_session : (w : ℕ) (n : Note) (ns : List Note) (q : Peer) → same_peer q n.peer ≡ false → session_for w ns q ≡ session_for w (n ∷ ns) q
+other_session : (w : DeviceSizes) (n : Note) (ns : List Note) (q : Peer) → same_peer q n.peer ≡ false → session_for w ns q ≡ session_for w (n ∷ ns) q
 other_session w n ns q h =
-    ap (λ (own : List Note). let s : Session = record { peer = q; heard = last_moment (unbroken own); heartbeat = heartbeat_of (unbroken own); retained = retained_of w (accepted (unbroken own)) } in s)
+    ap (λ (own : List Note). let s : Session = record { peer = q; heard = last_moment (unbroken own); heartbeat = heartbeat_of (unbroken own); retained = retained_of w.window (accepted (unbroken own)) } in s)
     (sym (other_notes n ns q (same_turned n.peer q ∙ h)))
 
 -- The clock moves.
-pub table_moved : (w t : ℕ) (s : State) → s.moment ≤ t → with_moment_and_sessions (table_of w s) t (staying t (table_of w s).sessions) ≡ table_of w (moved_to t s)
+pub table_moved : (w : DeviceSizes) (t : ℕ) (s : State) → s.moment ≤ t → with_moment_and_sessions (table_of w s) t (staying t (table_of w s).sessions) ≡ table_of w (moved_to t s)
 table_moved w t s le =
-    ap (λ ss. let x : Table = record { sizes = record { window = w; peers = 16 }; moment = t; sessions = ss } in x)
+    ap (λ ss. let x : Table = record { sizes = w; moment = t; sessions = ss } in x)
     (filter_mapped (stays t) (session_for w s.notes) (known s.moment s.notes)
     ∙ ap (map (session_for w s.notes)) (known_later s.moment t s.notes le w))
 
-pub lapsed_moved : (w t : ℕ) (s : State) → lapsed t (table_of w s).sessions ≡ lapsed_at t s
+pub lapsed_moved : (w : DeviceSizes) (t : ℕ) (s : State) → lapsed t (table_of w s).sessions ≡ lapsed_at t s
 lapsed_moved w t s =
     ap (map (λ (x : Session). x.peer)) (filter_mapped (is_lapsed t) (session_for w s.notes) (known s.moment s.notes))
     ∙ map_back (session_for w s.notes) (λ (x : Session). x.peer) (λ _. refl) (lapsed_at t s)
 
 -- The session of a known peer.
-pub session_known : (w : ℕ) (s : State) (p : Peer) → session_of p (table_of w s).sessions ≡ cond (is_known s.moment s.notes p) (Some (session_for w s.notes p)) None
+pub session_known : (w : DeviceSizes) (s : State) (p : Peer) → session_of p (table_of w s).sessions ≡ cond (is_known s.moment s.notes p) (Some (session_for w s.notes p)) None
 session_known w s p =
     session_made (session_for w s.notes) (λ _. refl) p (known s.moment s.notes)
     ∙ ap (λ b. cond b (Some (session_for w s.notes p)) None) (known_has s.moment s.notes p)
 
 -- A note of a known peer changes its session alone.
-pub table_noted : (w : ℕ) (s : State) (p : Peer) (what : Noted) (f : Session → Session) → is_known s.moment s.notes p ≡ true →
+pub table_noted : (w : DeviceSizes) (s : State) (p : Peer) (what : Noted) (f : Session → Session) → is_known s.moment s.notes p ≡ true →
     f (session_for w s.notes p) ≡ session_for w (noted p what s).notes p →
     changed p f (table_of w s).sessions ≡ (table_of w (noted p what s)).sessions
 table_noted w s p what f k e =
@@ -159,14 +160,14 @@ table_noted w s p what f k e =
     ∙ ap (map (session_for w (n ∷ s.notes))) (sym (known_goes_on n s.notes k))
 
 -- The first note of a run adds a session.
-pub table_opened : (w : ℕ) (s : State) (p : Peer) (messages : List Msg) → is_known s.moment s.notes p ≡ false →
-    (table_of w s).sessions ++ table.opened_session w p s.moment ∷ [] ≡ (table_of w (noted p (Admitted messages) s)).sessions
+pub table_opened : (w : DeviceSizes) (s : State) (p : Peer) (messages : List Msg) → is_known s.moment s.notes p ≡ false →
+    (table_of w s).sessions ++ table.opened_session w.window p s.moment ∷ [] ≡ (table_of w (noted p (Admitted messages) s)).sessions
 table_opened w s p messages k =
     let n : Note = record { peer = p; at = s.moment; what = Admitted messages } in
     let ks = known s.moment s.notes in
     let made = session_for w (n ∷ s.notes) in
-    let new : table.opened_session w p s.moment ≡ made p =
-    ap (λ (own : List Note). let x : Session = record { peer = p; heard = last_moment own; heartbeat = heartbeat_of own; retained = retained_of w (accepted own) } in x) (sym (run_begins n s.notes k)) in
+    let new : table.opened_session w.window p s.moment ≡ made p =
+    ap (λ (own : List Note). let x : Session = record { peer = p; heard = last_moment own; heartbeat = heartbeat_of own; retained = retained_of w.window (accepted own) } in x) (sym (run_begins n s.notes k)) in
     ap (λ x. map (session_for w s.notes) ks ++ x ∷ []) new
     ∙ ap (λ xs. xs ++ made p ∷ []) (made_alike (session_for w s.notes) (λ _. refl) made p (other_session w n s.notes) ks (known_has s.moment s.notes p ∙ k))
     ∙ sym (map_appended made ks (p ∷ []))

@@ -4,6 +4,7 @@ use Rattle.std.specs.Prelude.{map, filter, not, ◌&&◌, ◌||◌, ◌-◌, ◌
 use Rattle.std.proofs.lemmas.List.{append-nil}
 use Rattle.oca_types.specs.declared.words.Peer.{Peer}
 use Rattle.oca_types.specs.Peers.{same_peer, CommandFields}
+use Rattle.oca_types.specs.Sizes.{DeviceSizes}
 use Rattle.oca_pdu.specs.Messages.{Msg, Command, Response, KeepAlive}
 use Rattle.oca_device.specs.Notes.{Noted, Admitted, Heartbeat, Executed, Note, notes_of, is_within, unbroken, run, is_known, peers_except, opened, known, accepted, heartbeat_of, last_moment, has_lapsed}
 use Rattle.oca_device.specs.States.{State, noted, admits, judged_in, reply_of, after_command, after_messages, time_of, lapsed_at}
@@ -48,13 +49,13 @@ known_where t q D = ap is_open (session_latest t q D) ∙ open_where t (latest q
 
 -- ---- the notes of a peer say of its session what its admitted datagrams say
 
-pub record Bridged (w : ℕ) (own : List Note) (S : List Arrival) : Type 0 where
+pub record Bridged (w : DeviceSizes) (own : List Note) (S : List Arrival) : Type 0 where
   pub moments : (t : ℕ) → is_within t own ≡ within t S
   pub last : last_moment (unbroken own) ≡ law.last_moment S
   pub beat : heartbeat_of (unbroken own) ≡ law.heartbeat_of S
   pub commands : commands_of (accepted (unbroken own)) ≡ accepted_of w [] (said S)
 
-pub none_bridged : (w : ℕ) → Bridged w [] []
+pub none_bridged : (w : DeviceSizes) → Bridged w [] []
 none_bridged w = record { moments = λ t. refl; last = refl; beat = refl; commands = refl }
 
 -- each note of a datagram has its moment
@@ -73,7 +74,7 @@ noted_now p what s = (
 moved_now : (p : Peer) (s : State) (a b : ℕ) → a ≡ b → IsNow p s a → IsNow p s b
 moved_now p s a b e h = subst (λ (x : ℕ). IsNow p s x) e h
 
-messages_now : (w : ℕ) (p : Peer) (ms : List Msg) (s : State) (at : ℕ) → s.moment ≡ at → IsNow p s at → IsNow p (after_messages w p ms s) at
+messages_now : (w : DeviceSizes) (p : Peer) (ms : List Msg) (s : State) (at : ℕ) → s.moment ≡ at → IsNow p s at → IsNow p (after_messages w p ms s) at
 messages_now w p [] s at e h = h
 messages_now w p (Command respond c ∷ ms) s at e h =
     subst (λ (x : State). IsNow p (after_messages w p ms x) at) (sym (after_judged w p c s))
@@ -103,12 +104,12 @@ abbrev pub arrival : Peer → List Msg → ℕ → Arrival
 arrival p ms t = record { from = p; messages = ms; at = t }
 
 -- the session of the moment, where its peer is known or not
-session_now : (w : ℕ) (p : Peer) (s : State) (D : List Arrival) (b : Bool) → Bridged w (notes_of p s.notes) (latest p D) → is_known s.moment s.notes p ≡ b →
+session_now : (w : DeviceSizes) (p : Peer) (s : State) (D : List Arrival) (b : Bool) → Bridged w (notes_of p s.notes) (latest p D) → is_known s.moment s.notes p ≡ b →
     session s.moment p D ≡ cond b (latest p D) []
 session_now w p s D b h k = session_latest s.moment p D ∙ ap (λ x. cond x (latest p D) []) (sym (h.moments s.moment) ∙ k)
 
 -- who is let in has what its present session has
-let_in_beat : (w : ℕ) (p : Peer) (ms : List Msg) (s : State) (D : List Arrival) → Bridged w (notes_of p s.notes) (latest p D) →
+let_in_beat : (w : DeviceSizes) (p : Peer) (ms : List Msg) (s : State) (D : List Arrival) → Bridged w (notes_of p s.notes) (latest p D) →
     heartbeat_of (run p (let_in p ms s).notes) ≡ law.heartbeat_of (session s.moment p D)
 let_in_beat w p ms s D h = by (is_known s.moment s.notes p) refl
   where
@@ -116,7 +117,7 @@ let_in_beat w p ms s D h = by (is_known s.moment s.notes p) refl
     by true k = ap heartbeat_of (run_goes_on (let_in_note p ms s) s.notes k) ∙ h.beat ∙ ap law.heartbeat_of (sym (session_now w p s D true h k))
     by false k = ap heartbeat_of (run_begins (let_in_note p ms s) s.notes k) ∙ ap law.heartbeat_of (sym (session_now w p s D false h k))
 
-pub let_in_executed : (w : ℕ) (p : Peer) (ms : List Msg) (s : State) (D : List Arrival) → Bridged w (notes_of p s.notes) (latest p D) →
+pub let_in_executed : (w : DeviceSizes) (p : Peer) (ms : List Msg) (s : State) (D : List Arrival) → Bridged w (notes_of p s.notes) (latest p D) →
     executed_of p (let_in p ms s).notes ≡ accepted_of w [] (said (session s.moment p D))
 let_in_executed w p ms s D h = by (is_known s.moment s.notes p) refl
   where
@@ -127,7 +128,7 @@ let_in_executed w p ms s D h = by (is_known s.moment s.notes p) refl
         ∙ ap (λ (x : List Arrival). accepted_of w [] (said x)) (sym (session_now w p s D false h k))
 
 -- an admitted datagram keeps the bridge of its own peer
-own_bridged : (w : ℕ) (p : Peer) (ms : List Msg) (s : State) (D : List Arrival) → Bridged w (notes_of p s.notes) (latest p D) →
+own_bridged : (w : DeviceSizes) (p : Peer) (ms : List Msg) (s : State) (D : List Arrival) → Bridged w (notes_of p s.notes) (latest p D) →
     Bridged w (notes_of p (after_messages w p ms (let_in p ms s)).notes) (latest p (arrival p ms s.moment ∷ D))
 own_bridged w p ms s D h =
     subst (λ (b : Bool). Bridged w (notes_of p (after_messages w p ms (let_in p ms s)).notes) (cond (not b) (latest p D) (arrival p ms s.moment ∷ session s.moment p D))) (sym (same_self p))
@@ -149,7 +150,7 @@ own_bridged w p ms s D h =
     now = messages_now w p ms (let_in p ms s) s.moment refl (noted_now p (Admitted ms) s)
 
 -- and of any other peer
-other_bridged : (w : ℕ) (p q : Peer) (ms : List Msg) (s : State) (D : List Arrival) → same_peer p q ≡ false → Bridged w (notes_of q s.notes) (latest q D) →
+other_bridged : (w : DeviceSizes) (p q : Peer) (ms : List Msg) (s : State) (D : List Arrival) → same_peer p q ≡ false → Bridged w (notes_of q s.notes) (latest q D) →
     Bridged w (notes_of q (after_messages w p ms (let_in p ms s)).notes) (latest q (arrival p ms s.moment ∷ D))
 other_bridged w p q ms s D e h =
     subst (λ (b : Bool). Bridged w (notes_of q (after_messages w p ms (let_in p ms s)).notes) (cond (not b) (latest q D) (arrival p ms s.moment ∷ session s.moment q D))) (sym e)
@@ -157,7 +158,7 @@ other_bridged w p q ms s D e h =
 
 -- ---- who opened
 
-messages_opened : (w : ℕ) (p : Peer) (ms : List Msg) (s : State) → is_known s.moment s.notes p ≡ true → opened (after_messages w p ms s).notes ≡ opened s.notes
+messages_opened : (w : DeviceSizes) (p : Peer) (ms : List Msg) (s : State) → is_known s.moment s.notes p ≡ true → opened (after_messages w p ms s).notes ≡ opened s.notes
 messages_opened w p [] s k = refl
 messages_opened w p (Command respond c ∷ ms) s k =
     ap (λ (x : State). opened (after_messages w p ms x).notes) (after_judged w p c s)
@@ -175,24 +176,24 @@ messages_opened w p (Response r ∷ ms) s k = messages_opened w p ms s k
 
 -- ---- all peers
 
-pub record AllBridged (w : ℕ) (s : State) (D : List Arrival) : Type 0 where
+pub record AllBridged (w : DeviceSizes) (s : State) (D : List Arrival) : Type 0 where
   pub each : (q : Peer) → Bridged w (notes_of q s.notes) (latest q D)
   pub opened_is : opened s.notes ≡ law.opened D
 
-pub same_known : (w t : ℕ) (s : State) (D : List Arrival) → AllBridged w s D → (p : Peer) → is_known t s.notes p ≡ law.is_known t p D
+pub same_known : (w : DeviceSizes) (t : ℕ) (s : State) (D : List Arrival) → AllBridged w s D → (p : Peer) → is_known t s.notes p ≡ law.is_known t p D
 same_known w t s D h p = (h.each p).moments t ∙ sym (known_where t p D)
 
-pub known_are : (w t : ℕ) (s : State) (D : List Arrival) → AllBridged w s D → known t s.notes ≡ law.known t D
+pub known_are : (w : DeviceSizes) (t : ℕ) (s : State) (D : List Arrival) → AllBridged w s D → known t s.notes ≡ law.known t D
 known_are w t s D h = filter_same (is_known t s.notes) (λ p. law.is_known t p D) (same_known w t s D h) (opened s.notes)
     ∙ ap (filter (λ p. law.is_known t p D)) h.opened_is
 
-pub same_room : (w : ℕ) (s : State) (p : Peer) (D : List Arrival) → AllBridged w s D → admits s p ≡ has_room s.moment p D
+pub same_room : (w : DeviceSizes) (s : State) (p : Peer) (D : List Arrival) → AllBridged w s D → admits w s p ≡ has_room w s.moment p D
 same_room w s p D h =
-    ap (λ b. b || nat_lt (length (known s.moment s.notes)) 16) (same_known w s.moment s D h p)
-    ∙ ap (λ (ps : List Peer). law.is_known s.moment p D || nat_lt (length ps) 16) (known_are w s.moment s D h)
+    ap (λ b. b || nat_lt (length (known s.moment s.notes)) w.peers) (same_known w s.moment s D h p)
+    ∙ ap (λ (ps : List Peer). law.is_known s.moment p D || nat_lt (length ps) w.peers) (known_are w s.moment s D h)
 
 -- an admitted datagram keeps the bridges
-pub let_in_bridged : (w : ℕ) (p : Peer) (ms : List Msg) (s : State) (D : List Arrival) → AllBridged w s D → AllBridged w (after_messages w p ms (let_in p ms s)) (arrival p ms s.moment ∷ D)
+pub let_in_bridged : (w : DeviceSizes) (p : Peer) (ms : List Msg) (s : State) (D : List Arrival) → AllBridged w s D → AllBridged w (after_messages w p ms (let_in p ms s)) (arrival p ms s.moment ∷ D)
 let_in_bridged w p ms s D h = record {
   each = λ q. by q (same_peer p q) refl;
   opened_is = messages_opened w p ms (let_in p ms s) (let_in_known p ms s)
@@ -209,7 +210,7 @@ let_in_bridged w p ms s D h = record {
 
 -- ---- who has lapsed
 
-pub same_lapsed : (w t : ℕ) (s : State) (H : List Happening) → s.moment ≡ clock H → AllBridged w s (admitted H) → lapsed_at t s ≡ lapsed t H
+pub same_lapsed : (w : DeviceSizes) (t : ℕ) (s : State) (H : List Happening) → s.moment ≡ clock H → AllBridged w s (admitted w H) → lapsed_at t s ≡ lapsed w t H
 same_lapsed w t s H c h =
     filter_both (has_lapsed t s.notes) (is_known s.moment s.notes) both (λ p. refl) (opened s.notes)
     ∙ filter_same both both' same (opened s.notes)
@@ -217,7 +218,7 @@ same_lapsed w t s H c h =
     ∙ sym (filter_both (λ p. is_lapsed t (session (clock H) p D)) (λ p. law.is_known (clock H) p D) both' (λ p. refl) (law.opened D))
   where
     D : List Arrival
-    D = admitted H
+    D = admitted w H
 
     both : Peer → Bool
     both p = is_known s.moment s.notes p && has_lapsed t s.notes p
@@ -239,5 +240,5 @@ same_lapsed w t s H c h =
         by false k = ap (λ b. b && is_lapsed t (session s.moment p D)) (sym k ∙ same_known w s.moment s D h p)
 
 -- what is known of a known peer
-pub session_is : (w : ℕ) (s : State) (D : List Arrival) (p : Peer) → AllBridged w s D → is_known s.moment s.notes p ≡ true → session s.moment p D ≡ latest p D
+pub session_is : (w : DeviceSizes) (s : State) (D : List Arrival) (p : Peer) → AllBridged w s D → is_known s.moment s.notes p ≡ true → session s.moment p D ≡ latest p D
 session_is w s D p h k = session_now w p s D true (h.each p) k

@@ -5,6 +5,7 @@ use Rattle.std.specs.List.{flat_map}
 use Rattle.std.proofs.lemmas.List.{append-nil}
 use Rattle.oca_types.specs.declared.words.Peer.{Peer}
 use Rattle.oca_types.specs.Peers.{same_peer, CommandFields}
+use Rattle.oca_types.specs.Sizes.{DeviceSizes}
 use Rattle.oca_pdu.specs.declared.fault.PduFault.{PduFault}
 use Rattle.oca_pdu.specs.Messages.{Msg, Pdu, messages_of}
 use Rattle.oca_pdu.specs.Encoding.{IsDatagram}
@@ -66,23 +67,23 @@ happened exact (Datagram p bytes now ∷ E) b = by (happened exact E b.1) (read_
 
 -- ---- a state stands by what happened
 
-pub record StandsAt (w : ℕ) (tree : List Object) (s : State) (t : ℕ) (D : List Arrival) (C : List Change) : Type 0 where
+pub record StandsAt (w : DeviceSizes) (tree : List Object) (s : State) (t : ℕ) (D : List Arrival) (C : List Change) : Type 0 where
   pub clock_is : s.moment ≡ t
   pub bridged : AllBridged w s D
   pub tree_is : s.tree ≡ objects tree C
   pub replied : (q : Peer) → Replied tree C q (accepted (run q s.notes))
 
-abbrev pub Stands : ℕ → List Object → State → List Happening → Type 0
-Stands w tree s H = StandsAt w tree s (clock H) (admitted H) (changes w H)
+abbrev pub Stands : DeviceSizes → List Object → State → List Happening → Type 0
+Stands w tree s H = StandsAt w tree s (clock H) (admitted w H) (changes w H)
 
 objects_released : (ps : List Peer) (tree : List Object) → objects tree (map Releases ps) ≡ released_all ps tree
 objects_released [] tree = refl
 objects_released (p ∷ ps) tree = objects_released ps (released tree p)
 
-pub passing : (w : ℕ) (tree : List Object) (now : ℕ) (s : State) (H : List Happening) → Stands w tree s H → Stands w tree (moved_to (max s.moment now) s) (Passes now ∷ H)
+pub passing : (w : DeviceSizes) (tree : List Object) (now : ℕ) (s : State) (H : List Happening) → Stands w tree s H → Stands w tree (moved_to (max s.moment now) s) (Passes now ∷ H)
 passing w tree now s H h =
     let t = max (clock H) now in
-    let ps = lapsed t H in
+    let ps = lapsed w t H in
     let e = ap (λ (m : ℕ). max m now) h.clock_is in
     record {
       clock_is = e;
@@ -96,7 +97,7 @@ passing w tree now s H h =
     }
 
 -- the front sets: who is known and what was answered stays
-pub setting : (w : ℕ) (tree : List Object) (ono : ℕ) (value : LocalValue) (s : State) (H : List Happening) → Stands w tree s H → Stands w tree (after_local ono value s) (Sets ono value ∷ H)
+pub setting : (w : DeviceSizes) (tree : List Object) (ono : ℕ) (value : LocalValue) (s : State) (H : List Happening) → Stands w tree s H → Stands w tree (after_local ono value s) (Sets ono value ∷ H)
 setting w tree ono value s H h =
     let C = changes w H in
     record {
@@ -107,7 +108,7 @@ setting w tree ono value s H h =
     }
 
 -- a datagram that is let in
-module _ (w : ℕ) (tree : List Object) (p : Peer) (ms : List Msg) (s : State) (D : List Arrival) (C : List Change) (h : StandsAt w tree s s.moment D C) where
+module _ (w : DeviceSizes) (tree : List Object) (p : Peer) (ms : List Msg) (s : State) (D : List Arrival) (C : List Change) (h : StandsAt w tree s s.moment D C) where
   abbrev A : List CommandFields
   A = accepted_by w s.moment p D
 
@@ -156,21 +157,21 @@ module _ (w : ℕ) (tree : List Object) (p : Peer) (ms : List Msg) (s : State) (
   counts_let_in = messages_counted w p ms (let_in p ms s) (let_in_known p ms s) executed_distinct ∙ ap (λ (x : List CommandFields). all_counted w x ms) same_executed
 
 -- what a datagram of messages makes of a state, and what is answered and said of it
-abbrev saying_changes : ℕ → Peer → List Msg → ℕ → List Arrival → List Change → List Change
-saying_changes w p ms t D C = C ++ map (Executes p) (accepted_of w (accepted_by w t p D) (cond (has_room t p D) ms []))
+abbrev saying_changes : DeviceSizes → Peer → List Msg → ℕ → List Arrival → List Change → List Change
+saying_changes w p ms t D C = C ++ map (Executes p) (accepted_of w (accepted_by w t p D) (cond (has_room w t p D) ms []))
 
-pub record SaysSo (w : ℕ) (tree : List Object) (p : Peer) (ms : List Msg) (s : State) (t : ℕ) (D : List Arrival) (C : List Change) : Type 0 where
-  pub stands_so : StandsAt w tree (after_reading w p (Ok ms) s) t (cond (has_room t p D) (arrival p ms t ∷ D) D) (saying_changes w p ms t D C)
-  pub answers_so : answers_to_reading w p (Ok ms) s ≡ replies w (λ i. reply p i [] tree (saying_changes w p ms t D C)) (accepted_by w t p D) (cond (has_room t p D) ms [])
-  pub verdict_so : verdict_of_reading w p (Ok ms) s ≡ cond (has_room t p D) (served (all_counted w (accepted_by w t p D) ms)) verdicts.NoRoom
+pub record SaysSo (w : DeviceSizes) (tree : List Object) (p : Peer) (ms : List Msg) (s : State) (t : ℕ) (D : List Arrival) (C : List Change) : Type 0 where
+  pub stands_so : StandsAt w tree (after_reading w p (Ok ms) s) t (cond (has_room w t p D) (arrival p ms t ∷ D) D) (saying_changes w p ms t D C)
+  pub answers_so : answers_to_reading w p (Ok ms) s ≡ replies w (λ i. reply p i [] tree (saying_changes w p ms t D C)) (accepted_by w t p D) (cond (has_room w t p D) ms [])
+  pub verdict_so : verdict_of_reading w p (Ok ms) s ≡ cond (has_room w t p D) (served (all_counted w (accepted_by w t p D) ms)) verdicts.NoRoom
 
-saying_now : (w : ℕ) (tree : List Object) (p : Peer) (ms : List Msg) (s : State) (D : List Arrival) (C : List Change) → StandsAt w tree s s.moment D C →
-    (b : Bool) → admits s p ≡ b → has_room s.moment p D ≡ b → SaysSo w tree p ms s s.moment D C
+saying_now : (w : DeviceSizes) (tree : List Object) (p : Peer) (ms : List Msg) (s : State) (D : List Arrival) (C : List Change) → StandsAt w tree s s.moment D C →
+    (b : Bool) → admits w s p ≡ b → has_room w s.moment p D ≡ b → SaysSo w tree p ms s s.moment D C
 saying_now w tree p ms s D C h true a r =
     let A = accepted_by w s.moment p D in
     record {
-      stands_so = subst (λ (x : Bool). StandsAt w tree (cond x (after_messages w p ms (let_in p ms s)) s) s.moment (cond (has_room s.moment p D) (arrival p ms s.moment ∷ D) D)
-          (C ++ map (Executes p) (accepted_of w A (cond (has_room s.moment p D) ms [])))) (sym a)
+      stands_so = subst (λ (x : Bool). StandsAt w tree (cond x (after_messages w p ms (let_in p ms s)) s) s.moment (cond (has_room w s.moment p D) (arrival p ms s.moment ∷ D) D)
+          (C ++ map (Executes p) (accepted_of w A (cond (has_room w s.moment p D) ms [])))) (sym a)
           (subst (λ (x : Bool). StandsAt w tree (after_messages w p ms (let_in p ms s)) s.moment (cond x (arrival p ms s.moment ∷ D) D)
           (C ++ map (Executes p) (accepted_of w A (cond x ms [])))) (sym r) (stands_let_in w tree p ms s D C h));
       answers_so = ap (λ (x : Bool). cond x (answers_to_messages w p ms (let_in p ms s)) []) a
@@ -183,8 +184,8 @@ saying_now w tree p ms s D C h true a r =
 saying_now w tree p ms s D C h false a r =
     let A = accepted_by w s.moment p D in
     record {
-      stands_so = subst (λ (x : Bool). StandsAt w tree (cond x (after_messages w p ms (let_in p ms s)) s) s.moment (cond (has_room s.moment p D) (arrival p ms s.moment ∷ D) D)
-          (C ++ map (Executes p) (accepted_of w A (cond (has_room s.moment p D) ms [])))) (sym a)
+      stands_so = subst (λ (x : Bool). StandsAt w tree (cond x (after_messages w p ms (let_in p ms s)) s) s.moment (cond (has_room w s.moment p D) (arrival p ms s.moment ∷ D) D)
+          (C ++ map (Executes p) (accepted_of w A (cond (has_room w s.moment p D) ms [])))) (sym a)
           (subst (λ (x : Bool). StandsAt w tree s s.moment (cond x (arrival p ms s.moment ∷ D) D)
           (C ++ map (Executes p) (accepted_of w A (cond x ms [])))) (sym r)
           (subst (λ (x : List Change). StandsAt w tree s s.moment D x) (sym (append-nil C)) h));
@@ -194,16 +195,16 @@ saying_now w tree p ms s D C h false a r =
           ∙ ap (λ (x : Bool). cond x (served (all_counted w A ms)) verdicts.NoRoom) (sym r);
     }
 
-pub saying : (w : ℕ) (tree : List Object) (p : Peer) (ms : List Msg) (s : State) (t : ℕ) (D : List Arrival) (C : List Change) → StandsAt w tree s t D C →
+pub saying : (w : DeviceSizes) (tree : List Object) (p : Peer) (ms : List Msg) (s : State) (t : ℕ) (D : List Arrival) (C : List Change) → StandsAt w tree s t D C →
     SaysSo w tree p ms s t D C
 saying w tree p ms s t D C h =
     subst (λ (m : ℕ). SaysSo w tree p ms s m D C) h.clock_is
     (saying_now w tree p ms s D C (record { clock_is = refl; bridged = h.bridged; tree_is = h.tree_is; replied = h.replied })
-    (admits s p) refl (sym (same_room w s p D h.bridged)))
+    (admits w s p) refl (sym (same_room w s p D h.bridged)))
 
 -- ---- all events
 
-pub stands : ReadingIsExact → (w : ℕ) (tree : List Object) {E : List Event} {H : List Happening} → Happened E H → Stands w tree (state_after w tree E) H
+pub stands : ReadingIsExact → (w : DeviceSizes) (tree : List Object) {E : List Event} {H : List Happening} → Happened E H → Stands w tree (state_after w tree E) H
 stands exact w tree nothing = record { clock_is = refl; bridged = record { each = λ q. none_bridged w; opened_is = refl }; tree_is = refl; replied = λ q h e f. absurd cc }
 stands exact w tree (tick {E} {H} now h) = passing w tree now (state_after w tree E) H (stands exact w tree h)
 stands exact w tree (local {E} {H} ono value h) = setting w tree ono value (state_after w tree E) H (stands exact w tree h)
@@ -216,9 +217,9 @@ stands exact w tree (datagram {E} {H} p bytes now b ps is h) =
     let s = state_after w tree E in
     let ms = flat_map messages_of ps in
     subst (λ (r : Result (List Msg) PduFault). Stands w tree (after_reading w p r (moved_to (max s.moment now) s)) (Says p ms ∷ Passes now ∷ H)) (sym (read_messages exact bytes ps b is))
-    (saying w tree p ms (moved_to (max s.moment now) s) (clock (Passes now ∷ H)) (admitted (Passes now ∷ H)) (changes w (Passes now ∷ H)) (passing w tree now s H (stands exact w tree h))).stands_so
+    (saying w tree p ms (moved_to (max s.moment now) s) (clock (Passes now ∷ H)) (admitted w (Passes now ∷ H)) (changes w (Passes now ∷ H)) (passing w tree now s H (stands exact w tree h))).stands_so
 
-pub answers_same : ReadingIsExact → (w : ℕ) (tree : List Object) {E : List Event} {H' : List Happening} (e : Event) → Happened (e ∷ E) H' →
+pub answers_same : ReadingIsExact → (w : DeviceSizes) (tree : List Object) {E : List Event} {H' : List Happening} (e : Event) → Happened (e ∷ E) H' →
     answers_in w e (state_after w tree E) ≡ law.answers w tree H'
 answers_same exact w tree {E} e (tick now h) = refl
 answers_same exact w tree {E} e (local ono value h) = refl
@@ -229,9 +230,9 @@ answers_same exact w tree {E} e (datagram {H = H} p bytes now b ps is h) =
     let s = state_after w tree E in
     let s1 = moved_to (max s.moment now) s in
     ap (λ (r : Result (List Msg) PduFault). answers_to_reading w p r s1) (read_messages exact bytes ps b is)
-    ∙ (saying w tree p (flat_map messages_of ps) s1 (clock (Passes now ∷ H)) (admitted (Passes now ∷ H)) (changes w (Passes now ∷ H)) (passing w tree now s H (stands exact w tree h))).answers_so
+    ∙ (saying w tree p (flat_map messages_of ps) s1 (clock (Passes now ∷ H)) (admitted w (Passes now ∷ H)) (changes w (Passes now ∷ H)) (passing w tree now s H (stands exact w tree h))).answers_so
 
-pub verdict_same : ReadingIsExact → (w : ℕ) (tree : List Object) {E : List Event} {H' : List Happening} (p : Peer) (bytes : List ℕ) (now : ℕ) → Happened (Datagram p bytes now ∷ E) H' →
+pub verdict_same : ReadingIsExact → (w : DeviceSizes) (tree : List Object) {E : List Event} {H' : List Happening} (p : Peer) (bytes : List ℕ) (now : ℕ) → Happened (Datagram p bytes now ∷ E) H' →
     let s = state_after w tree E in
     IsVerdict w bytes (verdict_of_reading w p (read_datagram bytes) (moved_to (max s.moment now) s)) H'
 verdict_same exact w tree {E} p bytes now (malformed q xs t b is_other h) =
@@ -242,7 +243,7 @@ verdict_same exact w tree {E} p bytes now (datagram {H = H} q xs t b ps is h) =
     let s = state_after w tree E in
     let s1 = moved_to (max s.moment now) s in
     ap (λ (r : Result (List Msg) PduFault). verdict_of_reading w p r s1) (read_messages exact bytes ps b is)
-    ∙ (saying w tree p (flat_map messages_of ps) s1 (clock (Passes now ∷ H)) (admitted (Passes now ∷ H)) (changes w (Passes now ∷ H)) (passing w tree now s H (stands exact w tree h))).verdict_so
+    ∙ (saying w tree p (flat_map messages_of ps) s1 (clock (Passes now ∷ H)) (admitted w (Passes now ∷ H)) (changes w (Passes now ∷ H)) (passing w tree now s H (stands exact w tree h))).verdict_so
 
 -- ---- one thing alone happened
 

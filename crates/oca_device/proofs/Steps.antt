@@ -4,6 +4,7 @@ use Rattle.std.specs.Prelude.{min, max, nat_lt, ◌||◌, IfSome, Option, Some, 
 use Rattle.std.proofs.lemmas.Bool.Decides.{nat_tests}
 use Rattle.std.proofs.lemmas.List.{append_assoc, length-map, map-append}
 use Rattle.oca_types.specs.declared.words.Peer.{Peer}
+use Rattle.oca_types.specs.Sizes.{DeviceSizes}
 use Rattle.oca_pdu.specs.Messages.{Msg, Command, Response, KeepAlive, Pdu}
 use Rattle.oca_session.specs.declared.sessions.Admission.TheVariants as heard
 use Rattle.oca_session.specs.Accepted.{Entry, retained_of, Agrees, Judgement, Fresh, Duplicate, Reused, Old}
@@ -23,18 +24,18 @@ use Rattle.oca_device.specs.PrivateServing.{Serves, ServesAll, Receives}
 use Rattle.oca_device.proofs.Grouping.{answers_both}
 use Rattle.oca_device.proofs.Runs.{table_moved, lapsed_moved, session_known, table_noted, table_opened, run_goes_on, run_begins}
 
-abbrev session_in : ℕ → Peer → ℕ → List Note → Session
-session_in w p t own = record { peer = p; heard = t; heartbeat = heartbeat_of own; retained = retained_of w (accepted own) }
+abbrev session_in : DeviceSizes → Peer → ℕ → List Note → Session
+session_in w p t own = record { peer = p; heard = t; heartbeat = heartbeat_of own; retained = retained_of w.window (accepted own) }
 
-abbrev table_at : ℕ → ℕ → List Session → Table
-table_at w t ss = record { sizes = record { window = w; peers = 16 }; moment = t; sessions = ss }
+abbrev table_at : DeviceSizes → ℕ → List Session → Table
+table_at w t ss = record { sizes = w; moment = t; sessions = ss }
 
 -- ---- the clock moves
 
 max_above : (m now : ℕ) → m ≤ max m now
 max_above m now = omega arith
 
-pub clock_moved : (w now : ℕ) (s : State) (old new : Table) (peers : List Peer) → old ≡ table_of w s →
+pub clock_moved : (w : DeviceSizes) (now : ℕ) (s : State) (old new : Table) (peers : List Peer) → old ≡ table_of w s →
     peers ≡ lapsed (present old now) old.sessions → new ≡ with_moment_and_sessions old (present old now) (staying (present old now) old.sessions) →
     (peers ≡ lapsed_at (max s.moment now) s) × (new ≡ table_of w (moved_to (max s.moment now) s))
 clock_moved w now s old new peers was gone is = (
@@ -53,85 +54,85 @@ none_known true x h = cc
 none_known false x h = refl
 
 -- a peer with a session is known
-pub known_there : (w : ℕ) (s : State) (p : Peer) (old : Table) → old ≡ table_of w s → IsSome (session_of p old.sessions) → is_known s.moment s.notes p ≡ true
+pub known_there : (w : DeviceSizes) (s : State) (p : Peer) (old : Table) → old ≡ table_of w s → IsSome (session_of p old.sessions) → is_known s.moment s.notes p ≡ true
 known_there w s p old was h =
     some_known (is_known s.moment s.notes p) (session_for w s.notes p)
     (subst (λ (o : Option Session). IsSome o) (ap (λ (x : Table). session_of p x.sessions) was ∙ session_known w s p) h)
 
-new_there : (w : ℕ) (s : State) (p : Peer) (old : Table) → old ≡ table_of w s → session_of p old.sessions ≡ None → is_known s.moment s.notes p ≡ false
+new_there : (w : DeviceSizes) (s : State) (p : Peer) (old : Table) → old ≡ table_of w s → session_of p old.sessions ≡ None → is_known s.moment s.notes p ≡ false
 new_there w s p old was h =
     none_known (is_known s.moment s.notes p) (session_for w s.notes p) (sym (ap (λ (x : Table). session_of p x.sessions) was ∙ session_known w s p) ∙ h)
 
 -- the session of a known peer retains what is that of the accepted commands of its run
-pub agrees_there : (w : ℕ) (s : State) (p : Peer) (old : Table) → old ≡ table_of w s → is_known s.moment s.notes p ≡ true →
-    AgreesAt p w (accepted (run p s.notes)) old.sessions
+pub agrees_there : (w : DeviceSizes) (s : State) (p : Peer) (old : Table) → old ≡ table_of w s → is_known s.moment s.notes p ≡ true →
+    AgreesAt p w.window (accepted (run p s.notes)) old.sessions
 agrees_there w s p old was k =
-    let P : Option Session → Type 0 = λ o. IfSome o (λ x. Agrees w (accepted (run p s.notes)) x.retained) in
+    let P : Option Session → Type 0 = λ o. IfSome o (λ x. Agrees w.window (accepted (run p s.notes)) x.retained) in
     subst P (sym (ap (λ (x : Table). session_of p x.sessions) was ∙ session_known w s p ∙ ap (λ b. cond b (Some (session_for w s.notes p)) None) k)) refl
 
 -- ---- a peer is let in
 
-admitted_known : (w : ℕ) (s : State) (p : Peer) (ms : List Msg) → is_known s.moment s.notes p ≡ true →
+admitted_known : (w : DeviceSizes) (s : State) (p : Peer) (ms : List Msg) → is_known s.moment s.notes p ≡ true →
     with_moment_and_sessions (table_of w s) s.moment (changed p (heard_at s.moment) (table_of w s).sessions) ≡ table_of w (noted p (Admitted ms) s)
 admitted_known w s p ms k =
     let n : Note = record { peer = p; at = s.moment; what = Admitted ms } in
     ap (table_at w s.moment) (table_noted w s p (Admitted ms) (heard_at s.moment) k
     (ap (λ (own : List Note). session_in w p (last_moment own) own) (sym (run_goes_on n s.notes k))))
 
-admitted_new : (w : ℕ) (s : State) (p : Peer) (ms : List Msg) → is_known s.moment s.notes p ≡ false →
-    with_moment_and_sessions (table_of w s) s.moment ((table_of w s).sessions ++ opened_session w p s.moment ∷ []) ≡ table_of w (noted p (Admitted ms) s)
+admitted_new : (w : DeviceSizes) (s : State) (p : Peer) (ms : List Msg) → is_known s.moment s.notes p ≡ false →
+    with_moment_and_sessions (table_of w s) s.moment ((table_of w s).sessions ++ opened_session w.window p s.moment ∷ []) ≡ table_of w (noted p (Admitted ms) s)
 admitted_new w s p ms k = ap (table_at w s.moment) (table_opened w s p ms k)
 
-room : (a : ℕ) → a < 16 → nat_lt a 16 ≡ true
-room a h = grind (arith, nat_tests)
+room : (a n : ℕ) → a < n → nat_lt a n ≡ true
+room a n h = grind (arith, nat_tests)
 
-no_room : (a : ℕ) → 16 ≤ a → nat_lt a 16 ≡ false
-no_room a h = grind (arith, nat_tests)
+no_room : (a n : ℕ) → n ≤ a → nat_lt a n ≡ false
+no_room a n h = grind (arith, nat_tests)
 
-count_known : (w : ℕ) (s : State) (old : Table) → old ≡ table_of w s → length old.sessions ≡ length (known s.moment s.notes)
+count_known : (w : DeviceSizes) (s : State) (old : Table) → old ≡ table_of w s → length old.sessions ≡ length (known s.moment s.notes)
 count_known w s old was = ap (λ (x : Table). length x.sessions) was ∙ length-map (known s.moment s.notes) (session_for w s.notes)
 
 -- the sessions of a device are as many as the peers that are known
-pub known_counted : (w : ℕ) (d : DeviceState) (tree : List Object) (events : List Event) → Represents w d tree events →
+pub known_counted : (w : DeviceSizes) (d : DeviceState) (tree : List Object) (events : List Event) → Represents w d tree events →
     length d.sessions.sessions ≡ length (known_after (state_after w tree events))
 known_counted w d tree events h = count_known w (state_after w tree events) d.sessions h.sessions
 
 -- a moment that is not later than the clock's
-pub present_is : (w : ℕ) (s : State) (old : Table) (now : ℕ) → old ≡ table_of w s → now ≤ old.moment → present old now ≡ s.moment
+pub present_is : (w : DeviceSizes) (s : State) (old : Table) (now : ℕ) → old ≡ table_of w s → now ≤ old.moment → present old now ≡ s.moment
 present_is w s old now was le = not_later old.moment now s.moment le (ap (λ (x : Table). x.moment) was)
   where
     not_later : (m now n : ℕ) → now ≤ m → m ≡ n → max m now ≡ n
     not_later m now n le e = omega arith
 
-pub hears_known : (w : ℕ) (s : State) (p : Peer) (t : ℕ) (old new : Table) → old ≡ table_of w s → t ≡ s.moment → Hears p t old heard.Known new →
-    (true ≡ admits s p) × ((ms : List Msg) → new ≡ table_of w (noted p (Admitted ms) s))
+pub hears_known : (w : DeviceSizes) (s : State) (p : Peer) (t : ℕ) (old new : Table) → old ≡ table_of w s → t ≡ s.moment → Hears p t old heard.Known new →
+    (true ≡ admits w s p) × ((ms : List Msg) → new ≡ table_of w (noted p (Admitted ms) s))
 hears_known w s p t old new was now h =
     let k = known_there w s p old was h.0 in (
-      sym (ap (λ b. b || nat_lt (length (known s.moment s.notes)) 16) k),
+      sym (ap (λ b. b || nat_lt (length (known s.moment s.notes)) w.peers) k),
       λ ms. h.1 ∙ ap (λ (u : ℕ). with_moment_and_sessions old u (changed p (heard_at u) old.sessions)) now
           ∙ ap (λ (x : Table). with_moment_and_sessions x s.moment (changed p (heard_at s.moment) x.sessions)) was
           ∙ admitted_known w s p ms k,
     )
 
-pub hears_opened : (w : ℕ) (s : State) (p : Peer) (t : ℕ) (old new : Table) → old ≡ table_of w s → t ≡ s.moment → Hears p t old heard.Opened new →
-    (true ≡ admits s p) × ((ms : List Msg) → new ≡ table_of w (noted p (Admitted ms) s))
+pub hears_opened : (w : DeviceSizes) (s : State) (p : Peer) (t : ℕ) (old new : Table) → old ≡ table_of w s → t ≡ s.moment → Hears p t old heard.Opened new →
+    (true ≡ admits w s p) × ((ms : List Msg) → new ≡ table_of w (noted p (Admitted ms) s))
 hears_opened w s p t old new was now h =
     let k = new_there w s p old was h.0 in
-    let few : length (known s.moment s.notes) < 16 =
-    subst (λ (n : ℕ). n < 16) (count_known w s old was) (subst (λ (n : ℕ). length old.sessions < n) (ap (λ (x : Table). x.sizes.peers) was) h.1) in (
-      sym (ap (λ b. b || nat_lt (length (known s.moment s.notes)) 16) k ∙ room (length (known s.moment s.notes)) few),
+    let few : length (known s.moment s.notes) < w.peers =
+    subst (λ (n : ℕ). n < w.peers) (count_known w s old was) (subst (λ (n : ℕ). length old.sessions < n) (ap (λ (x : Table). x.sizes.peers) was) h.1) in (
+      sym (ap (λ b. b || nat_lt (length (known s.moment s.notes)) w.peers) k ∙ room (length (known s.moment s.notes)) w.peers few),
       λ ms. h.2 ∙ ap (λ (u : ℕ). with_moment_and_sessions old u (old.sessions ++ opened_session old.sizes.window p u ∷ [])) now
           ∙ ap (λ (x : Table). with_moment_and_sessions x s.moment (x.sessions ++ opened_session x.sizes.window p s.moment ∷ [])) was
           ∙ admitted_new w s p ms k,
     )
 
-pub hears_no_room : (w : ℕ) (s : State) (p : Peer) (t : ℕ) (old new : Table) → old ≡ table_of w s → t ≡ s.moment → Hears p t old heard.NoRoom new →
-    (false ≡ admits s p) × (new ≡ table_of w s)
+pub hears_no_room : (w : DeviceSizes) (s : State) (p : Peer) (t : ℕ) (old new : Table) → old ≡ table_of w s → t ≡ s.moment → Hears p t old heard.NoRoom new →
+    (false ≡ admits w s p) × (new ≡ table_of w s)
 hears_no_room w s p t old new was now h =
     let k = new_there w s p old was h.0 in
-    let many : 16 ≤ length (known s.moment s.notes) =
-    subst (λ (n : ℕ). 16 ≤ n) (count_known w s old was) (subst (λ (n : ℕ). n ≤ length old.sessions) (ap (λ (x : Table). x.sizes.peers) was) h.1) in (
-      sym (ap (λ b. b || nat_lt (length (known s.moment s.notes)) 16) k ∙ no_room (length (known s.moment s.notes)) many),
+    let many : w.peers ≤ length (known s.moment s.notes) =
+    subst (λ (n : ℕ). w.peers ≤ n) (count_known w s old was) (subst (λ (n : ℕ). n ≤ length old.sessions) (ap (λ (x : Table). x.sizes.peers) was) h.1) in (
+      sym (ap (λ b. b || nat_lt (length (known s.moment s.notes)) w.peers) k ∙ no_room (length (known s.moment s.notes)) w.peers many),
       h.2 ∙ ap (λ (u : ℕ). with_moment_and_sessions old u old.sessions) now ∙ ap (λ (x : Table). with_moment_and_sessions x s.moment x.sessions) was,
     )
 
@@ -146,34 +147,34 @@ admitted_now s p ms = by_known (is_known s.moment s.notes p) refl
 -- ---- a message is served
 
 -- a heartbeat was set
-pub heartbeat_there : (w ms : ℕ) (s : State) (p : Peer) (old new : Table) → old ≡ table_of w s → is_known s.moment s.notes p ≡ true → last_moment (run p s.notes) ≡ s.moment →
+pub heartbeat_there : (w : DeviceSizes) (ms : ℕ) (s : State) (p : Peer) (old new : Table) → old ≡ table_of w s → is_known s.moment s.notes p ≡ true → last_moment (run p s.notes) ≡ s.moment →
     new ≡ with_sessions old (changed p (with_heartbeat ms) old.sessions) → new ≡ table_of w (noted p (Heartbeat ms) s)
 heartbeat_there w ms s p old new was k now is =
     let n : Note = record { peer = p; at = s.moment; what = Heartbeat ms } in
     let own = run p s.notes in
     is ∙ ap (λ (x : Table). with_sessions x (changed p (with_heartbeat ms) x.sessions)) was
     ∙ ap (table_at w s.moment) (table_noted w s p (Heartbeat ms) (with_heartbeat ms) k
-    (ap (λ (t : ℕ). let x : Session = record { peer = p; heard = t; heartbeat = max 250 (min ms 30000); retained = retained_of w (accepted own) } in x) now
+    (ap (λ (t : ℕ). let x : Session = record { peer = p; heard = t; heartbeat = max 250 (min ms 30000); retained = retained_of w.window (accepted own) } in x) now
     ∙ ap (λ (run_now : List Note). session_in w p (last_moment run_now) run_now) (sym (run_goes_on n s.notes k))))
 
 -- a command was executed, and its reply kept
-pub executed_there : (w : ℕ) (s : State) (p : Peer) (what : Noted) (e : Entry) (old new : Table) → old ≡ table_of w s → is_known s.moment s.notes p ≡ true → last_moment (run p s.notes) ≡ s.moment →
+pub executed_there : (w : DeviceSizes) (s : State) (p : Peer) (what : Noted) (e : Entry) (old new : Table) → old ≡ table_of w s → is_known s.moment s.notes p ≡ true → last_moment (run p s.notes) ≡ s.moment →
     ((own : List Note) (t : ℕ) → let n : Note = record { peer = p; at = t; what = what } in (heartbeat_of (n ∷ own) ≡ heartbeat_of own) × (accepted (n ∷ own) ≡ accepted own ++ e ∷ [])) →
-    new ≡ with_sessions old (changed p (with_accepted w (accepted (run p s.notes) ++ e ∷ [])) old.sessions) → new ≡ table_of w (noted p what s)
+    new ≡ with_sessions old (changed p (with_accepted w.window (accepted (run p s.notes) ++ e ∷ [])) old.sessions) → new ≡ table_of w (noted p what s)
 executed_there w s p what e old new was k now says is =
     let n : Note = record { peer = p; at = s.moment; what = what } in
     let own = run p s.notes in
-    is ∙ ap (λ (x : Table). with_sessions x (changed p (with_accepted w (accepted own ++ e ∷ [])) x.sessions)) was
-    ∙ ap (table_at w s.moment) (table_noted w s p what (with_accepted w (accepted own ++ e ∷ [])) k
-    (ap (λ (t : ℕ). let x : Session = record { peer = p; heard = t; heartbeat = heartbeat_of own; retained = retained_of w (accepted own ++ e ∷ []) } in x) now
-    ∙ ap (λ (h : ℕ). let x : Session = record { peer = p; heard = s.moment; heartbeat = h; retained = retained_of w (accepted own ++ e ∷ []) } in x) (sym (says own s.moment).0)
-    ∙ ap (λ (A : List Entry). let x : Session = record { peer = p; heard = s.moment; heartbeat = heartbeat_of (n ∷ own); retained = retained_of w A } in x) (sym (says own s.moment).1)
+    is ∙ ap (λ (x : Table). with_sessions x (changed p (with_accepted w.window (accepted own ++ e ∷ [])) x.sessions)) was
+    ∙ ap (table_at w s.moment) (table_noted w s p what (with_accepted w.window (accepted own ++ e ∷ [])) k
+    (ap (λ (t : ℕ). let x : Session = record { peer = p; heard = t; heartbeat = heartbeat_of own; retained = retained_of w.window (accepted own ++ e ∷ []) } in x) now
+    ∙ ap (λ (h : ℕ). let x : Session = record { peer = p; heard = s.moment; heartbeat = h; retained = retained_of w.window (accepted own ++ e ∷ []) } in x) (sym (says own s.moment).0)
+    ∙ ap (λ (A : List Entry). let x : Session = record { peer = p; heard = s.moment; heartbeat = heartbeat_of (n ∷ own); retained = retained_of w.window A } in x) (sym (says own s.moment).1)
     ∙ ap (λ (run_now : List Note). session_in w p (last_moment run_now) run_now) (sym (run_goes_on n s.notes k))))
 
 -- ---- several messages are served
 
 -- after a message the run's last moment is still the present one
-pub message_now : (w : ℕ) (s : State) (p : Peer) (m : Msg) → is_known s.moment s.notes p ≡ true → last_moment (run p s.notes) ≡ s.moment →
+pub message_now : (w : DeviceSizes) (s : State) (p : Peer) (m : Msg) → is_known s.moment s.notes p ≡ true → last_moment (run p s.notes) ≡ s.moment →
     last_moment (run p (after_message w p m s).notes) ≡ (after_message w p m s).moment
 message_now w s p (Command respond c) k now = by_judgement (judged_in w s p c)
   where
@@ -208,7 +209,7 @@ pub one_reused : (n : Counts) → counts n.executed n.kept n.old (n.reused + 1) 
 one_reused n = sums _ _ _ _ _ _ _ _ (omega arith) (omega arith) (omega arith) (omega arith)
 
 -- Part of the messages was served: the device is in a state from which the rest leads to where all lead from the first.
-pub record IsHalfway (w : ℕ) (p : Peer) (d : DeviceState) (rest ms : List Msg) (s : State) (before out : List (List ℕ)) (n : Counts) : Type 0 where
+pub record IsHalfway (w : DeviceSizes) (p : Peer) (d : DeviceState) (rest ms : List Msg) (s : State) (before out : List (List ℕ)) (n : Counts) : Type 0 where
   pub mid : State
   pub device : IsIn w d mid
   pub now : last_moment (run p mid.notes) ≡ mid.moment
@@ -217,7 +218,7 @@ pub record IsHalfway (w : ℕ) (p : Peer) (d : DeviceState) (rest ms : List Msg)
       (so_far : List Pdu) × (out ≡ encodings so_far) × (with_answers so_far (answers_to_messages w p rest mid) ≡ with_answers groups (answers_to_messages w p ms s))
   pub counts_are : plus n (counts_of_messages w p rest mid) ≡ counts_of_messages w p ms s
 
-pub one_further : (w : ℕ) (p : Peer) (d d' : DeviceState) (m : Msg) (rest rest' ms : List Msg) (s : State) (before out out' : List (List ℕ)) (n n' : Counts) →
+pub one_further : (w : DeviceSizes) (p : Peer) (d d' : DeviceState) (m : Msg) (rest rest' ms : List Msg) (s : State) (before out out' : List (List ℕ)) (n n' : Counts) →
     (h : IsHalfway w p d rest ms s before out n) → rest ≡ m ∷ rest' → IsSome (session_of p d.sessions.sessions) →
     Serves w d' p m h.mid out out' n n' →
     IsHalfway w p d' rest' ms s before out' n'
@@ -250,8 +251,8 @@ one_further w p d d' m rest rest' ms s before out out' n n' h step has t =
 abbrev admitted_state : Peer → List Msg → State → State
 admitted_state p ms s = noted p (Admitted ms) s
 
-pub refused_whole : (w : ℕ) (d : DeviceState) (p : Peer) (bytes : List ℕ) (ms : List Msg) (s : State) (after : List (List ℕ)) →
-    read_datagram bytes ≡ Ok ms → admits s p ≡ false → IsIn w d s → after ≡ [] → Receives w d p bytes s after verdicts.NoRoom
+pub refused_whole : (w : DeviceSizes) (d : DeviceState) (p : Peer) (bytes : List ℕ) (ms : List Msg) (s : State) (after : List (List ℕ)) →
+    read_datagram bytes ≡ Ok ms → admits w s p ≡ false → IsIn w d s → after ≡ [] → Receives w d p bytes s after verdicts.NoRoom
 refused_whole w d p bytes ms s after reads out h none =
     record {
       device = subst (λ (r : Result (List Msg) PduFault). IsIn w d (after_reading w p r s)) (sym reads)
@@ -262,8 +263,8 @@ refused_whole w d p bytes ms s after reads out h none =
           ∙ ap (λ (b : Bool). cond b (served (counts_of_messages w p ms (admitted_state p ms s))) verdicts.NoRoom) out);
     }
 
-pub taken_whole : (w : ℕ) (d : DeviceState) (p : Peer) (bytes : List ℕ) (ms : List Msg) (s : State) (before after : List (List ℕ)) (n : Counts) →
-    read_datagram bytes ≡ Ok ms → admits s p ≡ true → before ≡ [] → ServesAll w d p ms (admitted_state p ms s) before after n →
+pub taken_whole : (w : DeviceSizes) (d : DeviceState) (p : Peer) (bytes : List ℕ) (ms : List Msg) (s : State) (before after : List (List ℕ)) (n : Counts) →
+    read_datagram bytes ≡ Ok ms → admits w s p ≡ true → before ≡ [] → ServesAll w d p ms (admitted_state p ms s) before after n →
     Receives w d p bytes s after (verdicts.Served n.executed n.kept n.old n.reused)
 taken_whole w d p bytes ms s before after n reads let_in none t =
     let all = admitted_state p ms s in

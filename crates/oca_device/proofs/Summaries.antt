@@ -3,6 +3,7 @@ use Rattle.std.proofs.Common.{◌≡◌, ℕ, ◌-◌, Bool, true, false, cond, 
 use Rattle.std.specs.Prelude.{map, filter}
 use Rattle.oca_types.specs.declared.words.Peer.{Peer}
 use Rattle.oca_types.specs.Peers.{CommandFields}
+use Rattle.oca_types.specs.Sizes.{DeviceSizes}
 use Rattle.oca_tree.specs.declared.object.Object.{Object}
 use Rattle.oca_session.specs.Accepted.{window}
 use Rattle.oca_session.specs.Table.{Session}
@@ -33,21 +34,21 @@ module _ {X Y : Type 0} where
 summary_with : Peer → ℕ → ℕ → List CommandFields → Summary
 summary_with p t ms cs = record { peer = p; heard = t; heartbeat = ms; commands = cs }
 
-one_summary : (w : ℕ) (s : State) (D : List Arrival) (p : Peer) → AllBridged w s D → is_known s.moment s.notes p ≡ true →
+one_summary : (w : DeviceSizes) (s : State) (D : List Arrival) (p : Peer) → AllBridged w s D → is_known s.moment s.notes p ≡ true →
     summary_of (session_for w s.notes p) ≡ summary_by_events w s.moment D p
 unfolding summary_with
 one_summary w s D p h k =
     let b = h.each p in
-    ap (λ (x : ℕ). summary_with p x (heartbeat_of (run p s.notes)) (map (λ e. e.command) (window w (accepted (run p s.notes))))) b.last
-    ∙ ap (λ (x : ℕ). summary_with p (law.last_moment (latest p D)) x (map (λ e. e.command) (window w (accepted (run p s.notes))))) b.beat
-    ∙ ap (λ (x : List CommandFields). summary_with p (law.last_moment (latest p D)) (law.heartbeat_of (latest p D)) x) (sym (window_mapped w (accepted (run p s.notes))) ∙ ap (window w) b.commands)
-    ∙ ap (λ (S : List Arrival). summary_with p (law.last_moment S) (law.heartbeat_of S) (window w (accepted_of w [] (said S)))) (sym (session_is w s D p h k))
+    ap (λ (x : ℕ). summary_with p x (heartbeat_of (run p s.notes)) (map (λ e. e.command) (window w.window (accepted (run p s.notes))))) b.last
+    ∙ ap (λ (x : ℕ). summary_with p (law.last_moment (latest p D)) x (map (λ e. e.command) (window w.window (accepted (run p s.notes))))) b.beat
+    ∙ ap (λ (x : List CommandFields). summary_with p (law.last_moment (latest p D)) (law.heartbeat_of (latest p D)) x) (sym (window_mapped w (accepted (run p s.notes))) ∙ ap (window w.window) b.commands)
+    ∙ ap (λ (S : List Arrival). summary_with p (law.last_moment S) (law.heartbeat_of S) (window w.window (accepted_of w [] (said S)))) (sym (session_is w s D p h k))
 
-pub summaries_are : (w : ℕ) (tree : List Object) (s : State) (H : List Happening) → Stands w tree s H →
-    map summary_of (table_of w s).sessions ≡ map (summary_by_events w (clock H) (admitted H)) (law.known (clock H) (admitted H))
+pub summaries_are : (w : DeviceSizes) (tree : List Object) (s : State) (H : List Happening) → Stands w tree s H →
+    map summary_of (table_of w s).sessions ≡ map (summary_by_events w (clock H) (admitted w H)) (law.known (clock H) (admitted w H))
 summaries_are w tree s H h =
     map_twice summary_of (session_for w s.notes) (known s.moment s.notes)
-    ∙ map_filtered (is_known s.moment s.notes) (λ p. summary_of (session_for w s.notes p)) (summary_by_events w s.moment (admitted H))
-    (λ p k. one_summary w s (admitted H) p h.bridged k) (opened s.notes)
-    ∙ ap (map (summary_by_events w s.moment (admitted H))) (known_are w s.moment s (admitted H) h.bridged)
-    ∙ ap (λ (m : ℕ). map (summary_by_events w m (admitted H)) (law.known m (admitted H))) h.clock_is
+    ∙ map_filtered (is_known s.moment s.notes) (λ p. summary_of (session_for w s.notes p)) (summary_by_events w s.moment (admitted w H))
+    (λ p k. one_summary w s (admitted w H) p h.bridged k) (opened s.notes)
+    ∙ ap (map (summary_by_events w s.moment (admitted w H))) (known_are w s.moment s (admitted w H) h.bridged)
+    ∙ ap (λ (m : ℕ). map (summary_by_events w m (admitted w H)) (law.known m (admitted w H))) h.clock_is

@@ -4,6 +4,7 @@ use Rattle.std.specs.Prelude.{nat_lt, nat_le, take, slice_index_or, IsTrue}
 use Rattle.std.proofs.lemmas.Bool.Decides.{nat_tests}
 use Rattle.std.proofs.lemmas.List.{append_assoc, append-nil, map-append, take_more}
 use Rattle.oca_types.specs.declared.words.Peer.{Peer}
+use Rattle.oca_types.specs.Sizes.{DeviceSizes}
 use Rattle.oca_net.specs.declared.end.Heard.{Heard}
 use Rattle.oca_net.specs.declared.end.Heard.TheVariants as heard
 use Rattle.oca_net.specs.Deliveries.{Delivery, Datagram, Quiet, Failed, Sent}
@@ -59,7 +60,7 @@ later_events : (ds es : List Delivery) (events : List Event) → events_after_al
 later_events [] es events = refl
 later_events (d ∷ ds) es events = later_events ds es (events_after d events)
 
-module _ (w : ℕ) (tree : List Object) where
+module _ (w : DeviceSizes) (tree : List Object) where
   later_replies : (ds es : List Delivery) (events : List Event) →
       replies w tree events (ds ++ es) ≡ replies w tree events ds ++ replies w tree (events_after_all ds events) es
   later_replies [] es events = refl
@@ -80,8 +81,8 @@ nothing_served : (d : DeviceState) → Serves [] d d no_turns
 nothing_served d = record { turns = refl; represents = λ w tree events h. h; reported = λ w tree events h. refl }
 
 one_served : (x : Delivery) (old new : DeviceState) (r : Report) → r.turns ≡ 1 →
-    ((w : ℕ) (tree : List Object) (events : List Event) → Represents w old tree events → Represents w new tree (events_after x events)) →
-    ((w : ℕ) (tree : List Object) (events : List Event) → Represents w old tree events → r ≡ record (turn_report w tree events x) { failed_sends = r.failed_sends }) →
+    ((w : DeviceSizes) (tree : List Object) (events : List Event) → Represents w old tree events → Represents w new tree (events_after x events)) →
+    ((w : DeviceSizes) (tree : List Object) (events : List Event) → Represents w old tree events → r ≡ record (turn_report w tree events x) { failed_sends = r.failed_sends }) →
     Serves (x ∷ []) old new r
 one_served x old new r turns represents reported =
     record {
@@ -186,9 +187,9 @@ verdict_one verdicts.NoRoom = (refl, refl)
 heard_one : (x : Delivery) {h : Heard} {bytes : List ℕ} {all : List Sent} {old new : DeviceState} {before mid after : EndState} {r : Report} →
     Receives h bytes before mid → SendsAllBut r.failed_sends mid after all →
     (IsTrue before.tells → mid.delivered ≡ before.delivered ++ x ∷ []) → r.failed_receives ≡ cond (is_failed h) 1 0 → r.turns ≡ 1 →
-    ((w : ℕ) (tree : List Object) (events : List Event) → Represents w old tree events → Represents w new tree (events_after x events)) →
-    ((w : ℕ) (tree : List Object) (events : List Event) → Represents w old tree events → r ≡ record (turn_report w tree events x) { failed_sends = r.failed_sends }) →
-    ((w : ℕ) (tree : List Object) (events : List Event) → Represents w old tree events → all ≡ replies_to w tree events x) →
+    ((w : DeviceSizes) (tree : List Object) (events : List Event) → Represents w old tree events → Represents w new tree (events_after x events)) →
+    ((w : DeviceSizes) (tree : List Object) (events : List Event) → Represents w old tree events → r ≡ record (turn_report w tree events x) { failed_sends = r.failed_sends }) →
+    ((w : DeviceSizes) (tree : List Object) (events : List Event) → Represents w old tree events → all ≡ replies_to w tree events x) →
     ServesTurn old new before after r
 heard_one x {h} {bytes} {all} {old} {new} {before} {mid} {after} {r} heard sent grew failed one represents reported replies_are = record {
   serves = record {
@@ -211,14 +212,14 @@ heard_one x {h} {bytes} {all} {old} {new} {before} {mid} {after} {r} heard sent 
 
 module _ {old new : DeviceState} {before mid : EndState} {held : List ℕ} (r : Report) where
   pub quiet_turn : {now : ℕ} → r ≡ record one_turn { quiet = 1 } → Receives (heard.Quiet now) held before mid →
-      ((w : ℕ) (tree : List Object) (events : List Event) → Represents w old tree events → Represents w new tree (event.Tick now ∷ events)) →
+      ((w : DeviceSizes) (tree : List Object) (events : List Event) → Represents w old tree events → Represents w new tree (event.Tick now ∷ events)) →
       ServesTurn old new before mid r
   quiet_turn {now} e h ticks =
       subst (ServesTurn old new before mid) (sym e)
       (heard_one (Quiet now) {r = record one_turn { quiet = 1 }} h (sends_none mid) h.delivered refl refl ticks (λ w tree events _. refl) (λ w tree events _. refl))
 
   pub oversize_turn : {now : ℕ} → r ≡ record one_turn { oversize = 1 } → Receives (heard.Oversize now) held before mid →
-      ((w : ℕ) (tree : List Object) (events : List Event) → Represents w old tree events → Represents w new tree (event.Tick now ∷ events)) →
+      ((w : DeviceSizes) (tree : List Object) (events : List Event) → Represents w old tree events → Represents w new tree (event.Tick now ∷ events)) →
       ServesTurn old new before mid r
   oversize_turn {now} e h ticks =
       let d = oversize_heard h in
@@ -237,9 +238,9 @@ module _ {old new : DeviceState} {before mid : EndState} {held : List ℕ} (r : 
 
   pub datagram_turn : {after : EndState} {from : Peer} {now : ℕ} {out : List (List ℕ)} (bytes : List ℕ) (v : Verdict) (q : Report) →
       r ≡ record q { failed_sends = r.failed_sends } → q ≡ verdict_turn v → length bytes ≤ 1472 → bytes ≡ held → Receives (heard.Datagram from now) held before mid →
-      ((w : ℕ) (tree : List Object) (events : List Event) → Represents w old tree events → Represents w new tree (event.Datagram from bytes now ∷ events)) →
-      ((w : ℕ) (tree : List Object) (events : List Event) → Represents w old tree events → out ≡ packets w tree events (event.Datagram from bytes now)) →
-      ((w : ℕ) (tree : List Object) (events : List Event) → Represents w old tree events → v ≡ verdict w tree events from bytes now) →
+      ((w : DeviceSizes) (tree : List Object) (events : List Event) → Represents w old tree events → Represents w new tree (event.Datagram from bytes now ∷ events)) →
+      ((w : DeviceSizes) (tree : List Object) (events : List Event) → Represents w old tree events → out ≡ packets w tree events (event.Datagram from bytes now)) →
+      ((w : DeviceSizes) (tree : List Object) (events : List Event) → Represents w old tree events → v ≡ verdict w tree events from bytes now) →
       SendsAllBut r.failed_sends mid after (sent_to from out) → ServesTurn old new before after r
   datagram_turn {after} {from} {now} {out} bytes v q e f short same h represents packets_are verdict_is sent =
       let fits = within (length bytes) short in

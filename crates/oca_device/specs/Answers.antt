@@ -4,6 +4,7 @@ use Rattle.oca_types.specs.declared.words.Peer.{Peer}
 use Rattle.oca_types.specs.declared.words.Reply.{Reply}
 use Rattle.oca_types.specs.Status.{status_number}
 use Rattle.oca_types.specs.Peers.{CommandFields}
+use Rattle.oca_types.specs.Sizes.{DeviceSizes}
 use Rattle.oca_pdu.specs.declared.fault.PduFault.{PduFault}
 use Rattle.oca_pdu.specs.Messages.{Msg, Command, Response, KeepAlive}
 use Rattle.oca_pdu.specs.Reading.{read_datagram}
@@ -33,29 +34,29 @@ answer_to_command Old p c s = []
 
 -- A command that asks for no response gets none. A keep-alive is answered with a keep-alive of the same form and the same
 -- time, as it was sent. A response is not answered.
-abbrev pub answer_to : ℕ → Peer → Msg → State → List Msg
+abbrev pub answer_to : DeviceSizes → Peer → Msg → State → List Msg
 answer_to w p (Command respond c) s = if respond then answer_to_command (judged_in w s p c) p c s else []
 answer_to w p (KeepAlive form) s = KeepAlive form ∷ []
 answer_to w p (Response r) s = []
 
 -- the answers to messages, in order
-abbrev pub answers_to_messages : ℕ → Peer → List Msg → State → List Msg
+abbrev pub answers_to_messages : DeviceSizes → Peer → List Msg → State → List Msg
 answers_to_messages w p [] s = []
 answers_to_messages w p (m ∷ messages) s = answer_to w p m s ++ answers_to_messages w p messages (after_message w p m s)
 
 -- the answers to what was read of a datagram
-abbrev pub answers_to_reading : ℕ → Peer → Result (List Msg) PduFault → State → List Msg
+abbrev pub answers_to_reading : DeviceSizes → Peer → Result (List Msg) PduFault → State → List Msg
 answers_to_reading w p (Err fault) s = []
-answers_to_reading w p (Ok messages) s = if admits s p then answers_to_messages w p messages (noted p (Admitted messages) s) else []
+answers_to_reading w p (Ok messages) s = if admits w s p then answers_to_messages w p messages (noted p (Admitted messages) s) else []
 
 -- the answers to an event in a state
-abbrev pub answers_in : ℕ → Event → State → List Msg
+abbrev pub answers_in : DeviceSizes → Event → State → List Msg
 answers_in w (Datagram from bytes now) s = answers_to_reading w from (read_datagram bytes) (moved_to (max s.moment now) s)
 answers_in w (Tick now) s = []
 answers_in w (Local ono value) s = []
 
 -- THE ANSWERS to an event after events.
-abbrev pub answers : ℕ → List Object → List Event → Event → List Msg
+abbrev pub answers : DeviceSizes → List Object → List Event → Event → List Msg
 answers w tree events e = answers_in w e (state_after w tree events)
 
 -- Neighbouring responses leave in one PDU while it has at most 1,472 bytes, and each keep-alive in one of its own. Each PDU is one
@@ -64,7 +65,7 @@ abbrev pub packets_of : List Msg → List (List ℕ)
 packets_of messages = encodings (groups_of messages)
 
 -- THE PACKETS of an event after events, all for the event's peer.
-abbrev pub packets : ℕ → List Object → List Event → Event → List (List ℕ)
+abbrev pub packets : DeviceSizes → List Object → List Event → Event → List (List ℕ)
 packets w tree events e = packets_of (answers w tree events e)
 
 -- ---- the verdict
@@ -85,13 +86,13 @@ count_of_command Old = counts 0 0 1 0
 count_of_command Reused = counts 0 0 0 1
 
 -- commands with and without response are both counted
-abbrev pub count_of : ℕ → Peer → Msg → State → Counts
+abbrev pub count_of : DeviceSizes → Peer → Msg → State → Counts
 count_of w p (Command respond c) s = count_of_command (judged_in w s p c)
 count_of w p (KeepAlive form) s = counts 0 0 0 0
 count_of w p (Response r) s = counts 0 0 0 0
 
 -- all commands of messages
-abbrev pub counts_of_messages : ℕ → Peer → List Msg → State → Counts
+abbrev pub counts_of_messages : DeviceSizes → Peer → List Msg → State → Counts
 counts_of_messages w p [] s = counts 0 0 0 0
 counts_of_messages w p (m ∷ messages) s = plus (count_of w p m s) (counts_of_messages w p messages (after_message w p m s))
 
@@ -100,12 +101,12 @@ abbrev pub served : Counts → Verdict
 served n = verdicts.Served n.executed n.kept n.old n.reused
 
 -- malformed with the first fault, or else without room, or else served
-abbrev pub verdict_of_reading : ℕ → Peer → Result (List Msg) PduFault → State → Verdict
+abbrev pub verdict_of_reading : DeviceSizes → Peer → Result (List Msg) PduFault → State → Verdict
 verdict_of_reading w p (Err fault) s = verdicts.Malformed fault
-verdict_of_reading w p (Ok messages) s = if admits s p then served (counts_of_messages w p messages (noted p (Admitted messages) s)) else verdicts.NoRoom
+verdict_of_reading w p (Ok messages) s = if admits w s p then served (counts_of_messages w p messages (noted p (Admitted messages) s)) else verdicts.NoRoom
 
 -- THE VERDICT on a datagram after events.
-abbrev pub verdict : ℕ → List Object → List Event → Peer → List ℕ → ℕ → Verdict
+abbrev pub verdict : DeviceSizes → List Object → List Event → Peer → List ℕ → ℕ → Verdict
 verdict w tree events from bytes now =
     let s = state_after w tree events in
     verdict_of_reading w from (read_datagram bytes) (moved_to (max s.moment now) s)

@@ -1,8 +1,8 @@
 -- A device represents an opening tree and events where it is what they say (profile).
 use Rattle.std.specs.Prelude.{◌≡◌, ℕ, List, map}
 use Rattle.oca_types.specs.declared.words.Peer.{Peer}
+use Rattle.oca_types.specs.Sizes.{DeviceSizes}
 use Rattle.oca_tree.specs.declared.object.Object.{Object}
-use Rattle.oca_session.specs.Limits.{most_sessions}
 use Rattle.oca_session.specs.Accepted.{retained_of}
 use Rattle.oca_session.specs.Table.{Session, Table}
 use Rattle.oca_device.specs.Events.{Event}
@@ -14,22 +14,22 @@ pub record DeviceState : Type 0 where
   pub tree : List Object
   pub sessions : Table
 
--- The session of a peer: the moment of its last datagram, its heartbeat, and what a reply window of size w retains of its
--- accepted commands: the last w of them with their replies, and the greatest handle outside these.
-abbrev pub session_for : ℕ → List Note → Peer → Session
+-- The session of a peer: the moment of its last datagram, its heartbeat, and what a reply window of its size retains of its
+-- accepted commands: the last of them with their replies, and the greatest handle outside these.
+abbrev pub session_for : DeviceSizes → List Note → Peer → Session
 session_for w notes p =
     let own = run p notes in
-    record { peer = p; heard = last_moment own; heartbeat = heartbeat_of own; retained = retained_of w (accepted own) }
+    record { peer = p; heard = last_moment own; heartbeat = heartbeat_of own; retained = retained_of w.window (accepted own) }
 
 -- the clock, and the sessions of the known peers in order of opening
-abbrev pub table_of : ℕ → State → Table
-table_of w s = record { sizes = record { window = w; peers = most_sessions }; moment = s.moment; sessions = map (session_for w s.notes) (known s.moment s.notes) }
+abbrev pub table_of : DeviceSizes → State → Table
+table_of w s = record { sizes = w; moment = s.moment; sessions = map (session_for w s.notes) (known s.moment s.notes) }
 
 -- the device is what the state says
-pub record IsIn (w : ℕ) (d : DeviceState) (s : State) : Type 0 where
+pub record IsIn (w : DeviceSizes) (d : DeviceState) (s : State) : Type 0 where
   pub tree : d.tree ≡ s.tree
   pub sessions : d.sessions ≡ table_of w s
 
--- THE DEVICE REPRESENTS the tree and the events, with reply windows of size w.
-abbrev pub Represents : ℕ → DeviceState → List Object → List Event → Type 0
+-- THE DEVICE REPRESENTS the tree and the events, with sizes w.
+abbrev pub Represents : DeviceSizes → DeviceState → List Object → List Event → Type 0
 Represents w d tree events = IsIn w d (state_after w tree events)

@@ -1,6 +1,7 @@
 -- What serving a datagram, its messages or one message makes of a device and its outbox, and how many answers there are at most.
 use Rattle.std.specs.Prelude.{◌≡◌, ℕ, ◌+◌, ◌≤◌, Bool, true, false, ⊤, List, [], ◌∷◌, ◌++◌, length}
 use Rattle.oca_types.specs.declared.words.Peer.{Peer}
+use Rattle.oca_types.specs.Sizes.{DeviceSizes}
 use Rattle.oca_pdu.specs.Messages.{Msg, Command, Response, KeepAlive, Pdu, Commands, Responses, OneKeepAlive}
 use Rattle.oca_pdu.specs.Encoding.{pdu_encoding}
 use Rattle.oca_pdu.specs.Reading.{read_datagram}
@@ -49,19 +50,19 @@ abbrev pub commands_in : Counts → ℕ
 commands_in n = n.executed + n.kept + n.old + n.reused
 
 -- one message, where so many commands were counted before
-pub record Serves (w : ℕ) (new : DeviceState) (p : Peer) (m : Msg) (s : State) (before after : List (List ℕ)) (so_far n : Counts) : Type 0 where
+pub record Serves (w : DeviceSizes) (new : DeviceState) (p : Peer) (m : Msg) (s : State) (before after : List (List ℕ)) (so_far n : Counts) : Type 0 where
   pub device : IsIn w new (after_message w p m s)
   pub packets : (groups : List Pdu) → before ≡ encodings groups → after ≡ encodings (with_answers groups (answer_to w p m s))
   pub counts : n ≡ plus so_far (count_of w p m s)
 
 -- several messages
-pub record ServesAll (w : ℕ) (new : DeviceState) (p : Peer) (ms : List Msg) (s : State) (before after : List (List ℕ)) (n : Counts) : Type 0 where
+pub record ServesAll (w : DeviceSizes) (new : DeviceState) (p : Peer) (ms : List Msg) (s : State) (before after : List (List ℕ)) (n : Counts) : Type 0 where
   pub device : IsIn w new (after_messages w p ms s)
   pub packets : (groups : List Pdu) → before ≡ encodings groups → after ≡ encodings (with_answers groups (answers_to_messages w p ms s))
   pub counts : n ≡ counts_of_messages w p ms s
 
 -- a datagram, when the clock has moved
-pub record Receives (w : ℕ) (new : DeviceState) (p : Peer) (bytes : List ℕ) (s : State) (after : List (List ℕ)) (verdict : Verdict) : Type 0 where
+pub record Receives (w : DeviceSizes) (new : DeviceState) (p : Peer) (bytes : List ℕ) (s : State) (after : List (List ℕ)) (verdict : Verdict) : Type 0 where
   pub device : IsIn w new (after_reading w p (read_datagram bytes) s)
   pub packets : after ≡ packets_of (answers_to_reading w p (read_datagram bytes) s)
   pub verdict_is : verdict ≡ verdict_of_reading w p (read_datagram bytes) s

@@ -1,6 +1,7 @@
 -- What the loop sends: the packets of each datagram, to its sender (profile).
 use Rattle.std.specs.Prelude.{◌≡◌, ℕ, ◌+◌, ◌<◌, IsTrue, nat_le, if◌then◌else◌, List, [], ◌∷◌, ◌++◌, map, length}
 use Rattle.oca_types.specs.declared.words.Peer.{Peer}
+use Rattle.oca_types.specs.Sizes.{DeviceSizes}
 use Rattle.oca_net.specs.Deliveries.{Delivery, Datagram, Quiet, Failed, Sent}
 use Rattle.oca_net.specs.Ends.{largest_datagram, last_u64, TakesAllBut}
 use Rattle.oca_net.specs.EndStates.{EndState}
@@ -17,14 +18,14 @@ abbrev pub sent_to : Peer → List (List ℕ) → List Sent
 sent_to p packets = map (λ bytes. record { to = p; bytes = bytes }) packets
 
 -- the replies to a delivery, after events
-abbrev pub replies_to : ℕ → List Object → List Event → Delivery → List Sent
+abbrev pub replies_to : DeviceSizes → List Object → List Event → Delivery → List Sent
 replies_to w tree events (Datagram from bytes now) =
     if nat_le (length bytes) largest_datagram then sent_to from (packets w tree events (event.Datagram from bytes now)) else []
 replies_to w tree events (Quiet now) = []
 replies_to w tree events Failed = []
 
 -- THE REPLIES to deliveries, after events, in order.
-abbrev pub replies : ℕ → List Object → List Event → List Delivery → List Sent
+abbrev pub replies : DeviceSizes → List Object → List Event → List Delivery → List Sent
 replies w tree events [] = []
 replies w tree events (d ∷ deliveries) = replies_to w tree events d ++ replies w tree (events_after d events) deliveries
 
@@ -32,9 +33,9 @@ replies w tree events (d ∷ deliveries) = replies_to w tree events d ++ replies
 -- deliveries' events, and the report is that of the deliveries and of the sends that failed.
 pub record Serves (deliveries : List Delivery) (old new : DeviceState) (report : Report) : Type 0 where
   pub turns : report.turns ≡ length deliveries
-  pub represents : (w : ℕ) (tree : List Object) (events : List Event) → Represents w old tree events →
+  pub represents : (w : DeviceSizes) (tree : List Object) (events : List Event) → Represents w old tree events →
       Represents w new tree (events_after_all deliveries events)
-  pub reported : (w : ℕ) (tree : List Object) (events : List Event) → Represents w old tree events →
+  pub reported : (w : DeviceSizes) (tree : List Object) (events : List Event) → Represents w old tree events →
       report ≡ record (report_of w tree events deliveries) { failed_sends = report.failed_sends }
 
 -- A DEVICE SERVED AN END: there are deliveries that it served, and the report counts the calls of the end that failed. Where the end
@@ -44,6 +45,6 @@ pub record ServesEnd (old new : DeviceState) (before after : EndState) (report :
   pub serves : Serves deliveries old new report
   pub telling : after.tells ≡ before.tells
   pub delivered : IsTrue before.tells → after.delivered ≡ before.delivered ++ deliveries
-  pub replied : IsTrue before.tells → (w : ℕ) (tree : List Object) (events : List Event) → Represents w old tree events →
+  pub replied : IsTrue before.tells → (w : DeviceSizes) (tree : List Object) (events : List Event) → Represents w old tree events →
       TakesAllBut report.failed_sends before.taken after.taken (replies w tree events deliveries)
   pub failures : after.failures < last_u64 → after.failures ≡ before.failures + (report.failed_receives + report.failed_sends)

@@ -1,5 +1,6 @@
 -- What a report says of the turns of the loop: a turn is one delivery of the end (profile).
 use Rattle.std.specs.Prelude.{ℕ, ◌+◌, nat_le, nat_lt, if◌then◌else◌, List, [], ◌∷◌, length}
+use Rattle.oca_types.specs.Sizes.{DeviceSizes}
 use Rattle.oca_net.specs.Deliveries.{Delivery, Datagram, Quiet, Failed}
 use Rattle.oca_net.specs.Ends.{largest_datagram}
 use Rattle.oca_tree.specs.declared.object.Object.{Object}
@@ -54,7 +55,7 @@ verdict_turn (verdicts.Malformed fault) = record one_turn { malformed = 1 }
 verdict_turn verdicts.NoRoom = record one_turn { no_room = 1 }
 
 -- A turn with this delivery, after events, but for the sends that failed.
-abbrev pub turn_report : ℕ → List Object → List Event → Delivery → Report
+abbrev pub turn_report : DeviceSizes → List Object → List Event → Delivery → Report
 turn_report w tree events (Datagram from bytes now) =
     if nat_le (length bytes) largest_datagram then verdict_turn (verdict w tree events from bytes now) else record one_turn { oversize = 1 }
 turn_report w tree events (Quiet now) = record one_turn { quiet = 1 }
@@ -74,7 +75,7 @@ events_after_all [] events = events
 events_after_all (d ∷ deliveries) events = events_after_all deliveries (events_after d events)
 
 -- THE REPORT of the deliveries, but for the sends that failed.
-abbrev pub report_of : ℕ → List Object → List Event → List Delivery → Report
+abbrev pub report_of : DeviceSizes → List Object → List Event → List Delivery → Report
 report_of w tree events [] = no_turns
 report_of w tree events (d ∷ deliveries) = added (turn_report w tree events d) (report_of w tree (events_after d events) deliveries)
 

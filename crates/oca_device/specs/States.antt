@@ -3,6 +3,7 @@ use Rattle.std.specs.Prelude.{ℕ, ◌*◌, nat_lt, max, Bool, ◌||◌, if◌th
 use Rattle.oca_types.specs.declared.words.Peer.{Peer}
 use Rattle.oca_types.specs.declared.words.Reply.{Reply}
 use Rattle.oca_types.specs.Peers.{CommandFields}
+use Rattle.oca_types.specs.Sizes.{DeviceSizes}
 use Rattle.oca_pdu.specs.declared.fault.PduFault.{PduFault}
 use Rattle.oca_pdu.specs.declared.message.Form.{Form}
 use Rattle.oca_pdu.specs.declared.message.Form.TheVariants.{Seconds, Millis}
@@ -13,7 +14,6 @@ use Rattle.oca_tree.specs.Execution.{execution}
 use Rattle.oca_tree.specs.Locks.{released}
 use Rattle.oca_tree.specs.Settings.{after_set}
 use Rattle.oca_tree.specs.declared.setting.LocalValue.{LocalValue}
-use Rattle.oca_session.specs.Limits.{most_sessions}
 use Rattle.oca_session.specs.Accepted.{Judgement, Fresh, Duplicate, Reused, Old, judgement}
 use Rattle.oca_device.specs.Events.{Event, Datagram, Tick, Local}
 use Rattle.oca_device.specs.Notes.{Noted, Admitted, Heartbeat, Executed, Note, run, is_known, known, accepted, has_lapsed}
@@ -44,12 +44,12 @@ moved_to t s = record { tree = released_all (lapsed_at t s) s.tree; moment = t; 
 -- ---- a datagram is admitted, and its messages are served in order
 
 -- A datagram is admitted where its peer is known, or there is room for one more session.
-abbrev pub admits : State → Peer → Bool
-admits s p = is_known s.moment s.notes p || nat_lt (length (known s.moment s.notes)) most_sessions
+abbrev pub admits : DeviceSizes → State → Peer → Bool
+admits w s p = is_known s.moment s.notes p || nat_lt (length (known s.moment s.notes)) w.peers
 
 -- what the accepted commands of the peer's session say of a command
-abbrev pub judged_in : ℕ → State → Peer → CommandFields → Judgement
-judged_in w s p c = judgement w (accepted (run p s.notes)) c
+abbrev pub judged_in : DeviceSizes → State → Peer → CommandFields → Judgement
+judged_in w s p c = judgement w.window (accepted (run p s.notes)) c
 
 -- the reply that executing a command gives
 abbrev pub reply_of : List Object → Peer → CommandFields → Reply
@@ -76,19 +76,19 @@ time_of (Seconds n) = 1000 * n
 time_of (Millis n) = n
 
 -- Commands with and without response are served alike; responses are ignored.
-abbrev pub after_message : ℕ → Peer → Msg → State → State
+abbrev pub after_message : DeviceSizes → Peer → Msg → State → State
 after_message w p (Command respond c) s = after_command (judged_in w s p c) p c s
 after_message w p (KeepAlive form) s = noted p (Heartbeat (time_of form)) s
 after_message w p (Response r) s = s
 
-abbrev pub after_messages : ℕ → Peer → List Msg → State → State
+abbrev pub after_messages : DeviceSizes → Peer → List Msg → State → State
 after_messages w p [] s = s
 after_messages w p (m ∷ messages) s = after_messages w p messages (after_message w p m s)
 
 -- A malformed datagram, and one for which there is no room, change nothing.
-abbrev pub after_reading : ℕ → Peer → Result (List Msg) PduFault → State → State
+abbrev pub after_reading : DeviceSizes → Peer → Result (List Msg) PduFault → State → State
 after_reading w p (Err fault) s = s
-after_reading w p (Ok messages) s = if admits s p then after_messages w p messages (noted p (Admitted messages) s) else s
+after_reading w p (Ok messages) s = if admits w s p then after_messages w p messages (noted p (Admitted messages) s) else s
 
 -- ---- a change at the front
 
@@ -98,7 +98,7 @@ after_local ono value s = record { tree = after_set s.tree ono value; moment = s
 
 -- ---- events
 
-abbrev pub after_event : ℕ → Event → State → State
+abbrev pub after_event : DeviceSizes → Event → State → State
 after_event w (Datagram from bytes now) s = after_reading w from (read_datagram bytes) (moved_to (max s.moment now) s)
 after_event w (Tick now) s = moved_to (max s.moment now) s
 after_event w (Local ono value) s = after_local ono value s
@@ -107,7 +107,7 @@ after_event w (Local ono value) s = after_local ono value s
 abbrev pub known_after : State → List Peer
 known_after s = known s.moment s.notes
 
--- THE STATE AFTER EVENTS, from the opening tree on, with reply windows of size w.
-abbrev pub state_after : ℕ → List Object → List Event → State
+-- THE STATE AFTER EVENTS, from the opening tree on, with sizes w.
+abbrev pub state_after : DeviceSizes → List Object → List Event → State
 state_after w tree [] = record { tree = tree; moment = 0; notes = [] }
 state_after w tree (e ∷ events) = after_event w e (state_after w tree events)

@@ -1,7 +1,7 @@
 //! The device: it takes events, and puts its answers into an outbox.
 ghost use Rattle.std.specs.Prelude.{◌≡◌, ℕ, ◌+◌, ◌<◌, ◌≤◌, List, [], ◌∷◌, ◌++◌, length, max, IfOk, OnErr, IsTrue, IsSome, if◌then◌else◌, Ok, Err};
 ghost use Rattle.oca_types.specs.Peers.{fields_of};
-ghost use Rattle.oca_types.specs.Sizes.{window_size};
+ghost use Rattle.oca_types.specs.Sizes.{window_size, sizes_of, DeviceSizes};
 ghost use Rattle.std.specs.List.{AllByRecursion};
 ghost use Rattle.oca_pdu.specs.Messages.{Msg, Command as Commands, msg_of};
 ghost use Rattle.oca_pdu.specs.Datagrams.{messages_left};
@@ -22,7 +22,7 @@ use arrayvec::ArrayVec;
 use oca_pdu::{Form, Message, Messages, check};
 use oca_session::{Admission, Judged, Sessions};
 use oca_tree::{LocalValue, SetFault, Tree};
-use oca_types::{Command, NoMemory, Ono, Params, Peer, Reply, Status, Window};
+use oca_types::{Command, NoMemory, Ono, Params, Peer, Peers, Reply, Sizes, Status, Window};
 use std::alloc::Global;
 use std::marker::Model;
 
@@ -52,12 +52,27 @@ impl Device {
     ghost use Rattle.oca_device.specs.Devices.{Represents, IsIn};
     ghost use Rattle.oca_device.specs.PrivateServing.{Serves, ServesAll, Receives, AreGrouped, IsShort, may_answer, most_answers, commands_in};
 
-    /// A device of these objects, with reply windows of this size, before any event. Takes all the memory that its sessions
-    /// will need. Refusal: `NoMemory`.
+    /// A device of these objects, with reply windows of this size and sessions of at most 16 peers, before any event. Takes
+    /// all the memory that its sessions will need. Refusal: `NoMemory`.
     pub fn new(alloc: Global, tree: Tree, window: Window) -> Result<Device, NoMemory>
-        ensures { IfOk result (λ device. Represents (window_size window) device tree []) }
+        ensures { IfOk result (λ device. Represents (record { window = window_size window; peers = 16 }) device tree []) }
     {
-        let sessions = Sessions::new(alloc, window)?;
+        Device::with_sizes(
+            alloc,
+            tree,
+            Sizes {
+                window,
+                peers: Peers::default(),
+            },
+        )
+    }
+
+    /// A device of these objects, with reply windows and sessions of at most as many peers as these sizes say, before any
+    /// event. Takes all the memory that its sessions will need. Refusal: `NoMemory`.
+    pub fn with_sizes(alloc: Global, tree: Tree, sizes: Sizes) -> Result<Device, NoMemory>
+        ensures { IfOk result (λ device. Represents (sizes_of sizes) device tree []) }
+    {
+        let sessions = Sessions::with_sizes(alloc, sizes)?;
         Ok(Device {
             tree,
             sessions,
@@ -81,11 +96,11 @@ impl Device {
     /// leave in one PDU while it has at most 1,472 bytes. (AES70-3; sessions, windows and grouping are the profile's.)
     pub fn datagram(&mut self, from: Peer, bytes: &[u8], now: u64, outbox: &mut Outbox) -> Verdict
         requires { outbox.old ≡ [] }
-        ensures represents { (w : ℕ) (T : List Object) (E : List Event) → Represents w self.old T E →
+        ensures represents { (w : DeviceSizes) (T : List Object) (E : List Event) → Represents w self.old T E →
             Represents w self.new T (DatagramEvent from bytes.now now ∷ E) }
-        ensures packets { (w : ℕ) (T : List Object) (E : List Event) → Represents w self.old T E →
+        ensures packets { (w : DeviceSizes) (T : List Object) (E : List Event) → Represents w self.old T E →
             outbox.new ≡ packets w T E (DatagramEvent from bytes.now now) }
-        ensures verdict { (w : ℕ) (T : List Object) (E : List Event) → Represents w self.old T E →
+        ensures verdict { (w : DeviceSizes) (T : List Object) (E : List Event) → Represents w self.old T E →
             result ≡ verdict w T E from bytes.now now }
     {
         self.move_clock(now);
@@ -95,7 +110,7 @@ impl Device {
     /// Takes a clock reading: locks of peers that are silent for more than three heartbeats are released, and sessions that
     /// are silent for more than 120,000 ms forgotten.
     pub fn tick(&mut self, now: u64)
-        ensures { (w : ℕ) (T : List Object) (E : List Event) → Represents w self.old T E → Represents w self.new T (Tick now ∷ E) }
+        ensures { (w : DeviceSizes) (T : List Object) (E : List Event) → Represents w self.old T E → Represents w self.new T (Tick now ∷ E) }
     {
         self.move_clock(now);
     }
@@ -103,10 +118,10 @@ impl Device {
     /// Sets an object at the device's own front, as the set method of its class sets it at a peer that no lock refuses. A refusal
     /// changes nothing. Either way the clock stays, and no session is opened.
     pub fn set(&mut self, ono: Ono, value: LocalValue) -> Result<(), SetFault>
-        ensures represents { (w : ℕ) (T : List Object) (E : List Event) → Represents w self.old T E →
+        ensures represents { (w : DeviceSizes) (T : List Object) (E : List Event) → Represents w self.old T E →
             Represents w self.new T (Local ono.0 value ∷ E) }
         ensures told { result_err result ≡ set_fault self.old.tree ono.0 value }
-        ensures represented { (w : ℕ) (T : List Object) (E : List Event) → Represents w self.old T E →
+        ensures represented { (w : DeviceSizes) (T : List Object) (E : List Event) → Represents w self.old T E →
             result_err result ≡ set_fault (state_after w T E).tree ono.0 value }
         ensures refused { OnErr result (self.new ≡ self.old) }
     {
@@ -116,7 +131,7 @@ impl Device {
     /// The objects.
     pub fn tree(&self) -> &Tree
         ensures tree { result.now ≡ self.now.tree }
-        ensures represented { (w : ℕ) (T : List Object) (E : List Event) → Represents w self.now T E →
+        ensures represented { (w : DeviceSizes) (T : List Object) (E : List Event) → Represents w self.now T E →
             result.now ≡ (state_after w T E).tree }
     {
         &self.tree
@@ -126,7 +141,7 @@ impl Device {
     #[tactic(auto, using(crate::proofs::Steps::known_counted))]
     pub fn sessions(&self) -> usize
         ensures sessions { result ≡ length self.now.sessions.sessions }
-        ensures represented { (w : ℕ) (T : List Object) (E : List Event) → Represents w self.now T E →
+        ensures represented { (w : DeviceSizes) (T : List Object) (E : List Event) → Represents w self.now T E →
             result ≡ length (known_after (state_after w T E)) }
     {
         self.sessions.len()
@@ -134,7 +149,7 @@ impl Device {
 
     /// Moves the clock.
     fn move_clock(&mut self, now: u64)
-        ensures moved { (w : ℕ) (s : State) → IsIn w self.old s → IsIn w self.new (moved_to (max s.moment now) s) }
+        ensures moved { (w : DeviceSizes) (s : State) → IsIn w self.old s → IsIn w self.new (moved_to (max s.moment now) s) }
         ensures moment { now ≤ self.new.sessions.moment }
     {
         self.sessions.advance_into(now, &mut self.lapsed);
@@ -145,7 +160,7 @@ impl Device {
     fn receive(&mut self, from: Peer, bytes: &[u8], now: u64, outbox: &mut Outbox) -> Verdict
         requires moment { now ≤ self.old.sessions.moment }
         requires empty { outbox.old ≡ [] }
-        ensures { (w : ℕ) (s : State) → IsIn w self.old s → Receives w self.new from bytes.now s outbox.new result }
+        ensures { (w : DeviceSizes) (s : State) → IsIn w self.old s → Receives w self.new from bytes.now s outbox.new result }
     {
         match check(bytes) {
             Ok(datagram) => {
@@ -168,8 +183,8 @@ impl Device {
     /// Lets a peer in, where it is known or there is room for its session.
     fn admit(&mut self, from: Peer, now: u64) -> bool
         requires { now ≤ self.old.sessions.moment }
-        ensures admits { (w : ℕ) (s : State) → IsIn w self.old s → result ≡ admits s from }
-        ensures noted { (w : ℕ) (s : State) (messages : List Msg) → IsIn w self.old s →
+        ensures admits { (w : DeviceSizes) (s : State) → IsIn w self.old s → result ≡ admits w s from }
+        ensures noted { (w : DeviceSizes) (s : State) (messages : List Msg) → IsIn w self.old s →
             IsIn w self.new (if result then noted from (Admitted messages) s else s) }
         ensures known { IsTrue result → IsSome (session_of from self.new.sessions.sessions) }
     {
@@ -186,7 +201,7 @@ impl Device {
         requires room { length outbox.old + most_answers (messages_left messages) ≤ 122 }
         requires groups { AreGrouped outbox.old }
         requires short { AllByRecursion IsShort (messages_left messages) }
-        ensures { (w : ℕ) (s : State) → IsIn w self.old s → last_moment (run from s.notes) ≡ s.moment →
+        ensures { (w : DeviceSizes) (s : State) → IsIn w self.old s → last_moment (run from s.notes) ≡ s.moment →
             ServesAll w self.new from (messages_left messages.entry) s outbox.old outbox.new result }
     {
         let mut counts = NONE;
@@ -203,7 +218,7 @@ impl Device {
         requires groups { AreGrouped outbox.old }
         requires short { IsShort (msg_of message) }
         requires few { commands_in counts.now + may_answer (msg_of message) ≤ 122 }
-        ensures serves { (w : ℕ) (s : State) → IsIn w self.old s → last_moment (run from s.notes) ≡ s.moment →
+        ensures serves { (w : DeviceSizes) (s : State) → IsIn w self.old s → last_moment (run from s.notes) ≡ s.moment →
             Serves w self.new from (msg_of message.entry) s outbox.old outbox.new counts.entry.now counts.exit.now }
         ensures known { IsSome (session_of from self.new.sessions.sessions) }
         ensures packets { length outbox.new ≤ length outbox.old + may_answer (msg_of message.entry) }
@@ -236,7 +251,7 @@ impl Device {
         requires groups { AreGrouped outbox.old }
         requires short { length command.now.params.now ≤ 1445 }
         requires few { commands_in counts.now < 122 }
-        ensures serves { (w : ℕ) (s : State) → IsIn w self.old s → last_moment (run from s.notes) ≡ s.moment →
+        ensures serves { (w : DeviceSizes) (s : State) → IsIn w self.old s → last_moment (run from s.notes) ≡ s.moment →
             Serves w self.new from (Commands respond (fields_of command.now)) s outbox.old outbox.new counts.entry.now counts.exit.now }
         ensures known { IsSome (session_of from self.new.sessions.sessions) }
         ensures packets { length outbox.new ≤ length outbox.old + 1 }

@@ -7,7 +7,7 @@ mod sessions;
 
 use crate::{Device, Outbox, Verdict};
 use oca_tree::bench;
-use oca_types::{Packet, Peer, Window};
+use oca_types::{Packet, Peer, Peers, Sizes, Window};
 use std::alloc::Global;
 use std::process::Abort;
 use std::test::Fail;
@@ -179,6 +179,19 @@ impl Bench {
         let tree = bench(alloc).map_err(|_| "no memory")?;
         Ok(Bench {
             device: Device::new(alloc, tree, window).map_err(|_| "no memory")?,
+            outbox: Outbox::new(alloc).map_err(|_| "no memory")?,
+        })
+    }
+
+    /// The bench device with windows of one command, and sessions of at most so many peers.
+    fn with_peers(alloc: Global, count: u8) -> Result<Bench, Fail> {
+        let sizes = Sizes {
+            window: Window::new(1).ok_or("no window")?,
+            peers: Peers::new(count).ok_or("no peers")?,
+        };
+        let tree = bench(alloc).map_err(|_| "no memory")?;
+        Ok(Bench {
+            device: Device::with_sizes(alloc, tree, sizes).map_err(|_| "no memory")?,
             outbox: Outbox::new(alloc).map_err(|_| "no memory")?,
         })
     }

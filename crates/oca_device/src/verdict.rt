@@ -15,6 +15,6 @@ pub enum Verdict {
     },
     /// The bytes are no well-formed datagram, and this is their first fault. Nothing else changed.
     Malformed(PduFault),
-    /// The sender has no session, and 16 other peers have one. Nothing else changed.
+    /// The sender has no session, and as many other peers as were chosen have one. Nothing else changed.
     NoRoom,
 }

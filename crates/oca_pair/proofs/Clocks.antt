@@ -4,6 +4,7 @@ use Rattle.std.specs.Prelude.{max, Result, Ok, Err}
 use Rattle.std.specs.List.{AllByRecursion}
 use Rattle.oca_types.specs.declared.words.Peer.{Peer}
 use Rattle.oca_types.specs.Peers.{same_peer, CommandFields}
+use Rattle.oca_types.specs.Sizes.{DeviceSizes}
 use Rattle.oca_pdu.specs.declared.fault.PduFault.{PduFault}
 use Rattle.oca_pdu.specs.Messages.{Msg, Command, Response, KeepAlive}
 use Rattle.oca_pdu.specs.Reading.{read_datagram}
@@ -24,25 +25,25 @@ moment_command (Duplicate r) p c s = refl
 moment_command Reused p c s = refl
 moment_command Old p c s = refl
 
-moment_message : (w : ℕ) (p : Peer) (m : Msg) (s : State) → (after_message w p m s).moment ≡ s.moment
+moment_message : (w : DeviceSizes) (p : Peer) (m : Msg) (s : State) → (after_message w p m s).moment ≡ s.moment
 moment_message w p (Command respond c) s = moment_command (judged_in w s p c) p c s
 moment_message w p (KeepAlive form) s = refl
 moment_message w p (Response r) s = refl
 
-moment_messages : (w : ℕ) (p : Peer) (ms : List Msg) (s : State) → (after_messages w p ms s).moment ≡ s.moment
+moment_messages : (w : DeviceSizes) (p : Peer) (ms : List Msg) (s : State) → (after_messages w p ms s).moment ≡ s.moment
 moment_messages w p [] s = refl
 moment_messages w p (m ∷ ms) s = moment_messages w p ms (after_message w p m s) ∙ moment_message w p m s
 
-moment_reading : (w : ℕ) (p : Peer) (r : Result (List Msg) PduFault) (s : State) → (after_reading w p r s).moment ≡ s.moment
+moment_reading : (w : DeviceSizes) (p : Peer) (r : Result (List Msg) PduFault) (s : State) → (after_reading w p r s).moment ≡ s.moment
 moment_reading w p (Err fault) s = refl
-moment_reading w p (Ok ms) s = by_room (admits s p)
+moment_reading w p (Ok ms) s = by_room (admits w s p)
   where
     by_room : (b : Bool) → (let x : State = cond b (after_messages w p ms (noted p (Admitted ms) s)) s in x).moment ≡ s.moment
     by_room true = moment_messages w p ms (noted p (Admitted ms) s)
     by_room false = refl
 
 -- The device's clock is the greatest moment seen.
-pub clock_is : (w : ℕ) (tree : List Object) (events : List Event) → (state_after w tree events).moment ≡ clock_after events
+pub clock_is : (w : DeviceSizes) (tree : List Object) (events : List Event) → (state_after w tree events).moment ≡ clock_after events
 clock_is w tree [] = refl
 clock_is w tree (Datagram p bytes now ∷ events) =
     let s = state_after w tree events in
@@ -71,7 +72,7 @@ grows_on q t ns ms os a b = record {
   own = each_append _ b.more a.more b.own a.own;
 }
 
-pub grows_message : (w : ℕ) (q : Peer) (t : ℕ) (m : Msg) (s : State) → s.moment ≡ t → Grows q t s.notes (after_message w q m s).notes
+pub grows_message : (w : DeviceSizes) (q : Peer) (t : ℕ) (m : Msg) (s : State) → s.moment ≡ t → Grows q t s.notes (after_message w q m s).notes
 grows_message w q t (Command respond c) s e = by_judgement (judged_in w s q c)
   where
     by_judgement : (j : Judgement) → Grows q t s.notes (after_command j q c s).notes
@@ -82,15 +83,15 @@ grows_message w q t (Command respond c) s e = by_judgement (judged_in w s q c)
 grows_message w q t (KeepAlive form) s e = grows_noted q t (Heartbeat (time_of form)) s e
 grows_message w q t (Response r) s e = grows_not q t s.notes
 
-grows_messages : (w : ℕ) (q : Peer) (t : ℕ) (ms : List Msg) (s : State) → s.moment ≡ t → Grows q t s.notes (after_messages w q ms s).notes
+grows_messages : (w : DeviceSizes) (q : Peer) (t : ℕ) (ms : List Msg) (s : State) → s.moment ≡ t → Grows q t s.notes (after_messages w q ms s).notes
 grows_messages w q t [] s e = grows_not q t s.notes
 grows_messages w q t (m ∷ ms) s e =
     grows_on q t s.notes (after_message w q m s).notes (after_messages w q ms (after_message w q m s)).notes
     (grows_message w q t m s e) (grows_messages w q t ms (after_message w q m s) (moment_message w q m s ∙ e))
 
-pub grows_reading : (w : ℕ) (q : Peer) (r : Result (List Msg) PduFault) (s : State) → Grows q s.moment s.notes (after_reading w q r s).notes
+pub grows_reading : (w : DeviceSizes) (q : Peer) (r : Result (List Msg) PduFault) (s : State) → Grows q s.moment s.notes (after_reading w q r s).notes
 grows_reading w q (Err fault) s = grows_not q s.moment s.notes
-grows_reading w q (Ok ms) s = by_room (admits s q)
+grows_reading w q (Ok ms) s = by_room (admits w s q)
   where
     by_room : (b : Bool) → Grows q s.moment s.notes (let x : State = cond b (after_messages w q ms (noted q (Admitted ms) s)) s in x).notes
     by_room true = grows_on q s.moment s.notes (noted q (Admitted ms) s).notes (after_messages w q ms (noted q (Admitted ms) s)).notes

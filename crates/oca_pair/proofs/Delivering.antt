@@ -9,6 +9,7 @@ use Rattle.oca_types.specs.declared.words.Peer.{Peer}
 use Rattle.oca_types.specs.declared.words.Handle.{Handle}
 use Rattle.oca_types.specs.declared.words.Reply.{Reply}
 use Rattle.oca_types.specs.Peers.{same_peer, CommandFields}
+use Rattle.oca_types.specs.Sizes.{DeviceSizes}
 use Rattle.oca_pdu.specs.declared.message.Form.TheVariants.{Seconds}
 use Rattle.oca_pdu.specs.Messages.{ResponseFields, Msg, Command, Response, KeepAlive, Commands, OneKeepAlive}
 use Rattle.oca_pdu.specs.Encoding.{pdu_encoding, ResponseFits}
@@ -65,15 +66,15 @@ back_of law p g r fits short t = ((λ same. inl (r, t, read_response law r fits 
 -- what the state and the answers are, and what follows from that
 settled : (p : Peer) (next : Option ℕ) (us : List Untaken) (g : Past) (out back : List SentDatagram) (handed : List TakenAnswer) (bytes : List ℕ) (now : ℕ)
     (s : State) (answers : List Msg) → state_of (and_then (Datagram p bytes now) g) ≡ s →
-    answers_to_reading g.window p (read_datagram bytes) (looked_at now g) ≡ answers →
+    answers_to_reading g.sizes p (read_datagram bytes) (looked_at now g) ≡ answers →
     AreOwn p (and_then (Datagram p bytes now) g) s.notes →
     AllByRecursion (λ (d : SentDatagram). d.peer ≡ p → IsBack p (and_then (Datagram p bytes now) g) d.bytes) (sendings p (packets_of answers)) →
     Fair p next us g out back handed →
-    Fair p next us (and_then (Datagram p bytes now) g) out (back ++ sendings p (packets g.window g.tree g.events (Datagram p bytes now))) handed
+    Fair p next us (and_then (Datagram p bytes now) g) out (back ++ sendings p (packets g.sizes g.tree g.events (Datagram p bytes now))) handed
 settled p next us g out back handed bytes now s answers state_is answers_are own new f =
-    fair_then p next us g out back handed (Datagram p bytes now) (sendings p (packets g.window g.tree g.events (Datagram p bytes now)))
+    fair_then p next us g out back handed (Datagram p bytes now) (sendings p (packets g.sizes g.tree g.events (Datagram p bytes now)))
     (owned ((state_of (and_then (Datagram p bytes now) g)).notes) (ap (λ (x : State). x.notes) state_is) own)
-    (sent (packets g.window g.tree g.events (Datagram p bytes now)) (ap packets_of answers_are) new) f
+    (sent (packets g.sizes g.tree g.events (Datagram p bytes now)) (ap packets_of answers_are) new) f
   where
     owned : (ns : List Note) → ns ≡ s.notes → AreOwn p (and_then (Datagram p bytes now) g) s.notes → AreOwn p (and_then (Datagram p bytes now) g) ns
     owned ns e a = rw e a
@@ -84,13 +85,13 @@ settled p next us g out back handed bytes now s answers state_is answers_are own
     sent ps e a = rw e a
 
 -- the state after a message that was read, and the answers to it
-pub after_read : (w : ℕ) (p : Peer) (m : Msg) (bytes : List ℕ) (now : ℕ) (g : Past) (room : Bool) → read_datagram bytes ≡ Ok (m ∷ []) → admits (looked_at now g) p ≡ room →
+pub after_read : (w : DeviceSizes) (p : Peer) (m : Msg) (bytes : List ℕ) (now : ℕ) (g : Past) (room : Bool) → read_datagram bytes ≡ Ok (m ∷ []) → admits w (looked_at now g) p ≡ room →
     after_reading w p (read_datagram bytes) (looked_at now g) ≡ cond room (after_message w p m (let_in p m now g)) (looked_at now g)
 after_read w p m bytes now g room read admitted =
     ap (λ r. after_reading w p r (looked_at now g)) read
     ∙ ap (λ b. cond b (after_message w p m (let_in p m now g)) (looked_at now g)) admitted
 
-pub answers_read : (w : ℕ) (p : Peer) (m : Msg) (bytes : List ℕ) (now : ℕ) (g : Past) (room : Bool) → read_datagram bytes ≡ Ok (m ∷ []) → admits (looked_at now g) p ≡ room →
+pub answers_read : (w : DeviceSizes) (p : Peer) (m : Msg) (bytes : List ℕ) (now : ℕ) (g : Past) (room : Bool) → read_datagram bytes ≡ Ok (m ∷ []) → admits w (looked_at now g) p ≡ room →
     answers_to_reading w p (read_datagram bytes) (looked_at now g) ≡ cond room (answers_to_messages w p (m ∷ []) (let_in p m now g)) []
 answers_read w p m bytes now g room read admitted =
     ap (λ r. answers_to_reading w p r (looked_at now g)) read
@@ -99,8 +100,8 @@ answers_read w p m bytes now g room read admitted =
 pub fair_command : (law : WrittenIsReadBack) (p : Peer) (next : Option ℕ) (us : List Untaken) (g : Past) (out back : List SentDatagram) (handed : List TakenAnswer) (c : CommandFields) (now : ℕ) →
     IsSendable c → IsSubmitted p c g.submitted → Fair p next us g out back handed →
     let e : Event = Datagram p (pdu_encoding (Commands true (c ∷ []))) now in
-    Fair p next us (and_then e g) out (back ++ sendings p (packets g.window g.tree g.events e)) handed
-fair_command law p next us g out back handed c now sendable sub f = by_room (admits (looked_at now g) p) refl
+    Fair p next us (and_then e g) out (back ++ sendings p (packets g.sizes g.tree g.events e)) handed
+fair_command law p next us g out back handed c now sendable sub f = by_room (admits g.sizes (looked_at now g) p) refl
   where
     bytes : List ℕ
     bytes = pdu_encoding (Commands true (c ∷ []))
@@ -130,12 +131,12 @@ fair_command law p next us g out back handed c now sendable sub f = by_room (adm
     honest : IsHonest p x g'
     honest = record { came = record { later = []; before = g.events; now = now; events = refl; objects = refl }; submitted = sub; reply = refl }
 
-    by_judgement : (j : Judgement) → judged_in g.window s2 p c ≡ j → admits (looked_at now g) p ≡ true →
-        Fair p next us g' out (back ++ sendings p (packets g.window g.tree g.events e)) handed
+    by_judgement : (j : Judgement) → judged_in g.sizes s2 p c ≡ j → admits g.sizes (looked_at now g) p ≡ true →
+        Fair p next us g' out (back ++ sendings p (packets g.sizes g.tree g.events e)) handed
     by_judgement Fresh q room =
-        let state_is : state_of g' ≡ after_command Fresh p c s2 = after_read g.window p m bytes now g true read room ∙ ap (λ j. after_command j p c s2) q in
-        let answers_are : answers_to_reading g.window p (read_datagram bytes) (looked_at now g) ≡ response c.handle x.reply ∷ [] =
-        answers_read g.window p m bytes now g true read room ∙ ap (λ j. answer_to_command j p c s2 ++ []) q in
+        let state_is : state_of g' ≡ after_command Fresh p c s2 = after_read g.sizes p m bytes now g true read room ∙ ap (λ j. after_command j p c s2) q in
+        let answers_are : answers_to_reading g.sizes p (read_datagram bytes) (looked_at now g) ≡ response c.handle x.reply ∷ [] =
+        answers_read g.sizes p m bytes now g true read room ∙ ap (λ j. answer_to_command j p c s2 ++ []) q in
         let small = reply_fits s2.tree p c c.handle sendable.fits.handle in
         let t : IsTrueAnswer p c.handle (answer_of x.reply) g' = record {
           execution = x;
@@ -148,11 +149,11 @@ fair_command law p next us g out back handed c now sendable sub f = by_room (adm
         ((λ same. honest), own2)
         (back_of law p g' (response_to c.handle x.reply) small.0 small.1 t) f
     by_judgement (Duplicate r) q room =
-        let state_is : state_of g' ≡ s2 = after_read g.window p m bytes now g true read room ∙ ap (λ j. after_command j p c s2) q in
-        let answers_are : answers_to_reading g.window p (read_datagram bytes) (looked_at now g) ≡ response c.handle r ∷ [] =
-        answers_read g.window p m bytes now g true read room ∙ ap (λ j. answer_to_command j p c s2 ++ []) q in
-        let d = judged_duplicate g.window (accepted (run p s2.notes)) c r q in
-        let k = window_executed g.window p g' c.handle d.0 s2.notes own2 d.1 in
+        let state_is : state_of g' ≡ s2 = after_read g.sizes p m bytes now g true read room ∙ ap (λ j. after_command j p c s2) q in
+        let answers_are : answers_to_reading g.sizes p (read_datagram bytes) (looked_at now g) ≡ response c.handle r ∷ [] =
+        answers_read g.sizes p m bytes now g true read room ∙ ap (λ j. answer_to_command j p c s2 ++ []) q in
+        let d = judged_duplicate g.sizes.window (accepted (run p s2.notes)) c r q in
+        let k = window_executed g.sizes p g' c.handle d.0 s2.notes own2 d.1 in
         let y : Execution = record { objects = k.0.objects; command = d.0.command; reply = d.0.reply } in
         let gave : r ≡ reply_of k.0.objects p d.0.command = sym d.2 ∙ k.0.honest.reply in
         let small = reply_fits k.0.objects p d.0.command c.handle sendable.fits.handle in
@@ -166,23 +167,23 @@ fair_command law p next us g out back handed c now sendable sub f = by_room (adm
         settled p next us g out back handed bytes now s2 (response c.handle r ∷ []) state_is answers_are own2
         (back_of law p g' (response_to c.handle r) (rw gave small.0) (rw gave small.1) t) f
     by_judgement Reused q room =
-        settled p next us g out back handed bytes now s2 [] (after_read g.window p m bytes now g true read room ∙ ap (λ j. after_command j p c s2) q)
-        (answers_read g.window p m bytes now g true read room ∙ ap (λ j. answer_to_command j p c s2 ++ []) q) own2 tt f
+        settled p next us g out back handed bytes now s2 [] (after_read g.sizes p m bytes now g true read room ∙ ap (λ j. after_command j p c s2) q)
+        (answers_read g.sizes p m bytes now g true read room ∙ ap (λ j. answer_to_command j p c s2 ++ []) q) own2 tt f
     by_judgement Old q room =
-        settled p next us g out back handed bytes now s2 [] (after_read g.window p m bytes now g true read room ∙ ap (λ j. after_command j p c s2) q)
-        (answers_read g.window p m bytes now g true read room ∙ ap (λ j. answer_to_command j p c s2 ++ []) q) own2 tt f
+        settled p next us g out back handed bytes now s2 [] (after_read g.sizes p m bytes now g true read room ∙ ap (λ j. after_command j p c s2) q)
+        (answers_read g.sizes p m bytes now g true read room ∙ ap (λ j. answer_to_command j p c s2 ++ []) q) own2 tt f
 
-    by_room : (b : Bool) → admits (looked_at now g) p ≡ b → Fair p next us g' out (back ++ sendings p (packets g.window g.tree g.events e)) handed
-    by_room true room = by_judgement (judged_in g.window s2 p c) refl room
+    by_room : (b : Bool) → admits g.sizes (looked_at now g) p ≡ b → Fair p next us g' out (back ++ sendings p (packets g.sizes g.tree g.events e)) handed
+    by_room true room = by_judgement (judged_in g.sizes s2 p c) refl room
     by_room false room =
-        settled p next us g out back handed bytes now (looked_at now g) [] (after_read g.window p m bytes now g false read room)
-        (answers_read g.window p m bytes now g false read room) (owns_then p g e (state_of g).notes f.own) tt f
+        settled p next us g out back handed bytes now (looked_at now g) [] (after_read g.sizes p m bytes now g false read room)
+        (answers_read g.sizes p m bytes now g false read room) (owns_then p g e (state_of g).notes f.own) tt f
 
 pub fair_keep_alive : (law : WrittenIsReadBack) (p : Peer) (next : Option ℕ) (us : List Untaken) (g : Past) (out back : List SentDatagram) (handed : List TakenAnswer) (now : ℕ) →
     Fair p next us g out back handed →
     let e : Event = Datagram p (pdu_encoding (OneKeepAlive (Seconds 5))) now in
-    Fair p next us (and_then e g) out (back ++ sendings p (packets g.window g.tree g.events e)) handed
-fair_keep_alive law p next us g out back handed now f = by_room (admits (looked_at now g) p) refl
+    Fair p next us (and_then e g) out (back ++ sendings p (packets g.sizes g.tree g.events e)) handed
+fair_keep_alive law p next us g out back handed now f = by_room (admits g.sizes (looked_at now g) p) refl
   where
     bytes : List ℕ
     bytes = pdu_encoding (OneKeepAlive (Seconds 5))
@@ -196,13 +197,13 @@ fair_keep_alive law p next us g out back handed now f = by_room (admits (looked_
     read : read_datagram bytes ≡ Ok (m ∷ [])
     read = read_keep_alive law
 
-    by_room : (b : Bool) → admits (looked_at now g) p ≡ b → Fair p next us (and_then e g) out (back ++ sendings p (packets g.window g.tree g.events e)) handed
+    by_room : (b : Bool) → admits g.sizes (looked_at now g) p ≡ b → Fair p next us (and_then e g) out (back ++ sendings p (packets g.sizes g.tree g.events e)) handed
     by_room true room =
-        settled p next us g out back handed bytes now (noted p (Heartbeat (time_of (Seconds 5))) (let_in p m now g)) (m ∷ []) (after_read g.window p m bytes now g true read room)
-        (answers_read g.window p m bytes now g true read room) ((λ same. tt), ((λ same. tt), owns_then p g e (state_of g).notes f.own)) ((λ same. inr read), tt) f
+        settled p next us g out back handed bytes now (noted p (Heartbeat (time_of (Seconds 5))) (let_in p m now g)) (m ∷ []) (after_read g.sizes p m bytes now g true read room)
+        (answers_read g.sizes p m bytes now g true read room) ((λ same. tt), ((λ same. tt), owns_then p g e (state_of g).notes f.own)) ((λ same. inr read), tt) f
     by_room false room =
-        settled p next us g out back handed bytes now (looked_at now g) [] (after_read g.window p m bytes now g false read room)
-        (answers_read g.window p m bytes now g false read room) (owns_then p g e (state_of g).notes f.own) tt f
+        settled p next us g out back handed bytes now (looked_at now g) [] (after_read g.sizes p m bytes now g false read room)
+        (answers_read g.sizes p m bytes now g false read room) (owns_then p g e (state_of g).notes f.own) tt f
 
 -- ---- the link's own steps
 

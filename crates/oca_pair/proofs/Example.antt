@@ -2,6 +2,7 @@
 use Rattle.std.proofs.Common.{ℕ, true, false, List, [], ◌∷◌, Some, None, refl, lit<, lit≤}
 use Rattle.oca_types.specs.declared.words.Peer.{Peer}
 use Rattle.oca_types.specs.Peers.{CommandFields}
+use Rattle.oca_types.specs.Sizes.{DeviceSizes}
 use Rattle.oca_pdu.specs.Messages.{Commands}
 use Rattle.oca_pdu.specs.Encoding.{pdu_encoding}
 use Rattle.oca_pdu.specs.Laws.{WrittenIsReadBack}
@@ -33,8 +34,12 @@ the_steps =
     Submit 0 get_state 0 ∷ Submit 0 get_state 0 ∷ Submit 0 get_state 0 ∷ Due 0 0 ∷ Due 0 0 ∷ Due 0 0
     ∷ ToDevice 2 100 ∷ ToDevice 2 200 ∷ ToDevice 0 300 ∷ []
 
+-- a window of 5 is as large as a span of 3 asks, and there is room for one peer
+abbrev the_sizes : DeviceSizes
+the_sizes = record { window = 5; peers = 1 }
+
 abbrev the_network : List Object → Network
-the_network tree = after_steps the_steps (opening 5 3 tree the_starts)
+the_network tree = after_steps the_steps (opening the_sizes 3 tree the_starts)
 
 abbrev third : CommandFields
 third = command_under 3 get_state
@@ -64,7 +69,7 @@ carries_third = record { peer = refl; untaken = held 3; held = (2, lit< tt, refl
 -- so the third command, delivered once more, is answered
 pub repeated_is_answered : WrittenIsReadBack → (tree : List Object) → IsAnswered 2 400 (the_network tree) sent_third third
 repeated_is_answered law tree =
-    never_old_law law 5 3 tree the_starts the_steps (lit< tt) (lit≤ tt) refl meets 2 400 0 sent_third the_link third (controller ∷ [])
+    never_old_law law the_sizes 3 tree the_starts the_steps (lit< tt) (lit≤ tt) refl meets 2 400 0 sent_third the_link third (controller ∷ [])
     refl refl carries_third refl (lit≤ tt) (refl, (refl, (refl, (refl, tt))))
 
 -- Before the device's datagram, the fourth that it sent, comes to the link, the first command is given out again, the third is asked
@@ -74,7 +79,7 @@ between = Due 0 410 ∷ Take 0 3 ∷ ToDevice 1 420 ∷ []
 
 pub repeated_comes_back : WrittenIsReadBack → (tree : List Object) → ComesBack 2 400 between 500 0 third controller (the_network tree)
 repeated_comes_back law tree =
-    round_trip_law law 5 3 tree the_starts the_steps (lit< tt) (lit≤ tt) refl meets 2 400 0 sent_third the_link third (controller ∷ []) between 500
+    round_trip_law law the_sizes 3 tree the_starts the_steps (lit< tt) (lit≤ tt) refl meets 2 400 0 sent_third the_link third (controller ∷ []) between 500
     refl refl carries_third refl (lit≤ tt) (refl, (refl, (refl, (refl, tt)))) (tt, (tt, (tt, tt)))
 
 abbrev again : Untaken

@@ -157,9 +157,9 @@ pub fair_other : (p q : Peer) (next : Option ℕ) (us : List Untaken) (g : Past)
 fair_other p q next us g out back handed bytes now packets other f =
     let e : Event = Datagram q bytes now in
     let s1 : State = moved_to (max (state_of g).moment now) (state_of g) in
-    let grows : Grows q s1.moment s1.notes (after_reading g.window q (read_datagram bytes) s1).notes = grows_reading g.window q (read_datagram bytes) s1 in
+    let grows : Grows q s1.moment s1.notes (after_reading g.sizes q (read_datagram bytes) s1).notes = grows_reading g.sizes q (read_datagram bytes) s1 in
     fair_then p next us g out back handed e (sendings q packets)
-    (grown grows.more (after_reading g.window q (read_datagram bytes) s1).notes grows.is grows.own)
+    (grown grows.more (after_reading g.sizes q (read_datagram bytes) s1).notes grows.is grows.own)
     (none_for (IsBack p (and_then e g)) p q other packets) f
   where
     grown : (more ns : List Note) → ns ≡ more ++ (state_of g).notes → AllByRecursion (λ n. (n.peer ≡ q) × (n.at ≡ max (state_of g).moment now)) more → AreOwn p (and_then (Datagram q bytes now) g) ns

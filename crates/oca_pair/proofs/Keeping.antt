@@ -143,7 +143,7 @@ pub delivers : (p : Peer) (m : Msg) (bytes : List ℕ) (now : ℕ) (g : Past) �
     ((c : CommandFields) × (m ≡ Command true c)) ⊎ ((form : Form) × (m ≡ KeepAlive form)) →
     KeepsItsSession p (Datagram p bytes now ∷ g.events) → Kept p g → Delivers p m g (and_then (Datagram p bytes now) g)
 unfolding IsDistinct
-delivers p m bytes now g read kind keeps k = by_room (admits s1 p) refl
+delivers p m bytes now g read kind keeps k = by_room (admits g.sizes s1 p) refl
   where
     g' : Past
     g' = and_then (Datagram p bytes now) g
@@ -155,7 +155,7 @@ delivers p m bytes now g read kind keeps k = by_room (admits s1 p) refl
     s2 = let_in p m now g
 
     clock : s1.moment ≡ max (clock_after g.events) now
-    clock = ap (λ t. max t now) (clock_is g.window g.tree g.events)
+    clock = ap (λ t. max t now) (clock_is g.sizes g.tree g.events)
 
     times : moments_of p (Datagram p bytes now ∷ g.events) ≡ s1.moment ∷ moments_of p g.events
     times = moments_own p bytes now g.events ∙ ap (λ t. t ∷ moments_of p g.events) (sym clock)
@@ -177,15 +177,15 @@ delivers p m bytes now g read kind keeps k = by_room (admits s1 p) refl
     made s is kept grown = record { kept = rw (times, is) kept; grown = rw is grown }
 
     -- not admitted: then the peer was never noted
-    unknown : (ns : List Note) → IsKnownThen s1.moment ns → (is_within s1.moment ns || nat_lt (length (known s1.moment s1.notes)) 16) ≡ false → ns ≡ []
+    unknown : (ns : List Note) → IsKnownThen s1.moment ns → (is_within s1.moment ns || nat_lt (length (known s1.moment s1.notes)) g.sizes.peers) ≡ false → ns ≡ []
     unknown [] q e = refl
-    unknown (n ∷ ns) q e = differs (sym (ap (λ b. b || nat_lt (length (known s1.moment s1.notes)) 16) q) ∙ e)
+    unknown (n ∷ ns) q e = differs (sym (ap (λ b. b || nat_lt (length (known s1.moment s1.notes)) g.sizes.peers) q) ∙ e)
 
-    by_judgement : (c : CommandFields) → m ≡ Command true c → (j : Judgement) → judged_in g.window s2 p c ≡ j → state_of g' ≡ after_command j p c s2 → Delivers p m g g'
+    by_judgement : (c : CommandFields) → m ≡ Command true c → (j : Judgement) → judged_in g.sizes s2 p c ≡ j → state_of g' ≡ after_command j p c s2 → Delivers p m g g'
     by_judgement c is Fresh q state_is =
         let r : Reply = reply_of s2.tree p c in
         let new : has c.handle (accepted_by p g) ≡ false =
-        sym (ap (has c.handle) (ap accepted kept2.whole ∙ accepted2)) ∙ judged_fresh g.window (accepted (run p s2.notes)) c q in
+        sym (ap (has c.handle) (ap accepted kept2.whole ∙ accepted2)) ∙ judged_fresh g.sizes.window (accepted (run p s2.notes)) c q in
         let new2 : has c.handle (accepted (notes_of p s2.notes)) ≡ false = ap (has c.handle) accepted2 ∙ new in
         made (after_command Fresh p c s2) state_is
         (kept_noted p (Executed s2.tree c r) s2' (moments_of p g.events) kept2.whole known2 (fresh c.handle s2.notes new2, kept2.once))
@@ -203,16 +203,16 @@ delivers p m bytes now g read kind keeps k = by_room (admits s1 p) refl
     by_judgement c is Reused q state_is = made s2 state_is kept2 (inl accepted2)
     by_judgement c is Old q state_is = made s2 state_is kept2 (inl accepted2)
 
-    by_room : (b : Bool) → admits s1 p ≡ b → Delivers p m g g'
+    by_room : (b : Bool) → admits g.sizes s1 p ≡ b → Delivers p m g g'
     by_room true room = elim kind [
-      | inl (c, is) ↦ by_judgement c is (judged_in g.window s2 p c) refl (after_read g.window p m bytes now g true read room ∙ ap (λ x. after_message g.window p x s2) is)
-      | inr (form, is) ↦ made (noted p (Heartbeat (time_of form)) s2) (after_read g.window p m bytes now g true read room ∙ ap (λ x. after_message g.window p x s2) is)
+      | inl (c, is) ↦ by_judgement c is (judged_in g.sizes s2 p c) refl (after_read g.sizes p m bytes now g true read room ∙ ap (λ x. after_message g.sizes p x s2) is)
+      | inr (form, is) ↦ made (noted p (Heartbeat (time_of form)) s2) (after_read g.sizes p m bytes now g true read room ∙ ap (λ x. after_message g.sizes p x s2) is)
           (kept_noted p (Heartbeat (time_of form)) s2 (moments_of p g.events) kept2.whole known2 kept2.once)
           (inl (ap accepted (notes_noted p (Heartbeat (time_of form)) s2) ∙ accepted2))
     ]
     by_room false room =
         let none : notes_of p s1.notes ≡ [] = unknown (notes_of p s1.notes) known1 room in
-        made s1 (after_read g.window p m bytes now g false read room)
+        made s1 (after_read g.sizes p m bytes now g false read room)
         (record { latest = rw none tt; whole = k.whole; once = k.once }) (inl refl)
 
 -- when a datagram of the peer is admitted, the accepted commands are as before
@@ -220,7 +220,7 @@ pub accepted_let_in : (p : Peer) (m : Msg) (bytes : List ℕ) (now : ℕ) (g : P
     accepted (run p (let_in p m now g).notes) ≡ accepted_by p g
 accepted_let_in p m bytes now g keeps k =
     let s1 : State = looked_at now g in
-    let clock : s1.moment ≡ max (clock_after g.events) now = ap (λ t. max t now) (clock_is g.window g.tree g.events) in
+    let clock : s1.moment ≡ max (clock_after g.events) now = ap (λ t. max t now) (clock_is g.sizes g.tree g.events) in
     let known1 : IsKnownThen s1.moment (notes_of p s1.notes) =
     known_then s1.moment (notes_of p s1.notes) (moments_of p g.events) k.latest (ap (λ t. is_soon_after t (moments_of p g.events)) clock ∙ soon_now p bytes now g.events keeps) in
     let kept2 : KeptState p (s1.moment ∷ moments_of p g.events) (let_in p m now g).notes = kept_noted p (Admitted (m ∷ [])) s1 (moments_of p g.events) k.whole known1 k.once in
@@ -231,8 +231,8 @@ accepted_let_in p m bytes now g keeps k =
 pub kept_other : (p q : Peer) (bytes : List ℕ) (now : ℕ) (g : Past) → same_peer q p ≡ false → Kept p g → Kept p (and_then (Datagram q bytes now) g)
 kept_other p q bytes now g other k =
     let s1 : State = looked_at now g in
-    let grows : Grows q s1.moment s1.notes (after_reading g.window q (read_datagram bytes) s1).notes = grows_reading g.window q (read_datagram bytes) s1 in
-    let same : notes_of p (after_reading g.window q (read_datagram bytes) s1).notes ≡ notes_of p s1.notes = notes_of_grown p q s1.moment s1.notes _ other grows in
+    let grows : Grows q s1.moment s1.notes (after_reading g.sizes q (read_datagram bytes) s1).notes = grows_reading g.sizes q (read_datagram bytes) s1 in
+    let same : notes_of p (after_reading g.sizes q (read_datagram bytes) s1).notes ≡ notes_of p s1.notes = notes_of_grown p q s1.moment s1.notes _ other grows in
     record {
       latest = rw (moments_other p q bytes now g.events other, same) k.latest;
       whole = ap unbroken same ∙ k.whole ∙ sym same;
@@ -240,7 +240,7 @@ kept_other p q bytes now g other k =
     }
   where
     after : List Note
-    after = (after_reading g.window q (read_datagram bytes) (looked_at now g)).notes
+    after = (after_reading g.sizes q (read_datagram bytes) (looked_at now g)).notes
 
     skipped : (more : List Note) → AllByRecursion (λ n. (n.peer ≡ q) × (n.at ≡ (looked_at now g).moment)) more → executed_for p (more ++ (state_of g).notes) ≡ executed_for p (state_of g).notes
     skipped [] own = refl
@@ -254,4 +254,4 @@ kept_other p q bytes now g other k =
 pub accepted_other : (p q : Peer) (bytes : List ℕ) (now : ℕ) (g : Past) → same_peer q p ≡ false → accepted_by p (and_then (Datagram q bytes now) g) ≡ accepted_by p g
 accepted_other p q bytes now g other =
     let s1 : State = looked_at now g in
-    ap accepted (notes_of_grown p q s1.moment s1.notes _ other (grows_reading g.window q (read_datagram bytes) s1))
+    ap accepted (notes_of_grown p q s1.moment s1.notes _ other (grows_reading g.sizes q (read_datagram bytes) s1))

@@ -7,6 +7,7 @@ use Rattle.std.proofs.lemmas.Bool.Decides.{nat_tests}
 use Rattle.oca_types.specs.declared.words.Peer.{Peer}
 use Rattle.oca_types.specs.declared.words.Reply.{Reply}
 use Rattle.oca_types.specs.Peers.{CommandFields}
+use Rattle.oca_types.specs.Sizes.{DeviceSizes}
 use Rattle.oca_pdu.specs.Messages.{Msg, Command, Commands}
 use Rattle.oca_pdu.specs.Encoding.{pdu_encoding}
 use Rattle.oca_pdu.specs.Reading.{read_datagram}
@@ -88,7 +89,7 @@ before_last [] h a = tt
 before_last (x ∷ []) h a = tt
 before_last (x ∷ y ∷ xs) h a = (a.0, before_last (y ∷ xs) h a.1)
 
-pub answers_law : WrittenIsReadBack → (w s : ℕ) (tree : List Object) (starts : List Start) (es : List Step) → are_apart starts ≡ true → Fit starts es →
+pub answers_law : WrittenIsReadBack → (w : DeviceSizes) (s : ℕ) (tree : List Object) (starts : List Start) (es : List Step) → are_apart starts ≡ true → Fit starts es →
     AnswersItsCommands (after_steps es (opening w s tree starts))
 answers_law law w s tree starts es apart fit =
     let n : Network = after_steps es (opening w s tree starts) in
@@ -107,7 +108,7 @@ answers_law law w s tree starts es apart fit =
 
 -- ---- each command is executed once
 
-pub once_law : WrittenIsReadBack → (w s : ℕ) (tree : List Object) (starts : List Start) (es : List Step) → are_apart starts ≡ true → Fit starts es →
+pub once_law : WrittenIsReadBack → (w : DeviceSizes) (s : ℕ) (tree : List Object) (starts : List Start) (es : List Step) → are_apart starts ≡ true → Fit starts es →
     ExecutesOnce (after_steps es (opening w s tree starts))
 once_law law w s tree starts es apart fit i l own keeps =
     let n : Network = after_steps es (opening w s tree starts) in
@@ -118,12 +119,12 @@ once_law law w s tree starts es apart fit i l own keeps =
 -- ---- the law of commands in hand
 
 -- a delivery at the moment is answered
-answered_now : WrittenIsReadBack → (w s f : ℕ) (n : Network) (k now : ℕ) (d : SentDatagram) (next : Option ℕ) (us : List Untaken) (u : Untaken) (c : CommandFields) (peers : List Peer) →
-    2 * s ≤ n.window + 1 → slice_get n.to_device k ≡ Some d → (fair : Fair d.peer next us (past n) n.to_device n.to_links n.taken) (kept : Kept d.peer (past n)) →
+answered_now : WrittenIsReadBack → (w : DeviceSizes) (s f : ℕ) (n : Network) (k now : ℕ) (d : SentDatagram) (next : Option ℕ) (us : List Untaken) (u : Untaken) (c : CommandFields) (peers : List Peer) →
+    2 * s ≤ n.sizes.window + 1 → slice_get n.to_device k ≡ Some d → (fair : Fair d.peer next us (past n) n.to_device n.to_links n.taken) (kept : Kept d.peer (past n)) →
     Good s f d.peer next us n.submitted (accepted_by d.peer (past n)) → IsIn u us → u.command ≡ c → d.bytes ≡ pdu_encoding (Commands true (c ∷ [])) →
-    KeepsItsSession d.peer (Datagram d.peer d.bytes now ∷ n.events) → length peers ≤ 16 → ComeFrom peers (Datagram d.peer d.bytes now ∷ n.events) → IsAnswered k now n d c
+    KeepsItsSession d.peer (Datagram d.peer d.bytes now ∷ n.events) → length peers ≤ n.sizes.peers → ComeFrom peers (Datagram d.peer d.bytes now ∷ n.events) → IsAnswered k now n d c
 answered_now law w s f n k now d next us u c peers wide there fair kept good held command bytes keeps small come =
-    by_judgement (judged_in n.window s2 p c) refl (rw is_accepted served_by)
+    by_judgement (judged_in n.sizes s2 p c) refl (rw is_accepted served_by)
   where
     p : Peer
     p = d.peer
@@ -152,8 +153,8 @@ answered_now law w s f n k now d next us u c peers wide there fair kept good hel
     read : read_datagram d.bytes ≡ Ok (m ∷ [])
     read = ap read_datagram bytes ∙ read_command law c sendable
 
-    room : admits (looked_at now g) p ≡ true
-    room = room_for peers (looked_at now g) p small (noted_among peers n.window n.tree n.events come.1) come.0
+    room : admits n.sizes (looked_at now g) p ≡ true
+    room = room_for n.sizes peers (looked_at now g) p small (noted_among peers n.sizes n.tree n.events come.1) come.0
 
     own2 : AreOwn p (and_then e g) s2.notes
     own2 = ((λ same. tt), owns_then p g e (state_of g).notes fair.own)
@@ -162,20 +163,20 @@ answered_now law w s f n k now d next us u c peers wide there fair kept good hel
     is_accepted = accepted_let_in p m d.bytes now g keeps kept
 
     -- what the window has under the handle is the command
-    same_command : (A : List Entry) → accepted (run p s2.notes) ≡ A → (x : Entry) → entry_under c.handle (window n.window A) ≡ Some x → x.command ≡ c
+    same_command : (A : List Entry) → accepted (run p s2.notes) ≡ A → (x : Entry) → entry_under c.handle (window n.sizes.window A) ≡ Some x → x.command ≡ c
     same_command A is x q =
-        let a = window_executed n.window p (and_then e g) c.handle x s2.notes own2 (rw is q) in
+        let a = window_executed n.sizes p (and_then e g) c.handle x s2.notes own2 (rw is q) in
         fair.unique x.command c a.0.honest.submitted sub (equal_is x.command.handle c.handle a.1)
 
-    served_by : IsServed (judgement n.window (accepted_by p g) c)
+    served_by : IsServed (judgement n.sizes.window (accepted_by p g) c)
     served_by =
-        rw command at (untaken_served n.window s f p next us n.submitted (accepted_by p g) u wide
+        rw command at (untaken_served n.sizes.window s f p next us n.submitted (accepted_by p g) u wide
         (λ x q. same_command (accepted_by p g) is_accepted x (rw command at q) ∙ sym command) good held)
 
     -- from the state and the answers
     made : (s' : State) (reply : Reply) (x : Execution) (v : Verdict) → state_of (and_then e g) ≡ s' →
-        answers_to_reading g.window p (read_datagram d.bytes) (looked_at now g) ≡ response c.handle reply ∷ [] →
-        verdict n.window n.tree n.events d.peer d.bytes now ≡ v →
+        answers_to_reading g.sizes p (read_datagram d.bytes) (looked_at now g) ≡ response c.handle reply ∷ [] →
+        verdict n.sizes n.tree n.events d.peer d.bytes now ≡ v →
         (v ≡ verdicts.Served 1 0 0 0) ⊎ (v ≡ verdicts.Served 0 1 0 0) →
         IsIn x (executed_for p s'.notes) → x.command ≡ c → reply ≡ x.reply → IsAnswered k now n d c
     made s' reply x v state_is answers_are verdict_is kind i command reply_is = record {
@@ -189,35 +190,35 @@ answered_now law w s f n k now d next us u c peers wide there fair kept good hel
       sent = rw there (ap (λ ps. n.to_links ++ sendings p ps) (ap packets_of answers_are ∙ ap (λ r. packets_of (response c.handle r ∷ [])) reply_is));
     }
 
-    verdict_read : verdict n.window n.tree n.events d.peer d.bytes now ≡ served (plus (count_of_command (judged_in n.window s2 p c)) (counts 0 0 0 0))
+    verdict_read : verdict n.sizes n.tree n.events d.peer d.bytes now ≡ served (plus (count_of_command (judged_in n.sizes s2 p c)) (counts 0 0 0 0))
     verdict_read =
-        ap (λ r. verdict_of_reading n.window p r (looked_at now g)) read
-        ∙ ap (λ b. cond b (served (plus (count_of_command (judged_in n.window s2 p c)) (counts 0 0 0 0))) verdicts.NoRoom) room
+        ap (λ r. verdict_of_reading n.sizes p r (looked_at now g)) read
+        ∙ ap (λ b. cond b (served (plus (count_of_command (judged_in n.sizes s2 p c)) (counts 0 0 0 0))) verdicts.NoRoom) room
 
-    by_judgement : (j : Judgement) → judged_in n.window s2 p c ≡ j → IsServed j → IsAnswered k now n d c
+    by_judgement : (j : Judgement) → judged_in n.sizes s2 p c ≡ j → IsServed j → IsAnswered k now n d c
     by_judgement Fresh q t =
         let x : Execution = record { objects = s2.tree; command = c; reply = reply_of s2.tree p c } in
         made (after_command Fresh p c s2) x.reply x (verdicts.Served 1 0 0 0)
-        (after_read n.window p m d.bytes now g true read room ∙ ap (λ j. after_command j p c s2) q)
-        (answers_read n.window p m d.bytes now g true read room ∙ ap (λ j. answer_to_command j p c s2 ++ []) q)
+        (after_read n.sizes p m d.bytes now g true read room ∙ ap (λ j. after_command j p c s2) q)
+        (answers_read n.sizes p m d.bytes now g true read room ∙ ap (λ j. answer_to_command j p c s2 ++ []) q)
         (verdict_read ∙ ap (λ j. served (plus (count_of_command j) (counts 0 0 0 0))) q)
         (inl refl) (executed_now p s2.moment s2.tree c x.reply s2.notes) refl refl
     by_judgement (Duplicate r) q t =
-        let f = judged_duplicate n.window (accepted (run p s2.notes)) c r q in
-        let a = window_executed n.window p (and_then e g) c.handle f.0 s2.notes own2 f.1 in
+        let f = judged_duplicate n.sizes.window (accepted (run p s2.notes)) c r q in
+        let a = window_executed n.sizes p (and_then e g) c.handle f.0 s2.notes own2 f.1 in
         let x : Execution = record { objects = a.0.objects; command = f.0.command; reply = f.0.reply } in
         made s2 r x (verdicts.Served 0 1 0 0)
-        (after_read n.window p m d.bytes now g true read room ∙ ap (λ j. after_command j p c s2) q)
-        (answers_read n.window p m d.bytes now g true read room ∙ ap (λ j. answer_to_command j p c s2 ++ []) q)
+        (after_read n.sizes p m d.bytes now g true read room ∙ ap (λ j. after_command j p c s2) q)
+        (answers_read n.sizes p m d.bytes now g true read room ∙ ap (λ j. answer_to_command j p c s2 ++ []) q)
         (verdict_read ∙ ap (λ j. served (plus (count_of_command j) (counts 0 0 0 0))) q)
         (inr refl) a.0.executed
         (fair.unique f.0.command c a.0.honest.submitted sub (equal_is f.0.command.handle c.handle a.1)) (sym f.2)
     by_judgement Reused q t = absurd t
     by_judgement Old q t = absurd t
 
-delivered : WrittenIsReadBack → (w s : ℕ) (n : Network) (k now : ℕ) (d : SentDatagram) (l : PeerLink) (c : CommandFields) (peers : List Peer) → 0 < s → 2 * s ≤ n.window + 1 →
+delivered : WrittenIsReadBack → (w : DeviceSizes) (s : ℕ) (n : Network) (k now : ℕ) (d : SentDatagram) (l : PeerLink) (c : CommandFields) (peers : List Peer) → 0 < s → 2 * s ≤ n.sizes.window + 1 →
     slice_get n.to_device k ≡ Some d → LinkSound s n l → CarriesUntaken d l c →
-    KeepsItsSession d.peer (Datagram d.peer d.bytes now ∷ n.events) → length peers ≤ 16 → ComeFrom peers (Datagram d.peer d.bytes now ∷ n.events) → IsAnswered k now n d c
+    KeepsItsSession d.peer (Datagram d.peer d.bytes now ∷ n.events) → length peers ≤ n.sizes.peers → ComeFrom peers (Datagram d.peer d.bytes now ∷ n.events) → IsAnswered k now n d c
 delivered law w s n k now d l c peers some wide there of of_untaken keeps small come =
     let As : Peer → Type 0 = λ x. KeepsItsSession x n.events in
     let before : KeepsItsSession l.peer n.events = subst As (sym of_untaken.peer) (keeps_before d.peer (Datagram d.peer d.bytes now) n.events keeps) in
@@ -228,35 +229,35 @@ delivered law w s n k now d l c peers some wide there of of_untaken keeps small 
     answered_now law w s good.0 n k now d l.link.next l.link.untaken of_untaken.untaken c peers wide there
     (subst FairAs of_untaken.peer of.fair) (subst KeptAs of_untaken.peer (of.kept before)) (subst GoodAs of_untaken.peer good.1) (contains_in of_untaken.untaken l.link.untaken of_untaken.held) of_untaken.command of_untaken.bytes keeps small come
 
-window_kept : (es : List Step) (n : Network) → (after_steps es n).window ≡ n.window
-window_kept [] n = refl
-window_kept (step ∷ es) n = window_kept es (after_step step n) ∙ one step
+sizes_kept : (es : List Step) (n : Network) → (after_steps es n).sizes ≡ n.sizes
+sizes_kept [] n = refl
+sizes_kept (step ∷ es) n = sizes_kept es (after_step step n) ∙ one step
   where
-    by_submit : (i : ℕ) (r : Request) (now : ℕ) (o : Option PeerLink) → (after_submit i r now o n).window ≡ n.window
+    by_submit : (i : ℕ) (r : Request) (now : ℕ) (o : Option PeerLink) → (after_submit i r now o n).sizes ≡ n.sizes
     by_submit i r now None = refl
     by_submit i r now (Some l) = refl
 
-    by_due : (i now : ℕ) (o : Option PeerLink) → (after_due_step i now o n).window ≡ n.window
+    by_due : (i now : ℕ) (o : Option PeerLink) → (after_due_step i now o n).sizes ≡ n.sizes
     by_due i now None = refl
     by_due i now (Some l) = refl
 
-    by_delivery : (now : ℕ) (o : Option SentDatagram) → (after_delivery now o n).window ≡ n.window
+    by_delivery : (now : ℕ) (o : Option SentDatagram) → (after_delivery now o n).sizes ≡ n.sizes
     by_delivery now None = refl
     by_delivery now (Some d) = refl
 
-    by_reception : (now : ℕ) (o : Option SentDatagram) → (after_reception now o n).window ≡ n.window
+    by_reception : (now : ℕ) (o : Option SentDatagram) → (after_reception now o n).sizes ≡ n.sizes
     by_reception now None = refl
     by_reception now (Some d) = refl
 
-    by_other : (from : Peer) (bytes : List ℕ) (now : ℕ) (b : Bool) → (let m : Network = cond b n (record n { events = Datagram from bytes now ∷ n.events }) in m).window ≡ n.window
+    by_other : (from : Peer) (bytes : List ℕ) (now : ℕ) (b : Bool) → (let m : Network = cond b n (record n { events = Datagram from bytes now ∷ n.events }) in m).sizes ≡ n.sizes
     by_other from bytes now true = refl
     by_other from bytes now false = refl
 
-    by_take : (i h : ℕ) (o : Option PeerLink) → (after_take i h o n).window ≡ n.window
+    by_take : (i h : ℕ) (o : Option PeerLink) → (after_take i h o n).sizes ≡ n.sizes
     by_take i h None = refl
     by_take i h (Some l) = refl
 
-    one : (step : Step) → (after_step step n).window ≡ n.window
+    one : (step : Step) → (after_step step n).sizes ≡ n.sizes
     one (Submit i r now) = by_submit i r now (slice_get n.links i)
     one (Due i now) = by_due i now (slice_get n.links i)
     one (ToDevice k now) = by_delivery now (slice_get n.to_device k)
@@ -266,11 +267,11 @@ window_kept (step ∷ es) n = window_kept es (after_step step n) ∙ one step
     one (steps.Local ono value) = refl
     one (Take i h) = by_take i h (slice_get n.links i)
 
-pub never_old_law : WrittenIsReadBack → (w s : ℕ) (tree : List Object) (starts : List Start) (es : List Step) → 0 < s → 2 * s ≤ w + 1 → are_apart starts ≡ true → Fit starts es →
+pub never_old_law : WrittenIsReadBack → (w : DeviceSizes) (s : ℕ) (tree : List Object) (starts : List Start) (es : List Step) → 0 < s → 2 * s ≤ w.window + 1 → are_apart starts ≡ true → Fit starts es →
     AnswersUntaken (after_steps es (opening w s tree starts))
 never_old_law law w s tree starts es some wide apart fit k now i d l c peers there own of_untaken keeps small come =
     let n : Network = after_steps es (opening w s tree starts) in
     let sound : Sound s n = sound_after law w s tree starts es apart fit in
     let of : LinkSound s n l = each_at (LinkSound s n) n.links i l sound.each own in
-    let sizes : n.window ≡ w = window_kept es (opening w s tree starts) in
+    let sizes : n.sizes ≡ w = sizes_kept es (opening w s tree starts) in
     delivered law w s n k now d l c peers some (rw sizes wide) there of of_untaken (rw there at keeps) small (rw there at come)

@@ -5,6 +5,7 @@ use Rattle.std.specs.List.{list_all, AllByRecursion, slice_get, slice_set, IsDis
 use Rattle.oca_types.specs.declared.words.Peer.{Peer}
 use Rattle.oca_types.specs.declared.words.Handle.{Handle}
 use Rattle.oca_types.specs.Peers.{same_peer, CommandFields}
+use Rattle.oca_types.specs.Sizes.{DeviceSizes}
 use Rattle.oca_pdu.specs.declared.message.Form.TheVariants.{Seconds}
 use Rattle.oca_pdu.specs.Messages.{Command, KeepAlive}
 use Rattle.oca_pdu.specs.Reading.{read_datagram}
@@ -293,7 +294,7 @@ sound_elsewhere s n q bytes now packets z other w = (
 -- of the link itself
 own_fair : (law : WrittenIsReadBack) (p : Peer) (next : Option ℕ) (us : List Untaken) (g : Past) (out back : List SentDatagram) (handed : List TakenAnswer) (bytes : List ℕ) (now : ℕ) →
     IsOut p g.submitted bytes → Fair p next us g out back handed →
-    Fair p next us (and_then (Datagram p bytes now) g) out (back ++ sendings p (packets g.window g.tree g.events (Datagram p bytes now))) handed
+    Fair p next us (and_then (Datagram p bytes now) g) out (back ++ sendings p (packets g.sizes g.tree g.events (Datagram p bytes now))) handed
 own_fair law p next us g out back handed bytes now (inl (c, sub, is)) f =
     rw is (fair_command law p next us g out back handed c now (sendable_of c sub) sub f)
   where
@@ -328,7 +329,7 @@ own_kept law s f p next us g out back handed bytes now (inr is) fair keeps k =
     grown B (inr (x, r, m_is, new, grows)) good = cc
 
 sound_own : (law : WrittenIsReadBack) (s : ℕ) (n : Network) (bytes : List ℕ) (now : ℕ) (z : PeerLink) → IsOut z.peer n.submitted bytes → LinkSound s n z →
-    Fair z.peer z.link.next z.link.untaken (and_then (Datagram z.peer bytes now) (past n)) n.to_device (n.to_links ++ sendings z.peer (packets n.window n.tree n.events (Datagram z.peer bytes now))) n.taken
+    Fair z.peer z.link.next z.link.untaken (and_then (Datagram z.peer bytes now) (past n)) n.to_device (n.to_links ++ sendings z.peer (packets n.sizes n.tree n.events (Datagram z.peer bytes now))) n.taken
     × (KeepsItsSession z.peer (Datagram z.peer bytes now ∷ n.events) → Kept z.peer (and_then (Datagram z.peer bytes now) (past n)))
     × (0 < s → KeepsItsSession z.peer (Datagram z.peer bytes now ∷ n.events) →
     (f : ℕ) × Good s f z.peer z.link.next z.link.untaken n.submitted (accepted_by z.peer (and_then (Datagram z.peer bytes now) (past n))))
@@ -345,7 +346,7 @@ sound_own law s n bytes now z out w = (
 -- what is known of a link after a datagram of the peer q with these bytes came, and these packets were sent back
 abbrev AfterDatagram : ℕ → Network → PeerLink → Peer → List ℕ → ℕ → Type 0
 AfterDatagram s n z q bytes now =
-    Fair z.peer z.link.next z.link.untaken (and_then (Datagram q bytes now) (past n)) n.to_device (n.to_links ++ sendings q (packets n.window n.tree n.events (Datagram q bytes now))) n.taken
+    Fair z.peer z.link.next z.link.untaken (and_then (Datagram q bytes now) (past n)) n.to_device (n.to_links ++ sendings q (packets n.sizes n.tree n.events (Datagram q bytes now))) n.taken
     × (KeepsItsSession z.peer (Datagram q bytes now ∷ n.events) → Kept z.peer (and_then (Datagram q bytes now) (past n)))
     × (0 < s → KeepsItsSession z.peer (Datagram q bytes now ∷ n.events) →
     (f : ℕ) × Good s f z.peer z.link.next z.link.untaken n.submitted (accepted_by z.peer (and_then (Datagram q bytes now) (past n))))
@@ -364,7 +365,7 @@ sound_delivery law s now n g d k e = record { apart = g.apart; each = each_map o
         let same : d.peer ≡ z.peer = same_is d.peer z.peer q in
         as_own z d.peer same (sound_own law s n d.bytes now z
         (each_at (λ (x : SentDatagram). x.peer ≡ z.peer → IsOut z.peer n.submitted x.bytes) n.to_device k d w.fair.outgoing e same) w)
-    by_test z false q w = sound_elsewhere s n d.peer d.bytes now (packets n.window n.tree n.events (Datagram d.peer d.bytes now)) z q w
+    by_test z false q w = sound_elsewhere s n d.peer d.bytes now (packets n.sizes n.tree n.events (Datagram d.peer d.bytes now)) z q w
 
     one : (z : PeerLink) → LinkSound s n z → LinkSound s n' z
     one z w = let a = by_test z (same_peer d.peer z.peer) refl w in record { span = w.span; fair = a.0; kept = a.1; good = a.2 }
@@ -440,7 +441,7 @@ pub sound_steps : (law : WrittenIsReadBack) (s : ℕ) (es : List Step) (n : Netw
 sound_steps law s [] n fits g = g
 sound_steps law s (e ∷ es) n fits g = sound_steps law s es (after_step e n) fits.1 (sound_step law s e n fits.0 g)
 
-sound_opening : (w s : ℕ) (tree : List Object) (starts : List Start) → are_apart starts ≡ true → AllByRecursion StartFits starts → Sound s (opening w s tree starts)
+sound_opening : (w : DeviceSizes) (s : ℕ) (tree : List Object) (starts : List Start) → are_apart starts ≡ true → AllByRecursion StartFits starts → Sound s (opening w s tree starts)
 unfolding IsDistinct
 sound_opening w s tree starts a fits = record { apart = apart starts a; each = each starts fits }
   where
@@ -474,6 +475,6 @@ sound_opening w s tree starts a fits = record { apart = apart starts a; each = e
     )
 
 -- THE NETWORK AFTER ANY SCHEDULE.
-pub sound_after : (law : WrittenIsReadBack) (w s : ℕ) (tree : List Object) (starts : List Start) (es : List Step) → are_apart starts ≡ true → Fit starts es →
+pub sound_after : (law : WrittenIsReadBack) (w : DeviceSizes) (s : ℕ) (tree : List Object) (starts : List Start) (es : List Step) → are_apart starts ≡ true → Fit starts es →
     Sound s (after_steps es (opening w s tree starts))
 sound_after law w s tree starts es a fit = sound_steps law s es (opening w s tree starts) fit.1 (sound_opening w s tree starts a fit.0)

@@ -1,10 +1,11 @@
--- With datagrams of at most 16 peers there is room for each.
+-- With datagrams of at most as many peers as there is room for, there is room for each.
 use Rattle.std.proofs.Common.{◌≡◌, ℕ, ◌<◌, ◌≤◌, Bool, true, false, cond, List, [], ◌∷◌, ◌++◌, length, refl, sym, ap, ◌∙◌, arith, suc}
 use Rattle.std.specs.Prelude.{nat_lt, max, not, ◌||◌, filter}
 use Rattle.std.specs.List.{AllByRecursion}
 use Rattle.std.proofs.lemmas.Bool.Decides.{nat_tests}
 use Rattle.oca_types.specs.declared.words.Peer.{Peer}
 use Rattle.oca_types.specs.Peers.{same_peer}
+use Rattle.oca_types.specs.Sizes.{DeviceSizes}
 use Rattle.oca_pdu.specs.Reading.{read_datagram}
 use Rattle.oca_tree.specs.declared.object.Object.{Object}
 use Rattle.oca_device.specs.Events.{Event, Datagram, Tick, Local}
@@ -105,7 +106,7 @@ few (y ∷ ys) xs d a =
         by_test false e r = (later_than x e a.0, r)
 
 -- All that is noted is of peers whose datagrams came.
-pub noted_among : (peers : List Peer) (w : ℕ) (tree : List Object) (events : List Event) → ComeFrom peers events →
+pub noted_among : (peers : List Peer) (w : DeviceSizes) (tree : List Object) (events : List Event) → ComeFrom peers events →
     AllByRecursion (λ n. is_among peers n.peer ≡ true) (state_after w tree events).notes
 noted_among peers w tree [] a = tt
 noted_among peers w tree (Tick now ∷ events) a = noted_among peers w tree events a.1
@@ -117,8 +118,8 @@ noted_among peers w tree (Datagram from bytes now ∷ events) a =
     rw g.is (each_append _ g.more s1.notes (each_map (λ n h. ap (is_among peers) h.0 ∙ a.0) g.more g.own) (noted_among peers w tree events a.1))
 
 -- So there is room for one of these peers.
-pub room_for : (peers : List Peer) (s : State) (p : Peer) → length peers ≤ 16 → AllByRecursion (λ n. is_among peers n.peer ≡ true) s.notes → is_among peers p ≡ true → admits s p ≡ true
-room_for peers s p small noted among = by_known (is_known t ns p) refl
+pub room_for : (w : DeviceSizes) (peers : List Peer) (s : State) (p : Peer) → length peers ≤ w.peers → AllByRecursion (λ n. is_among peers n.peer ≡ true) s.notes → is_among peers p ≡ true → admits w s p ≡ true
+room_for w peers s p small noted among = by_known (is_known t ns p) refl
   where
     t : ℕ
     t = s.moment
@@ -136,13 +137,13 @@ room_for peers s p small noted among = by_known (is_known t ns p) refl
     lower : (a b : ℕ) → a < b → nat_lt a b ≡ true
     lower a b h = grind (arith, nat_tests)
 
-    less : is_known t ns p ≡ false → length (known t ns) < 16
+    less : is_known t ns p ≡ false → length (known t ns) < w.peers
     less unknown =
         let size : length (p ∷ known t ns) ≤ length peers = few peers (p ∷ known t ns)
         (each_map (λ q e. other_than q unknown e) (known t ns) (passes (is_known t ns) (opened ns)), differ_filter (is_known t ns) (opened ns) (opened_differ ns))
         (among, each_filter (λ q. is_among peers q ≡ true) (is_known t ns) (opened ns) (opened_among (λ q. is_among peers q ≡ true) ns noted)) in
         omega arith
 
-    by_known : (b : Bool) → is_known t ns p ≡ b → (b || nat_lt (length (known t ns)) 16) ≡ true
+    by_known : (b : Bool) → is_known t ns p ≡ b → (b || nat_lt (length (known t ns)) w.peers) ≡ true
     by_known true e = refl
-    by_known false e = lower (length (known t ns)) 16 (less e)
+    by_known false e = lower (length (known t ns)) w.peers (less e)

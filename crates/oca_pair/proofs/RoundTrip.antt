@@ -8,6 +8,7 @@ use Rattle.std.specs.Option.{option_map}
 use Rattle.oca_types.specs.declared.words.Peer.{Peer}
 use Rattle.oca_types.specs.declared.words.Handle.{Handle}
 use Rattle.oca_types.specs.Peers.{same_peer, CommandFields}
+use Rattle.oca_types.specs.Sizes.{DeviceSizes}
 use Rattle.oca_pdu.specs.Messages.{Msg, Response, KeepAlive, Command, ResponseFields}
 use Rattle.oca_pdu.specs.Encoding.{pdu_encoding}
 use Rattle.oca_pdu.specs.Laws.{WrittenIsReadBack}
@@ -67,7 +68,7 @@ grown_step step n = one step
 
     by_delivery : (now : ℕ) (o : Option SentDatagram) → Grown n (after_delivery now o n)
     by_delivery now None = grown_not n
-    by_delivery now (Some d) = record { sent = sendings d.peer (packets n.window n.tree n.events (Datagram d.peer d.bytes now)); to_links = refl; more = []; submitted = none_more }
+    by_delivery now (Some d) = record { sent = sendings d.peer (packets n.sizes n.tree n.events (Datagram d.peer d.bytes now)); to_links = refl; more = []; submitted = none_more }
 
     by_reception : (now : ℕ) (o : Option SentDatagram) → Grown n (after_reception now o n)
     by_reception now None = grown_not n
@@ -182,7 +183,7 @@ to_device_steps : (es : List Step) (n : Network) → AreToDevice n.links → Are
 to_device_steps [] n a = a
 to_device_steps (e ∷ es) n a = to_device_steps es (after_step e n) (to_device_step e n a)
 
-to_device_opening : (w s : ℕ) (tree : List Object) (starts : List Start) → AreToDevice (opening w s tree starts).links
+to_device_opening : (w : DeviceSizes) (s : ℕ) (tree : List Object) (starts : List Start) → AreToDevice (opening w s tree starts).links
 to_device_opening w s tree starts = each starts
   where
     each : (xs : List Start) → AreToDevice (map (started s) xs)
@@ -528,7 +529,7 @@ comes_back law s n k now i later d l c between sound devices sent_to own carries
         ap (λ (y : PeerLink). holds c.handle y.link.untaken) (sym same)
         ∙ holds_in c.handle h.untaken h.link.link.untaken (contains_in h.untaken h.link.link.untaken h.held) (ap (λ (y : CommandFields). y.handle) h.command)
 
-pub round_trip_law : WrittenIsReadBack → (w s : ℕ) (tree : List Object) (starts : List Start) (es : List Step) → 0 < s → 2 * s ≤ w + 1 → are_apart starts ≡ true → Fit starts es →
+pub round_trip_law : WrittenIsReadBack → (w : DeviceSizes) (s : ℕ) (tree : List Object) (starts : List Start) (es : List Step) → 0 < s → 2 * s ≤ w.window + 1 → are_apart starts ≡ true → Fit starts es →
     RoundTrips (after_steps es (opening w s tree starts))
 round_trip_law law w s tree starts es some wide apart fit k now i d l c peers between later sent_to own carries keeps small come fits =
     comes_back law s (after_steps es (opening w s tree starts)) k now i later d l c between (sound_after law w s tree starts es apart fit)

@@ -7,6 +7,7 @@ use Rattle.std.proofs.lemmas.List.{get_or_at, set_at, drop_more, drop_all, map_m
 use Rattle.std.proofs.lemmas.Option.{slice_get-get_or}
 use Rattle.oca_types.specs.declared.words.Peer.{Peer}
 use Rattle.oca_types.specs.Peers.{same_peer}
+use Rattle.oca_types.specs.Sizes.{DeviceSizes}
 use Rattle.oca_pdu.specs.declared.fault.PduFault.{PduFault}
 use Rattle.oca_pdu.specs.Messages.{Msg, messages_of}
 use Rattle.oca_pdu.specs.Reading.{read_datagram}
@@ -167,7 +168,7 @@ pub record Relinked (old new : Running) : Type 0 where
 pub relinked : (old new : Running) (n : Network) (links : List PeerLink) → Shows old n → Relinked old new → new.links.items ≡ links → ((p : Peer) → has_link p links ≡ has_link p n.links) →
     Shows new (record n { links = links })
 relinked old new n links h r is same = record {
-  device = subst (λ d. Represents n.window d n.tree n.events) (sym r.device) h.device;
+  device = subst (λ d. Represents n.sizes d n.tree n.events) (sym r.device) h.device;
   links = is;
   to_device = r.to_device ∙ h.to_device;
   to_links = r.to_links ∙ h.to_links;
@@ -235,7 +236,7 @@ took_due old new n i now l o h at is device to_links to_device set =
       ap (λ (x : Option PeerLink). on_link (λ y. due_outcome (length n.to_device) (decision now y.link)) x) at'
           ∙ ap (λ (xs : List SentDatagram). due_outcome (length xs) (decision now l.link) ∷ []) (sym h.to_device) ∙ ap (λ (x : Outcome). x ∷ []) is,
       subst (λ (x : Option PeerLink). Shows new (after_due_step i now x n)) (sym at') (record {
-        device = subst (λ d. Represents n.window d n.tree n.events) (sym device) h.device;
+        device = subst (λ d. Represents n.sizes d n.tree n.events) (sym device) h.device;
         links = set ∙ ap (λ (xs : List PeerLink). with_link i l (gone_on now l.link) xs) h.links;
         to_device = to_device ∙ ap (λ (xs : List SentDatagram). xs ++ sendings l.peer given) h.to_device;
         to_links = to_links ∙ h.to_links;
@@ -270,21 +271,21 @@ took_lost old new n i now l h at is same set =
 
 pub took_to_device : (old new : Running) (n : Network) (k now : ℕ) (d : SentDatagram) (p : Peer) (bytes : List ℕ) (v : Verdict) (answers : List (List ℕ)) → Shows old n →
     slice_get old.to_device.items k ≡ Some d → p ≡ d.peer → bytes ≡ d.bytes →
-    ((w : ℕ) (T : List Object) (E : List Event) → Represents w old.device T E → Represents w new.device T (Datagram p bytes now ∷ E)) →
-    ((w : ℕ) (T : List Object) (E : List Event) → Represents w old.device T E → answers ≡ packets w T E (Datagram p bytes now)) →
-    ((w : ℕ) (T : List Object) (E : List Event) → Represents w old.device T E → v ≡ verdict w T E p bytes now) →
+    ((w : DeviceSizes) (T : List Object) (E : List Event) → Represents w old.device T E → Represents w new.device T (Datagram p bytes now ∷ E)) →
+    ((w : DeviceSizes) (T : List Object) (E : List Event) → Represents w old.device T E → answers ≡ packets w T E (Datagram p bytes now)) →
+    ((w : DeviceSizes) (T : List Object) (E : List Event) → Represents w old.device T E → v ≡ verdict w T E p bytes now) →
     new.links.items ≡ old.links.items → new.to_device.items ≡ old.to_device.items → new.to_links.items ≡ old.to_links.items ++ sendings p answers →
     Took (Ok (outcomes.Device v)) (ToDevice k now) n new
 took_to_device old new n k now d p bytes v answers h at owner content represents answered told links to_device to_links =
     let x : SentDatagram = record { peer = p; bytes = bytes } in
     let at' : slice_get n.to_device k ≡ Some x =
     ap (λ (xs : List SentDatagram). slice_get xs k) (sym h.to_device) ∙ at ∙ ap (λ (y : SentDatagram). Some y) (datagram_is d p bytes owner content) in
-    let all = packets n.window n.tree n.events (Datagram p bytes now) in
-    let are : answers ≡ all = answered n.window n.tree n.events h.device in (
+    let all = packets n.sizes n.tree n.events (Datagram p bytes now) in
+    let are : answers ≡ all = answered n.sizes n.tree n.events h.device in (
       ap (λ (o : Option SentDatagram). is_some o) at',
-      ap (λ (o : Option SentDatagram). delivery_outcome now o n) at' ∙ ap (λ (o : Verdict). outcomes.Device o ∷ []) (sym (told n.window n.tree n.events h.device)),
+      ap (λ (o : Option SentDatagram). delivery_outcome now o n) at' ∙ ap (λ (o : Verdict). outcomes.Device o ∷ []) (sym (told n.sizes n.tree n.events h.device)),
       subst (λ (o : Option SentDatagram). Shows new (after_delivery now o n)) (sym at') (record {
-        device = represents n.window n.tree n.events h.device;
+        device = represents n.sizes n.tree n.events h.device;
         links = links ∙ h.links;
         to_device = to_device ∙ h.to_device;
         to_links = to_links ∙ ap (λ (xs : List SentDatagram). xs ++ sendings p answers) h.to_links ∙ ap (λ (xs : List (List ℕ)). n.to_links ++ sendings p xs) are;
@@ -434,7 +435,7 @@ pub all_done : (t : Transcript) (r : Running) (log : List Outcome) (k : ℕ) (al
     t.device ≡ r.device → t.to_device.items ≡ r.to_device.items → t.to_links.items ≡ r.to_links.items → t.log.items ≡ log → IsTranscript t all from
 all_done t r log k all from h device to_device to_links is =
     let n = h.network in record {
-      device = subst (λ (x : Network). Represents x.window t.device x.tree x.events) h.last (subst (λ d. Represents n.window d n.tree n.events) (sym device) h.shows.device);
+      device = subst (λ (x : Network). Represents x.sizes t.device x.tree x.events) h.last (subst (λ d. Represents n.sizes d n.tree n.events) (sym device) h.shows.device);
       to_device = to_device ∙ h.shows.to_device ∙ ap (λ (x : Network). x.to_device) h.last;
       to_links = to_links ∙ h.shows.to_links ∙ ap (λ (x : Network). x.to_links) h.last;
       log = is ∙ sym (append-nil log) ∙ h.outcomes;

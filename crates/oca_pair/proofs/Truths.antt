@@ -4,6 +4,7 @@ use Rattle.std.specs.Prelude.{nat_eq, max}
 use Rattle.std.specs.List.{AllByRecursion}
 use Rattle.oca_types.specs.declared.words.Peer.{Peer}
 use Rattle.oca_types.specs.Peers.{same_peer, CommandFields}
+use Rattle.oca_types.specs.Sizes.{DeviceSizes}
 use Rattle.oca_pdu.specs.Messages.{Commands}
 use Rattle.oca_pdu.specs.Encoding.{pdu_encoding}
 use Rattle.oca_pdu.specs.Reading.{read_datagram}
@@ -20,22 +21,22 @@ use Rattle.oca_pair.proofs.Clocks.{Grows, grows_reading}
 
 -- what happened and was submitted
 pub record Past : Type 0 where
-  pub window : ℕ
+  pub sizes : DeviceSizes
   pub tree : List Object
   pub events : List Event
   pub submitted : List SubmittedCommand
 
 abbrev pub past : Network → Past
-past n = record { window = n.window; tree = n.tree; events = n.events; submitted = n.submitted }
+past n = record { sizes = n.sizes; tree = n.tree; events = n.events; submitted = n.submitted }
 
 abbrev pub and_then : Event → Past → Past
-and_then e g = record { window = g.window; tree = g.tree; events = e ∷ g.events; submitted = g.submitted }
+and_then e g = record { sizes = g.sizes; tree = g.tree; events = e ∷ g.events; submitted = g.submitted }
 
 abbrev pub and_submitted : List SubmittedCommand → Past → Past
-and_submitted more g = record { window = g.window; tree = g.tree; events = g.events; submitted = g.submitted ++ more }
+and_submitted more g = record { sizes = g.sizes; tree = g.tree; events = g.events; submitted = g.submitted ++ more }
 
 abbrev pub state_of : Past → State
-state_of g = state_after g.window g.tree g.events
+state_of g = state_after g.sizes g.tree g.events
 
 -- the link of this peer submitted the command
 abbrev pub IsSubmitted : Peer → CommandFields → List SubmittedCommand → Type 0
@@ -46,7 +47,7 @@ pub record Came (p : Peer) (x : Execution) (g : Past) : Type 0 where
   pub before : List Event
   pub now : ℕ
   pub events : g.events ≡ later ++ Datagram p (pdu_encoding (Commands true (x.command ∷ []))) now ∷ before
-  pub objects : x.objects ≡ (state_after g.window g.tree (Tick now ∷ before)).tree
+  pub objects : x.objects ≡ (state_after g.sizes g.tree (Tick now ∷ before)).tree
 
 -- an execution of a submitted command, with its reply
 pub record IsHonest (p : Peer) (x : Execution) (g : Past) : Type 0 where
@@ -96,7 +97,7 @@ executed_then p x g (Tick now) i = i
 executed_then p x g (Local ono value) i = i
 executed_then p x g (Datagram from bytes now) i =
     let s1 : State = moved_to (max (state_of g).moment now) (state_of g) in
-    executed_grown p from s1.moment x s1.notes (after_reading g.window from (read_datagram bytes) s1).notes (grows_reading g.window from (read_datagram bytes) s1) i
+    executed_grown p from s1.moment x s1.notes (after_reading g.sizes from (read_datagram bytes) s1).notes (grows_reading g.sizes from (read_datagram bytes) s1) i
 
 pub true_then : (p : Peer) (h : ℕ) (a : AnswerFields) (g : Past) (e : Event) → IsTrueAnswer p h a g → IsTrueAnswer p h a (and_then e g)
 true_then p h a g e t = record {
@@ -191,8 +192,8 @@ in_drop x (suc k) [] i = i
 in_drop x (suc k) (y ∷ ys) i = inr (in_drop x k ys i)
 
 -- what a window has under a handle was executed honestly under it
-pub window_executed : (w : ℕ) (p : Peer) (g : Past) (h : ℕ) (e : Entry) (ns : List Note) → AllByRecursion (λ n. n.peer ≡ p → IsOwn p g n.what) ns →
-    entry_under h (window w (accepted (run p ns))) ≡ Some e → IsExecuted p e ns g × (nat_eq e.command.handle h ≡ true)
+pub window_executed : (w : DeviceSizes) (p : Peer) (g : Past) (h : ℕ) (e : Entry) (ns : List Note) → AllByRecursion (λ n. n.peer ≡ p → IsOwn p g n.what) ns →
+    entry_under h (window w.window (accepted (run p ns))) ≡ Some e → IsExecuted p e ns g × (nat_eq e.command.handle h ≡ true)
 window_executed w p g h e ns own q =
-    let i = entry_in h (window w (accepted (run p ns))) e q in
-    (from_note p g e ns own (noted_unbroken e (notes_of p ns) (accepted_noted e (run p ns) (in_drop e (length (accepted (run p ns)) - w) (accepted (run p ns)) i.0))), i.1)
+    let i = entry_in h (window w.window (accepted (run p ns))) e q in
+    (from_note p g e ns own (noted_unbroken e (notes_of p ns) (accepted_noted e (run p ns) (in_drop e (length (accepted (run p ns)) - w.window) (accepted (run p ns)) i.0))), i.1)

@@ -5,10 +5,10 @@ use Rattle.oca_types.specs.declared.words.Peer.{Peer}
 use Rattle.oca_types.specs.declared.words.Reply.{Reply}
 use Rattle.oca_types.specs.Peers.{CommandFields, same_peer}
 use Rattle.oca_types.specs.Status.{status_number}
+use Rattle.oca_types.specs.Sizes.{DeviceSizes}
 use Rattle.oca_pdu.specs.Messages.{Commands}
 use Rattle.oca_pdu.specs.Encoding.{pdu_encoding}
 use Rattle.oca_tree.specs.declared.object.Object.{Object}
-use Rattle.oca_session.specs.Limits.{most_sessions}
 use Rattle.oca_device.specs.declared.verdict.Verdict.TheVariants as verdicts
 use Rattle.oca_device.specs.Events.{Event, Datagram, Tick}
 use Rattle.oca_device.specs.Notes.{Noted, Admitted, Heartbeat, Executed, Note}
@@ -42,7 +42,7 @@ executed_for p (n ∷ notes) = (if same_peer n.peer p then executed_in n.what el
 
 -- THE EXECUTIONS for a peer, the latest first.
 abbrev pub executions_for : Peer → Network → List Execution
-executions_for p n = executed_for p (state_after n.window n.tree n.events).notes
+executions_for p n = executed_for p (state_after n.sizes n.tree n.events).notes
 
 -- those of the commands under a handle
 abbrev pub executions_under : ℕ → List Execution → List Execution
@@ -68,7 +68,7 @@ pub record CameWithADatagram (p : Peer) (x : Execution) (n : Network) : Type 0 w
   pub before : List Event
   pub now : ℕ
   pub events : n.events ≡ later ++ Datagram p (pdu_encoding (Commands true (x.command ∷ []))) now ∷ before
-  pub objects : x.objects ≡ (state_after n.window n.tree (Tick now ∷ before)).tree
+  pub objects : x.objects ≡ (state_after n.sizes n.tree (Tick now ∷ before)).tree
 
 -- The answer is what an execution gave, of the very command that the peer's link submitted under the handle, for that peer.
 -- Where the peer's session was never forgotten, it is the only execution for the peer under that handle.
@@ -104,7 +104,7 @@ pub record AnswersItsCommands (n : Network) : Type 0 where
 -- Over every schedule, for all sizes:
 abbrev pub EveryScheduleAnswersItsCommands : Type 0
 EveryScheduleAnswersItsCommands =
-    (w s : ℕ) (tree : List Object) (starts : List Start) (steps : List Step) → are_apart starts ≡ true → Fit starts steps →
+    (w : DeviceSizes) (s : ℕ) (tree : List Object) (starts : List Start) (steps : List Step) → are_apart starts ≡ true → Fit starts steps →
     AnswersItsCommands (after_steps steps (opening w s tree starts))
 
 -- ---- THE LAW OF UNTAKEN COMMANDS
@@ -130,17 +130,17 @@ pub record IsAnswered (k now : ℕ) (n : Network) (d : SentDatagram) (c : Comman
       ≡ n.to_links ++ (record { peer = d.peer; bytes = pdu_encoding (pdu_of (response c.handle execution.reply)) }) ∷ []
 
 -- A delivery of a datagram that carries an untaken command is answered, where with it no session of the link's peer was
--- forgotten, and the datagrams that came to the device came from at most 16 peers.
+-- forgotten, and the datagrams that came to the device came from at most as many peers as the device has room for.
 abbrev pub AnswersUntaken : Network → Type 0
 AnswersUntaken n = (k now i : ℕ) (d : SentDatagram) (l : PeerLink) (c : CommandFields) (peers : List Peer) →
     slice_get n.to_device k ≡ Some d → slice_get n.links i ≡ Some l → CarriesUntaken d l c →
-    KeepsItsSession d.peer (after_step (ToDevice k now) n).events → length peers ≤ most_sessions → ComeFrom peers (after_step (ToDevice k now) n).events →
+    KeepsItsSession d.peer (after_step (ToDevice k now) n).events → length peers ≤ n.sizes.peers → ComeFrom peers (after_step (ToDevice k now) n).events →
     IsAnswered k now n d c
 
 -- Over every schedule, for all sizes where the window is at least twice the span less one:
 abbrev pub NoUntakenCommandIsTooOld : Type 0
 NoUntakenCommandIsTooOld =
-    (w s : ℕ) (tree : List Object) (starts : List Start) (steps : List Step) → 0 < s → 2 * s ≤ w + 1 → are_apart starts ≡ true → Fit starts steps →
+    (w : DeviceSizes) (s : ℕ) (tree : List Object) (starts : List Start) (steps : List Step) → 0 < s → 2 * s ≤ w.window + 1 → are_apart starts ≡ true → Fit starts steps →
     AnswersUntaken (after_steps steps (opening w s tree starts))
 
 -- No command of a link is executed twice, where no session of its peer was forgotten.
@@ -151,5 +151,5 @@ ExecutesOnce n = (i : ℕ) (l : PeerLink) → slice_get n.links i ≡ Some l →
 -- Over every schedule, for all sizes:
 abbrev pub EveryCommandIsExecutedOnce : Type 0
 EveryCommandIsExecutedOnce =
-    (w s : ℕ) (tree : List Object) (starts : List Start) (steps : List Step) → are_apart starts ≡ true → Fit starts steps →
+    (w : DeviceSizes) (s : ℕ) (tree : List Object) (starts : List Start) (steps : List Step) → are_apart starts ≡ true → Fit starts steps →
     ExecutesOnce (after_steps steps (opening w s tree starts))

@@ -4,6 +4,7 @@
 use Rattle.std.specs.Prelude.{ℕ, List, [], map}
 use Rattle.oca_types.specs.declared.words.Peer.{Peer}
 use Rattle.oca_types.specs.Peers.{CommandFields}
+use Rattle.oca_types.specs.Sizes.{DeviceSizes}
 use Rattle.oca_tree.specs.declared.object.Object.{Object}
 use Rattle.oca_device.specs.Events.{Event}
 use Rattle.oca_control.specs.Answers.{AnswerFields}
@@ -35,10 +36,10 @@ pub record TakenAnswer : Type 0 where
   pub handle : ℕ
   pub answer : AnswerFields
 
--- The size of the device's reply windows, its objects at first and what happened to it; the links; the datagrams that were sent to
+-- The sizes of the device, its objects at first and what happened to it; the links; the datagrams that were sent to
 -- the device and to links; and what was submitted and taken.
 pub record Network : Type 0 where
-  pub window : ℕ
+  pub sizes : DeviceSizes
   pub tree : List Object
   pub events : List Event
   pub links : List PeerLink
@@ -52,6 +53,6 @@ abbrev pub started : ℕ → Start → PeerLink
 started span x = record { peer = x.peer; link = new_link device_address x.first_handle.0 0 span }
 
 -- THE NETWORK AT FIRST: a device to which nothing happened, and a new link for each start.
-abbrev pub opening : ℕ → ℕ → List Object → List Start → Network
-opening window span tree starts =
-    record { window = window; tree = tree; events = []; links = map (started span) starts; to_device = []; to_links = []; submitted = []; taken = [] }
+abbrev pub opening : DeviceSizes → ℕ → List Object → List Start → Network
+opening sizes span tree starts =
+    record { sizes = sizes; tree = tree; events = []; links = map (started span) starts; to_device = []; to_links = []; submitted = []; taken = [] }

@@ -56,7 +56,7 @@ are_close (t ∷ earlier) = is_soon_after t earlier && are_close earlier
 abbrev pub KeepsItsSession : Peer → List Event → Type 0
 KeepsItsSession p events = are_close (moments_of p events) ≡ true
 
--- ---- at most 16 peers: all datagrams came from peers of a list that has at most 16
+-- ---- few peers: all datagrams came from peers of a list, as long as the law says
 abbrev pub is_among : List Peer → Peer → Bool
 is_among peers p = list_any (λ q. same_peer q p) peers
 

@@ -23,7 +23,7 @@ AreOfLinks links sent = AllByRecursion (λ d. has_link d.peer links ≡ true) se
 
 -- it represents the device of the network, and has its links and datagrams, each of the peer of a link
 pub record Shows (r : Running) (n : Network) : Type 0 where
-  pub device : Represents n.window r.device n.tree n.events
+  pub device : Represents n.sizes r.device n.tree n.events
   pub links : r.links.items ≡ n.links
   pub to_device : r.to_device.items ≡ n.to_device
   pub to_links : r.to_links.items ≡ n.to_links

@@ -4,8 +4,8 @@ use Rattle.std.specs.Prelude.{◌≡◌, ◌⊎◌, ℕ, ◌+◌, ◌*◌, ◌<�
 use Rattle.std.specs.List.{slice_get, AllByRecursion, Contains}
 use Rattle.oca_types.specs.declared.words.Peer.{Peer}
 use Rattle.oca_types.specs.Peers.{CommandFields}
+use Rattle.oca_types.specs.Sizes.{DeviceSizes}
 use Rattle.oca_tree.specs.declared.object.Object.{Object}
-use Rattle.oca_session.specs.Limits.{most_sessions}
 use Rattle.oca_control.specs.Answers.{AnswerFields}
 use Rattle.oca_control.specs.Untaken.{Untaken, answer_under}
 use Rattle.oca_pair.specs.declared.start.Start.{Start}
@@ -73,11 +73,11 @@ pub record ComesBack (k now : ℕ) (between : List Step) (later i : ℕ) (c : Co
 abbrev pub RoundTrips : Network → Type 0
 RoundTrips n = (k now i : ℕ) (d : SentDatagram) (l : PeerLink) (c : CommandFields) (peers : List Peer) (between : List Step) (later : ℕ) →
     slice_get n.to_device k ≡ Some d → slice_get n.links i ≡ Some l → CarriesUntaken d l c →
-    KeepsItsSession d.peer (asked k now n).events → length peers ≤ most_sessions → ComeFrom peers (asked k now n).events →
+    KeepsItsSession d.peer (asked k now n).events → length peers ≤ n.sizes.peers → ComeFrom peers (asked k now n).events →
     AllByRecursion StepFits between → ComesBack k now between later i c l.peer n
 
 -- Over every schedule, for all sizes where the window is at least twice the span less one:
 abbrev pub EveryRoundTripBringsTheAnswer : Type 0
 EveryRoundTripBringsTheAnswer =
-    (w s : ℕ) (tree : List Object) (starts : List Start) (steps : List Step) → 0 < s → 2 * s ≤ w + 1 → are_apart starts ≡ true → Fit starts steps →
+    (w : DeviceSizes) (s : ℕ) (tree : List Object) (starts : List Start) (steps : List Step) → 0 < s → 2 * s ≤ w.window + 1 → are_apart starts ≡ true → Fit starts steps →
     RoundTrips (after_steps steps (opening w s tree starts))

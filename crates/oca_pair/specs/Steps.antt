@@ -105,7 +105,7 @@ abbrev pub after_delivery : ℕ → Option SentDatagram → Network → Network
 after_delivery now None n = n
 after_delivery now (Some d) n = record n {
   events = Datagram d.peer d.bytes now ∷ n.events;
-  to_links = n.to_links ++ sendings d.peer (packets n.window n.tree n.events (Datagram d.peer d.bytes now));
+  to_links = n.to_links ++ sendings d.peer (packets n.sizes n.tree n.events (Datagram d.peer d.bytes now));
 }
 
 -- ---- TO LINK: the datagram comes to the link that its peer names, from the device's address
@@ -173,7 +173,7 @@ on_link outcome (Some l) = outcome l ∷ []
 on_link outcome None = []
 
 abbrev pub delivery_outcome : ℕ → Option SentDatagram → Network → List Outcome
-delivery_outcome now (Some d) n = outcomes.Device (verdict n.window n.tree n.events d.peer d.bytes now) ∷ []
+delivery_outcome now (Some d) n = outcomes.Device (verdict n.sizes n.tree n.events d.peer d.bytes now) ∷ []
 delivery_outcome now None n = []
 
 abbrev pub reception_outcome : Option SentDatagram → Network → List Outcome
@@ -186,9 +186,9 @@ outcome_of (Due link now) n = on_link (λ l. due_outcome (length n.to_device) (d
 outcome_of (ToDevice k now) n = delivery_outcome now (slice_get n.to_device k) n
 outcome_of (ToLink k now) n = reception_outcome (slice_get n.to_links k) n
 outcome_of (Other from bytes now) n =
-    if has_link from n.links then [] else outcomes.Device (verdict n.window n.tree n.events from bytes now) ∷ []
+    if has_link from n.links then [] else outcomes.Device (verdict n.sizes n.tree n.events from bytes now) ∷ []
 outcome_of (Tick now) n = outcomes.Ticked ∷ []
-outcome_of (Local ono value) n = set_outcome (set_fault (state_after n.window n.tree n.events).tree ono value) ∷ []
+outcome_of (Local ono value) n = set_outcome (set_fault (state_after n.sizes n.tree n.events).tree ono value) ∷ []
 outcome_of (Take link handle) n = on_link (λ l. take_outcome (answer_under handle l.link.untaken)) (slice_get n.links link)
 
 -- THE OUTCOMES OF A SCHEDULE, in order.

@@ -1,5 +1,6 @@
 -- WHAT RUNNING A SCHEDULE ANSWERS (profile).
 use Rattle.std.specs.Prelude.{◌≡◌, ℕ, true, false, List, map, Result, Ok, Err, Some, None}
+use Rattle.oca_types.specs.Sizes.{DeviceSizes}
 use Rattle.oca_tree.specs.declared.object.Object.{Object}
 use Rattle.oca_device.specs.Devices.{Represents}
 use Rattle.oca_pair.specs.declared.fault.PairFault.{PairFault}
@@ -26,7 +27,7 @@ step_of (given.Take link handle) = Take link handle.0
 
 -- The transcript of the steps from a network on: its lists, one outcome for each step, and a device that represents what came to it.
 pub record IsTranscript (t : Transcript) (steps : List Step) (n : Network) : Type 0 where
-  pub device : let last = after_steps steps n in Represents last.window t.device last.tree last.events
+  pub device : let last = after_steps steps n in Represents last.sizes t.device last.tree last.events
   pub to_device : t.to_device.items ≡ (after_steps steps n).to_device
   pub to_links : t.to_links.items ≡ (after_steps steps n).to_links
   pub log : t.log.items ≡ outcomes_of steps n
@@ -38,8 +39,8 @@ IsRunOf (Err faults.NoMemory) starts steps n = are_apart starts ≡ true
 IsRunOf (Err (faults.BadStep k)) starts steps n = (are_apart starts ≡ true) × (first_missing steps n ≡ Some k)
 IsRunOf (Err faults.SamePeer) starts steps n = are_apart starts ≡ false
 
-abbrev pub RunsSchedule : Result Transcript PairFault → ℕ → ℕ → List Object → List Start → List declared.Step → Type 0
-RunsSchedule result window span tree starts steps = IsRunOf result starts (map step_of steps) (opening window span tree starts)
+abbrev pub RunsSchedule : Result Transcript PairFault → DeviceSizes → ℕ → List Object → List Start → List declared.Step → Type 0
+RunsSchedule result sizes span tree starts steps = IsRunOf result starts (map step_of steps) (opening sizes span tree starts)
 
 -- the number of a fault
 abbrev pub fault_number : PairFault → ℕ

@@ -4,7 +4,7 @@ ghost use Rattle.oca_pair.specs.RoundTrip.{EveryRoundTripBringsTheAnswer};
 
 use oca_pdu::law_written_is_read_back;
 
-/// Over every schedule and for all sizes of window and span: each answer that a link holds or gave under a handle is what an
+/// Over every schedule and for all sizes of window, peers and span: each answer that a link holds or gave under a handle is what an
 /// execution gave, for that link's peer, of the very command that the link submitted under that handle. Where no session of the
 /// peer was forgotten, it is the only execution for the peer under that handle. The handles of the commands that a link submitted
 /// rise by one.
@@ -18,7 +18,7 @@ pub fn law_answers()
 /// that its link still holds untaken is answered. It is executed now, or its reply is found in the window; it is never too old, never met
 /// without room, and never taken for another command under its handle. This holds where no session of the link's peer was
 /// forgotten, which is where each of its datagrams comes at most 120,000 ms after the one before it, and where all datagrams came
-/// from at most 16 peers. And no command is executed twice, for all sizes, where no session of its peer was forgotten.
+/// from at most as many peers as the device has room for. And no command is executed twice, for all sizes, where no session of its peer was forgotten.
 pub fn law_never_old()
     ensures answered { NoUntakenCommandIsTooOld }
     ensures once { EveryCommandIsExecutedOnce }

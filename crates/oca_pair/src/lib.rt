@@ -14,7 +14,7 @@ mod step;
 pub use fault::PairFault;
 pub use law::{law_answers, law_never_old, law_round_trip};
 pub use outcome::Outcome;
-pub use pair::{Transcript, run_pair};
+pub use pair::{Transcript, run_pair, run_pair_with_sizes};
 pub use sent::Sent;
 pub use start::Start;
 pub use step::Step;

@@ -2,7 +2,7 @@
 ghost use Rattle.std.specs.Prelude.{◌≡◌, ◌&&◌, not, ◌++◌, ◌∷◌, [], IfOk};
 ghost use Rattle.std.specs.List.{list_any, list_all};
 ghost use Rattle.oca_types.specs.Peers.{same_peer};
-ghost use Rattle.oca_types.specs.Sizes.{window_size, span_size};
+ghost use Rattle.oca_types.specs.Sizes.{window_size, sizes_of, span_size};
 ghost use Rattle.oca_pair.specs.Networks.{device_address};
 ghost use Rattle.oca_pair.specs.Premises.{is_of_another_peer};
 ghost use Rattle.oca_pair.specs.PrivateRunning.{is_of_peer};
@@ -16,7 +16,7 @@ use crate::start::Start;
 use crate::step::Step;
 use oca_device::Device;
 use oca_tree::Tree;
-use oca_types::{NoMemory, Peer, Span, Window};
+use oca_types::{NoMemory, Peer, Peers, Sizes, Span, Window};
 use std::alloc::Global;
 
 /// What a schedule led to.
@@ -32,12 +32,7 @@ pub struct Transcript {
     pub log: Vec<Outcome>,
 }
 
-/// Runs a schedule over a device at 127.0.0.1:65000 with these objects and reply windows of this size, and a link of this span for
-/// each start, made at moment 0.
-///
-/// Refusals: `SamePeer`, where two starts have one peer or one has the device's, is looked for first, before memory is taken. Then
-/// the steps are taken in order: `BadStep` is the number of the first one that names a link or a datagram that is not there, or that
-/// is an `Other` from a link's peer; `NoMemory` comes where memory is refused.
+/// Runs a schedule as [`run_pair_with_sizes`] does, with reply windows of this size and sessions of at most 16 peers.
 pub fn run_pair(
     alloc: Global,
     tree: Tree,
@@ -46,12 +41,32 @@ pub fn run_pair(
     starts: &[Start],
     steps: &[Step<'_>],
 ) -> Result<Transcript, PairFault>
-    ensures { RunsSchedule result (window_size window) (span_size span) tree starts.now steps.now }
+    ensures { RunsSchedule result (record { window = window_size window; peers = 16 }) (span_size span) tree starts.now steps.now }
+{
+    let peers = Peers::default();
+    run_pair_with_sizes(alloc, tree, Sizes { window, peers }, span, starts, steps)
+}
+
+/// Runs a schedule over a device at 127.0.0.1:65000 with these objects and these sizes, and a link of this span for each start,
+/// made at moment 0.
+///
+/// Refusals: `SamePeer`, where two starts have one peer or one has the device's, is looked for first, before memory is taken. Then
+/// the steps are taken in order: `BadStep` is the number of the first one that names a link or a datagram that is not there, or that
+/// is an `Other` from a link's peer; `NoMemory` comes where memory is refused.
+pub fn run_pair_with_sizes(
+    alloc: Global,
+    tree: Tree,
+    sizes: Sizes,
+    span: Span,
+    starts: &[Start],
+    steps: &[Step<'_>],
+) -> Result<Transcript, PairFault>
+    ensures { RunsSchedule result (sizes_of sizes) (span_size span) tree starts.now steps.now }
 {
     if !are_apart(starts) {
         return Err(PairFault::SamePeer);
     }
-    let Ok(mut running) = Running::new(alloc, tree, window, span, starts) else {
+    let Ok(mut running) = Running::new(alloc, tree, sizes, span, starts) else {
         return Err(PairFault::NoMemory);
     };
     let mut log = Vec::new(alloc);

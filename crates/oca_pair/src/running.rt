@@ -1,6 +1,6 @@
 //! A network as it runs: the device, the links, and what was sent.
 ghost use Rattle.std.specs.Prelude.{◌≡◌, ◌++◌, ◌∷◌, [], ℕ, IfOk, Ok, map, Option, Some, None};
-ghost use Rattle.oca_types.specs.Sizes.{window_size, span_size};
+ghost use Rattle.oca_types.specs.Sizes.{sizes_of, span_size};
 ghost use Rattle.oca_control.specs.Links.{Request, submitted, submission, decision, gone_on, received, reception, taken};
 ghost use Rattle.oca_control.specs.Untaken.{answer_under};
 ghost use Rattle.oca_pair.specs.Networks.{Network, SentDatagram, started, opening, device_address};
@@ -16,7 +16,7 @@ use oca_control::{Due, Link, Reception};
 use oca_device::{Device, Outbox};
 use oca_pdu::law_reading;
 use oca_tree::{LocalValue, Tree};
-use oca_types::{Handle, MethodId, NoMemory, Ono, Packet, Peer, Span, Window};
+use oca_types::{Handle, MethodId, NoMemory, Ono, Packet, Peer, Sizes, Span};
 use std::alloc::Global;
 use std::marker::Model;
 
@@ -145,13 +145,13 @@ impl Running {
     pub(crate) fn new(
         alloc: Global,
         tree: Tree,
-        window: Window,
+        sizes: Sizes,
         span: Span,
         starts: &[Start],
     ) -> Result<Running, NoMemory>
-        ensures { IfOk result (λ r. Shows r (opening (window_size window) (span_size span) tree starts.now)) }
+        ensures { IfOk result (λ r. Shows r (opening (sizes_of sizes) (span_size span) tree starts.now)) }
     {
-        let device = Device::new(alloc, tree, window)?;
+        let device = Device::with_sizes(alloc, tree, sizes)?;
         let outbox = Outbox::new(alloc)?;
         let links = links_of(alloc, span, starts)?;
         Ok(Running {

@@ -1,12 +1,12 @@
 //! Schedules over the bench device. What is expected is that of the profile's worked examples, and never the program's own output.
 use crate::{
     Outcome, PairFault, Start, Step, Transcript, law_answers, law_never_old, law_round_trip,
-    run_pair,
+    run_pair, run_pair_with_sizes,
 };
 use oca_control::{ControlFault, Reception};
 use oca_device::Verdict;
 use oca_tree::{SetFault, bench};
-use oca_types::{Handle, MethodId, Ono, Peer, Span, Window};
+use oca_types::{Handle, MethodId, Ono, Peer, Peers, Sizes, Span, Window};
 use std::alloc::Global;
 use std::process::Abort;
 use std::test::Fail;
@@ -230,6 +230,40 @@ fn other_bytes(rt: HostRuntime) -> Result<(), Fail> {
         assert_eq!(rt; transcript.log.last().map(shown), Some(served(1, 0, 0)));
         assert_eq!(rt; transcript.to_links.len(), 2);
     }
+    Ok(())
+}
+
+/// A device with sessions of one peer has no room for the link once another peer has the session.
+#[test]
+fn no_room_beside_one_peer(rt: HostRuntime) -> Result<(), Fail> {
+    let tree = bench(rt.alloc()).map_err(|_| "no memory")?;
+    let sizes = Sizes {
+        window: Window::default(),
+        peers: Peers::new(1).ok_or("no peers")?,
+    };
+    let other = Step::Other {
+        from: peer(B),
+        bytes: &GET,
+        now: 0,
+    };
+    let transcript = run_pair_with_sizes(
+        rt.alloc(),
+        tree,
+        sizes,
+        Span::default(),
+        &[start(A, 1)],
+        &[
+            other,
+            get_state(0),
+            Step::Due { link: 0, now: 0 },
+            Step::ToDevice { k: 0, now: 0 },
+        ],
+    )?;
+    assert_eq!(rt;
+        transcript.log.last().map(shown),
+        Some(Seen::Device(Verdict::NoRoom))
+    );
+    assert_eq!(rt; transcript.device.sessions(), 1);
     Ok(())
 }
 

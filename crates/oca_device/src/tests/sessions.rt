@@ -75,6 +75,29 @@ fn keeps_as_many_as_was_chosen(rt: HostRuntime) -> Result<(), Fail> {
     Ok(())
 }
 
+/// One peer, or 64: another finds no room until a session is forgotten.
+#[test]
+fn has_sessions_of_as_many_as_was_chosen(rt: HostRuntime) -> Result<(), Fail> {
+    for (count, next) in [(1u8, 9002u16), (64, 9065)] {
+        let mut bench = Bench::with_peers(rt.alloc(), count)?;
+        for port in 9001..next {
+            bench.takes(&rt, port, 0, get_state(1), EXECUTED, Some(state(1, 1)));
+        }
+        assert_eq!(rt; bench.device.sessions(), usize::from(count));
+        bench.takes(&rt, next, 120_000, get_state(1), Verdict::NoRoom, None);
+        bench.takes(
+            &rt,
+            next,
+            120_001,
+            get_state(1),
+            EXECUTED,
+            Some(state(1, 1)),
+        );
+        assert_eq!(rt; bench.device.sessions(), 1);
+    }
+    Ok(())
+}
+
 /// Another command under the handle of a retained one is not executed and gets nothing, and the retained one stays.
 #[test]
 fn ignores_another_command_under_a_kept_handle(rt: HostRuntime) -> Result<(), Fail> {

@@ -3,6 +3,7 @@ use Rattle.std.specs.Prelude.{IsSome}
 use Rattle.oca_types.specs.declared.words.Peer.{Peer}
 use Rattle.oca_types.specs.declared.words.Reply.{Reply}
 use Rattle.oca_types.specs.Peers.{CommandFields, fields_of}
+use Rattle.oca_types.specs.Sizes.{DeviceSizes}
 use Rattle.oca_pdu.specs.Messages.{Msg, Command, Pdu}
 use Rattle.oca_device.specs.declared.counts.Counts.{Counts}
 use Rattle.oca_device.specs.Groups.{with_answer, with_answers, encodings}
@@ -30,7 +31,7 @@ answered true before after ms h k = h refl
 answered false before after ms h k = λ groups is. k refl ∙ is
 
 -- a command is served as it is judged
-by_judgement : (w : ℕ) (s : State) (p : Peer) (command : CommandFields) (respond : Bool) (new : DeviceState) (before after : List (List ℕ)) (n m : Counts)
+by_judgement : (w : DeviceSizes) (s : State) (p : Peer) (command : CommandFields) (respond : Bool) (new : DeviceState) (before after : List (List ℕ)) (n m : Counts)
     (j : Judgement) → j ≡ judged_in w s p command → IsIn w new (after_command j p command s) →
     (respond ≡ true → Answered before after (answer_to_command j p command s)) → (respond ≡ false → after ≡ before) →
     m ≡ plus n (count_of_command j) → Serves w new p (Command respond command) s before after n m
@@ -42,17 +43,17 @@ by_judgement w s p command respond new before after n m j is device with_respons
 }
 
 -- the session of the peer retains what is that of its accepted commands
-agreed_in : (w : ℕ) (s : State) (p : Peer) (tree : List Object) (old : Table) (self : DeviceState) → device_with tree old ≡ self → IsIn w self s →
-    IsSome (session_of p self.sessions.sessions) → AgreesAt p w (accepted (run p s.notes)) old.sessions
+agreed_in : (w : DeviceSizes) (s : State) (p : Peer) (tree : List Object) (old : Table) (self : DeviceState) → device_with tree old ≡ self → IsIn w self s →
+    IsSome (session_of p self.sessions.sessions) → AgreesAt p w.window (accepted (run p s.notes)) old.sessions
 agreed_in w s p tree old self e h known =
     let was = parts_in tree old self w s e h in
     agrees_there w s p old was.sessions (known_there w s p old was.sessions (subst (λ (d : DeviceState). IsSome (session_of p d.sessions.sessions)) (sym e) known))
 
 -- a fresh command was executed, and retained with its reply
-fresh_served : (w : ℕ) (s : State) (p : Peer) (command : CommandFields) (tree : List Object) (old : Table) (new_tree : List Object) (new : Table) (reply : Reply) →
+fresh_served : (w : DeviceSizes) (s : State) (p : Peer) (command : CommandFields) (tree : List Object) (old : Table) (new_tree : List Object) (new : Table) (reply : Reply) →
     IsIn w (device_with tree old) s → is_known s.moment s.notes p ≡ true → last_moment (run p s.notes) ≡ s.moment →
     new_tree ≡ (execution tree p command).tree → reply ≡ reply_of s.tree p command →
-    new ≡ with_sessions old (changed p (with_accepted w (accepted (run p s.notes) ++ (record { command = command; reply = reply }) ∷ [])) old.sessions) →
+    new ≡ with_sessions old (changed p (with_accepted w.window (accepted (run p s.notes) ++ (record { command = command; reply = reply }) ∷ [])) old.sessions) →
     IsIn w (device_with new_tree new) (after_command Fresh p command s)
 fresh_served w s p command tree old new_tree new reply was known now executed replied kept =
     let made : Entry = record { command = command; reply = reply_of s.tree p command } in
@@ -60,7 +61,7 @@ fresh_served w s p command tree old new_tree new reply was known now executed re
     record {
       tree = executed ∙ ap (λ t. (execution t p command).tree) was.tree;
       sessions = executed_there w s p (Executed s.tree command (reply_of s.tree p command)) made old new was.sessions known now (λ own t. (refl, refl))
-          (kept ∙ ap (λ (r : Reply). with_sessions old (changed p (with_accepted w (A ++ (record { command = command; reply = r }) ∷ [])) old.sessions)) replied);
+          (kept ∙ ap (λ (r : Reply). with_sessions old (changed p (with_accepted w.window (A ++ (record { command = command; reply = r }) ∷ [])) old.sessions)) replied);
     }
 
 pub returns-then-respond-clause-serves : goal.returns-then-respond-clause-serves
@@ -76,8 +77,8 @@ returns-then-respond-clause-serves c = λ w s h now.
     let agreed = agrees_there w s p old was.sessions known in
     let reply : c.execute.new.reply ≡ reply_of s.tree p command = c.execute.ensures.reply ∙ ap (λ t. reply_of t p command) was.tree in
     by_judgement w s p command c.args.respond (device_with c.execute.new.tree c.keep.new.self) c.args.outbox.now c.respond.new.self c.args.counts.now _ Fresh
-    (c.in-Fresh.ensures.accepted w A agreed)
-    (fresh_served w s p command tree old c.execute.new.tree c.keep.new.self c.execute.new.reply was known now c.execute.ensures.tree reply (c.keep.ensures.accepted w A agreed))
+    (c.in-Fresh.ensures.accepted w.window A agreed)
+    (fresh_served w s p command tree old c.execute.new.tree c.keep.new.self c.execute.new.reply was known now c.execute.ensures.tree reply (c.keep.ensures.accepted w.window A agreed))
     (λ _ groups is. c.respond.ensures.groups groups is ∙ ap (λ (r : Reply). encodings (with_answer groups (response command.handle r))) reply)
     (λ q. cc)
     (one_executed c.args.counts.now)
@@ -95,8 +96,8 @@ returns-else-respond-clause-serves c = λ w s h now.
     let agreed = agrees_there w s p old was.sessions known in
     let reply : c.execute.new.reply ≡ reply_of s.tree p command = c.execute.ensures.reply ∙ ap (λ t. reply_of t p command) was.tree in
     by_judgement w s p command c.args.respond (device_with c.execute.new.tree c.keep.new.self) c.args.outbox.now c.args.outbox.now c.args.counts.now _ Fresh
-    (c.in-Fresh.ensures.accepted w A agreed)
-    (fresh_served w s p command tree old c.execute.new.tree c.keep.new.self c.execute.new.reply was known now c.execute.ensures.tree reply (c.keep.ensures.accepted w A agreed))
+    (c.in-Fresh.ensures.accepted w.window A agreed)
+    (fresh_served w s p command tree old c.execute.new.tree c.keep.new.self c.execute.new.reply was known now c.execute.ensures.tree reply (c.keep.ensures.accepted w.window A agreed))
     (λ q. cc)
     (λ _. refl)
     (one_executed c.args.counts.now)
@@ -106,7 +107,7 @@ returns-then-respond-2-clause-serves c = λ w s h now.
     let p = c.args.from in
     let command = fields_of c.args.command.now in
     by_judgement w s p command c.args.respond c.args.self.now c.args.outbox.now c.respond-then-respond-2.new.self c.args.counts.now _ (Duplicate c.in-Kept.reply.now)
-    (c.in-Kept.ensures.accepted w (accepted (run p s.notes)) (agreed_in w s p c.self.inside.tree c.self.inside.sessions c.args.self.now c.self.view_is h c.requires.known))
+    (c.in-Kept.ensures.accepted w.window (accepted (run p s.notes)) (agreed_in w s p c.self.inside.tree c.self.inside.sessions c.args.self.now c.self.view_is h c.requires.known))
     h
     (λ _ groups is. c.respond-then-respond-2.ensures.groups groups is)
     (λ q. cc)
@@ -117,7 +118,7 @@ returns-else-respond-2-clause-serves c = λ w s h now.
     let p = c.args.from in
     let command = fields_of c.args.command.now in
     by_judgement w s p command c.args.respond c.args.self.now c.args.outbox.now c.args.outbox.now c.args.counts.now _ (Duplicate c.in-Kept.reply.now)
-    (c.in-Kept.ensures.accepted w (accepted (run p s.notes)) (agreed_in w s p c.self.inside.tree c.self.inside.sessions c.args.self.now c.self.view_is h c.requires.known))
+    (c.in-Kept.ensures.accepted w.window (accepted (run p s.notes)) (agreed_in w s p c.self.inside.tree c.self.inside.sessions c.args.self.now c.self.view_is h c.requires.known))
     h
     (λ q. cc)
     (λ _. refl)
@@ -128,7 +129,7 @@ returns-in-Reused-clause-serves c = λ w s h now.
     let p = c.args.from in
     let command = fields_of c.args.command.now in
     by_judgement w s p command c.args.respond c.args.self.now c.args.outbox.now c.args.outbox.now c.args.counts.now _ Reused
-    (c.in-Reused.ensures.accepted w (accepted (run p s.notes)) (agreed_in w s p c.self.inside.tree c.self.inside.sessions c.args.self.now c.self.view_is h c.requires.known))
+    (c.in-Reused.ensures.accepted w.window (accepted (run p s.notes)) (agreed_in w s p c.self.inside.tree c.self.inside.sessions c.args.self.now c.self.view_is h c.requires.known))
     h
     (λ _ groups is. is)
     (λ _. refl)
@@ -139,7 +140,7 @@ returns-in-Old-clause-serves c = λ w s h now.
     let p = c.args.from in
     let command = fields_of c.args.command.now in
     by_judgement w s p command c.args.respond c.args.self.now c.args.outbox.now c.args.outbox.now c.args.counts.now _ Old
-    (c.in-Old.ensures.accepted w (accepted (run p s.notes)) (agreed_in w s p c.self.inside.tree c.self.inside.sessions c.args.self.now c.self.view_is h c.requires.known))
+    (c.in-Old.ensures.accepted w.window (accepted (run p s.notes)) (agreed_in w s p c.self.inside.tree c.self.inside.sessions c.args.self.now c.self.view_is h c.requires.known))
     h
     (λ _ groups is. is)
     (λ _. refl)

@@ -1,6 +1,7 @@
 use Rattle.std.proofs.Common.{◌≡◌, ℕ, ◌+◌, ◌≤◌, length}
 use Rattle.std.specs.Prelude.{IsSome}
 use Rattle.std.specs.List.{AllByRecursion}
+use Rattle.oca_types.specs.Sizes.{DeviceSizes}
 use Rattle.oca_pdu.specs.Datagrams.{messages_left}
 use Rattle.oca_session.specs.Table.{session_of}
 use Rattle.oca_device.specs.Notes.{run, last_moment}
@@ -19,6 +20,6 @@ invariant-loop-message l =
       groups : AreGrouped l.outbox;
       short : AllByRecursion IsShort rest;
       few : l.counts.executed + l.counts.kept + l.counts.old + l.counts.reused + most_answers rest ≤ 122;
-      served : (w : ℕ) (s : State) → IsIn w l.fn.self s → last_moment (run l.from s.notes) ≡ s.moment →
+      served : (w : DeviceSizes) (s : State) → IsIn w l.fn.self s → last_moment (run l.from s.notes) ≡ s.moment →
           IsHalfway w l.from l.self rest (messages_left l.fn.messages) s l.fn.outbox l.outbox l.counts;
     }
