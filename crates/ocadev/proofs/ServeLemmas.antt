@@ -3,6 +3,7 @@ use Rattle.std.proofs.Common.{◌≡◌, ℕ, List, [], ◌∷◌, ◌++◌, Opt
 use Rattle.std.specs.Prelude.{codes, IfSome}
 use Rattle.std.specs.List.{flat_map}
 use Rattle.oca_types.specs.declared.words.Peer.{Peer}
+use Rattle.oca_types.specs.Sizes.{DeviceSizes}
 use Rattle.oca_tree.specs.declared.object.Object.{Object}
 use Rattle.oca_device.specs.declared.verdict.Verdict.{Verdict}
 use Rattle.oca_device.specs.Devices.{DeviceState, Represents}
@@ -28,7 +29,7 @@ use Rattle.ocadev.specs.Replaying.{Serves, ServesAndPrints, Whole, Part, Replays
 -- ---- an event
 
 pub tick-served : (a b : DeviceState) (now : ℕ) (request : Request) (r : Result Unit WriteFailed) (u v : Output) → request ≡ asks.Tick now
-    → ((w : ℕ) (tree : List Object) (events : List Event) → Represents w a tree events → Represents w b tree (Tick now ∷ events))
+    → ((w : DeviceSizes) (tree : List Object) (events : List Event) → Represents w a tree events → Represents w b tree (Tick now ∷ events))
     → Prints r u v (codes "quiet\n") → ServesAndPrints a (event_of request) b r u v
 unfolding event_text
 tick-served a b now request r u v e h prints =
@@ -40,9 +41,9 @@ tick-served a b now request r u v e h prints =
     })
 
 datagram-serves : (a b : DeviceState) (from : Peer) (bytes : List ℕ) (now : ℕ) (v : Verdict) (ps : List (List ℕ))
-    → ((w : ℕ) (tree : List Object) (events : List Event) → Represents w a tree events → Represents w b tree (Datagram from bytes now ∷ events))
-    → ((w : ℕ) (tree : List Object) (events : List Event) → Represents w a tree events → ps ≡ packets w tree events (Datagram from bytes now))
-    → ((w : ℕ) (tree : List Object) (events : List Event) → Represents w a tree events → v ≡ verdict w tree events from bytes now)
+    → ((w : DeviceSizes) (tree : List Object) (events : List Event) → Represents w a tree events → Represents w b tree (Datagram from bytes now ∷ events))
+    → ((w : DeviceSizes) (tree : List Object) (events : List Event) → Represents w a tree events → ps ≡ packets w tree events (Datagram from bytes now))
+    → ((w : DeviceSizes) (tree : List Object) (events : List Event) → Represents w a tree events → v ≡ verdict w tree events from bytes now)
     → Serves a (Datagram from bytes now) b (verdict_text v ++ flat_map packet_text ps)
 unfolding event_text
 datagram-serves a b from bytes now v ps h sent said = record {
@@ -54,9 +55,9 @@ datagram-serves a b from bytes now v ps h sent said = record {
 
 -- the verdict was printed, and the packets as far as r says
 pub datagram-served : (a b : DeviceState) (from : Peer) (bytes : List ℕ) (now : ℕ) (v : Verdict) (ps : List (List ℕ)) (r : Result Unit WriteFailed) (k l m : Output)
-    → ((w : ℕ) (tree : List Object) (events : List Event) → Represents w a tree events → Represents w b tree (Datagram from bytes now ∷ events))
-    → ((w : ℕ) (tree : List Object) (events : List Event) → Represents w a tree events → ps ≡ packets w tree events (Datagram from bytes now))
-    → ((w : ℕ) (tree : List Object) (events : List Event) → Represents w a tree events → v ≡ verdict w tree events from bytes now)
+    → ((w : DeviceSizes) (tree : List Object) (events : List Event) → Represents w a tree events → Represents w b tree (Datagram from bytes now ∷ events))
+    → ((w : DeviceSizes) (tree : List Object) (events : List Event) → Represents w a tree events → ps ≡ packets w tree events (Datagram from bytes now))
+    → ((w : DeviceSizes) (tree : List Object) (events : List Event) → Represents w a tree events → v ≡ verdict w tree events from bytes now)
     → PrintsAll k l (verdict_text v) → Prints r l m (flat_map packet_text ps) → ServesAndPrints a (Datagram from bytes now) b r k m
 datagram-served a b from bytes now v ps r k l m h sent said first more = record {
   text = verdict_text v ++ flat_map packet_text ps;
@@ -66,9 +67,9 @@ datagram-served a b from bytes now v ps r k l m h sent said first more = record 
 
 -- the verdict was printed in part
 pub datagram-cut : (a b : DeviceState) (from : Peer) (bytes : List ℕ) (now : ℕ) (v : Verdict) (ps : List (List ℕ)) (r : Result Unit WriteFailed) (x : WriteFailed) (k l : Output)
-    → ((w : ℕ) (tree : List Object) (events : List Event) → Represents w a tree events → Represents w b tree (Datagram from bytes now ∷ events))
-    → ((w : ℕ) (tree : List Object) (events : List Event) → Represents w a tree events → ps ≡ packets w tree events (Datagram from bytes now))
-    → ((w : ℕ) (tree : List Object) (events : List Event) → Represents w a tree events → v ≡ verdict w tree events from bytes now)
+    → ((w : DeviceSizes) (tree : List Object) (events : List Event) → Represents w a tree events → Represents w b tree (Datagram from bytes now ∷ events))
+    → ((w : DeviceSizes) (tree : List Object) (events : List Event) → Represents w a tree events → ps ≡ packets w tree events (Datagram from bytes now))
+    → ((w : DeviceSizes) (tree : List Object) (events : List Event) → Represents w a tree events → v ≡ verdict w tree events from bytes now)
     → r ≡ Err x → PrintsPart k l (verdict_text v) → ServesAndPrints a (Datagram from bytes now) b r k l
 datagram-cut a b from bytes now v ps r x k l h sent said is first = record {
   text = verdict_text v ++ flat_map packet_text ps;
@@ -97,12 +98,12 @@ line-refused a was x fault e =
 
 -- ---- a run of events
 
-runs-represent : (w : ℕ) (tree : List Object) (events : List Event) (a c : DeviceState) (more : List Event) (text : List ℕ) → Runs Serves a more c text
+runs-represent : (w : DeviceSizes) (tree : List Object) (events : List Event) (a c : DeviceState) (more : List Event) (text : List ℕ) → Runs Serves a more c text
     → Represents w a tree events → Represents w c tree (events_then events more)
 runs-represent w tree events a c [] text h at_a = subst (λ (d : DeviceState). Represents w d tree events) (sym h.0) at_a
 runs-represent w tree events a c (e ∷ more) text h at_a = runs-represent w tree (e ∷ events) h.0 c more h.2 h.4 (h.3.represents w tree events at_a)
 
-runs-print : (w : ℕ) (tree : List Object) (events : List Event) (a c : DeviceState) (more : List Event) (text : List ℕ) → Runs Serves a more c text
+runs-print : (w : DeviceSizes) (tree : List Object) (events : List Event) (a c : DeviceState) (more : List Event) (text : List ℕ) → Runs Serves a more c text
     → Represents w a tree events → text ≡ events_text w tree events more
 runs-print w tree events a c [] text h at_a = h.1
 runs-print w tree events a c (e ∷ more) text h at_a =
@@ -111,7 +112,7 @@ runs-print w tree events a c (e ∷ more) text h at_a =
 
 -- ---- the whole
 
-whole : (w : ℕ) (tree : List Object) (events : List Event) (a b : DeviceState) (u v : Output) (r : Result Unit ReplayFault) (given : List ℕ) (requests : List Event) (text : List ℕ)
+whole : (w : DeviceSizes) (tree : List Object) (events : List Event) (a b : DeviceState) (u v : Output) (r : Result Unit ReplayFault) (given : List ℕ) (requests : List Event) (text : List ℕ)
     → Represents w a tree events → Runs Serves a requests b text → WritesWhole u v text → device_script given ≡ record { requests = requests; ending = r } → Whole w tree events b u v r given
 whole w tree events a b u v r given requests text at_a runs appends e =
     let same : (device_script given).requests ≡ requests = ap (λ (s : Script Event). s.requests) e in
@@ -121,7 +122,7 @@ whole w tree events a b u v r given requests text at_a runs appends e =
       represents = subst (λ (es : List Event). Represents w b tree (events_then events es)) (sym same) (runs-represent w tree events a b requests text runs at_a);
     }
 
-part : (w : ℕ) (tree : List Object) (events : List Event) (a b : DeviceState) (u v : Output) (r : Result Unit ReplayFault) (given : List ℕ) (requests : List Event) (text : List ℕ)
+part : (w : DeviceSizes) (tree : List Object) (events : List Event) (a b : DeviceState) (u v : Output) (r : Result Unit ReplayFault) (given : List ℕ) (requests : List Event) (text : List ℕ)
     → Represents w a tree events → Runs Serves a requests b text → Writes r u v text → BeginsWith requests (device_script given) → Part w tree events b u v r given
 part w tree events a b u v r given requests text at_a runs writes begins = record {
   first = requests;
@@ -130,7 +131,7 @@ part w tree events a b u v r given requests text at_a runs writes begins = recor
   represents = runs-represent w tree events a b requests text runs at_a;
 }
 
-replays : (w : ℕ) (tree : List Object) (events : List Event) (a b : DeviceState) (u v : Output) (r : Result Unit ReplayFault) (given : List ℕ) → Represents w a tree events
+replays : (w : DeviceSizes) (tree : List Object) (events : List Event) (a b : DeviceState) (u v : Output) (r : Result Unit ReplayFault) (given : List ℕ) → Represents w a tree events
     → ReplaysScript asked_event Serves a b u v r given → Replays w tree events b u v r given
 replays w tree events a b u v (Ok x) given at_a h = whole w tree events a b u v (Ok x) given h.requests h.text at_a h.runs h.writes h.ends
 replays w tree events a b u v (Err (Line n f)) given at_a h = whole w tree events a b u v (Err (Line n f)) given h.requests h.text at_a h.runs h.writes h.ends
@@ -138,11 +139,11 @@ replays w tree events a b u v (Err TooMuch) given at_a h = whole w tree events a
 replays w tree events a b u v (Err Read) given at_a h = part w tree events a b u v (Err Read) given h.requests h.text at_a h.runs h.writes h.ends
 replays w tree events a b u v (Err Write) given at_a h = part w tree events a b u v (Err Write) given h.requests h.text at_a h.runs h.writes h.ends
 
-pub outcome-of : (w : ℕ) (tree : List Object) (events : List Event) (a b : DeviceState) (u v : Output) (had has : Input) (r : Result Unit ReplayFault) → Represents w a tree events
+pub outcome-of : (w : DeviceSizes) (tree : List Object) (events : List Event) (a b : DeviceState) (u v : Output) (had has : Input) (r : Result Unit ReplayFault) → Represents w a tree events
     → ScriptOutcome asked_event Serves a b u v had has r → Outcome w tree events b u v had has r
 outcome-of w tree events a b u v had has r at_a h = (h.0, h.1, replays w tree events a b u v r (h.0 ++ known_bytes has.remaining) at_a h.2)
 
-pub known-of : (w : ℕ) (tree : List Object) (events : List Event) (a b : DeviceState) (u v : Output) (had : Option (List ℕ)) (r : Result Unit ReplayFault) → Represents w a tree events
+pub known-of : (w : DeviceSizes) (tree : List Object) (events : List Event) (a b : DeviceState) (u v : Output) (had : Option (List ℕ)) (r : Result Unit ReplayFault) → Represents w a tree events
     → IfSome had (λ given. ReplaysScript asked_event Serves a b u v r given) → IfSome had (λ given. Replays w tree events b u v r given)
 known-of w tree events a b u v None r at_a h = tt
 known-of w tree events a b u v (Some given) r at_a h = replays w tree events a b u v r given at_a h

@@ -1,6 +1,7 @@
 -- What the device's program prints for an event (profile).
 use Rattle.std.specs.Prelude.{ℕ, ◌==◌, if◌then◌else◌, List, [], ◌∷◌, ◌++◌, codes, decimal}
 use Rattle.std.specs.List.{flat_map}
+use Rattle.oca_types.specs.Sizes.{DeviceSizes}
 use Rattle.oca_tree.specs.declared.object.Object.{Object}
 use Rattle.oca_pdu.specs.Faults.{fault_number}
 use Rattle.oca_device.specs.declared.verdict.Verdict.{Verdict}
@@ -25,7 +26,7 @@ abbrev pub packet_text : List ℕ → List ℕ
 packet_text packet = codes "> " ++ hex_text packet ++ codes "\n"
 
 -- What is printed for an event after events: of a datagram its verdict and the packets that answer it.
-unfoldable pub event_text : ℕ → List Object → List Event → Event → List ℕ
+unfoldable pub event_text : DeviceSizes → List Object → List Event → Event → List ℕ
 event_text w tree events (Datagram from bytes now) =
     verdict_text (verdict w tree events from bytes now) ++ flat_map packet_text (packets w tree events (Datagram from bytes now))
 event_text w tree events (Tick now) = codes "quiet\n"
@@ -37,6 +38,6 @@ events_then events [] = events
 events_then events (e ∷ more) = events_then (e ∷ events) more
 
 -- what is printed for further events, in order
-abbrev pub events_text : ℕ → List Object → List Event → List Event → List ℕ
+abbrev pub events_text : DeviceSizes → List Object → List Event → List Event → List ℕ
 events_text w tree events [] = []
 events_text w tree events (e ∷ more) = event_text w tree events e ++ events_text w tree (e ∷ events) more

@@ -1,5 +1,6 @@
 //! The replay of a script on a device.
 ghost use Rattle.std.specs.Prelude.{◌≡◌, ℕ, List, IfSome};
+ghost use Rattle.oca_types.specs.Sizes.{DeviceSizes};
 ghost use Rattle.oca_tree.specs.declared.object.Object.{Object};
 ghost use Rattle.oca_device.specs.Devices.{Represents};
 ghost use Rattle.oca_device.specs.Events.{Event, Datagram as DatagramEvent};
@@ -109,12 +110,12 @@ pub fn replay<R: Source, W: Sink>(
     printer: &mut Printer<W>,
 ) -> Result<(), ReplayFault>
     // Where the bytes that the source had are known, their script was replayed, from whatever the device represented.
-    ensures known { (w : ℕ) (tree : List Object) (events : List Event) → Represents w device.old tree events →
+    ensures known { (w : DeviceSizes) (tree : List Object) (events : List Event) → Represents w device.old tree events →
         IfSome (R.remaining reader.old) (λ given.
         Replays w tree events device.new printer.old printer.new result given) }
     // Whatever source: there are bytes, those that it gave where it tells them, and the rest of what it had, and their script was
     // replayed.
-    ensures reads { (w : ℕ) (tree : List Object) (events : List Event) → Represents w device.old tree events →
+    ensures reads { (w : DeviceSizes) (tree : List Object) (events : List Event) → Represents w device.old tree events →
         Outcome w tree events device.new printer.old printer.new
         (input (R.remaining reader.old) (R.failed reader.old)) (input (R.remaining reader.new) (R.failed reader.new)) result }
 {
