@@ -2,9 +2,9 @@
 //!
 //! Begin with [`check`], which says whether bytes are a well-formed datagram and, where they are not, which check failed
 //! first and where. A [`Datagram`] that it gives hands out its messages in order; their parameters are slices of the
-//! bytes. The `write_` calls append a PDU of one message to a packet, [`extend_response`] adds a response to a packet's PDU,
-//! and [`replace_response`] writes one over what a packet held. Nothing here takes memory, opens a socket or reads a clock,
-//! and what a command asks for is the matter of other crates.
+//! bytes. The `write_` calls append a PDU of one message to a packet, [`extend_response`] adds a response to a packet's PDU
+//! where [`holds_responses`] says that it is of responses, and [`replace_response`] writes one over what a packet held. Nothing
+//! here takes memory, opens a socket or reads a clock, and what a command asks for is the matter of other crates.
 #![tactic(auto)]
 
 mod checking;
@@ -26,7 +26,8 @@ pub use laws::{
 pub use message::{Form, Message};
 pub use messages::Messages;
 pub use writing::{
-    extend_response, replace_response, write_command, write_keepalive, write_response,
+    extend_response, holds_responses, replace_response, write_command, write_keepalive,
+    write_response,
 };
 
 #[cfg(test)]

@@ -4,15 +4,20 @@ ghost use Rattle.std.specs.Int.{w16, w32};
 ghost use Rattle.arrayvec.specs.ArrayVec.{array_vec_len};
 ghost use Rattle.oca_types.specs.Numbers.{unsigned_encoding};
 ghost use Rattle.oca_types.specs.Peers.{fields_of};
-ghost use Rattle.oca_pdu.specs.Messages.{ResponseFields, Commands, Responses, OneKeepAlive, response_with};
+ghost use Rattle.oca_pdu.specs.Messages.{ResponseFields, Pdu, Commands, Responses, OneKeepAlive, response_with};
 ghost use Rattle.oca_pdu.specs.Encoding.{response_encoding, pdu_encoding, CommandFits, ResponseFits, FormFits, IsDatagram};
 ghost use Rattle.oca_pdu.specs.Reading.{number_at};
-ghost use Rattle.oca_pdu.specs.Writing.{AddsPdu, IsResponses, HoldsResponses, responses_size};
+ghost use Rattle.oca_pdu.specs.Writing.{AddsPdu, IsResponses, HoldsResponses, is_of_responses, responses_size};
 
 use crate::fault::WriteFault;
 use crate::fields;
 use crate::message::{COMMAND_BYTES, Form, HEADER_BYTES, RESPONSE_BYTES, SYNC};
 use oca_types::{Command, Handle, MOST_BYTES, Packet, Reply};
+
+/// Where a PDU has its PduType, and the type of a PDU of responses (AES70-3).
+const PDU_TYPE_AT: usize = 7;
+
+const RESPONSES: u8 = 3;
 
 /// Appends bytes for which there is room. A single one is written without a call.
 fn put(packet: &mut Packet, bytes: &[u8])
@@ -182,6 +187,14 @@ fn raise_header(pdu: &mut [u8], size: u32)
     let count = fields::u16_in(&pdu[8..10]) + 1;
     pdu[3..7].copy_from_slice(&size.to_be_bytes());
     pdu[8..10].copy_from_slice(&count.to_be_bytes());
+}
+
+/// Whether the PDU that a packet holds is of responses (AES70-3), so that [`extend_response`] may add one.
+#[inline(always)]
+pub fn holds_responses(packet: &Packet) -> bool
+    ensures { (p : Pdu) → packet.now.items ≡ pdu_encoding p → result ≡ is_of_responses p }
+{
+    packet.as_slice().get(PDU_TYPE_AT) == Some(&RESPONSES)
 }
 
 /// Appends a response to the PDU of responses that the packet holds (AES70-3): the response, PduSize and MessageCount

@@ -4,7 +4,7 @@ use arrayvec::ArrayVec;
 use thiserror::Error;
 
 /// An object number (ONo): the number of an object in its device (AES70-1).
-#[derive(Clone, Copy, Debug, PartialEq, Eq, Hash)]
+#[derive(Clone, Copy, Debug, Default, PartialEq, Eq, Hash)]
 pub struct Ono(pub u32);
 
 /// The handle of a command, by which a controller knows its response (AES70-3).
