@@ -35,7 +35,7 @@ drop_mapped zero es = refl
 drop_mapped (suc n) [] = refl
 drop_mapped (suc n) (e ∷ es) = drop_mapped n es
 
-outside_mapped : (w : DeviceSizes) (A : List Entry) → outside w.window (commands_of A) ≡ commands_of (outside w.window A)
+pub outside_mapped : (w : DeviceSizes) (A : List Entry) → outside w.window (commands_of A) ≡ commands_of (outside w.window A)
 outside_mapped w A = ap (λ (n : ℕ). take (n - w.window) (commands_of A)) (length-map A (λ e. e.command)) ∙ take_mapped (length A - w.window) A
 
 pub window_mapped : (w : DeviceSizes) (A : List Entry) → window w.window (commands_of A) ≡ commands_of (window w.window A)
@@ -215,7 +215,7 @@ any_asks f c (e ∷ es) d = by (nat_eq e.command.handle c.handle) refl (f (asks_
     by true q false r ih = none_left f c c.handle (commands_of es) e.command d.0 q ∙ sym r
     by false q k r ih = ih
 
-distinct_dropped : (n : ℕ) (xs : List CommandFields) → AreDistinct xs → AreDistinct (drop n xs)
+pub distinct_dropped : (n : ℕ) (xs : List CommandFields) → AreDistinct xs → AreDistinct (drop n xs)
 unfolding IsDistinct
 distinct_dropped zero xs d = d
 distinct_dropped (suc n) [] d = d

@@ -8,8 +8,8 @@ use Rattle.std.specs.Prelude.{not, count_by}
 use Rattle.oca_types.specs.Peers.{CommandFields}
 use Rattle.oca_pdu.specs.Messages.{ResponseFields, Msg, Command, Response, KeepAlive, Pdu, Commands, Responses, OneKeepAlive, messages_of}
 use Rattle.oca_pdu.specs.Encoding.{command_encoding, command_type, pdu_frame, pdu_encoding, IsDatagram}
-use Rattle.oca_pdu.specs.Limits.{is_response}
-use Rattle.oca_device.specs.PrivateServing.{IsShort, may_answer, most_answers}
+use Rattle.oca_pdu.specs.Limits.{is_command, is_response}
+use Rattle.oca_device.specs.PrivateServing.{IsShort, may_answer, most_answers, commands_of, all_commands}
 
 abbrev counted : Msg → ℕ
 counted m = cond (not (is_response m)) 1 0
@@ -23,6 +23,17 @@ pub answers_counted : (ms : List Msg) → most_answers ms ≡ count_by (λ m. no
 answers_counted [] = refl
 answers_counted (m ∷ ms) =
     ap (λ (n : ℕ). n + most_answers ms) (one_counted m) ∙ ap (λ (n : ℕ). counted m + n) (answers_counted ms) ∙ sym (sum_by-cons counted m ms)
+
+one_command : (m : Msg) → commands_of m ≡ cond (is_command m) 1 0
+one_command (Command respond c) = refl
+one_command (KeepAlive form) = refl
+one_command (Response r) = refl
+
+pub commands_counted : (ms : List Msg) → all_commands ms ≡ count_by is_command ms
+commands_counted [] = refl
+commands_counted (m ∷ ms) =
+    ap (λ (n : ℕ). n + all_commands ms) (one_command m) ∙ ap (λ (n : ℕ). cond (is_command m) 1 0 + n) (commands_counted ms)
+    ∙ sym (sum_by-cons (λ (x : Msg). cond (is_command x) 1 0) m ms)
 
 -- ---- a command in 1,472 bytes has at most 1,445 bytes of parameters
 

@@ -10,7 +10,7 @@ use Rattle.oca_pdu.specs.Encoding.{pdu_encoding}
 use Rattle.arrayvec.specs.ArrayVec.{ArrayVec}
 use Rattle.oca_pdu.specs.Writing.{IsResponses, responses_size}
 use Rattle.oca_device.specs.Outboxes.{bytes_of_packets}
-use Rattle.oca_device.specs.PrivateServing.{AreGrouped, IsGrouped, Joins, JoinsLast, is_of_responses}
+use Rattle.oca_device.specs.PrivateServing.{AreGrouped, IsGrouped, Joins, JoinsLast}
 use Rattle.oca_device.specs.Groups.{pdu_of, with_response, last_with, from_with, with_answer, with_answers, encodings}
 
 pub answers_both : (groups : List Pdu) (xs ys : List Msg) → with_answers groups (xs ++ ys) ≡ with_answers (with_answers groups xs) ys

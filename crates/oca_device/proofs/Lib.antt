@@ -9,6 +9,7 @@ pub mod Turns
 pub mod Acceptance
 pub mod Messages
 pub mod Answering
+pub mod Effects
 pub mod Sessions
 pub mod Standing
 pub mod GroupLaws

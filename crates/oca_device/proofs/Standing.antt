@@ -24,13 +24,16 @@ use Rattle.oca_device.specs.Events.{Event, Datagram, Tick, Local}
 use Rattle.oca_device.specs.Notes.{Note, notes_of, unbroken, run, is_known, accepted}
 use Rattle.oca_device.specs.States.{State, admits, after_messages, after_reading, released_all, lapsed_at, moved_to, after_local, state_after}
 use Rattle.oca_device.specs.Answers.{answers_to_messages, answers_to_reading, answers_in, counts_of_messages, served, verdict_of_reading}
-use Rattle.oca_device.specs.LawByEvents.{Arrival, Happening, Passes, Says, Sets, Happened, nothing, tick, local, malformed, datagram, EventsAreBytes, clock, admitted, session, said, lapsed, has_room, accepted_of, accepted_by, served_of, Change, Executes, Releases, changes, objects, reply, replies, all_counted, IsVerdict}
+use Rattle.oca_device.specs.Written.{written_by_messages, written_by_reading}
+use Rattle.oca_device.specs.Written as effects
+use Rattle.oca_device.specs.LawByEvents.{Execution, executions, executions_noted, written_of, Arrival, Happening, Passes, Says, Sets, Happened, nothing, tick, local, malformed, datagram, EventsAreBytes, clock, admitted, session, said, lapsed, has_room, accepted_of, accepted_by, served_of, Change, Executes, Releases, changes, objects, reply, replies, all_counted, IsVerdict}
 use Rattle.oca_device.specs.LawByEvents as law
 use Rattle.oca_device.proofs.Peers.{same_is}
 use Rattle.oca_device.proofs.Runs.{run_goes_on, run_begins}
 use Rattle.oca_device.proofs.Acceptance.{commands_of, AreDistinct, distinct_none, distinct_of}
 use Rattle.oca_device.proofs.Messages.{executed_of, messages_tree, messages_moment, messages_other, messages_counted, other_note}
 use Rattle.oca_device.proofs.Answering.{AnswersUnder, messages_answered, objects_both, reply_both, reply_released, reply_other, Replied, messages_replied}
+use Rattle.oca_device.proofs.Effects.{messages_written, executions_both, executions_released, messages_noted}
 use Rattle.oca_device.proofs.Sessions.{Bridged, none_bridged, latest, AllBridged, same_known, same_room, same_lapsed, arrival, let_in, let_in_note, let_in_known, let_in_executed, let_in_bridged}
 
 -- ---- what is read of bytes
@@ -72,6 +75,7 @@ pub record StandsAt (w : DeviceSizes) (tree : List Object) (s : State) (t : ℕ)
   pub bridged : AllBridged w s D
   pub tree_is : s.tree ≡ objects tree C
   pub replied : (q : Peer) → Replied tree C q (accepted (run q s.notes))
+  pub executions_are : executions_noted s.notes ≡ executions tree C
 
 abbrev pub Stands : DeviceSizes → List Object → State → List Happening → Type 0
 Stands w tree s H = StandsAt w tree s (clock H) (admitted w H) (changes w H)
@@ -94,6 +98,10 @@ passing w tree now s H h =
           ∙ sym (objects_both tree (changes w H) (map Releases ps) ∙ objects_released ps (objects tree (changes w H)));
       replied = λ q i x f. reply_both q i [] tree (changes w H) (map Releases ps) ∙ reply_released q i (reply q i [] tree (changes w H)) (objects tree (changes w H)) ps
           ∙ h.replied q i x f;
+      executions_are = h.executions_are
+          ∙ sym (executions_both tree (changes w H) (map Releases ps)
+          ∙ ap (λ (x : List Execution). executions tree (changes w H) ++ x) (executions_released ps (objects tree (changes w H)))
+          ∙ append-nil (executions tree (changes w H)));
     }
 
 -- the front sets: who is known and what was answered stays
@@ -105,6 +113,7 @@ setting w tree ono value s H h =
       bridged = record { each = h.bridged.each; opened_is = h.bridged.opened_is };
       tree_is = ap (λ (x : List Object). after_set x ono value) h.tree_is ∙ sym (objects_both tree C (Sets ono value ∷ []));
       replied = λ q i x f. reply_both q i [] tree C (Sets ono value ∷ []) ∙ h.replied q i x f;
+      executions_are = h.executions_are ∙ sym (executions_both tree C (Sets ono value ∷ []) ∙ append-nil (executions tree C));
     }
 
 -- a datagram that is let in
@@ -146,7 +155,19 @@ module _ (w : DeviceSizes) (tree : List Object) (p : Peer) (ms : List Msg) (s : 
         ∙ ap (λ (x : List Object). objects x executing) h.tree_is
         ∙ sym (objects_both tree C executing);
     replied = λ q. by_same q (same_peer p q) refl;
+    executions_are = messages_noted w p ms (let_in p ms s) (let_in_known p ms s)
+        ∙ ap (λ (x : List Execution). x ++ executions s.tree (map (Executes p) (accepted_of w (executed_of p (let_in p ms s).notes) ms))) (append-nil (executions_noted s.notes))
+        ∙ ap (λ (x : List CommandFields). executions_noted s.notes ++ executions s.tree (map (Executes p) (accepted_of w x ms))) same_executed
+        ∙ ap (λ (x : List Execution). x ++ executions s.tree executing) h.executions_are
+        ∙ ap (λ (x : List Object). executions tree C ++ executions x executing) h.tree_is
+        ∙ sym (executions_both tree C executing);
   }
+
+  pub written_let_in : written_by_messages w p ms (let_in p ms s) ≡ written_of p (objects tree C) (accepted_of w A ms)
+  written_let_in =
+      messages_written w p ms (let_in p ms s) (let_in_known p ms s)
+      ∙ ap (λ (x : List CommandFields). written_of p s.tree (accepted_of w x ms)) same_executed
+      ∙ ap (λ (x : List Object). written_of p x (accepted_of w A ms)) h.tree_is
 
   pub answers_let_in : answers_to_messages w p ms (let_in p ms s) ≡ replies w (λ i. reply p i [] tree (C ++ executing)) A ms
   answers_let_in =
@@ -163,6 +184,7 @@ saying_changes w p ms t D C = C ++ map (Executes p) (accepted_of w (accepted_by 
 pub record SaysSo (w : DeviceSizes) (tree : List Object) (p : Peer) (ms : List Msg) (s : State) (t : ℕ) (D : List Arrival) (C : List Change) : Type 0 where
   pub stands_so : StandsAt w tree (after_reading w p (Ok ms) s) t (cond (has_room w t p D) (arrival p ms t ∷ D) D) (saying_changes w p ms t D C)
   pub answers_so : answers_to_reading w p (Ok ms) s ≡ replies w (λ i. reply p i [] tree (saying_changes w p ms t D C)) (accepted_by w t p D) (cond (has_room w t p D) ms [])
+  pub written_so : written_by_reading w p (Ok ms) s ≡ written_of p (objects tree C) (accepted_of w (accepted_by w t p D) (cond (has_room w t p D) ms []))
   pub verdict_so : verdict_of_reading w p (Ok ms) s ≡ cond (has_room w t p D) (served (all_counted w (accepted_by w t p D) ms)) verdicts.NoRoom
 
 saying_now : (w : DeviceSizes) (tree : List Object) (p : Peer) (ms : List Msg) (s : State) (D : List Arrival) (C : List Change) → StandsAt w tree s s.moment D C →
@@ -177,6 +199,9 @@ saying_now w tree p ms s D C h true a r =
       answers_so = ap (λ (x : Bool). cond x (answers_to_messages w p ms (let_in p ms s)) []) a
           ∙ answers_let_in w tree p ms s D C h
           ∙ ap (λ (x : Bool). replies w (λ i. reply p i [] tree (C ++ map (Executes p) (accepted_of w A (cond x ms [])))) A (cond x ms [])) (sym r);
+      written_so = ap (λ (x : Bool). cond x (written_by_messages w p ms (let_in p ms s)) []) a
+          ∙ written_let_in w tree p ms s D C h
+          ∙ ap (λ (x : Bool). written_of p (objects tree C) (accepted_of w A (cond x ms []))) (sym r);
       verdict_so = ap (λ (x : Bool). cond x (served (counts_of_messages w p ms (let_in p ms s))) verdicts.NoRoom) a
           ∙ ap served (counts_let_in w tree p ms s D C h)
           ∙ ap (λ (x : Bool). cond x (served (all_counted w A ms)) verdicts.NoRoom) (sym r);
@@ -191,6 +216,8 @@ saying_now w tree p ms s D C h false a r =
           (subst (λ (x : List Change). StandsAt w tree s s.moment D x) (sym (append-nil C)) h));
       answers_so = ap (λ (x : Bool). cond x (answers_to_messages w p ms (let_in p ms s)) []) a
           ∙ ap (λ (x : Bool). replies w (λ i. reply p i [] tree (C ++ map (Executes p) (accepted_of w A (cond x ms [])))) A (cond x ms [])) (sym r);
+      written_so = ap (λ (x : Bool). cond x (written_by_messages w p ms (let_in p ms s)) []) a
+          ∙ ap (λ (x : Bool). written_of p (objects tree C) (accepted_of w A (cond x ms []))) (sym r);
       verdict_so = ap (λ (x : Bool). cond x (served (counts_of_messages w p ms (let_in p ms s))) verdicts.NoRoom) a
           ∙ ap (λ (x : Bool). cond x (served (all_counted w A ms)) verdicts.NoRoom) (sym r);
     }
@@ -199,13 +226,13 @@ pub saying : (w : DeviceSizes) (tree : List Object) (p : Peer) (ms : List Msg) (
     SaysSo w tree p ms s t D C
 saying w tree p ms s t D C h =
     subst (λ (m : ℕ). SaysSo w tree p ms s m D C) h.clock_is
-    (saying_now w tree p ms s D C (record { clock_is = refl; bridged = h.bridged; tree_is = h.tree_is; replied = h.replied })
+    (saying_now w tree p ms s D C (record { clock_is = refl; bridged = h.bridged; tree_is = h.tree_is; replied = h.replied; executions_are = h.executions_are })
     (admits w s p) refl (sym (same_room w s p D h.bridged)))
 
 -- ---- all events
 
 pub stands : ReadingIsExact → (w : DeviceSizes) (tree : List Object) {E : List Event} {H : List Happening} → Happened E H → Stands w tree (state_after w tree E) H
-stands exact w tree nothing = record { clock_is = refl; bridged = record { each = λ q. none_bridged w; opened_is = refl }; tree_is = refl; replied = λ q h e f. absurd cc }
+stands exact w tree nothing = record { clock_is = refl; bridged = record { each = λ q. none_bridged w; opened_is = refl }; tree_is = refl; replied = λ q h e f. absurd cc; executions_are = refl }
 stands exact w tree (tick {E} {H} now h) = passing w tree now (state_after w tree E) H (stands exact w tree h)
 stands exact w tree (local {E} {H} ono value h) = setting w tree ono value (state_after w tree E) H (stands exact w tree h)
 stands exact w tree (malformed {E} {H} p bytes now b is_other h) =
@@ -244,6 +271,19 @@ verdict_same exact w tree {E} p bytes now (datagram {H = H} q xs t b ps is h) =
     let s1 = moved_to (max s.moment now) s in
     ap (λ (r : Result (List Msg) PduFault). verdict_of_reading w p r s1) (read_messages exact bytes ps b is)
     ∙ (saying w tree p (flat_map messages_of ps) s1 (clock (Passes now ∷ H)) (admitted w (Passes now ∷ H)) (changes w (Passes now ∷ H)) (passing w tree now s H (stands exact w tree h))).verdict_so
+
+pub written_same : ReadingIsExact → (w : DeviceSizes) (tree : List Object) {E : List Event} {H : List Happening} (h : Happened E H) → effects.written w tree E ≡ law.written w tree h
+written_same exact w tree nothing = refl
+written_same exact w tree (tick now h) = written_same exact w tree h
+written_same exact w tree (local ono value h) = written_same exact w tree h
+written_same exact w tree (malformed {E} {H} p bytes now b is_other h) =
+    let s1 = moved_to (max (state_after w tree E).moment now) (state_after w tree E) in
+    ap (λ (r : Result (List Msg) PduFault). written_by_reading w p r s1) (read_other exact bytes b is_other).2
+written_same exact w tree (datagram {E} {H} p bytes now b ps is h) =
+    let s = state_after w tree E in
+    let s1 = moved_to (max s.moment now) s in
+    ap (λ (r : Result (List Msg) PduFault). written_by_reading w p r s1) (read_messages exact bytes ps b is)
+    ∙ (saying w tree p (flat_map messages_of ps) s1 (clock (Passes now ∷ H)) (admitted w (Passes now ∷ H)) (changes w (Passes now ∷ H)) (passing w tree now s H (stands exact w tree h))).written_so
 
 -- ---- one thing alone happened
 

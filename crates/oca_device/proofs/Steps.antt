@@ -2,7 +2,7 @@
 use Rattle.std.proofs.Common.{◌≡◌, ℕ, ◌+◌, ◌≤◌, ◌<◌, Bool, true, false, cond, List, [], ◌∷◌, ◌++◌, length, refl, sym, ap, ◌∙◌, subst, arith}
 use Rattle.std.specs.Prelude.{min, max, nat_lt, ◌||◌, IfSome, Option, Some, None, IsSome, Result, Ok}
 use Rattle.std.proofs.lemmas.Bool.Decides.{nat_tests}
-use Rattle.std.proofs.lemmas.List.{append_assoc, length-map, map-append}
+use Rattle.std.proofs.lemmas.List.{append_assoc, append-nil, length-map, map-append}
 use Rattle.oca_types.specs.declared.words.Peer.{Peer}
 use Rattle.oca_types.specs.Sizes.{DeviceSizes}
 use Rattle.oca_pdu.specs.Messages.{Msg, Command, Response, KeepAlive, Pdu}
@@ -19,6 +19,7 @@ use Rattle.oca_device.specs.Groups.{with_answers, encodings}
 use Rattle.oca_device.specs.Answers.{counts, plus, answer_to, answers_to_messages, packets_of, count_of, counts_of_messages, answers_to_reading, verdict_of_reading, served}
 use Rattle.oca_tree.specs.declared.object.Object.{Object}
 use Rattle.oca_device.specs.Events.{Event}
+use Rattle.oca_device.specs.Written.{written_by_message, written_by_messages, written_by_reading}
 use Rattle.oca_device.specs.Devices.{DeviceState, session_for, table_of, IsIn, Represents}
 use Rattle.oca_device.specs.PrivateServing.{Serves, ServesAll, Receives}
 use Rattle.oca_device.proofs.Grouping.{answers_both}
@@ -95,7 +96,7 @@ count_known w s old was = ap (λ (x : Table). length x.sessions) was ∙ length-
 -- the sessions of a device are as many as the peers that are known
 pub known_counted : (w : DeviceSizes) (d : DeviceState) (tree : List Object) (events : List Event) → Represents w d tree events →
     length d.sessions.sessions ≡ length (known_after (state_after w tree events))
-known_counted w d tree events h = count_known w (state_after w tree events) d.sessions h.sessions
+known_counted w d tree events h = count_known w (state_after w tree events) d.sessions h.state.sessions
 
 -- a moment that is not later than the clock's
 pub present_is : (w : DeviceSizes) (s : State) (old : Table) (now : ℕ) → old ≡ table_of w s → now ≤ old.moment → present old now ≡ s.moment
@@ -217,10 +218,39 @@ pub record IsHalfway (w : DeviceSizes) (p : Peer) (d : DeviceState) (rest ms : L
   pub packets_are : (groups : List Pdu) → before ≡ encodings groups →
       (so_far : List Pdu) × (out ≡ encodings so_far) × (with_answers so_far (answers_to_messages w p rest mid) ≡ with_answers groups (answers_to_messages w p ms s))
   pub counts_are : plus n (counts_of_messages w p rest mid) ≡ counts_of_messages w p ms s
+  pub written_are : d.written ++ written_by_messages w p rest mid ≡ written_by_messages w p ms s
+
+no_counts : (n : Counts) → plus (counts 0 0 0 0) n ≡ n
+no_counts n = sums _ _ _ _ _ _ _ _ (omega arith) (omega arith) (omega arith) (omega arith)
+
+-- before the first message
+pub none_served : (w : DeviceSizes) (p : Peer) (d : DeviceState) (ms : List Msg) (s : State) (before : List (List ℕ)) → IsIn w d s → last_moment (run p s.notes) ≡ s.moment → d.written ≡ [] →
+    IsHalfway w p d ms ms s before before (counts 0 0 0 0)
+none_served w p d ms s before h now none = record {
+  mid = s;
+  device = h;
+  now = now;
+  state_is = refl;
+  packets_are = λ groups is. (groups, is, refl);
+  counts_are = no_counts (counts_of_messages w p ms s);
+  written_are = ap (λ (xs : List ℕ). xs ++ written_by_messages w p ms s) none;
+}
+
+-- after the last
+pub all_served : (w : DeviceSizes) (p : Peer) (d : DeviceState) (rest ms : List Msg) (s : State) (before out : List (List ℕ)) (n : Counts) → rest ≡ [] →
+    IsHalfway w p d rest ms s before out n → ServesAll w d p ms s before out n
+all_served w p d rest ms s before out n over h = record {
+  device = subst (λ (x : State). IsIn w d x) (sym (ap (λ xs. after_messages w p xs h.mid) over) ∙ h.state_is) h.device;
+  written = sym (append-nil d.written) ∙ sym (ap (λ xs. d.written ++ written_by_messages w p xs h.mid) over) ∙ h.written_are;
+  packets = λ groups is.
+      let x = h.packets_are groups is in
+      x.1 ∙ ap encodings (sym (ap (λ xs. with_answers x.0 (answers_to_messages w p xs h.mid)) over) ∙ x.2);
+  counts = none_more n ∙ sym (ap (λ xs. plus n (counts_of_messages w p xs h.mid)) over) ∙ h.counts_are;
+}
 
 pub one_further : (w : DeviceSizes) (p : Peer) (d d' : DeviceState) (m : Msg) (rest rest' ms : List Msg) (s : State) (before out out' : List (List ℕ)) (n n' : Counts) →
     (h : IsHalfway w p d rest ms s before out n) → rest ≡ m ∷ rest' → IsSome (session_of p d.sessions.sessions) →
-    Serves w d' p m h.mid out out' n n' →
+    Serves w d d' p m h.mid out out' n n' →
     IsHalfway w p d' rest' ms s before out' n'
 one_further w p d d' m rest rest' ms s before out out' n n' h step has t =
     let known = known_there w h.mid p d.sessions h.device.sessions has in
@@ -244,6 +274,11 @@ one_further w p d d' m rest rest' ms s before out out' n n' h step has t =
           ∙ sym (plus_assoc n (count_of w p m h.mid) (counts_of_messages w p rest' next))
           ∙ sym (ap (λ xs. plus n (counts_of_messages w p xs h.mid)) step)
           ∙ h.counts_are;
+      written_are =
+          ap (λ xs. xs ++ written_by_messages w p rest' next) t.written
+          ∙ append_assoc d.written (written_by_message w p m h.mid) (written_by_messages w p rest' next)
+          ∙ sym (ap (λ xs. d.written ++ written_by_messages w p xs h.mid) step)
+          ∙ h.written_are;
     }
 
 -- ---- a datagram is taken
@@ -252,9 +287,11 @@ abbrev admitted_state : Peer → List Msg → State → State
 admitted_state p ms s = noted p (Admitted ms) s
 
 pub refused_whole : (w : DeviceSizes) (d : DeviceState) (p : Peer) (bytes : List ℕ) (ms : List Msg) (s : State) (after : List (List ℕ)) →
-    read_datagram bytes ≡ Ok ms → admits w s p ≡ false → IsIn w d s → after ≡ [] → Receives w d p bytes s after verdicts.NoRoom
-refused_whole w d p bytes ms s after reads out h none =
+    read_datagram bytes ≡ Ok ms → admits w s p ≡ false → IsIn w d s → d.written ≡ [] → after ≡ [] → Receives w d p bytes s after verdicts.NoRoom
+refused_whole w d p bytes ms s after reads out h unwritten none =
     record {
+      written = unwritten ∙ sym (ap (λ (r : Result (List Msg) PduFault). written_by_reading w p r s) reads
+          ∙ ap (λ (b : Bool). cond b (written_by_messages w p ms (admitted_state p ms s)) []) out);
       device = subst (λ (r : Result (List Msg) PduFault). IsIn w d (after_reading w p r s)) (sym reads)
           (subst (λ (b : Bool). IsIn w d (cond b (after_messages w p ms (admitted_state p ms s)) s)) (sym out) h);
       packets = none ∙ sym (ap packets_of (ap (λ (r : Result (List Msg) PduFault). answers_to_reading w p r s) reads
@@ -269,6 +306,8 @@ pub taken_whole : (w : DeviceSizes) (d : DeviceState) (p : Peer) (bytes : List �
 taken_whole w d p bytes ms s before after n reads let_in none t =
     let all = admitted_state p ms s in
     record {
+      written = t.written ∙ sym (ap (λ (r : Result (List Msg) PduFault). written_by_reading w p r s) reads
+          ∙ ap (λ (b : Bool). cond b (written_by_messages w p ms all) []) let_in);
       device = subst (λ (r : Result (List Msg) PduFault). IsIn w d (after_reading w p r s)) (sym reads)
           (subst (λ (b : Bool). IsIn w d (cond b (after_messages w p ms all) s)) (sym let_in) t.device);
       packets = t.packets [] none

@@ -2,7 +2,8 @@
 use Rattle.std.proofs.Common.{◌≡◌, ℕ, ◌+◌, ◌≤◌, ◌<◌, Bool, true, false, cond, List, [], ◌∷◌, ◌++◌, length, refl, sym, ap, ◌∙◌, subst, arith, length-append}
 use Rattle.std.specs.Prelude.{nat_lt, nat_le, take, slice_index_or, IsTrue}
 use Rattle.std.proofs.lemmas.Bool.Decides.{nat_tests}
-use Rattle.std.proofs.lemmas.List.{append_assoc, append-nil, map-append, take_more}
+use Rattle.std.proofs.lemmas.List.{append_assoc, append-nil, map-append, take_more, get_or-map, length-map, take_all}
+use Rattle.arrayvec.specs.ArrayVec.{ArrayVec}
 use Rattle.oca_types.specs.declared.words.Peer.{Peer}
 use Rattle.oca_types.specs.Sizes.{DeviceSizes}
 use Rattle.oca_net.specs.declared.end.Heard.{Heard}
@@ -22,6 +23,10 @@ use Rattle.oca_device.specs.Answers.{packets, verdict}
 use Rattle.oca_device.specs.Devices.{DeviceState, Represents}
 use Rattle.oca_device.specs.Reports.{no_turns, one_turn, verdict_turn, added, turn_report, events_after, events_after_all, report_of, receives_of}
 use Rattle.oca_device.specs.Replies.{Serves, ServesEnd, replies, replies_to, sent_to}
+use Rattle.oca_device.specs.Outboxes.{bytes_of_packets}
+use Rattle.oca_device.specs.States.{state_after}
+use Rattle.oca_device.specs.Written as effects
+use Rattle.oca_device.specs.Following.{Followed, ElectronicsState, Follows, ServesEndWith, handed, handed_of}
 use Rattle.oca_device.specs.PrivateTotals.{IsWithin, ServesTurn, IsClosed}
 
 -- ---- sums of reports
@@ -108,8 +113,15 @@ serves_more a b c ds es r s f g =
           ∙ ap (λ (q : Report). let z : Report = record q { failed_sends = k } in z) (sym (later_reports w tree ds es events));
     }
 
+later_handed : (w : DeviceSizes) (tree : List Object) (ds es : List Delivery) (events : List Event) →
+    handed w tree events (ds ++ es) ≡ handed w tree events ds ++ handed w tree (events_after_all ds events) es
+later_handed w tree [] es events = refl
+later_handed w tree (d ∷ ds) es events =
+    ap (λ (xs : List Followed). handed_of w tree events d ++ xs) (later_handed w tree ds es (events_after d events))
+    ∙ sym (append_assoc (handed_of w tree events d) (handed w tree (events_after d events) ds) (handed w tree (events_after_all ds (events_after d events)) es))
+
 -- no turns
-pub turns_none : (d : DeviceState) (e : EndState) → ServesEnd d d e e no_turns
+turns_none : (d : DeviceState) (e : EndState) → ServesEnd d d e e no_turns
 turns_none d e = record {
   deliveries = [];
   serves = nothing_served d;
@@ -120,7 +132,7 @@ turns_none d e = record {
 }
 
 -- one turn more
-pub turns_more : {a b c : DeviceState} {e f g : EndState} {r s : Report} → ServesEnd a b e f r → ServesEnd b c f g s → ServesEnd a c e g (added r s)
+turns_more : {a b c : DeviceState} {e f g : EndState} {r s : Report} → ServesEnd a b e f r → ServesEnd b c f g s → ServesEnd a c e g (added r s)
 turns_more {a} {b} {c} {e} {f} {g} {r} {s} x y = record {
   deliveries = x.deliveries ++ y.deliveries;
   serves = serves_more a b c x.deliveries y.deliveries r s x.serves y.serves;
@@ -139,8 +151,8 @@ turns_more {a} {b} {c} {e} {f} {g} {r} {s} x y = record {
         omega (arith, h before, now)
 
 -- and then Closed
-pub turns_closed : {a b c : DeviceState} {e f g : EndState} {r : Report} → ServesEnd a b e f r → IsClosed b c f g → ServesEnd a c e g r
-turns_closed {a} {b} {c} {e} {f} {g} {r} x y = record {
+turns_closed : {a b c : DeviceState} {e f g : EndState} {k l : ElectronicsState} {r : Report} → ServesEnd a b e f r → IsClosed b c f g k l → ServesEnd a c e g r
+turns_closed {a} {b} {c} {e} {f} {g} {r = r} x y = record {
   deliveries = x.deliveries;
   serves = subst (λ (d : DeviceState). Serves x.deliveries a d r) (sym y.device) x.serves;
   telling = y.received.telling ∙ x.telling;
@@ -148,6 +160,34 @@ turns_closed {a} {b} {c} {e} {f} {g} {r} x y = record {
   replied = λ told w tree events h.
       subst (λ (t : List Sent). TakesAllBut r.failed_sends e.taken t (replies w tree events x.deliveries)) (sym (y.received.taken (x.telling ∙ told))) (x.replied told w tree events h);
   failures = subst (λ (n : ℕ). n < last_u64 → n ≡ e.failures + (r.failed_receives + r.failed_sends)) (sym y.received.failures) x.failures;
+}
+
+-- the same with electronics
+pub with_none : (d : DeviceState) (e : EndState) (x : ElectronicsState) → ServesEndWith d d e e x x no_turns
+unfolding turns_none
+with_none d e x = record { serves = turns_none d e; telling = refl; followed = λ told w tree events h. sym (append-nil x.followed) }
+
+pub with_more : {a b c : DeviceState} {e f g : EndState} {x y z : ElectronicsState} {r s : Report} → ServesEndWith a b e f x y r → ServesEndWith b c f g y z s →
+    ServesEndWith a c e g x z (added r s)
+unfolding turns_more
+with_more {x = x} h k = record {
+  serves = turns_more h.serves k.serves;
+  telling = k.telling ∙ h.telling;
+  followed = λ told w tree events rep.
+      let ds = h.serves.deliveries in
+      let later = events_after_all ds events in
+      k.followed (h.telling ∙ told) w tree later (h.serves.serves.represents w tree events rep)
+      ∙ ap (λ (xs : List Followed). xs ++ handed w tree later k.serves.deliveries) (h.followed told w tree events rep)
+      ∙ append_assoc x.followed (handed w tree events ds) (handed w tree later k.serves.deliveries)
+      ∙ ap (λ (xs : List Followed). x.followed ++ xs) (sym (later_handed w tree ds k.serves.deliveries events));
+}
+
+pub with_closed : {a b c : DeviceState} {e f g : EndState} {x y z : ElectronicsState} {r : Report} → ServesEndWith a b e f x y r → IsClosed b c f g y z → ServesEndWith a c e g x z r
+unfolding turns_closed
+with_closed {x = x} h k = record {
+  serves = turns_closed h.serves k;
+  telling = ap (λ (q : ElectronicsState). q.tells) k.electronics ∙ h.telling;
+  followed = λ told w tree events rep. ap (λ (q : ElectronicsState). q.followed) k.electronics ∙ h.followed told w tree events rep;
 }
 
 -- ---- the packets of one datagram are sent
@@ -169,6 +209,22 @@ sent_further p i k k' packets {a} {b} {c} {was_taken} h f s e =
     subst (λ (n : ℕ). SendsAllBut n a c (first_sent p (i + 1) packets)) (sym e)
     (subst (λ (xs : List Sent). SendsAllBut (k + cond was_taken 0 1) a c xs) (sym (further p i packets h)) (sends_more f (sends_one s)))
 
+-- the packet at this index was sent
+pub packet_sent : (p : Peer) (i k k' : ℕ) (xs : List (ArrayVec ℕ)) (d : ArrayVec ℕ) (bytes : List ℕ) {a b c : EndState} {was_taken : Bool} → i < length xs →
+    bytes ≡ (slice_index_or xs i d).items → SendsAllBut k a b (first_sent p i (bytes_of_packets xs)) → Sends was_taken p bytes b c → k' ≡ k + cond was_taken 0 1 →
+    SendsAllBut k' a c (first_sent p (i + 1) (bytes_of_packets xs))
+packet_sent p i k k' xs d bytes {a} {b} {c} {was_taken} h is f s e =
+    let inside : i < length (bytes_of_packets xs) = omega (arith, length-map xs (λ (x : ArrayVec ℕ). x.items)) in
+    sent_further p i k k' (bytes_of_packets xs) inside f
+    (subst (λ (y : List ℕ). Sends was_taken p y b c) (is ∙ sym (get_or-map (λ (x : ArrayVec ℕ). x.items) xs i d [] h)) s) e
+
+-- all packets were sent
+pub all_sent : (p : Peer) (k i : ℕ) (xs : List (ArrayVec ℕ)) (packets : List (List ℕ)) {a b : EndState} → length xs ≤ i → bytes_of_packets xs ≡ packets →
+    SendsAllBut k a b (first_sent p i (bytes_of_packets xs)) → SendsAllBut k a b (sent_to p packets)
+all_sent p k i xs packets {a} {b} h e f =
+    subst (λ (y : List (List ℕ)). SendsAllBut k a b (sent_to p y))
+    (take_all i (bytes_of_packets xs) (omega (arith, h, length-map xs (λ (x : ArrayVec ℕ). x.items))) ∙ e) f
+
 -- ---- one turn
 
 within : (n : ℕ) → n ≤ 1472 → nat_le n 1472 ≡ true
@@ -184,65 +240,81 @@ verdict_one (verdicts.Malformed fault) = (refl, refl)
 verdict_one verdicts.NoRoom = (refl, refl)
 
 -- a turn: one delivery was heard, and the replies to it were sent
-heard_one : (x : Delivery) {h : Heard} {bytes : List ℕ} {all : List Sent} {old new : DeviceState} {before mid after : EndState} {r : Report} →
+heard_one : (x : Delivery) {h : Heard} {bytes : List ℕ} {all : List Sent} {old new : DeviceState} {before mid after : EndState} {idle moved : ElectronicsState} {r : Report} →
     Receives h bytes before mid → SendsAllBut r.failed_sends mid after all →
     (IsTrue before.tells → mid.delivered ≡ before.delivered ++ x ∷ []) → r.failed_receives ≡ cond (is_failed h) 1 0 → r.turns ≡ 1 →
     ((w : DeviceSizes) (tree : List Object) (events : List Event) → Represents w old tree events → Represents w new tree (events_after x events)) →
     ((w : DeviceSizes) (tree : List Object) (events : List Event) → Represents w old tree events → r ≡ record (turn_report w tree events x) { failed_sends = r.failed_sends }) →
     ((w : DeviceSizes) (tree : List Object) (events : List Event) → Represents w old tree events → all ≡ replies_to w tree events x) →
-    ServesTurn old new before after r
-heard_one x {h} {bytes} {all} {old} {new} {before} {mid} {after} {r} heard sent grew failed one represents reported replies_are = record {
-  serves = record {
-    deliveries = x ∷ [];
-    serves = one_served x old new r one represents reported;
-    telling = sent.telling ∙ heard.telling;
-    delivered = λ told. sent.delivered (heard.telling ∙ told) ∙ grew told;
-    replied = λ told w tree events rep.
-        subst (λ (xs : List Sent). TakesAllBut r.failed_sends before.taken after.taken xs) (replies_are w tree events rep ∙ sym (append-nil (replies_to w tree events x)))
-        (subst (λ (t : List Sent). TakesAllBut r.failed_sends t after.taken all) (heard.taken told) (sent.taken (heard.telling ∙ told)));
-    failures = counted (is_failed h) before.failures mid.failures after.failures r.failed_receives r.failed_sends heard.failures failed sent.failures;
-  };
-  one = one;
-  receives = sent.receives ∙ heard.receives;
-}
+    moved.tells ≡ idle.tells →
+    (IsTrue idle.tells → (w : DeviceSizes) (tree : List Object) (events : List Event) → Represents w old tree events → moved.followed ≡ idle.followed ++ handed_of w tree events x) →
+    ServesTurn old new before after idle moved r
+heard_one x {h} {bytes} {all} {old} {new} {before} {mid} {after} {idle} {moved} {r} heard sent grew failed one represents reported replies_are telling followed =
+    let served : ServesEnd old new before after r = record {
+      deliveries = x ∷ [];
+      serves = one_served x old new r one represents reported;
+      telling = sent.telling ∙ heard.telling;
+      delivered = λ told. sent.delivered (heard.telling ∙ told) ∙ grew told;
+      replied = λ told w tree events rep.
+          subst (λ (xs : List Sent). TakesAllBut r.failed_sends before.taken after.taken xs) (replies_are w tree events rep ∙ sym (append-nil (replies_to w tree events x)))
+          (subst (λ (t : List Sent). TakesAllBut r.failed_sends t after.taken all) (heard.taken told) (sent.taken (heard.telling ∙ told)));
+      failures = counted (is_failed h) before.failures mid.failures after.failures r.failed_receives r.failed_sends heard.failures failed sent.failures;
+    } in
+    record {
+      serves = record {
+        serves = served;
+        telling = telling;
+        followed = λ told w tree events rep.
+            followed told w tree events rep ∙ ap (λ (xs : List Followed). idle.followed ++ xs) (sym (append-nil (handed_of w tree events x)));
+      };
+      one = one;
+      receives = sent.receives ∙ heard.receives;
+    }
   where
     counted : (b : Bool) (x y z fr fs : ℕ) → y ≡ cond b (one_more x) x → fr ≡ cond b 1 0 → (z < last_u64 → z ≡ y + fs) → z < last_u64 → z ≡ x + (fr + fs)
     counted true x y z fr fs e f h below = let now = h below in omega arith
     counted false x y z fr fs e f h below = let now = h below in omega arith
 
-module _ {old new : DeviceState} {before mid : EndState} {held : List ℕ} (r : Report) where
+-- electronics that were handed nothing
+nothing_handed : {idle : ElectronicsState} → IsTrue idle.tells → (w : DeviceSizes) (tree : List Object) (events : List Event) → idle.followed ≡ idle.followed ++ []
+nothing_handed {idle} told w tree events = sym (append-nil idle.followed)
+
+module _ {old new : DeviceState} {before mid : EndState} {idle : ElectronicsState} {held : List ℕ} (r : Report) where
   pub quiet_turn : {now : ℕ} → r ≡ record one_turn { quiet = 1 } → Receives (heard.Quiet now) held before mid →
       ((w : DeviceSizes) (tree : List Object) (events : List Event) → Represents w old tree events → Represents w new tree (event.Tick now ∷ events)) →
-      ServesTurn old new before mid r
+      ServesTurn old new before mid idle idle r
   quiet_turn {now} e h ticks =
-      subst (ServesTurn old new before mid) (sym e)
-      (heard_one (Quiet now) {r = record one_turn { quiet = 1 }} h (sends_none mid) h.delivered refl refl ticks (λ w tree events _. refl) (λ w tree events _. refl))
+      subst (ServesTurn old new before mid idle idle) (sym e)
+      (heard_one (Quiet now) {r = record one_turn { quiet = 1 }} h (sends_none mid) h.delivered refl refl ticks (λ w tree events _. refl) (λ w tree events _. refl) refl (λ told w tree events _. nothing_handed told w tree events))
 
   pub oversize_turn : {now : ℕ} → r ≡ record one_turn { oversize = 1 } → Receives (heard.Oversize now) held before mid →
       ((w : DeviceSizes) (tree : List Object) (events : List Event) → Represents w old tree events → Represents w new tree (event.Tick now ∷ events)) →
-      ServesTurn old new before mid r
+      ServesTurn old new before mid idle idle r
   oversize_turn {now} e h ticks =
       let d = oversize_heard h in
       let no_datagram = beyond (length d.long) d.above in
-      subst (ServesTurn old new before mid) (sym e)
+      subst (ServesTurn old new before mid idle idle) (sym e)
       (heard_one (Datagram d.from d.long now) {r = record one_turn { oversize = 1 }} h (sends_none mid) d.grew refl refl
       (λ w tree events rep. subst (λ (b : Bool). Represents w new tree (cond b (event.Datagram d.from d.long now ∷ events) (event.Tick now ∷ events))) (sym no_datagram) (ticks w tree events rep))
       (λ w tree events _. ap (λ b. record (cond b (verdict_turn (verdict w tree events d.from d.long now)) (record one_turn { oversize = 1 })) { failed_sends = 0 }) (sym no_datagram))
-      (λ w tree events _. ap (λ b. cond b (sent_to d.from (packets w tree events (event.Datagram d.from d.long now))) []) (sym no_datagram)))
+      (λ w tree events _. ap (λ b. cond b (sent_to d.from (packets w tree events (event.Datagram d.from d.long now))) []) (sym no_datagram))
+      refl
+      (λ told w tree events _. sym (append-nil idle.followed) ∙ ap (λ b. idle.followed ++ cond b ((let x : Followed = record { tree = (state_after w tree (event.Datagram d.from d.long now ∷ events)).tree; written = effects.written w tree (event.Datagram d.from d.long now ∷ events) } in x) ∷ []) []) (sym no_datagram)))
 
-  pub failed_turn : r ≡ record one_turn { failed_receives = 1 } → Receives heard.Failed held before mid → new ≡ old → ServesTurn old new before mid r
+  pub failed_turn : r ≡ record one_turn { failed_receives = 1 } → Receives heard.Failed held before mid → new ≡ old → ServesTurn old new before mid idle idle r
   failed_turn e h same =
-      subst (ServesTurn old new before mid) (sym e)
+      subst (ServesTurn old new before mid idle idle) (sym e)
       (heard_one Failed {r = record one_turn { failed_receives = 1 }} h (sends_none mid) h.delivered refl refl
-      (λ w tree events rep. subst (λ (d : DeviceState). Represents w d tree events) (sym same) rep) (λ w tree events _. refl) (λ w tree events _. refl))
+      (λ w tree events rep. subst (λ (d : DeviceState). Represents w d tree events) (sym same) rep) (λ w tree events _. refl) (λ w tree events _. refl) refl (λ told w tree events _. nothing_handed told w tree events))
 
-  pub datagram_turn : {after : EndState} {from : Peer} {now : ℕ} {out : List (List ℕ)} (bytes : List ℕ) (v : Verdict) (q : Report) →
+  pub datagram_turn : {after : EndState} {moved : ElectronicsState} {tree_now : List Object} {numbers : List ℕ} {from : Peer} {now : ℕ} {out : List (List ℕ)} (bytes : List ℕ) (v : Verdict) (q : Report) →
       r ≡ record q { failed_sends = r.failed_sends } → q ≡ verdict_turn v → length bytes ≤ 1472 → bytes ≡ held → Receives (heard.Datagram from now) held before mid →
       ((w : DeviceSizes) (tree : List Object) (events : List Event) → Represents w old tree events → Represents w new tree (event.Datagram from bytes now ∷ events)) →
       ((w : DeviceSizes) (tree : List Object) (events : List Event) → Represents w old tree events → out ≡ packets w tree events (event.Datagram from bytes now)) →
       ((w : DeviceSizes) (tree : List Object) (events : List Event) → Represents w old tree events → v ≡ verdict w tree events from bytes now) →
-      SendsAllBut r.failed_sends mid after (sent_to from out) → ServesTurn old new before after r
-  datagram_turn {after} {from} {now} {out} bytes v q e f short same h represents packets_are verdict_is sent =
+      SendsAllBut r.failed_sends mid after (sent_to from out) → tree_now ≡ new.tree → numbers ≡ new.written → Follows tree_now numbers idle moved →
+      ServesTurn old new before after idle moved r
+  datagram_turn {after} {moved} {tree_now} {numbers} {from} {now} {out} bytes v q e f short same h represents packets_are verdict_is sent tree_is written_is follows =
       let fits = within (length bytes) short in
       let one = verdict_one v in
       heard_one (Datagram from bytes now) h sent
@@ -254,6 +326,14 @@ module _ {old new : DeviceState} {before mid : EndState} {held : List ℕ} (r : 
       (f ∙ ap verdict_turn (verdict_is w tree events rep)
       ∙ sym (ap (λ b. cond b (verdict_turn (verdict w tree events from bytes now)) (record one_turn { oversize = 1 })) fits)))
       (λ w tree events rep. ap (sent_to from) (packets_are w tree events rep) ∙ sym (ap (λ b. cond b (sent_to from (packets w tree events (event.Datagram from bytes now))) []) fits))
+      follows.telling
+      (λ told w tree events rep.
+      let there = represents w tree events rep in
+      let after = event.Datagram from bytes now ∷ events in
+      follows.followed told
+      ∙ ap (λ (t : List Object). idle.followed ++ (let x : Followed = record { tree = t; written = numbers } in x) ∷ []) (tree_is ∙ there.state.tree)
+      ∙ ap (λ (ns : List ℕ). idle.followed ++ (let x : Followed = record { tree = (state_after w tree after).tree; written = ns } in x) ∷ []) (written_is ∙ there.written)
+      ∙ ap (λ b. idle.followed ++ cond b ((let x : Followed = record { tree = (state_after w tree after).tree; written = effects.written w tree after } in x) ∷ []) []) (sym fits))
 
 -- ---- numbers of reports
 

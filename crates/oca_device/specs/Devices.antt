@@ -8,11 +8,13 @@ use Rattle.oca_session.specs.Table.{Session, Table}
 use Rattle.oca_device.specs.Events.{Event}
 use Rattle.oca_device.specs.Notes.{Note, run, known, last_moment, heartbeat_of, accepted}
 use Rattle.oca_device.specs.States.{State, state_after}
+use Rattle.oca_device.specs.Written.{written}
 
--- What a device is: its objects, and its clock and sessions.
+-- What a device is: its objects, its clock and sessions, and the numbers of the objects that the last datagram wrote to.
 pub record DeviceState : Type 0 where
   pub tree : List Object
   pub sessions : Table
+  pub written : List ℕ
 
 -- The session of a peer: the moment of its last datagram, its heartbeat, and what a reply window of its size retains of its
 -- accepted commands: the last of them with their replies, and the greatest handle outside these.
@@ -25,11 +27,12 @@ session_for w notes p =
 abbrev pub table_of : DeviceSizes → State → Table
 table_of w s = record { sizes = w; moment = s.moment; sessions = map (session_for w s.notes) (known s.moment s.notes) }
 
--- the device is what the state says
+-- the objects, the clock and the sessions of the device are what the state says
 pub record IsIn (w : DeviceSizes) (d : DeviceState) (s : State) : Type 0 where
   pub tree : d.tree ≡ s.tree
   pub sessions : d.sessions ≡ table_of w s
 
 -- THE DEVICE REPRESENTS the tree and the events, with sizes w.
-abbrev pub Represents : DeviceSizes → DeviceState → List Object → List Event → Type 0
-Represents w d tree events = IsIn w d (state_after w tree events)
+pub record Represents (w : DeviceSizes) (d : DeviceState) (tree : List Object) (events : List Event) : Type 0 where
+  pub state : IsIn w d (state_after w tree events)
+  pub written : d.written ≡ written w tree events

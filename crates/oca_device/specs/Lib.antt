@@ -3,10 +3,12 @@ pub mod Notes
 pub mod States
 pub mod Groups
 pub mod Answers
+pub mod Written
 pub mod Devices
 pub mod Outboxes
 pub mod Reports
 pub mod Replies
+pub mod Following
 pub mod LawByEvents
 pub mod PrivateServing
 pub mod PrivateTotals

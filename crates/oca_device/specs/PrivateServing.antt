@@ -10,6 +10,7 @@ use Rattle.oca_device.specs.declared.verdict.Verdict.{Verdict}
 use Rattle.oca_device.specs.Groups.{pdu_of, last_with, with_answer, with_answers, encodings}
 use Rattle.oca_device.specs.States.{State, after_message, after_messages, after_reading}
 use Rattle.oca_device.specs.Answers.{answer_to, answers_to_messages, answers_to_reading, packets_of, plus, count_of, counts_of_messages, verdict_of_reading}
+use Rattle.oca_device.specs.Written.{written_by_message, written_by_messages, written_by_reading}
 use Rattle.oca_device.specs.Devices.{DeviceState, IsIn}
 
 -- the packets are those of some groups
@@ -21,12 +22,6 @@ pub record IsGrouped (m : Msg) (before after : List (List ℕ)) : Type 0 where
   pub groups : (groups : List Pdu) → before ≡ encodings groups → after ≡ encodings (with_answer groups m)
   pub still : AreGrouped after
   pub most : length after ≤ length before + 1
-
--- the PDU is of responses
-abbrev pub is_of_responses : Pdu → Bool
-is_of_responses (Responses rs) = true
-is_of_responses (OneKeepAlive form) = false
-is_of_responses (Commands respond cs) = false
 
 -- An answer joined a packet's PDU, or it begins a packet of its own and that one is as before.
 abbrev pub Joins : Bool → Pdu → Msg → List ℕ → List ℕ → Type 0
@@ -45,25 +40,38 @@ IsShort (Command respond c) = length c.params ≤ 1445
 IsShort (Response r) = ⊤
 IsShort (KeepAlive form) = ⊤
 
+-- how many commands a message is
+abbrev pub commands_of : Msg → ℕ
+commands_of (Command respond c) = 1
+commands_of (KeepAlive form) = 0
+commands_of (Response r) = 0
+
+abbrev pub all_commands : List Msg → ℕ
+all_commands [] = 0
+all_commands (m ∷ messages) = commands_of m + all_commands messages
+
 -- how many commands were counted
 abbrev pub commands_in : Counts → ℕ
 commands_in n = n.executed + n.kept + n.old + n.reused
 
 -- one message, where so many commands were counted before
-pub record Serves (w : DeviceSizes) (new : DeviceState) (p : Peer) (m : Msg) (s : State) (before after : List (List ℕ)) (so_far n : Counts) : Type 0 where
+pub record Serves (w : DeviceSizes) (old new : DeviceState) (p : Peer) (m : Msg) (s : State) (before after : List (List ℕ)) (so_far n : Counts) : Type 0 where
   pub device : IsIn w new (after_message w p m s)
+  pub written : new.written ≡ old.written ++ written_by_message w p m s
   pub packets : (groups : List Pdu) → before ≡ encodings groups → after ≡ encodings (with_answers groups (answer_to w p m s))
   pub counts : n ≡ plus so_far (count_of w p m s)
 
--- several messages
+-- several messages, where nothing was written before
 pub record ServesAll (w : DeviceSizes) (new : DeviceState) (p : Peer) (ms : List Msg) (s : State) (before after : List (List ℕ)) (n : Counts) : Type 0 where
   pub device : IsIn w new (after_messages w p ms s)
+  pub written : new.written ≡ written_by_messages w p ms s
   pub packets : (groups : List Pdu) → before ≡ encodings groups → after ≡ encodings (with_answers groups (answers_to_messages w p ms s))
   pub counts : n ≡ counts_of_messages w p ms s
 
--- a datagram, when the clock has moved
+-- a datagram, when the clock has moved and nothing is written
 pub record Receives (w : DeviceSizes) (new : DeviceState) (p : Peer) (bytes : List ℕ) (s : State) (after : List (List ℕ)) (verdict : Verdict) : Type 0 where
   pub device : IsIn w new (after_reading w p (read_datagram bytes) s)
+  pub written : new.written ≡ written_by_reading w p (read_datagram bytes) s
   pub packets : after ≡ packets_of (answers_to_reading w p (read_datagram bytes) s)
   pub verdict_is : verdict ≡ verdict_of_reading w p (read_datagram bytes) s
 

@@ -5,7 +5,7 @@ use Rattle.oca_net.specs.Ends.{one_more}
 use Rattle.oca_net.specs.EndStates.{EndState, Receives}
 use Rattle.oca_device.specs.declared.report.Report.{Report}
 use Rattle.oca_device.specs.Devices.{DeviceState}
-use Rattle.oca_device.specs.Replies.{ServesEnd}
+use Rattle.oca_device.specs.Following.{ElectronicsState, ServesEndWith}
 
 -- no number of the report is above m
 pub record IsWithin (m : ℕ) (r : Report) : Type 0 where
@@ -21,17 +21,18 @@ pub record IsWithin (m : ℕ) (r : Report) : Type 0 where
   pub failed_receives : r.failed_receives ≤ m
   pub failed_sends : r.failed_sends ≤ m
 
--- A turn serves an end, and receives once.
-pub record ServesTurn (old new : DeviceState) (before after : EndState) (turn : Report) : Type 0 where
-  pub serves : ServesEnd old new before after turn
+-- A turn serves an end with electronics, and receives once.
+pub record ServesTurn (old new : DeviceState) (before after : EndState) (idle moved : ElectronicsState) (turn : Report) : Type 0 where
+  pub serves : ServesEndWith old new before after idle moved turn
   pub one : turn.turns ≡ 1
   pub receives : after.receives ≡ one_more before.receives
 
--- at Closed the device is as it was
-pub record IsClosed (old new : DeviceState) (before after : EndState) : Type 0 where
+-- at Closed the device and the electronics are as they were
+pub record IsClosed (old new : DeviceState) (before after : EndState) (idle moved : ElectronicsState) : Type 0 where
   pub device : new ≡ old
+  pub electronics : moved ≡ idle
   pub received : Receives heard.Closed [] before after
 
-abbrev pub TakesTurn : DeviceState → DeviceState → EndState → EndState → Option Report → Type 0
-TakesTurn old new before after None = IsClosed old new before after
-TakesTurn old new before after (Some turn) = ServesTurn old new before after turn
+abbrev pub TakesTurn : DeviceState → DeviceState → EndState → EndState → ElectronicsState → ElectronicsState → Option Report → Type 0
+TakesTurn old new before after idle moved None = IsClosed old new before after idle moved
+TakesTurn old new before after idle moved (Some turn) = ServesTurn old new before after idle moved turn

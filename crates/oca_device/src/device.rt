@@ -14,6 +14,7 @@ ghost use Rattle.oca_tree.specs.Execution.{execution};
 ghost use Rattle.oca_tree.specs.Settings.{set_fault};
 ghost use Rattle.std.specs.Result.{result_err};
 ghost use Rattle.oca_device.specs.Answers.{packets, verdict};
+ghost use Rattle.oca_device.specs.Written.{numbers_of, written, written_by_execution};
 
 use crate::counts::{Counts, NONE};
 use crate::outbox::Outbox;
@@ -25,6 +26,9 @@ use oca_tree::{LocalValue, SetFault, Tree};
 use oca_types::{Command, NoMemory, Ono, Params, Peer, Peers, Reply, Sizes, Status, Window};
 use std::alloc::Global;
 use std::marker::Model;
+
+/// The most objects that one datagram writes to: a command has 17 bytes, so a datagram of 1,472 bytes has at most 86.
+const MOST_WRITTEN: usize = 86;
 
 /// A device: a tree of objects, and the sessions of its peers.
 ///
@@ -38,19 +42,22 @@ pub struct Device {
     lapsed: ArrayVec<Peer, 64>,
     /// The room in which a command is executed: its reply is made here once, and read where it is needed.
     reply: Reply,
+    /// The objects that the last datagram wrote to.
+    written: ArrayVec<Ono, MOST_WRITTEN>,
 }
 
 impl Model for Device {
     ghost use Rattle.oca_device.specs.Devices.{DeviceState};
+    ghost use Rattle.oca_device.specs.Written.{numbers_of};
 
     ghost Value = { DeviceState };
 
-    ghost view = { λ d. record { tree = d.tree; sessions = d.sessions } };
+    ghost view = { λ d. record { tree = d.tree; sessions = d.sessions; written = numbers_of d.written.items } };
 }
 
 impl Device {
     ghost use Rattle.oca_device.specs.Devices.{Represents, IsIn};
-    ghost use Rattle.oca_device.specs.PrivateServing.{Serves, ServesAll, Receives, AreGrouped, IsShort, may_answer, most_answers, commands_in};
+    ghost use Rattle.oca_device.specs.PrivateServing.{Serves, ServesAll, Receives, AreGrouped, IsShort, may_answer, most_answers, commands_in, commands_of, all_commands};
 
     /// A device of these objects, with reply windows of this size and sessions of at most 16 peers, before any event. Takes
     /// all the memory that its sessions will need. Refusal: `NoMemory`.
@@ -82,11 +89,12 @@ impl Device {
                 count: 0,
                 params: Params::new(),
             },
+            written: ArrayVec::new(),
         })
     }
 
-    /// Takes a datagram that came from a peer, and answers what became of it. Its answers are then in the outbox, all for
-    /// that peer.
+    /// Takes a datagram that came from a peer, and returns what became of it. The outbox then holds its answers, all for that
+    /// peer, and nothing else: what it held before is taken out first.
     ///
     /// First the clock moves: locks of peers that are silent for more than three heartbeats are released, and sessions
     /// that are silent for more than 120,000 ms forgotten. A malformed datagram, and one that finds no room for its
@@ -95,7 +103,6 @@ impl Device {
     /// retained one is ignored, as is an old one, and a keep-alive sets the heartbeat and is returned. Neighbouring responses
     /// leave in one PDU while it has at most 1,472 bytes. (AES70-3; sessions, windows and grouping are the profile's.)
     pub fn datagram(&mut self, from: Peer, bytes: &[u8], now: u64, outbox: &mut Outbox) -> Verdict
-        requires { outbox.old ≡ [] }
         ensures represents { (w : DeviceSizes) (T : List Object) (E : List Event) → Represents w self.old T E →
             Represents w self.new T (DatagramEvent from bytes.now now ∷ E) }
         ensures packets { (w : DeviceSizes) (T : List Object) (E : List Event) → Represents w self.old T E →
@@ -103,6 +110,8 @@ impl Device {
         ensures verdict { (w : DeviceSizes) (T : List Object) (E : List Event) → Represents w self.old T E →
             result ≡ verdict w T E from bytes.now now }
     {
+        outbox.clear();
+        self.begin_datagram();
         self.move_clock(now);
         self.receive(from, bytes, now, outbox)
     }
@@ -147,9 +156,30 @@ impl Device {
         self.sessions.len()
     }
 
+    /// The objects that the last datagram wrote to: of each of its commands that it executed with status OK and whose method
+    /// writes, the target, in order, each as often as it was. A command that reads, locks or unlocks, one that was refused, a
+    /// duplicate, an old one and one that reuses a handle write none, and so does a malformed datagram or one that finds no room.
+    /// Clock readings and changes at the front leave the list; before the first datagram it is empty.
+    pub fn written(&self) -> &[Ono]
+        ensures written { numbers_of result.now ≡ self.now.written }
+        ensures represented { (w : DeviceSizes) (T : List Object) (E : List Event) → Represents w self.now T E →
+            numbers_of result.now ≡ written w T E }
+    {
+        self.written.as_slice()
+    }
+
+    /// Forgets what the last datagram wrote to.
+    fn begin_datagram(&mut self)
+        ensures same { (w : DeviceSizes) (s : State) → IsIn w self.old s → IsIn w self.new s }
+        ensures none { self.new.written ≡ [] }
+    {
+        empty(&mut self.written);
+    }
+
     /// Moves the clock.
     fn move_clock(&mut self, now: u64)
         ensures moved { (w : DeviceSizes) (s : State) → IsIn w self.old s → IsIn w self.new (moved_to (max s.moment now) s) }
+        ensures written { self.new.written ≡ self.old.written }
         ensures moment { now ≤ self.new.sessions.moment }
     {
         self.sessions.advance_into(now, &mut self.lapsed);
@@ -160,6 +190,7 @@ impl Device {
     fn receive(&mut self, from: Peer, bytes: &[u8], now: u64, outbox: &mut Outbox) -> Verdict
         requires moment { now ≤ self.old.sessions.moment }
         requires empty { outbox.old ≡ [] }
+        requires none { self.old.written ≡ [] }
         ensures { (w : DeviceSizes) (s : State) → IsIn w self.old s → Receives w self.new from bytes.now s outbox.new result }
     {
         match check(bytes) {
@@ -186,6 +217,7 @@ impl Device {
         ensures admits { (w : DeviceSizes) (s : State) → IsIn w self.old s → result ≡ admits w s from }
         ensures noted { (w : DeviceSizes) (s : State) (messages : List Msg) → IsIn w self.old s →
             IsIn w self.new (if result then noted from (Admitted messages) s else s) }
+        ensures written { self.new.written ≡ self.old.written }
         ensures known { IsTrue result → IsSome (session_of from self.new.sessions.sessions) }
     {
         match self.sessions.hear(from, now) {
@@ -201,6 +233,8 @@ impl Device {
         requires room { length outbox.old + most_answers (messages_left messages) ≤ 122 }
         requires groups { AreGrouped outbox.old }
         requires short { AllByRecursion IsShort (messages_left messages) }
+        requires few { all_commands (messages_left messages) ≤ 86 }
+        requires none { self.old.written ≡ [] }
         ensures { (w : DeviceSizes) (s : State) → IsIn w self.old s → last_moment (run from s.notes) ≡ s.moment →
             ServesAll w self.new from (messages_left messages.entry) s outbox.old outbox.new result }
     {
@@ -217,13 +251,15 @@ impl Device {
         requires room { length outbox.old + may_answer (msg_of message) ≤ 122 }
         requires groups { AreGrouped outbox.old }
         requires short { IsShort (msg_of message) }
-        requires few { commands_in counts.now + may_answer (msg_of message) ≤ 122 }
+        requires few { commands_in counts.now + commands_of (msg_of message) ≤ 86 }
+        requires within { length self.old.written ≤ commands_in counts.now }
         ensures serves { (w : DeviceSizes) (s : State) → IsIn w self.old s → last_moment (run from s.notes) ≡ s.moment →
-            Serves w self.new from (msg_of message.entry) s outbox.old outbox.new counts.entry.now counts.exit.now }
+            Serves w self.old self.new from (msg_of message.entry) s outbox.old outbox.new counts.entry.now counts.exit.now }
         ensures known { IsSome (session_of from self.new.sessions.sessions) }
         ensures packets { length outbox.new ≤ length outbox.old + may_answer (msg_of message.entry) }
         ensures groups { AreGrouped outbox.new }
-        ensures few { commands_in counts.exit.now ≤ commands_in counts.entry.now + may_answer (msg_of message.entry) }
+        ensures few { commands_in counts.exit.now ≤ commands_in counts.entry.now + commands_of (msg_of message.entry) }
+        ensures within { length self.new.written ≤ commands_in counts.exit.now }
     {
         match message {
             Message::Command { respond, command } => {
@@ -250,18 +286,26 @@ impl Device {
         requires room { length outbox.old < 122 }
         requires groups { AreGrouped outbox.old }
         requires short { length command.now.params.now ≤ 1445 }
-        requires few { commands_in counts.now < 122 }
+        requires few { commands_in counts.now < 86 }
+        requires within { length self.old.written ≤ commands_in counts.now }
         ensures serves { (w : DeviceSizes) (s : State) → IsIn w self.old s → last_moment (run from s.notes) ≡ s.moment →
-            Serves w self.new from (Commands respond (fields_of command.now)) s outbox.old outbox.new counts.entry.now counts.exit.now }
+            Serves w self.old self.new from (Commands respond (fields_of command.now)) s outbox.old outbox.new counts.entry.now counts.exit.now }
         ensures known { IsSome (session_of from self.new.sessions.sessions) }
         ensures packets { length outbox.new ≤ length outbox.old + 1 }
         ensures groups { AreGrouped outbox.new }
         ensures few { commands_in counts.exit.now ≡ commands_in counts.entry.now + 1 }
+        ensures within { length self.new.written ≤ commands_in counts.exit.now }
     {
         match self.sessions.judge(from, command) {
             Judged::Fresh => {
                 counts.executed += 1;
-                execute(&mut self.tree, from, command, &mut self.reply);
+                execute(
+                    &mut self.tree,
+                    from,
+                    command,
+                    &mut self.reply,
+                    &mut self.written,
+                );
                 self.sessions.keep(from, command, &self.reply);
                 if respond {
                     outbox.respond(command.handle, &self.reply);
@@ -288,14 +332,39 @@ fn release_all(tree: &mut Tree, peers: &[Peer])
     }
 }
 
-/// Executes a command of a peer, and puts its reply in the place of another.
-fn execute(tree: &mut Tree, peer: Peer, command: &Command, reply: &mut Reply)
+/// Forgets the objects. Clearing is a call that overwrites the cells, so none and a single one are taken out without it.
+fn empty(written: &mut ArrayVec<Ono, MOST_WRITTEN>)
+    ensures { written.new.items ≡ [] }
+{
+    match written.len() {
+        0 => {}
+        1 => {
+            let _ = written.pop();
+        }
+        _ => written.clear(),
+    }
+}
+
+/// Executes a command of a peer, puts its reply in the place of another, and adds its object to those written where it wrote.
+fn execute(
+    tree: &mut Tree,
+    peer: Peer,
+    command: &Command,
+    reply: &mut Reply,
+    written: &mut ArrayVec<Ono, MOST_WRITTEN>,
+)
+    requires { length written.old.items < 86 }
     ensures tree { tree.new ≡ (execution tree.old peer (fields_of command.now)).tree }
     ensures reply { reply.new ≡ reply_of tree.old peer (fields_of command.now) }
+    ensures written { numbers_of written.new.items ≡ numbers_of written.old.items ++ written_by_execution tree.old peer (fields_of command.now) }
+    ensures most { length written.new.items ≤ length written.old.items + 1 }
 {
     let done = tree.execute(peer, command, &mut reply.params);
     reply.status = done.status;
     reply.count = done.count;
+    if done.wrote {
+        written.push(command.target);
+    }
 }
 
 /// The time of a keep-alive, in milliseconds.

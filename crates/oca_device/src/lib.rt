@@ -2,13 +2,15 @@
 //! serves an end of a link.
 //!
 //! Begin with [`Device`]. It opens no socket and reads no clock: the caller hands it each datagram with its sender and its
-//! moment, and finds the answers in an [`Outbox`]. [`serve`] does so for any end. What a device is after a list of events is
+//! moment, and finds the answers in an [`Outbox`]. [`serve`] does so for any end, and
+//! [`serve_with`] for a device with electronics, which follow what is written. What a device is after a list of events is
 //! a function of its opening tree and of these, and [`law_by_events`] says it by the events alone. All memory is
 //! taken in `Device::new` and `Outbox::new`.
 #![tactic(auto)]
 
 mod counts;
 mod device;
+mod electronics;
 mod law;
 mod outbox;
 mod report;
@@ -16,10 +18,11 @@ mod serving;
 mod verdict;
 
 pub use device::Device;
+pub use electronics::{Electronics, NoElectronics};
 pub use law::{law_by_events, law_of_groups};
 pub use outbox::Outbox;
 pub use report::Report;
-pub use serving::serve;
+pub use serving::{serve, serve_with};
 pub use verdict::Verdict;
 
 #[cfg(test)]

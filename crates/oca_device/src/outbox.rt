@@ -6,9 +6,9 @@ ghost use Rattle.oca_pdu.specs.Encoding.{pdu_encoding};
 ghost use Rattle.oca_device.specs.Groups.{pdu_of, with_answer, encodings};
 ghost use Rattle.oca_device.specs.Answers.{response};
 ghost use Rattle.oca_device.specs.Outboxes.{bytes_of_packets};
-ghost use Rattle.oca_device.specs.PrivateServing.{AreGrouped, IsGrouped, Joins, JoinsLast, is_of_responses};
+ghost use Rattle.oca_device.specs.PrivateServing.{AreGrouped, IsGrouped, Joins, JoinsLast};
 
-use oca_pdu::{Form, extend_response, replace_response, write_keepalive};
+use oca_pdu::{Form, extend_response, holds_responses, replace_response, write_keepalive};
 use oca_types::{Handle, NoMemory, Packet, Reply};
 use std::alloc::Global;
 use std::marker::Model;
@@ -16,11 +16,6 @@ use std::marker::Model;
 /// The most packets that one datagram is answered with: a command has 17 bytes and a keep-alive PDU 12, so a datagram of
 /// 1,472 bytes has at most 122 messages that are answered.
 const MOST_PACKETS: usize = 122;
-
-/// Where a PDU has its PduType, and the type of a PDU of responses (AES70-3).
-const PDU_TYPE_AT: usize = 7;
-
-const RESPONSES: u8 = 3;
 
 /// The packets that answer a datagram, in order, for the peer that sent it. There are at most 122.
 #[derive(Drop)]
@@ -140,13 +135,6 @@ fn join(packet: &mut Packet, handle: Handle, reply: &Reply) -> bool
     ensures { (p : Pdu) → packet.old.items ≡ pdu_encoding p → Joins result p (response handle.0 reply.now) packet.old.items packet.new.items }
 {
     holds_responses(packet) && extend_response(packet, handle, reply).is_ok()
-}
-
-/// Whether the PDU of a packet is of responses.
-fn holds_responses(packet: &Packet) -> bool
-    ensures { (p : Pdu) → packet.now.items ≡ pdu_encoding p → result ≡ is_of_responses p }
-{
-    packet.as_slice().get(PDU_TYPE_AT) == Some(&RESPONSES)
 }
 
 /// Makes a place for one more packet after these, where none is left from earlier datagrams. It lies in memory that was taken

@@ -4,9 +4,11 @@ ghost use Rattle.oca_net.specs.Ends.{last_u64};
 ghost use Rattle.oca_net.specs.EndStates.{Sends, SendsAllBut};
 ghost use Rattle.oca_device.specs.Reports.{added, no_turns, one_turn, verdict_turn, receives_of};
 ghost use Rattle.oca_device.specs.Replies.{ServesEnd, sent_to};
+ghost use Rattle.oca_device.specs.Following.{ServesEndWith};
 ghost use Rattle.oca_device.specs.PrivateTotals.{IsWithin, TakesTurn};
 
 use crate::device::Device;
+use crate::electronics::{Electronics, NoElectronics};
 use crate::outbox::Outbox;
 use crate::report::Report;
 use crate::verdict::Verdict;
@@ -27,11 +29,31 @@ pub fn serve<E: End>(device: &mut Device, end: &mut E, outbox: &mut Outbox, turn
         (E.state end.new).receives ≡ (E.state end.old).receives + receives_of result.turns turns }
     ensures outbox { outbox.new ≡ [] }
 {
+    let mut none = NoElectronics;
+    serve_with(device, end, outbox, &mut none, turns)
+}
+
+/// Serves an end as [`serve`] does, and hands the electronics what each datagram did: once its answers are sent, the objects and which of
+/// them it wrote to, be it none.
+pub fn serve_with<E: End, L: Electronics>(
+    device: &mut Device,
+    end: &mut E,
+    outbox: &mut Outbox,
+    electronics: &mut L,
+    turns: u32,
+) -> Report
+    ensures served { ServesEndWith device.old device.new (E.state end.old) (E.state end.new) (L.state electronics.old) (L.state electronics.new) result }
+    ensures turns { result.turns ≤ turns }
+    ensures closed { result.turns < turns → IsTrue (E.state end.new).closed }
+    ensures receives { (E.state end.new).receives < last_u64 →
+        (E.state end.new).receives ≡ (E.state end.old).receives + receives_of result.turns turns }
+    ensures outbox { outbox.new ≡ [] }
+{
     outbox.clear();
     let mut report = nothing();
     let mut packet = Packet::new();
     for _turn in 0..turns {
-        match take_turn(device, end, outbox, &mut packet) {
+        match take_turn(device, end, outbox, electronics, &mut packet) {
             Some(turn) => report = sum(report, turn),
             None => return report,
         }
@@ -40,14 +62,15 @@ pub fn serve<E: End>(device: &mut Device, end: &mut E, outbox: &mut Outbox, turn
 }
 
 /// Receives once, and does what there is to do. Answers what it did, or nothing at Closed.
-fn take_turn<E: End>(
+fn take_turn<E: End, L: Electronics>(
     device: &mut Device,
     end: &mut E,
     outbox: &mut Outbox,
+    electronics: &mut L,
     packet: &mut Packet,
 ) -> Option<Report>
     requires { outbox.old ≡ [] }
-    ensures turn { TakesTurn device.old device.new (E.state end.old) (E.state end.new) result }
+    ensures turn { TakesTurn device.old device.new (E.state end.old) (E.state end.new) (L.state electronics.old) (L.state electronics.new) result }
     ensures fits { IfSome result (IsWithin 4294967295) }
     ensures outbox { outbox.new ≡ [] }
 {
@@ -56,6 +79,7 @@ fn take_turn<E: End>(
             let verdict = device.datagram(from, packet.as_slice(), now, outbox);
             let failed_sends = send_all(end, from, outbox);
             outbox.clear();
+            electronics.follow(device.tree(), device.written());
             Some(Report {
                 failed_sends,
                 ..of_verdict(verdict)
@@ -89,23 +113,12 @@ fn send_all<E: End>(end: &mut E, to: Peer, outbox: &Outbox) -> u64
     ensures few { result ≤ 122 }
 {
     let mut failed = 0;
-    for i in 0..outbox.len() {
-        if !send_one(end, to, outbox, i) {
+    for packet in outbox.packets() {
+        if !end.send(to, packet.as_slice()) {
             failed += 1;
         }
     }
     failed
-}
-
-/// Sends the packet of this number.
-fn send_one<E: End>(end: &mut E, to: Peer, outbox: &Outbox, i: usize) -> bool
-    requires { i < length outbox.now }
-    ensures { Sends result to (slice_index_or outbox.now i []) (E.state end.old) (E.state end.new) }
-{
-    match outbox.get(i) {
-        Some(packet) => end.send(to, packet.as_slice()),
-        None => unreachable!(),
-    }
 }
 
 /// What both did.

@@ -7,7 +7,7 @@ use Rattle.oca_device.specs.LawByEvents.{summary_of, answers}
 use Rattle.oca_device.specs.Answers.{packets_of}
 use Rattle.oca_device.proofs.GroupLaws.{are_groups}
 use Rattle.oca_device.proofs.Fitting.{answers_fit}
-use Rattle.oca_device.proofs.Standing.{stands, answers_same, verdict_same, happened, happened_once}
+use Rattle.oca_device.proofs.Standing.{stands, answers_same, written_same, verdict_same, happened, happened_once}
 use Rattle.oca_device.proofs.Summaries.{summaries_are}
 use Rattle.oca_device.proofs.law.law_by_events.Goals as goal
 
@@ -16,9 +16,11 @@ returns-clause-law c = λ w tree E H d happens represents.
     let exact = c.law_reading.ensures in
     let h = stands exact w tree happens in
     record {
-      objects_are = represents.tree ∙ h.tree_is;
-      clock_is = ap (λ (x : Table). x.moment) represents.sessions ∙ h.clock_is;
-      sessions_are = ap (λ (x : Table). map summary_of x.sessions) represents.sessions ∙ summaries_are w tree (state_after w tree E) H h;
+      objects_are = represents.state.tree ∙ h.tree_is;
+      clock_is = ap (λ (x : Table). x.moment) represents.state.sessions ∙ h.clock_is;
+      sessions_are = ap (λ (x : Table). map summary_of x.sessions) represents.state.sessions ∙ summaries_are w tree (state_after w tree E) H h;
+      executions_are = h.executions_are;
+      written_is = λ happened. represents.written ∙ written_same exact w tree happened;
       answers_are = λ e H' h'. answers_same exact w tree e h';
       packets_are = λ e H' h'. (
         groups_of (answers w tree H'),

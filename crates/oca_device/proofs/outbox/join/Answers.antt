@@ -4,7 +4,8 @@ use Rattle.std.specs.Prelude.{ℕ, OnErr}
 use Rattle.oca_pdu.specs.Messages.{Pdu, Commands, Responses, OneKeepAlive, response_with}
 use Rattle.oca_pdu.specs.Encoding.{pdu_encoding}
 use Rattle.oca_device.specs.Answers.{response}
-use Rattle.oca_device.specs.PrivateServing.{Joins, is_of_responses}
+use Rattle.oca_pdu.specs.Writing.{is_of_responses}
+use Rattle.oca_device.specs.PrivateServing.{Joins}
 use Rattle.oca_device.proofs.Grouping.{extended, items_kept}
 use Rattle.oca_device.proofs.outbox.join.Goals as goal
 

@@ -9,6 +9,7 @@ pub returns-in-Datagram-clause-turn : goal.returns-in-Datagram-clause-turn
 returns-in-Datagram-clause-turn g c =
     datagram_turn _ c.as_slice.result.now c.datagram-verdict.result c.of_verdict.result refl c.of_verdict.ensures c.as_slice.ensures.fits c.as_slice.ensures.value c.in-Datagram.ensures
     c.datagram-verdict.ensures.represents c.datagram-verdict.ensures.packets c.datagram-verdict.ensures.verdict c.send_all-failed_sends.ensures.sends
+    c.tree.ensures.tree c.written.ensures.written c.follow.ensures
 
 pub returns-in-Quiet-clause-turn : goal.returns-in-Quiet-clause-turn
 returns-in-Quiet-clause-turn g c =
@@ -25,5 +26,6 @@ returns-in-Failed-clause-turn g c =
 pub returns-in-Closed-clause-turn : goal.returns-in-Closed-clause-turn
 returns-in-Closed-clause-turn g c = record {
   device = refl;
+  electronics = refl;
   received = subst (λ (bytes : List ℕ). Receives heard.Closed bytes (g.E.End.state c.args.end.now) (g.E.End.state c.receive.new.self)) c.in-Closed.ensures.packet c.in-Closed.ensures;
 }

@@ -3,6 +3,7 @@ use Rattle.oca_session.specs.Table.{present}
 use Rattle.oca_device.specs.Notes.{Admitted}
 use Rattle.oca_device.specs.Devices.{DeviceState, IsIn}
 use Rattle.oca_device.specs.States.{noted}
+use Rattle.oca_device.specs.Written.{numbers_of}
 use Rattle.oca_device.proofs.Opened.{device_with, parts_in}
 use Rattle.oca_device.proofs.Steps.{hears_known, hears_opened, hears_no_room, present_is}
 use Rattle.oca_device.proofs.device.Device.admit.Goals as goal
@@ -27,7 +28,7 @@ returns-clause-noted c = λ w s ms h.
     let was = parts_in c.self.inside.tree old c.args.self.now w s c.self.view_is h in
     let le = subst (λ (d : DeviceState). c.args.now ≤ d.sessions.moment) (sym c.self.view_is) c.requires in
     let now = present_is w s old c.args.now was.sessions le in
-    let After : Bool → Type 0 = λ b. IsIn w (device_with c.self.inside.tree c.hear.new.self) (cond b (noted p (Admitted ms) s) s) in
+    let After : Bool → Type 0 = λ b. IsIn w (device_with c.self.inside.tree c.hear.new.self (numbers_of c.self.inside.written.items)) (cond b (noted p (Admitted ms) s) s) in
     elim c.match-hear.branch [
       | in-NoRoom b ↦ subst After (sym b.result-is) (record { tree = was.tree; sessions = (hears_no_room w s p (present old c.args.now) old c.hear.new.self was.sessions now b.in-NoRoom.ensures.hears).1 })
       | in-Known b ↦ subst After (sym b.result-is) (record { tree = was.tree; sessions = (hears_known w s p (present old c.args.now) old c.hear.new.self was.sessions now b.in-Known.ensures.hears).1 ms })

@@ -6,7 +6,7 @@ use Rattle.oca_device.specs.Notes.{Admitted}
 use Rattle.oca_device.specs.States.{noted}
 use Rattle.oca_device.specs.Devices.{IsIn}
 use Rattle.oca_device.specs.PrivateServing.{ServesAll, IsShort}
-use Rattle.oca_device.proofs.Bounds.{answers_counted, all_short}
+use Rattle.oca_device.proofs.Bounds.{answers_counted, commands_counted, all_short}
 use Rattle.oca_device.proofs.Steps.{refused_whole, taken_whole, admitted_now}
 use Rattle.oca_device.proofs.device.Device.receive.Goals as goal
 
@@ -16,6 +16,12 @@ serve_messages-counts-requires-clause-room c =
 
 pub serve_messages-counts-requires-clause-groups : goal.serve_messages-counts-requires-clause-groups
 serve_messages-counts-requires-clause-groups c = ([], c.requires.empty)
+
+pub serve_messages-counts-requires-clause-few : goal.serve_messages-counts-requires-clause-few
+serve_messages-counts-requires-clause-few c = omega (arith, commands_counted (messages_left c.messages.result), c.messages.ensures.limits.commands)
+
+pub serve_messages-counts-requires-clause-none : goal.serve_messages-counts-requires-clause-none
+serve_messages-counts-requires-clause-none c = c.admit.ensures.written ∙ c.requires.none
 
 pub serve_messages-counts-requires-clause-short : goal.serve_messages-counts-requires-clause-short
 serve_messages-counts-requires-clause-short c =
@@ -27,7 +33,7 @@ returns-else-admit c = λ w s h.
     let ms = datagram_messages c.in-Ok.datagram in
     let out = sym (c.admit.ensures.admits w s h) ∙ c.if-admit.false in
     let same = subst (λ (b : Bool). IsIn w c.admit.new.self (cond b (noted c.args.from (Admitted ms) s) s)) c.if-admit.false (c.admit.ensures.noted w s ms h) in
-    refused_whole w c.admit.new.self c.args.from c.args.bytes.now ms s c.args.outbox.now c.in-Ok.ensures.reads out same c.requires.empty
+    refused_whole w c.admit.new.self c.args.from c.args.bytes.now ms s c.args.outbox.now c.in-Ok.ensures.reads out same (c.admit.ensures.written ∙ c.requires.none) c.requires.empty
 
 pub returns-then-admit : goal.returns-then-admit
 returns-then-admit c = λ w s h.

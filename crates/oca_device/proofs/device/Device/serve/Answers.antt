@@ -1,9 +1,10 @@
-use Rattle.std.proofs.Common.{ℕ, ap, ◌∙◌, sym, refl, subst}
+use Rattle.std.proofs.Common.{ℕ, length, arith, ap, ◌∙◌, sym, refl, subst}
 use Rattle.std.specs.Prelude.{IsSome}
 use Rattle.oca_session.specs.Table.{session_of, with_sessions, changed, with_heartbeat}
 use Rattle.oca_device.specs.Devices.{DeviceState}
 use Rattle.oca_device.specs.States.{time_of}
-use Rattle.oca_device.proofs.Opened.{parts_in}
+use Rattle.std.proofs.lemmas.List.{append-nil}
+use Rattle.oca_device.proofs.Opened.{parts_in, written_in}
 use Rattle.oca_device.proofs.Peers.{still_has_session}
 use Rattle.oca_device.proofs.Steps.{heartbeat_there, known_there, none_more}
 use Rattle.oca_device.proofs.device.Device.serve.Goals as goal
@@ -23,6 +24,7 @@ returns-in-KeepAlive-clause-serves c = λ w s h now.
       };
       packets = c.return_keepalive.ensures.groups;
       counts = none_more c.args.counts.now;
+      written = written_in c.self.view_is ∙ sym (append-nil c.args.self.now.written);
     })
 
 pub returns-in-KeepAlive-clause-known : goal.returns-in-KeepAlive-clause-known
@@ -30,3 +32,6 @@ returns-in-KeepAlive-clause-known c =
     let p = c.args.from in
     let has = subst (λ (d : DeviceState). IsSome (session_of p d.sessions.sessions)) (sym c.self.view_is) c.requires.known in
     still_has_session p c.self.inside.sessions.sessions c.beat.new.self.sessions c.beat.ensures.peers has
+
+pub returns-in-KeepAlive-clause-within : goal.returns-in-KeepAlive-clause-within
+returns-in-KeepAlive-clause-within c = omega (arith, c.requires.within, ap length (written_in c.self.view_is))

@@ -1,5 +1,7 @@
-use Rattle.std.proofs.Common.{◌≡◌, ℕ, ◌+◌, List, [], ◌∷◌, ◌++◌, Bool, true, false, cond, ap, ◌∙◌, refl, sym, subst, arith}
-use Rattle.std.specs.Prelude.{IsSome}
+use Rattle.std.proofs.Common.{◌≡◌, ℕ, ◌+◌, List, [], ◌∷◌, ◌++◌, length, Bool, true, false, cond, ap, ◌∙◌, refl, sym, subst, arith}
+use Rattle.std.specs.Prelude.{IsSome, map}
+use Rattle.std.proofs.lemmas.List.{append-nil, length-map}
+use Rattle.oca_types.specs.declared.words.Ono.{Ono}
 use Rattle.oca_types.specs.declared.words.Peer.{Peer}
 use Rattle.oca_types.specs.declared.words.Reply.{Reply}
 use Rattle.oca_types.specs.Peers.{CommandFields, fields_of}
@@ -14,9 +16,10 @@ use Rattle.oca_session.specs.Table.{session_of, with_sessions, changed, with_acc
 use Rattle.oca_device.specs.Notes.{Executed, accepted, run, is_known, last_moment}
 use Rattle.oca_device.specs.States.{State, judged_in, after_command, reply_of}
 use Rattle.oca_device.specs.Answers.{response, answer_to_command, counts, plus, count_of_command}
+use Rattle.oca_device.specs.Written.{numbers_of, written_by_execution, written_by_command}
 use Rattle.oca_device.specs.Devices.{DeviceState, IsIn}
 use Rattle.oca_device.specs.PrivateServing.{Serves}
-use Rattle.oca_device.proofs.Opened.{device_with, parts_in}
+use Rattle.oca_device.proofs.Opened.{device_with, parts_in, written_in}
 use Rattle.oca_device.proofs.Steps.{executed_there, agrees_there, known_there, one_executed, one_kept, one_old, one_reused}
 use Rattle.oca_device.proofs.device.Device.serve_command.Goals as goal
 
@@ -31,11 +34,12 @@ answered true before after ms h k = h refl
 answered false before after ms h k = λ groups is. k refl ∙ is
 
 -- a command is served as it is judged
-by_judgement : (w : DeviceSizes) (s : State) (p : Peer) (command : CommandFields) (respond : Bool) (new : DeviceState) (before after : List (List ℕ)) (n m : Counts)
-    (j : Judgement) → j ≡ judged_in w s p command → IsIn w new (after_command j p command s) →
+by_judgement : (w : DeviceSizes) (s : State) (p : Peer) (command : CommandFields) (respond : Bool) (old new : DeviceState) (before after : List (List ℕ)) (n m : Counts)
+    (j : Judgement) → j ≡ judged_in w s p command → IsIn w new (after_command j p command s) → new.written ≡ old.written ++ written_by_command j p command s →
     (respond ≡ true → Answered before after (answer_to_command j p command s)) → (respond ≡ false → after ≡ before) →
-    m ≡ plus n (count_of_command j) → Serves w new p (Command respond command) s before after n m
-by_judgement w s p command respond new before after n m j is device with_response without counted = record {
+    m ≡ plus n (count_of_command j) → Serves w old new p (Command respond command) s before after n m
+by_judgement w s p command respond old new before after n m j is device written with_response without counted = record {
+  written = written ∙ ap (λ (x : Judgement). old.written ++ written_by_command x p command s) is;
   device = subst (λ (x : Judgement). IsIn w new (after_command x p command s)) is device;
   packets = subst (λ (x : Judgement). Answered before after (cond respond (answer_to_command x p command s) [])) is
       (answered respond before after (answer_to_command j p command s) with_response without);
@@ -43,18 +47,18 @@ by_judgement w s p command respond new before after n m j is device with_respons
 }
 
 -- the session of the peer retains what is that of its accepted commands
-agreed_in : (w : DeviceSizes) (s : State) (p : Peer) (tree : List Object) (old : Table) (self : DeviceState) → device_with tree old ≡ self → IsIn w self s →
+agreed_in : {written : List ℕ} (w : DeviceSizes) (s : State) (p : Peer) (tree : List Object) (old : Table) (self : DeviceState) → device_with tree old written ≡ self → IsIn w self s →
     IsSome (session_of p self.sessions.sessions) → AgreesAt p w.window (accepted (run p s.notes)) old.sessions
 agreed_in w s p tree old self e h known =
     let was = parts_in tree old self w s e h in
     agrees_there w s p old was.sessions (known_there w s p old was.sessions (subst (λ (d : DeviceState). IsSome (session_of p d.sessions.sessions)) (sym e) known))
 
 -- a fresh command was executed, and retained with its reply
-fresh_served : (w : DeviceSizes) (s : State) (p : Peer) (command : CommandFields) (tree : List Object) (old : Table) (new_tree : List Object) (new : Table) (reply : Reply) →
-    IsIn w (device_with tree old) s → is_known s.moment s.notes p ≡ true → last_moment (run p s.notes) ≡ s.moment →
+fresh_served : {written now_written : List ℕ} (w : DeviceSizes) (s : State) (p : Peer) (command : CommandFields) (tree : List Object) (old : Table) (new_tree : List Object) (new : Table) (reply : Reply) →
+    IsIn w (device_with tree old written) s → is_known s.moment s.notes p ≡ true → last_moment (run p s.notes) ≡ s.moment →
     new_tree ≡ (execution tree p command).tree → reply ≡ reply_of s.tree p command →
     new ≡ with_sessions old (changed p (with_accepted w.window (accepted (run p s.notes) ++ (record { command = command; reply = reply }) ∷ [])) old.sessions) →
-    IsIn w (device_with new_tree new) (after_command Fresh p command s)
+    IsIn w (device_with new_tree new now_written) (after_command Fresh p command s)
 fresh_served w s p command tree old new_tree new reply was known now executed replied kept =
     let made : Entry = record { command = command; reply = reply_of s.tree p command } in
     let A = accepted (run p s.notes) in
@@ -63,6 +67,25 @@ fresh_served w s p command tree old new_tree new reply was known now executed re
       sessions = executed_there w s p (Executed s.tree command (reply_of s.tree p command)) made old new was.sessions known now (λ own t. (refl, refl))
           (kept ∙ ap (λ (r : Reply). with_sessions old (changed p (with_accepted w.window (A ++ (record { command = command; reply = r }) ∷ [])) old.sessions)) replied);
     }
+
+-- what was written, and then what an execution wrote
+more_written : {tree : List Object} {old : Table} {self : DeviceState} (p : Peer) (command : CommandFields) (s : State) (xs ys : List ℕ) → device_with tree old xs ≡ self → tree ≡ s.tree →
+    ys ≡ xs ++ written_by_execution tree p command → ys ≡ self.written ++ written_by_command Fresh p command s
+more_written {tree} {self = self} p command s xs ys view same h =
+    h ∙ ap (λ (zs : List ℕ). zs ++ written_by_execution tree p command) (written_in view)
+    ∙ ap (λ (t : List Object). self.written ++ written_by_execution t p command) same
+
+pub execute-requires : goal.execute-requires
+execute-requires c =
+    omega (arith, length-map c.self.inside.written.items (λ (o : Ono). o.0), ap length (written_in c.self.view_is), c.requires.within, c.requires.few)
+
+pub returns-then-respond-clause-within : goal.returns-then-respond-clause-within
+returns-then-respond-clause-within c =
+    omega (arith, length-map c.self.inside.written.items (λ (o : Ono). o.0), length-map c.execute.new.written.items (λ (o : Ono). o.0), ap length (written_in c.self.view_is), c.requires.within, c.execute.ensures.most)
+
+pub returns-else-respond-clause-within : goal.returns-else-respond-clause-within
+returns-else-respond-clause-within c =
+    omega (arith, length-map c.self.inside.written.items (λ (o : Ono). o.0), length-map c.execute.new.written.items (λ (o : Ono). o.0), ap length (written_in c.self.view_is), c.requires.within, c.execute.ensures.most)
 
 pub returns-then-respond-clause-serves : goal.returns-then-respond-clause-serves
 returns-then-respond-clause-serves c = λ w s h now.
@@ -76,9 +99,10 @@ returns-then-respond-clause-serves c = λ w s h now.
     let A = accepted (run p s.notes) in
     let agreed = agrees_there w s p old was.sessions known in
     let reply : c.execute.new.reply ≡ reply_of s.tree p command = c.execute.ensures.reply ∙ ap (λ t. reply_of t p command) was.tree in
-    by_judgement w s p command c.args.respond (device_with c.execute.new.tree c.keep.new.self) c.args.outbox.now c.respond.new.self c.args.counts.now _ Fresh
+    by_judgement w s p command c.args.respond c.args.self.now (device_with c.execute.new.tree c.keep.new.self (numbers_of c.execute.new.written.items)) c.args.outbox.now c.respond.new.self c.args.counts.now _ Fresh
     (c.in-Fresh.ensures.accepted w.window A agreed)
     (fresh_served w s p command tree old c.execute.new.tree c.keep.new.self c.execute.new.reply was known now c.execute.ensures.tree reply (c.keep.ensures.accepted w.window A agreed))
+    (more_written p command s (numbers_of c.self.inside.written.items) (numbers_of c.execute.new.written.items) c.self.view_is was.tree c.execute.ensures.written)
     (λ _ groups is. c.respond.ensures.groups groups is ∙ ap (λ (r : Reply). encodings (with_answer groups (response command.handle r))) reply)
     (λ q. cc)
     (one_executed c.args.counts.now)
@@ -95,9 +119,10 @@ returns-else-respond-clause-serves c = λ w s h now.
     let A = accepted (run p s.notes) in
     let agreed = agrees_there w s p old was.sessions known in
     let reply : c.execute.new.reply ≡ reply_of s.tree p command = c.execute.ensures.reply ∙ ap (λ t. reply_of t p command) was.tree in
-    by_judgement w s p command c.args.respond (device_with c.execute.new.tree c.keep.new.self) c.args.outbox.now c.args.outbox.now c.args.counts.now _ Fresh
+    by_judgement w s p command c.args.respond c.args.self.now (device_with c.execute.new.tree c.keep.new.self (numbers_of c.execute.new.written.items)) c.args.outbox.now c.args.outbox.now c.args.counts.now _ Fresh
     (c.in-Fresh.ensures.accepted w.window A agreed)
     (fresh_served w s p command tree old c.execute.new.tree c.keep.new.self c.execute.new.reply was known now c.execute.ensures.tree reply (c.keep.ensures.accepted w.window A agreed))
+    (more_written p command s (numbers_of c.self.inside.written.items) (numbers_of c.execute.new.written.items) c.self.view_is was.tree c.execute.ensures.written)
     (λ q. cc)
     (λ _. refl)
     (one_executed c.args.counts.now)
@@ -106,9 +131,10 @@ pub returns-then-respond-2-clause-serves : goal.returns-then-respond-2-clause-se
 returns-then-respond-2-clause-serves c = λ w s h now.
     let p = c.args.from in
     let command = fields_of c.args.command.now in
-    by_judgement w s p command c.args.respond c.args.self.now c.args.outbox.now c.respond-then-respond-2.new.self c.args.counts.now _ (Duplicate c.in-Kept.reply.now)
+    by_judgement w s p command c.args.respond c.args.self.now c.args.self.now c.args.outbox.now c.respond-then-respond-2.new.self c.args.counts.now _ (Duplicate c.in-Kept.reply.now)
     (c.in-Kept.ensures.accepted w.window (accepted (run p s.notes)) (agreed_in w s p c.self.inside.tree c.self.inside.sessions c.args.self.now c.self.view_is h c.requires.known))
     h
+    (sym (append-nil c.args.self.now.written))
     (λ _ groups is. c.respond-then-respond-2.ensures.groups groups is)
     (λ q. cc)
     (one_kept c.args.counts.now)
@@ -117,9 +143,10 @@ pub returns-else-respond-2-clause-serves : goal.returns-else-respond-2-clause-se
 returns-else-respond-2-clause-serves c = λ w s h now.
     let p = c.args.from in
     let command = fields_of c.args.command.now in
-    by_judgement w s p command c.args.respond c.args.self.now c.args.outbox.now c.args.outbox.now c.args.counts.now _ (Duplicate c.in-Kept.reply.now)
+    by_judgement w s p command c.args.respond c.args.self.now c.args.self.now c.args.outbox.now c.args.outbox.now c.args.counts.now _ (Duplicate c.in-Kept.reply.now)
     (c.in-Kept.ensures.accepted w.window (accepted (run p s.notes)) (agreed_in w s p c.self.inside.tree c.self.inside.sessions c.args.self.now c.self.view_is h c.requires.known))
     h
+    (sym (append-nil c.args.self.now.written))
     (λ q. cc)
     (λ _. refl)
     (one_kept c.args.counts.now)
@@ -128,9 +155,10 @@ pub returns-in-Reused-clause-serves : goal.returns-in-Reused-clause-serves
 returns-in-Reused-clause-serves c = λ w s h now.
     let p = c.args.from in
     let command = fields_of c.args.command.now in
-    by_judgement w s p command c.args.respond c.args.self.now c.args.outbox.now c.args.outbox.now c.args.counts.now _ Reused
+    by_judgement w s p command c.args.respond c.args.self.now c.args.self.now c.args.outbox.now c.args.outbox.now c.args.counts.now _ Reused
     (c.in-Reused.ensures.accepted w.window (accepted (run p s.notes)) (agreed_in w s p c.self.inside.tree c.self.inside.sessions c.args.self.now c.self.view_is h c.requires.known))
     h
+    (sym (append-nil c.args.self.now.written))
     (λ _ groups is. is)
     (λ _. refl)
     (one_reused c.args.counts.now)
@@ -139,9 +167,10 @@ pub returns-in-Old-clause-serves : goal.returns-in-Old-clause-serves
 returns-in-Old-clause-serves c = λ w s h now.
     let p = c.args.from in
     let command = fields_of c.args.command.now in
-    by_judgement w s p command c.args.respond c.args.self.now c.args.outbox.now c.args.outbox.now c.args.counts.now _ Old
+    by_judgement w s p command c.args.respond c.args.self.now c.args.self.now c.args.outbox.now c.args.outbox.now c.args.counts.now _ Old
     (c.in-Old.ensures.accepted w.window (accepted (run p s.notes)) (agreed_in w s p c.self.inside.tree c.self.inside.sessions c.args.self.now c.self.view_is h c.requires.known))
     h
+    (sym (append-nil c.args.self.now.written))
     (λ _ groups is. is)
     (λ _. refl)
     (one_old c.args.counts.now)

@@ -1,12 +1,36 @@
-use Rattle.std.proofs.Common.{◌≡◌, List, ◌∷◌, ap, arith, subst}
+use Rattle.std.proofs.Common.{rules, ◌≡◌, ◌+◌, ◌≤◌, List, ◌∷◌, length, sym, ap, arith, subst}
 use Rattle.std.specs.List.{AllByRecursion}
 use Rattle.oca_pdu.specs.Messages.{Msg}
-use Rattle.oca_device.specs.PrivateServing.{IsShort, most_answers}
-use Rattle.oca_device.proofs.Steps.{one_further}
+use Rattle.oca_device.specs.PrivateServing.{IsShort, most_answers, all_commands}
+use Rattle.oca_pdu.specs.Datagrams.{messages_left}
+use Rattle.oca_device.specs.Answers.{counts}
+use Rattle.oca_device.proofs.Steps.{IsHalfway, one_further, none_served, all_served}
 use Rattle.oca_device.proofs.device.Device.serve_messages.Goals as goal
 
 first_short : (xs ys : List Msg) (m : Msg) → xs ≡ m ∷ ys → AllByRecursion IsShort xs → IsShort m × AllByRecursion IsShort ys
 first_short xs ys m e h = subst (λ (zs : List Msg). AllByRecursion IsShort zs) e h
+
+pub loop-message-init : goal.loop-message-init
+loop-message-init c =
+    let same : c.into_iter-message-iterator.result ≡ c.args.messages = first_of (assumption (c.into_iter-message-iterator.ensures.into_iter_gives), cc, search rules) in
+    let left : messages_left c.into_iter-message-iterator.result ≡ messages_left c.args.messages = ap messages_left same in
+    record {
+      known = c.requires.known;
+      room = subst (λ (xs : List Msg). length c.args.outbox.now + most_answers xs ≤ 122) (sym left) c.requires.room;
+      groups = c.requires.groups;
+      short = subst (λ (xs : List Msg). AllByRecursion IsShort xs) (sym left) c.requires.short;
+      few = omega (arith, c.requires.few, ap all_commands left);
+      within = omega (arith, ap length c.requires.none);
+      served = λ w s h now.
+          subst (λ (xs : List Msg). IsHalfway w c.args.from c.args.self.now xs (messages_left c.args.messages) s c.args.outbox.now c.args.outbox.now (counts 0 0 0 0)) (sym left)
+          (none_served w c.args.from c.args.self.now (messages_left c.args.messages) s c.args.outbox.now h now c.requires.none);
+    }
+
+pub serve-requires-clause-few : goal.serve-requires-clause-few
+serve-requires-clause-few c = omega (arith, c.loop-message.invariant.few, ap all_commands c.in-Some.ensures.steps)
+
+pub returns : goal.returns
+returns c = λ w s h now. all_served w c.args.from c.loop-message.self _ _ s c.args.outbox.now c.loop-message.outbox c.loop-message.counts c.in-None.ensures.steps.0 (c.loop-message.invariant.served w s h now)
 
 pub serve-requires-clause-short : goal.serve-requires-clause-short
 serve-requires-clause-short c = (first_short _ _ _ c.in-Some.ensures.steps c.loop-message.invariant.short).0
@@ -16,12 +40,14 @@ loop-message-preserved c =
     let inv = c.loop-message.invariant in
     let step = c.in-Some.ensures.steps in
     let fewer = ap most_answers step in
+    let commands = ap all_commands step in
     record {
       known = c.serve.ensures.known;
       room = omega (arith, inv.room, c.serve.ensures.packets, fewer);
       groups = c.serve.ensures.groups;
       short = (first_short _ _ _ step inv.short).1;
-      few = omega (arith, inv.few, c.serve.ensures.few, fewer);
+      few = omega (arith, inv.few, c.serve.ensures.few, commands);
+      within = c.serve.ensures.within;
       served = λ w s h now.
           let before = inv.served w s h now in
           one_further w c.args.from c.loop-message.self c.serve.new.self _ _ _ _ s _ _ _ _ _ before step inv.known

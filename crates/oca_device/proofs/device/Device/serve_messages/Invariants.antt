@@ -7,7 +7,7 @@ use Rattle.oca_session.specs.Table.{session_of}
 use Rattle.oca_device.specs.Notes.{run, last_moment}
 use Rattle.oca_device.specs.States.{State}
 use Rattle.oca_device.specs.Devices.{IsIn}
-use Rattle.oca_device.specs.PrivateServing.{AreGrouped, IsShort, most_answers}
+use Rattle.oca_device.specs.PrivateServing.{AreGrouped, IsShort, most_answers, all_commands}
 use Rattle.oca_device.proofs.Steps.{IsHalfway}
 use Rattle.oca_device.proofs.device.Device.serve_messages.Given as goal
 
@@ -19,7 +19,8 @@ invariant-loop-message l =
       room : length l.outbox + most_answers rest ≤ 122;
       groups : AreGrouped l.outbox;
       short : AllByRecursion IsShort rest;
-      few : l.counts.executed + l.counts.kept + l.counts.old + l.counts.reused + most_answers rest ≤ 122;
+      few : l.counts.executed + l.counts.kept + l.counts.old + l.counts.reused + all_commands rest ≤ 86;
+      within : length l.self.written ≤ l.counts.executed + l.counts.kept + l.counts.old + l.counts.reused;
       served : (w : DeviceSizes) (s : State) → IsIn w l.fn.self s → last_moment (run l.from s.notes) ≡ s.moment →
           IsHalfway w l.from l.self rest (messages_left l.fn.messages) s l.fn.outbox l.outbox l.counts;
     }
