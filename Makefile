@@ -1,7 +1,8 @@
 # make demo    builds without proving, runs the examples and compares what they print: about a minute
 # make build   proves and builds the programs into bin
 # make test    the gate: every proof from nothing, must-fail edits, tests, programs, and the steps of gate/steps
-# make lossy   both programs over a network that loses, doubles, delays and reorders: COMMANDS=200 SEED=1
+# make lossy   both programs over a network that loses, doubles, delays and reorders, one command at a time and 16 under
+#              way; and why the window must be 31 then: COMMANDS=200 SEED=1
 # make fuzz    both programs against a second implementation of the profile, on random scripts: SECONDS=60 SEED=1
 # make world   schedules for both ends, held against the laws and the second implementation: SCHEDULES=8000 SEED=1
 # make law     histories of events, held against the law by events, and wrong devices: HISTORIES=2000 SEED=1
@@ -38,6 +39,7 @@ test:
 lossy:
 	@test -x bin/ocactl || $(MAKE) build
 	@python3 tools/lossy.py bin $(COMMANDS) $(SEED)
+	@python3 tools/lossy.py bin directed
 
 fuzz:
 	@test -x bin/ocactl || $(MAKE) build

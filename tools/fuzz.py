@@ -55,8 +55,8 @@ def text(r):
 
 
 class Panel:
-    """What one peer sends: commands whose handles rise, with copies, gaps, overtaking and reuse; to objects of the bench
-    and of channel strips."""
+    """What one peer sends: commands whose handles rise, with copies, gaps, overtaking and reuse; to objects of the
+    bench and of channel strips."""
 
     def __init__(self, r, channels=0):
         self.r, self.next, self.sent = r, r.choice([1, 1, 5, 1000, oca.U32 - 40]), []
@@ -206,6 +206,15 @@ def link_script(r):
     return words, finish(r, lines), lambda s: oca.link_replay(s, device, first, span)
 
 
+def learn_sizes(folder):
+    """Sizes as far as the program knows them."""
+    text = subprocess.run([f"{folder}/ocadev", "replay", "--help"], capture_output=True, text=True, timeout=60).stdout
+    if "--peers" in text:
+        ROOMS.extend([1, 2, 15, 17, 64])
+    if "--channels" in text:
+        CHANNELS.extend([0, 0, 1, 5, 30, 1022])
+
+
 def run(program, words, script):
     done = subprocess.run([program] + words, input=script, capture_output=True, timeout=60)
     return done.stdout, done.stderr.decode(errors="replace").strip() or None, done.returncode
@@ -242,6 +251,7 @@ def main():
     folder, seconds = sys.argv[1], float(sys.argv[2])
     seed = int(sys.argv[3]) if len(sys.argv) > 3 else 1
     r = random.Random(seed)
+    learn_sizes(folder)
     end, scripts, lines = time.time() + seconds, [0, 0], 0
     while time.time() < end:
         for kind, (name, make) in enumerate((("ocadev", device_script), ("ocactl", link_script))):
@@ -252,7 +262,7 @@ def main():
             scripts[kind] += 1
             lines += script.count(b"\n") + 1
     print(f"fuzz: seed {seed}: {scripts[0]} device scripts and {scripts[1]} controller scripts, {lines} lines, "
-          "no difference")
+          f"no difference; room for {sorted(set(ROOMS))} peers, {sorted(set(CHANNELS))} channels")
     return 0
 
 

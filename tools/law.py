@@ -240,9 +240,9 @@ def reading(h, number, handle):
 
 def wander(r):
     """Any datagrams of some peers."""
-    h = History(r.choice([1, 2, 3, 8, 31, 32, 32, 32, 63, 64]), r.choice(SIZES))
+    h = History(r.choice([1, 2, 3, 8, 31, 32, 32, 32, 63, 64]), r.choice(SIZES), r.choice(CHANNELS))
     numbers = range(r.choice([1, 2, 3, h.peers + 2]))
-    panels, handle = {n: Panel(r) for n in numbers}, 1
+    panels, handle = {n: Panel(r, h.channels) for n in numbers}, 1
     for _ in range(r.choice([20, 40, 60, 100])):
         kind = r.randrange(12)
         step = r.choice([0, 0, 1, 5, 100, 251, 750, 2500, 3001, 7500, 15001, 90001, 119999, 120000, 120001, -50, -5000,
@@ -266,7 +266,7 @@ def wander(r):
     return h
 
 
-SIZES = [16]
+SIZES, CHANNELS = [16], [0]
 KINDS = [lapses, forgetting, crowds, windows, packings, limits, fronts, wander, wander, wander]
 
 
@@ -485,6 +485,7 @@ def summary(seed, total, wrong):
           f"{total['executed']} executed, {total['duplicates']} duplicates, {total['old']} old, "
           f"{total['reused']} reused, "
           f"{total['said malformed']} malformed, {total['said no-room']} without room, {total['packets']} packets")
+    print(f"room for {sorted(set(SIZES))} peers, {sorted(set(CHANNELS))} channels")
     print(f"changes at the front: {total['said set']}, refused {total['said refused']}; "
           f"objects written: {total['writes']}; 0 breaks")
     sentences = collections.Counter(sentence for _, sentence, _ in wrong)
@@ -495,8 +496,21 @@ def summary(seed, total, wrong):
           f"{total['altered, refused']} of {total['altered']}")
 
 
+def learn_sizes(folder):
+    """Sizes as far as the program knows them."""
+    def knows(line):
+        done = subprocess.run([f"{folder}/trials", "events"], input=line, capture_output=True, timeout=60)
+        return done.returncode == 0
+
+    if knows(b"history 1 2 0\n"):
+        SIZES.extend([16, 16, 1, 2, 15, 17, 64])
+    if knows(b"history 1 16 1\n"):
+        CHANNELS.extend([0, 0, 1, 2, 9])
+
+
 def main():
     folder = sys.argv[1]
+    learn_sizes(folder)
     count = int(sys.argv[2]) if len(sys.argv) > 2 else 300
     seed = int(sys.argv[3]) if len(sys.argv) > 3 else 1
     total = collections.Counter()

@@ -1,10 +1,17 @@
 #!/usr/bin/env python3
-"""`ocadev serve` and `ocactl run` on 127.0.0.1, with a network between them that loses, doubles, delays and reorders datagrams.
+"""`ocadev serve` and `ocactl run` on 127.0.0.1, with a network between them that loses, doubles, delays and reorders
+datagrams.
 
-Usage: lossy.py BIN [COMMANDS] [SEED]     BIN is the folder with the two programs
+Usage: lossy.py BIN [COMMANDS] [SEED]     so many commands one at a time, with a window of 32; four times as many with
+                                          16 under way, with a window of 31. BIN is the folder with the programs
+       lossy.py BIN directed [WINDOW..]   16 under way, of which the last overtakes the others and stays unanswered
+                                          while they are answered and 15 more are executed; then a copy of it comes
 
-It sends SetState and SetSetting commands, and prints a table. The exit status is 1 if a command was executed twice, an
-answer was wrong, or one is missing. What each answer must be is said by the second implementation of the profile."""
+Of each run it prints a table. One at a time, each answer must be what the second implementation of the profile says,
+and the last two commands read back what was set. With 16 under way the commands may be executed in any order, so they
+are such whose answers tell them apart in every order. The exit status is 1 if a command was executed twice, was too
+old, an answer was wrong, or one is missing; of `directed`, if with a window of 31 or more the copy is not answered from
+the window, or with a smaller one is not too old."""
 import heapq
 import random
 import re
@@ -51,16 +58,19 @@ class Network:
             heapq.heappush(self.due, (time.time() + wait, self.number, inward, data))
         self.number += 1
 
+    def carry(self, inward, data):
+        if inward:
+            self.back.sendto(data, self.device)
+        elif self.controller:
+            self.front.sendto(data, self.controller)
+
     def deliver(self):
         while self.due and self.due[0][0] <= time.time():
             _, number, inward, data = heapq.heappop(self.due)
             if number < self.latest[inward]:
                 self.overtaken += 1
             self.latest[inward] = max(self.latest[inward], number)
-            if inward:
-                self.back.sendto(data, self.device)
-            elif self.controller:
-                self.front.sendto(data, self.controller)
+            self.carry(inward, data)
 
     def step(self):
         wait = min(0.02, max(0, self.due[0][0] - time.time())) if self.due else 0.02
@@ -68,13 +78,48 @@ class Network:
             data, sender = s.recvfrom(65535)
             if s is self.front:
                 self.controller = sender
-                self.accept(True, data)
-            else:
-                self.accept(False, data)
+            self.accept(s is self.front, data)
         self.deliver()
 
 
-def commands(r, count):
+class Directed(Network):
+    """Carries all commands but one at once; of that one the first copy overtakes 15, its answers wait, and the next
+    copy comes when 30 others are answered."""
+
+    LATE, OTHERS = 16, 30
+
+    def __init__(self, device):
+        super().__init__(device, 0)
+        self.first, self.kept, self.answered = [], [], set()
+
+    def accept(self, inward, data):
+        self.carried += 1
+        kind, *message = oca.check(data)[0]
+        if kind == "keep-alive":
+            return
+        handle = message[1].handle if inward else message[0]
+        if inward and len(self.first) < self.LATE:  # the first 16, the last of them first
+            self.first += [data] if data not in self.first else []
+            for waiting in self.first[::-1] if len(self.first) == self.LATE else []:
+                self.carry(True, waiting)
+                time.sleep(0.002)
+        elif handle != self.LATE:
+            self.answered |= set() if inward else {handle}
+            self.carry(inward, data)
+        elif not inward:
+            self.kept = [data]
+        elif len(self.answered) == self.OTHERS:
+            self.carry(True, data)
+            self.answered.add(self.LATE)
+
+    def step(self):
+        super().step()
+        if self.LATE in self.answered and self.kept:  # the copy came: now its first answer goes to the controller
+            time.sleep(0.2)
+            self.carry(False, self.kept.pop())
+
+
+def set_and_read(r, count):
     """(the line for `ocactl run`, the command), the last two reading back what was set"""
     made = []
     for handle in range(1, count + 1):
@@ -86,8 +131,24 @@ def commands(r, count):
             c = oca.Command(handle, 4097, 4, 2, 1, bytes([r.choice([1, 2])]))
         else:
             c = oca.Command(handle, 4100, 5, 2, 1, r.randrange(-700, 701).to_bytes(2, "big", signed=True))
-        made.append((f"{c.target} {c.level} {c.index} {c.count} {oca.hex_text(c.params)}", c))
+        made.append((line_of(c), c))
     return made
+
+
+ONOS = [100, 4096, 4097, 4098, 4099, 4100, 4101, 4102, 5000]
+
+
+def told_apart(r, count):
+    """The same of commands whose answers do not depend on the others: neighbours answer differently."""
+    made, methods = [], [(1, 1), (1, 2), (1, 5), (2, 10), (3, 5), (5, 2), (7, 7)]
+    for handle in range(1, count + 1):
+        c = oca.Command(handle, ONOS[(handle + r.randrange(3)) % len(ONOS)], *methods[handle % len(methods)], 0, b"")
+        made.append((line_of(c), c))
+    return made
+
+
+def line_of(c):
+    return f"{c.target} {c.level} {c.index} {c.count} {oca.hex_text(c.params)}"
 
 
 def listening(device):
@@ -99,50 +160,86 @@ def listening(device):
     return match[1], int(match[2])
 
 
+class Run:
+    """A run of the two programs over a network: the answers, the controller's status, and the device's report."""
+
+    def __init__(self, folder, made, window, network_of, words):
+        device = subprocess.Popen(
+            [f"{folder}/ocadev", "serve", "--port", "0", "--turns", str(TURNS), "--window", str(window)],
+            stdout=subprocess.PIPE, stderr=subprocess.PIPE)
+        self.network = network = network_of(listening(device))
+        host, port = network.front.getsockname()
+        panel = subprocess.Popen(
+            [f"{folder}/ocactl", "run", "--device", f"{host}:{port}", "--first-handle", "1", *words],
+            stdin=subprocess.PIPE, stdout=subprocess.PIPE)
+        panel.stdin.write("".join(line + "\n" for line, _ in made).encode())
+        panel.stdin.close()
+        end = time.time() + 2 * len(made) + 60
+        while panel.poll() is None and time.time() < end:
+            network.step()
+        panel.kill()
+        for _ in range(50):  # what is still on its way
+            network.step()
+        while device.poll() is None and time.time() < end + 30:  # its remaining turns: malformed datagrams of one byte
+            for _ in range(100):
+                network.back.sendto(b"\0", network.device)
+            time.sleep(0.005)
+        device.kill()
+        self.answers, self.status = panel.stdout.read().decode().splitlines(), panel.wait()
+        self.report = {name: int(n) for name, n in re.findall(r"([a-z-]+) ([0-9]+)", device.stdout.read().decode())}
+        tree, self.expected = oca.bench(), []
+        for _, c in made:
+            status, items, params = oca.execute(tree, "the panel", c)
+            self.expected.append(f"answer {status} {items} {oca.hex_text(params)}")
+        self.wrong = sum(1 for a, b in zip(self.answers, self.expected) if a != b)
+        self.missing = len(made) - len(self.answers)
+
+    def is_as_promised(self, count):
+        return (self.report.get("executed"), self.report.get("old")) == (count, 0) and self.wrong == 0 \
+            and self.missing == 0 and self.status == 0
+
+
+def told(folder, made, window, seed, words):
+    """Runs the commands, prints the table, and answers whether all was as promised."""
+    run = Run(folder, made, window, lambda device: Network(device, seed), words)
+    network = run.network
+    rows = [("commands", len(made)), ("window", window), ("datagrams sent", network.carried), ("  lost", network.lost),
+            ("  doubled", network.doubled), ("  overtaken", network.overtaken),
+            ("commands executed", run.report.get("executed")), ("duplicates answered", run.report.get("kept")),
+            ("too old", run.report.get("old")), ("wrong answers", run.wrong), ("missing answers", run.missing)]
+    for name, n in rows:
+        print(f"{name:23} {n}")
+    good = run.is_as_promised(len(made))
+    print("each command was executed once and got its own answer" if good else "NOT as promised", flush=True)
+    return good
+
+
+def directed(folder, window):
+    """Whether the late copy is answered from the window, or too old where the window is too small."""
+    run = Run(folder, told_apart(random.Random(1), 31), window, Directed, ["--ahead", "16"])
+    kept, old = run.report.get("kept"), run.report.get("old")
+    print(f"window {window}, 16 under way: command 16 is executed first, then 1 to 15, and 17 to 31; "
+          f"of a copy of 16 the device says: {'old' if old else 'a duplicate' if kept else 'nothing'}", flush=True)
+    return (run.report.get("executed"), bool(kept), bool(old)) == (31, window >= 31, window < 31)
+
+
+def knows_ahead(folder):
+    text = subprocess.run([f"{folder}/ocactl", "run", "--help"], capture_output=True, text=True, timeout=60).stdout
+    if "--ahead" not in text:
+        print("ocactl run has no --ahead: nothing is tried with 16 under way")
+    return "--ahead" in text
+
+
 def main():
-    folder = sys.argv[1]
-    count = int(sys.argv[2]) if len(sys.argv) > 2 else 200
-    seed = int(sys.argv[3]) if len(sys.argv) > 3 else 1
-    made = commands(random.Random(seed), count)
-    device = subprocess.Popen([f"{folder}/ocadev", "serve", "--port", "0", "--turns", str(TURNS)],
-                              stdout=subprocess.PIPE, stderr=subprocess.PIPE)
-    network = Network(listening(device), seed)
-    host, port = network.front.getsockname()
-    panel = subprocess.Popen([f"{folder}/ocactl", "run", "--device", f"{host}:{port}", "--first-handle", "1"],
-                             stdin=subprocess.PIPE, stdout=subprocess.PIPE)
-    panel.stdin.write("".join(line + "\n" for line, _ in made).encode())
-    panel.stdin.close()
-    end = time.time() + 2 * count + 60
-    while panel.poll() is None and time.time() < end:
-        network.step()
-    panel.kill()
-    for _ in range(50):  # what is still on its way
-        network.step()
-    while device.poll() is None and time.time() < end + 30:  # its remaining turns: datagrams of one byte, which are malformed
-        for _ in range(100):
-            network.back.sendto(b"\0", network.device)
-        time.sleep(0.005)
-    device.kill()
-    answers = panel.stdout.read().decode().splitlines()
-    report = dict(re.findall(r"([a-z-]+) ([0-9]+)", device.stdout.read().decode()))
-    tree, expected = oca.bench(), []
-    for _, c in made:
-        status, items, params = oca.execute(tree, "the panel", c)
-        expected.append(f"answer {status} {items} {oca.hex_text(params)}")
-    wrong = sum(1 for a, b in zip(answers, expected) if a != b)
-    missing = count - len(answers)
-    executed = int(report.get("executed", -1))
-    print(f"commands                {count}")
-    print(f"datagrams sent          {network.carried}")
-    print(f"  lost                  {network.lost}")
-    print(f"  doubled               {network.doubled}")
-    print(f"  overtaken             {network.overtaken}")
-    print(f"commands executed       {executed}")
-    print(f"duplicates answered     {report.get('kept')}")
-    print(f"wrong answers           {wrong}")
-    print(f"missing answers         {missing}")
-    good = executed == count and wrong == 0 and missing == 0 and panel.returncode == 0
-    print("each command was executed once and got its own answer" if good else "NOT as promised")
+    folder, words = sys.argv[1], sys.argv[2:]
+    if words[:1] == ["directed"] and not knows_ahead(folder):
+        return 0
+    if words[:1] == ["directed"]:
+        return 0 if all([directed(folder, int(window)) for window in words[1:] or ["30", "31"]]) else 1
+    count, seed = int(words[0]) if words else 200, int(words[1]) if len(words) > 1 else 1
+    good = told(folder, set_and_read(random.Random(seed), count), 32, seed, [])
+    if knows_ahead(folder):
+        good &= told(folder, told_apart(random.Random(seed), 4 * count), 31, seed, ["--ahead", "16"])
     return 0 if good else 1
 
 

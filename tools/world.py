@@ -35,7 +35,7 @@ import subprocess
 import sys
 
 import oca_profile as oca
-from schedules import PAIRS, Schedule, crowd, directed, wander
+from schedules import PAIRS, PEERS, Schedule, crowd, directed, wander
 
 BATCH = 40
 
@@ -477,7 +477,11 @@ BAD_LINES = [
         "hex"), ("0 other 1.2.3.4:5 ", "hex"),
     ("0 other 1.2.3.4:5", "form"), ("take 0", "form"), ("take 0 4294967296", "number"), ("0 submit 0 1 1 1 256 -",
         "number"),
-    ("0 submit 0 1 65536 1 0 -", "number"), ("0 submit 0 1 1 1 0", "form"), ("0  tick", "form")]
+    ("0 submit 0 1 65536 1 0 -", "number"), ("0 submit 0 1 1 1 0", "form"), ("0  tick", "form"),
+    ("set 4097 state", "form"),
+    ("set 4097 state 1 1", "form"), ("set 4097 colour 1", "form"), ("set x state 1", "number"),
+    ("set 4097 state 256", "number"), ("set 4097 truth 2", "number"), ("set 4097 position 65536", "number"),
+    ("set 4097 number 170141183460469231731687303715884105728", "number"), ("set 4294967296 truth 1", "number")]
 
 
 def lines_refused(program):
@@ -526,6 +530,14 @@ def verdicts(checks):
     return 0 if all(checks.values()) else 1
 
 
+def learn_sizes(program):
+    """Room for peers, as far as the program knows it."""
+    line = b"schedule 1 1 2 127.0.0.1:1/1\n"
+    if subprocess.run([program, "world"], input=line, capture_output=True, timeout=60).returncode == 0:
+        PEERS.extend([16, 16, 16, 16, 1, 2, 15, 17, 64])
+        BAD_LINES.extend([("schedule 1 1 0 127.0.0.1:1/1", "number"), ("schedule 1 1 65 127.0.0.1:1/1", "number")])
+
+
 def main():
     program = f"{sys.argv[1]}/trials"
     if sys.argv[2] == "broken":
@@ -534,6 +546,7 @@ def main():
         print(result[0] if result else "no break")
         return 0
     count, seed = int(sys.argv[2]), int(sys.argv[3]) if len(sys.argv) > 3 else 1
+    learn_sizes(program)
     total = collections.Counter()
     jobs = [(program, seed, range(first, min(first + BATCH, count))) for first in range(0, count, BATCH)]
     with multiprocessing.Pool(min(4, multiprocessing.cpu_count())) as pool:
