@@ -319,7 +319,7 @@ def objects_of(line):
     return tuple(read)
 
 
-NONE_WRITTEN = None
+TOLD = [None]  # its last is what is told where nothing was written; None as long as the program does not tell it
 
 
 def tale_in(lines):
@@ -336,7 +336,7 @@ def tale_in(lines):
         elif word == "objects":
             tale[-1] = tale[-1]._replace(objects=objects_of(line))
         else:
-            tale.append(Told(verdict_of(line), (), NONE_WRITTEN, None, None))
+            tale.append(Told(verdict_of(line), (), TOLD[-1], None, None))
     return tale
 
 
@@ -366,7 +366,7 @@ def shown(history, tale, fault):
 def altered(r, history, tale):
     """(the sentence, the event, the tale with one line of it altered), or None."""
     at = r.randrange(len(tale))
-    told, kind = tale[at], r.randrange(9)
+    told, kind = tale[at], r.randrange(10)
     verdict, packets = told.verdict, list(told.packets)
     if kind == 0 and verdict[0] == "served":
         place = r.randrange(1, 5)
@@ -395,6 +395,8 @@ def altered(r, history, tale):
         new = "objects_are", told._replace(objects=told.objects[:k] + (one,) + told.objects[k + 1:])
     elif kind == 8:
         new = "sessions_are", told._replace(sessions=told.sessions + r.choice([-1, 1]))
+    elif kind == 9 and told.written is not None and isinstance(history.events[at], Datagram):
+        new = "written_are", told._replace(written=told.written[1:] if told.written else (4097,))
     else:
         return None
     return new[0], at, tale[:at] + [new[1]] + tale[at + 1:]
@@ -496,21 +498,24 @@ def summary(seed, total, wrong):
           f"{total['altered, refused']} of {total['altered']}")
 
 
-def learn_sizes(folder):
-    """Sizes as far as the program knows them."""
-    def knows(line):
+def learn(folder):
+    """Sizes as far as the program knows them, and whether it tells what was written."""
+    def knows(line, said=b""):
         done = subprocess.run([f"{folder}/trials", "events"], input=line, capture_output=True, timeout=60)
-        return done.returncode == 0
+        return done.returncode == 0 and said in done.stdout
 
     if knows(b"history 1 2 0\n"):
         SIZES.extend([16, 16, 1, 2, 15, 17, 64])
     if knows(b"history 1 16 1\n"):
         CHANNELS.extend([0, 0, 1, 2, 9])
+    sets = ask(1, 4097, 4, 2, 1, b"\1").hex().encode()
+    if knows(b"history 1 16 0\n0 127.0.0.1:9001 " + sets + b"\n", b"written 4097\n"):
+        TOLD.append(())
 
 
 def main():
     folder = sys.argv[1]
-    learn_sizes(folder)
+    learn(folder)
     count = int(sys.argv[2]) if len(sys.argv) > 2 else 300
     seed = int(sys.argv[3]) if len(sys.argv) > 3 else 1
     total = collections.Counter()
