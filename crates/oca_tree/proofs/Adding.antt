@@ -5,7 +5,7 @@ use Rattle.std.proofs.lemmas.List.Elements.{All-push}
 use Rattle.oca_tree.specs.declared.object.Object.{Object}
 use Rattle.oca_tree.specs.declared.object.Value.{Value}
 use Rattle.oca_tree.specs.declared.builder.Spec.{Spec}
-use Rattle.oca_tree.specs.Objects.{object_of}
+use Rattle.oca_tree.specs.Objects.{Store, object_of}
 use Rattle.oca_tree.specs.Places.{place_of, places, is_block, depth}
 use Rattle.oca_tree.specs.Trees.{IsTree, IsSound, IsSoundValue, IsBuilt, IsFree}
 use Rattle.oca_tree.specs.Trees as trees
@@ -20,7 +20,7 @@ none_there : (o : Option Object) → is_some o ≡ false → o ≡ None
 none_there None e = refl
 none_there (Some x) e = cc
 
-pub added_tree : (tree : List Object) (o : Object) → length tree < 128 → 4096 ≤ o.ono.0 → is_some (object_of tree o.ono.0) ≡ false → is_block (places tree) o.container.0 ≡ true
+pub added_tree : (tree : List Object) (o : Object) → length tree < 4096 → 4096 ≤ o.ono.0 → is_some (object_of tree o.ono.0) ≡ false → is_block (places tree) o.container.0 ≡ true
     → depth (places tree) o.container.0 < 8 → IsSound o → IsTree tree → IsTree (tree ++ o ∷ [])
 added_tree tree o few number free block shallow sound h = record {
   built = rw (places_push tree o) (trees.next (places tree) (place_of o) h.built (record {
@@ -45,13 +45,19 @@ first_object container ono spec role label value a b d =
     ∙ ap (λ (x : List ℕ). record (new_object ono container spec.lockable spec.role.now value) { label = x }) b
     ∙ ap (λ (x : Value). new_object ono container spec.lockable spec.role.now x) d
 
-pub no_fault : (tree : List Object) (container ono : ℕ) (spec : Spec) → length tree < 128 → 4096 ≤ ono → is_some (object_of tree ono) ≡ false → is_block (places tree) container ≡ true
+pub no_fault : (room : ℕ) (tree : List Object) (container ono : ℕ) (spec : Spec) → length tree < room → 4096 ≤ ono → is_some (object_of tree ono) ≡ false → is_block (places tree) container ≡ true
     → depth (places tree) container < 8 → (length spec.role.now == 0) ≡ false → has_bad_name spec.kind ≡ false → length spec.role.now ≤ 64 → is_bad_value (value_of spec.kind) ≡ false
-    → add_fault tree container ono spec ≡ None
+    → add_fault room tree container ono spec ≡ None
 unfolding add_fault
-no_fault tree container ono spec few number free block shallow full names short range =
-    let a : nat_le 128 (length tree) ≡ false = grind arith in
+no_fault room tree container ono spec few number free block shallow full names short range =
+    let a : nat_le room (length tree) ≡ false = grind arith in
     let b : nat_lt ono 4096 ≡ false = grind arith in
     let d : nat_lt 8 (depth (places tree) container + 1) ≡ false = grind arith in
     let s : nat_lt 64 (length spec.role.now) ≡ false = grind arith in
     rw (a, b, free, block, d, full, s, names, range) refl
+
+abbrev pub store : ℕ → List Object → Store
+store room list = record { room = room; list = list }
+
+pub same_store : (a b : ℕ) (xs ys : List Object) → a ≡ b → xs ≡ ys → store a xs ≡ store b ys
+same_store a b xs ys e f = ap (λ n. store n xs) e ∙ ap (store b) f

@@ -27,6 +27,7 @@ use Rattle.oca_tree.specs.Execution.{Execution, changed, execution, answer, join
 use Rattle.oca_tree.specs.Settings.{request_for, is_set_by, fault_at, fault_in, set_fault, front, set_where, after_set, AnyPeerSetsTheSame, FrontSetsAsPeersDo}
 use Rattle.oca_tree.specs.Trees.{IsTree}
 use Rattle.oca_tree.proofs.Asked.{FitsPositions}
+use Rattle.oca_tree.proofs.Takes.{taken}
 use Rattle.oca_tree.proofs.Executing.{found_at, within_at, sound_at, placed, known_access, request_ok, exec_refused, exec_ok}
 use Rattle.oca_tree.proofs.Sound.{changed_place, changed_ono, changed_sound, written_tree}
 
@@ -127,8 +128,11 @@ fault_taken held value out takes e = rw (no_block held value takes, takes, e) re
 
 pub as_peers : FrontSetsAsPeersDo
 unfolding set_fault after_set
-as_peers tree peer c o value found takes free asked = by_kind (kind_at (Some o) c) refl free asked
+as_peers tree peer c o value found free asked = by_kind (kind_at (Some o) c) refl free asked
   where
+    takes : is_set_by o.value value ≡ true
+    takes = taken o c value asked
+
     fault_is : (out : Bool) → is_out_of_range o.value (request_for value) ≡ out → set_fault tree c.target value ≡ cond out (Some faults.OutOfRange) None
     fault_is out e = ap (λ x. fault_in x value) found ∙ fault_taken o.value value out takes e
 

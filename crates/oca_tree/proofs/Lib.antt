@@ -10,7 +10,8 @@ pub mod Plain
 pub mod Executing
 pub mod Endings
 pub mod Containers
-pub mod Marking
+pub mod Listing
 pub mod Locking
 pub mod Keyed
+pub mod Takes
 pub mod Fronts

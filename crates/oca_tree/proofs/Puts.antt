@@ -36,6 +36,13 @@ module _ {X : Type 0} (f : X → List ℕ) (xs : List X) (i : ℕ) (x : X) (with
     pub put_step_passed : (out all : List ℕ) → p x ≡ false → out ++ flat_map f (filter p (drop i xs)) ≡ all → out ++ flat_map f (filter p (drop (i + 1) xs)) ≡ all
     put_step_passed out all t e = sym (ap (λ ys. out ++ flat_map f ys) (passed t)) ∙ e
 
+    -- how many are left
+    pub count_kept : (n m : ℕ) → p x ≡ true → n + length (filter p (drop i xs)) ≡ m → (n + 1) + length (filter p (drop (i + 1) xs)) ≡ m
+    count_kept n m t e = omega (arith, e, ap length (kept t))
+
+    pub count_passed : (n m : ℕ) → p x ≡ false → n + length (filter p (drop i xs)) ≡ m → n + length (filter p (drop (i + 1) xs)) ≡ m
+    count_passed n m t e = omega (arith, e, ap length (passed t))
+
 -- bytes that come after others
 pub puts_after : {Y E : Type 0} (r : Result Y E) (old mid new a bytes : List ℕ) → mid ≡ old ++ a → Puts r mid new bytes → Puts r old new (a ++ bytes)
 puts_after (Ok _) old mid new a bytes e h = h ∙ ap (λ xs. xs ++ bytes) e ∙ append_assoc old a bytes

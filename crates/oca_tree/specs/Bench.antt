@@ -1,5 +1,5 @@
 -- The bench device (profile): a desk with one object of each form.
-use Rattle.std.specs.Prelude.{true, false, List, [], ◌∷◌, codes, pos, negsuc}
+use Rattle.std.specs.Prelude.{ℕ, zero, suc, ◌+◌, ◌*◌, true, false, List, [], ◌∷◌, ◌++◌, codes, pos, negsuc}
 use Rattle.oca_tree.specs.declared.object.MuteState.TheVariants.{Muted}
 use Rattle.oca_tree.specs.declared.object.PolarityState.TheVariants.{NonInverted}
 use Rattle.oca_tree.specs.declared.object.NumberKind.TheVariants.{Int16, Uint8}
@@ -22,3 +22,21 @@ bench_objects =
     ∷ new_object 4101 4096 true (codes "lamp") (Boolean false)
     ∷ new_object 4102 4096 false (codes "dim") (number Uint8 (pos 10) (pos 0) (pos 100))
     ∷ []
+
+-- the strip of a channel, whose block has this number
+abbrev pub strip : ℕ → List Object
+strip first =
+    new_object first 100 true (codes "strip") Block
+    ∷ new_object (first + 1) first true (codes "mute") (Mute Muted)
+    ∷ new_object (first + 2) first true (codes "polarity") (Polarity NonInverted)
+    ∷ new_object (first + 3) first true (codes "trim") (number Int16 (pos 0) (negsuc 599) (pos 600))
+    ∷ []
+
+-- the strips of so many channels, in order
+abbrev pub strips : ℕ → List Object
+strips zero = []
+strips (suc n) = strips n ++ strip (4103 + 4 * n)
+
+-- the bench device with so many channels
+abbrev pub bench_with : ℕ → List Object
+bench_with channels = bench_objects ++ strips channels

@@ -11,7 +11,7 @@ use Rattle.oca_tree.specs.declared.builder.AddFault.TheVariants as faults
 use Rattle.oca_tree.specs.declared.builder.Spec.{Spec}
 use Rattle.oca_tree.specs.declared.builder.Kind.{Kind}
 use Rattle.oca_tree.specs.declared.builder.Kind.TheVariants as given
-use Rattle.oca_tree.specs.Objects.{object_of}
+use Rattle.oca_tree.specs.Objects.{Store, object_of}
 use Rattle.oca_tree.specs.Places.{places, is_block, depth}
 
 -- ---- the object that is added
@@ -82,11 +82,11 @@ abbrev pub first_fault : List (Bool × AddFault) → Option AddFault
 first_fault [] = None
 first_fault (line ∷ lines) = if line.0 then Some line.1 else first_fault lines
 
--- the profile's order: 128 objects, a reserved number, a number that is there, no block to contain it, depth 9, a text that is
+-- the profile's order: as many objects as there is room for, a reserved number, a number that is there, no block to contain it, depth 9, a text that is
 -- empty or long, a range that does not hold
-unfoldable pub add_fault : List Object → ℕ → ℕ → Spec → Option AddFault
-add_fault tree container ono spec = first_fault (
-    (nat_le 128 (length tree), faults.Full)
+unfoldable pub add_fault : ℕ → List Object → ℕ → ℕ → Spec → Option AddFault
+add_fault room tree container ono spec = first_fault (
+    (nat_le room (length tree), faults.Full)
     ∷ (nat_lt ono 4096, faults.Reserved)
     ∷ (is_some (object_of tree ono), faults.Taken)
     ∷ (not (is_block (places tree) container), faults.NoSuchBlock)
@@ -96,7 +96,8 @@ add_fault tree container ono spec = first_fault (
     ∷ [])
 
 -- The object is added at the end where no line applies. A refusal changes nothing, and is the first line that applies. Memory is
--- not asked for: a builder has the room for 128 objects from the start.
-abbrev pub Adds : {X : Type 0} → Result X AddFault → List Object → List Object → ℕ → ℕ → Spec → Type 0
-Adds (Ok _) old new container ono spec = (add_fault old container ono spec ≡ None) × (new ≡ old ++ object_of_spec container ono spec ∷ [])
-Adds (Err e) old new container ono spec = (new ≡ old) × (add_fault old container ono spec ≡ Some e)
+-- not asked for: a builder has its room from the start.
+abbrev pub Adds : {X : Type 0} → Result X AddFault → Store → Store → ℕ → ℕ → Spec → Type 0
+Adds (Ok _) old new container ono spec =
+    (add_fault old.room old.list container ono spec ≡ None) × (new ≡ record old { list = old.list ++ object_of_spec container ono spec ∷ [] })
+Adds (Err e) old new container ono spec = (new ≡ old) × (add_fault old.room old.list container ono spec ≡ Some e)

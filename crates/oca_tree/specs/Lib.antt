@@ -7,6 +7,7 @@ pub mod Requests
 pub mod Execution
 pub mod Written
 pub mod Trees
+pub mod Room
 pub mod Building
 pub mod Bench
 pub mod Readers

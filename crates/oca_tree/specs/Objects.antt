@@ -29,6 +29,11 @@ abbrev pub with_object : List Object → Object → List Object
 with_object [] new = []
 with_object (o ∷ os) new = if o.ono.0 == new.ono.0 then new ∷ os else o ∷ with_object os new
 
+-- Objects in order of adding, and for how many there is room.
+pub record Store : Type 0 where
+  pub room : ℕ
+  pub list : List Object
+
 -- the objects whose container is the block, in order of adding
 abbrev pub members : List Object → ℕ → List Object
 members tree block = filter (λ o. o.container.0 == block) tree

@@ -19,6 +19,7 @@ use Rattle.oca_tree.specs.declared.builder.Spec.{Spec}
 use Rattle.oca_tree.specs.declared.setting.LocalValue.{LocalValue}
 use Rattle.oca_tree.specs.declared.setting.SetFault.{SetFault}
 use Rattle.oca_tree.specs.Places.{places, reaches}
+use Rattle.oca_tree.specs.Objects.{Store}
 use Rattle.oca_tree.specs.Locks.{lock_refuses}
 use Rattle.oca_tree.specs.Requests.{request_of, is_out_of_range, is_invalid}
 use Rattle.oca_tree.specs.Execution.{identification_encoding, block_member_encoding, joined, answer, kind_at, request_at, status_of, by_status, refused, execution}
@@ -86,9 +87,10 @@ MakesValue None value = is_bad_value value ≡ true
 MakesValue (Some v) value = (v ≡ value) × (is_bad_value value ≡ false) × IsSoundValue v
 
 -- An object was made for a place that is free, or the first line that applies refuses it.
-abbrev pub Makes : Result Object AddFault → List Object → ℕ → ℕ → Spec → Type 0
-Makes (Ok o) tree container ono spec = (add_fault tree container ono spec ≡ None) × (o ≡ object_of_spec container ono spec) × IsTree (tree ++ o ∷ [])
-Makes (Err e) tree container ono spec = add_fault tree container ono spec ≡ Some e
+abbrev pub Makes : Result Object AddFault → Store → ℕ → ℕ → Spec → Type 0
+Makes (Ok o) old container ono spec =
+    (add_fault old.room old.list container ono spec ≡ None) × (o ≡ object_of_spec container ono spec) × IsTree (old.list ++ o ∷ [])
+Makes (Err e) old container ono spec = add_fault old.room old.list container ono spec ≡ Some e
 
 -- The request that a value stands for can be carried out at an object that holds this, or the first fault refuses it.
 abbrev pub ChecksSetting : Result Request SetFault → Value → LocalValue → Type 0

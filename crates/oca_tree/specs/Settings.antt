@@ -64,8 +64,8 @@ after_set tree number value = set_where (set_fault tree number value) tree (obje
 abbrev pub AnyPeerSetsTheSame : Type 0
 AnyPeerSetsTheSame = (o : Object) (peer : Peer) (value : LocalValue) → changed o peer (request_for value) ≡ changed o front (request_for value)
 
--- What the front sets is what a peer's command sets that asks the same of an object that takes such a value, where no lock refuses it.
+-- What the front sets is what a peer's command sets that asks the same of the object, where no lock refuses it.
 abbrev pub FrontSetsAsPeersDo : Type 0
 FrontSetsAsPeersDo = (tree : List Object) (peer : Peer) (c : CommandFields) (o : Object) (value : LocalValue) →
-    object_of tree c.target ≡ Some o → is_set_by o.value value ≡ true → is_locked (Some o) (kind_at (Some o) c) peer ≡ false →
+    object_of tree c.target ≡ Some o → is_locked (Some o) (kind_at (Some o) c) peer ≡ false →
     request_at (Some o) (kind_at (Some o) c) c ≡ Some (request_for value) → (execution tree peer c).tree ≡ after_set tree c.target value

@@ -54,7 +54,7 @@ pub data IsBuilt : List Place → Type 0 where
 pub record IsTree (tree : List Object) : Type 0 where
   pub built : IsBuilt (places tree)
   pub objects : All IsSound tree
-  pub few : length tree ≤ 128
+  pub few : length tree ≤ 4096
 
 -- The objects that are listed as descendants of a block are those whose chain of containers reaches it: the test by which they
 -- are chosen answers exactly that.

@@ -1,7 +1,7 @@
 //! Writing the parameters of an answer.
-ghost use Rattle.std.specs.Prelude.{◌≡◌, ◌==◌, ◌≤◌, ◌<◌, Bool, [], length, map, take, slice_index_or, true, false, IfSome, IfNone};
+ghost use Rattle.std.specs.Prelude.{◌≡◌, ◌≤◌, ◌<◌, ◌+◌, ◌++◌, Bool, [], length, take, drop, slice_index_or, true, false, IfSome, IfNone, IfOk};
 ghost use Rattle.std.specs.List.{flat_map, filter};
-ghost use Rattle.std.specs.Int.{w8};
+ghost use Rattle.std.specs.Int.{w8, w16};
 ghost use Rattle.oca_types.specs.Numbers.{bool_encoding, unsigned_encoding};
 ghost use Rattle.oca_types.specs.Putting.{Puts};
 ghost use Rattle.oca_types.specs.Texts.{text_encoding};
@@ -20,7 +20,6 @@ use crate::object::{MuteState, Object, PolarityState, Range, Switch, Value};
 use crate::objects::Objects;
 use crate::put::put_number;
 use crate::request::{Request, SwitchRequest};
-use arrayvec::ArrayVec;
 use oca_types::{
     Ono, Params, PutFault, Status, Text, put_bool, put_class_identification, put_text, put_u8,
     put_u16, put_u32,
@@ -38,83 +37,79 @@ fn put_item(out: &mut Params, object: &Object, deep: bool) -> Result<(), PutFaul
     Ok(())
 }
 
-/// Whether the object at this index lies in the block, however deep: its container is the block, or is marked.
-fn lies_in(objects: &Objects, at: usize, block: Ono, marks: &[bool]) -> bool
-    requires tree { IsTree objects.now }
-    requires within { at < length objects.now }
-    requires marks { marks.now ≡ map (is_listed objects.now block.0 true) (take at objects.now) }
-    ensures { (d : AnObject) → result ≡ is_listed objects.now block.0 true (slice_index_or objects.now at d) }
+/// Whether the object at this index lies in the block, however deep: the block is among the containers above it.
+fn lies_in(objects: &Objects, at: usize, block: Ono) -> bool
+    requires tree { IsTree objects.now.list }
+    requires within { at < length objects.now.list }
+    ensures { (d : AnObject) → result ≡ is_listed objects.now.list block.0 true (slice_index_or objects.now.list at d) }
 {
-    match objects.container_at(at) {
-        Some(container) => objects.object_at(at).container == block || marks[container],
-        None => false,
+    let mut current = at;
+    for _ in 0..objects.len() {
+        let Some(container) = objects.container_at(current) else {
+            return false;
+        };
+        if objects.object_at(current).container == block {
+            return true;
+        }
+        current = container;
     }
+    false
 }
 
-/// Whether the object at this index is listed for the block, by the marks of those before it.
-fn is_listed(objects: &Objects, at: usize, block: Ono, deep: bool, marks: &[bool]) -> bool
-    requires tree { IsTree objects.now }
-    requires within { at < length objects.now }
-    requires marks { marks.now ≡ map (is_listed objects.now block.0 deep) (take at objects.now) }
-    ensures { (d : AnObject) → result ≡ is_listed objects.now block.0 deep (slice_index_or objects.now at d) }
+/// Whether the object at this index is listed for the block: as a member of it, or where all are listed as one that lies in it.
+fn is_listed(objects: &Objects, at: usize, block: Ono, deep: bool) -> bool
+    requires tree { IsTree objects.now.list }
+    requires within { at < length objects.now.list }
+    ensures { (d : AnObject) → result ≡ is_listed objects.now.list block.0 deep (slice_index_or objects.now.list at d) }
 {
     if deep {
-        lies_in(objects, at, block, marks)
+        lies_in(objects, at, block)
     } else {
         objects.object_at(at).container == block
     }
 }
 
-/// Marks the objects that are listed for the block, in one walk: containers stand before what they contain.
-fn listed(objects: &Objects, block: Ono, deep: bool) -> ArrayVec<bool, 128>
-    requires { IsTree objects.now }
-    ensures { result.items ≡ map (is_listed objects.now block.0 deep) objects.now }
-{
-    let mut marks = ArrayVec::new();
-    for at in 0..objects.len() {
-        let mark = is_listed(objects, at, block, deep, &marks);
-        marks.push(mark);
-    }
-    marks
-}
-
-/// How many marks are set.
-#[tactic(auto, using(crate::proofs::Positions::counted))]
-fn marked_count(marks: &[bool]) -> usize
-    ensures few { result ≤ length marks.now }
-    ensures count { result ≡ length (filter (λ mark. mark) marks.now) }
-{
-    marks.iter().filter(|mark| **mark).count()
-}
-
-/// What is listed of each object that is marked.
+/// What is listed of each object that is, and how many there are. It stops at the first that does not fit.
 fn put_items(
     out: &mut Params,
     objects: &Objects,
-    marks: &[bool],
+    block: Ono,
     deep: bool,
-) -> Result<(), PutFault>
-    requires { length marks.now ≡ length objects.now }
-    ensures { (p : AnObject → Bool) → marks.now ≡ map p objects.now → Puts result out.old.items out.new.items (flat_map (item_encoding deep) (filter p objects.now)) }
+) -> Result<u16, PutFault>
+    requires { IsTree objects.now.list }
+    ensures puts { Puts result out.old.items out.new.items (flat_map (item_encoding deep) (filter (is_listed objects.now.list block.0 deep) objects.now.list)) }
+    ensures count { IfOk result (λ n. n ≡ length (filter (is_listed objects.now.list block.0 deep) objects.now.list)) }
 {
+    let mut count = 0u16;
     for at in 0..objects.len() {
         let object = objects.object_at(at);
-        if marks[at] {
+        if is_listed(objects, at, block, deep) {
             put_item(out, object, deep)?;
+            count += 1;
         }
     }
-    Ok(())
+    Ok(count)
 }
 
-/// The members of a block, or all that lie in it however deep.
+/// Writes a Uint16 over the two bytes at this index.
+fn write_u16(bytes: &mut [u8], at: usize, value: u16)
+    requires { at + 2 ≤ length bytes.old }
+    ensures { bytes.new ≡ take at bytes.old ++ unsigned_encoding w16 value ++ drop (at + 2) bytes.old }
+{
+    bytes[at..at + 2].copy_from_slice(&value.to_be_bytes());
+}
+
+/// The members of a block, or all that lie in it however deep. Their number is written once they are put.
 #[inline(never)]
 fn put_members(out: &mut Params, objects: &Objects, block: Ono, deep: bool) -> Result<(), PutFault>
-    requires { IsTree objects.now }
-    ensures { Puts result out.old.items out.new.items (list_encoding (item_encoding deep) (filter (is_listed objects.now block.0 deep) objects.now)) }
+    requires { IsTree objects.now.list }
+    ensures { Puts result out.old.items out.new.items (list_encoding (item_encoding deep) (filter (is_listed objects.now.list block.0 deep) objects.now.list)) }
 {
-    let marks = listed(objects, block, deep);
-    put_u16(out, marked_count(&marks) as u16)?;
-    put_items(out, objects, &marks, deep)
+    let start = out.len();
+    put_u16(out, 0)?;
+    let count = put_items(out, objects, block, deep)?;
+    write_u16(out.as_mut_slice(), start, count);
+    Ok(())
 }
 
 /// The number of a mute's state.
@@ -288,8 +283,8 @@ pub(crate) fn put_answer(
 ) -> Result<u8, Status>
     requires sound { IsSoundValue object.now.value }
     requires range { is_out_of_range object.now.value request.now ≡ false }
-    requires tree { IsTree objects.now }
-    ensures { PutsAll result out.old.items out.new.items (parameters objects.now object.now request.now) }
+    requires tree { IsTree objects.now.list }
+    ensures { PutsAll result out.old.items out.new.items (parameters objects.now.list object.now request.now) }
 {
     match request {
         Request::GetClassIdentification => {

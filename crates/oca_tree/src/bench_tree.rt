@@ -1,33 +1,33 @@
 //! The bench device (profile): a desk with one object of each form.
-ghost use Rattle.std.specs.Prelude.{◌≡◌, [], ◌∷◌, ◌++◌, None, OnOk, IfOk, IfErr};
-ghost use Rattle.oca_tree.specs.Bench.{bench_objects};
+ghost use Rattle.std.specs.Prelude.{◌≡◌, ◌≤◌, ◌<◌, ◌^◌, [], ◌∷◌, ◌++◌, None, OnOk, IfOk, IfErr, IsErrOf};
+ghost use Rattle.oca_tree.specs.Bench.{bench_objects, strip, bench_with};
+ghost use Rattle.oca_tree.specs.Room.{room_size};
 ghost use Rattle.oca_tree.specs.Building.{add_fault, object_of_spec};
-ghost use Rattle.oca_tree.specs.declared.builder.AddFault.TheVariants.{NoMemory};
+ghost use Rattle.oca_tree.specs.declared.builder.AddFault.TheVariants.{NoMemory, Full};
 
 use crate::builder::{AddFault, Kind, Spec, TreeBuilder};
 use crate::object::{MuteState, PolarityState};
+use crate::room::Room;
 use crate::tree::Tree;
 use oca_types::Ono;
 use std::alloc::Global;
 
 /// Adds an object that nothing refuses.
 fn add(builder: &mut TreeBuilder, container: Ono, ono: Ono, spec: &Spec<'_>) -> Result<(), AddFault>
-    requires { add_fault builder.old container.0 ono.0 spec.now ≡ None }
-    ensures ok { OnOk result (builder.new ≡ builder.old ++ object_of_spec container.0 ono.0 spec.now ∷ []) }
+    requires { add_fault builder.old.room builder.old.list container.0 ono.0 spec.now ≡ None }
+    ensures ok { OnOk result (builder.new ≡ record builder.old { list = builder.old.list ++ object_of_spec container.0 ono.0 spec.now ∷ [] }) }
     ensures err { IfErr result (λ e. e ≡ NoMemory) }
 {
     builder.add(container, ono, spec)
 }
 
-/// The bench device: under the root the block 4096 `desk`, and in it the mute 4097, the polarity 4098,
-/// the switch 4099 with the positions Line, Mic and Off, the Int16 4100 of 0 in -600 to 600, the Boolean
-/// 4101 and the Uint8 4102 of 10 in 0 to 100. All are lockable but 4102. Refusal: `NoMemory`, where that
-/// was refused.
-pub fn bench(alloc: Global) -> Result<Tree, AddFault>
-    ensures ok { IfOk result (λ tree. tree ≡ bench_objects) }
+/// The bench device's own objects in a builder with this room. Refusal: `NoMemory`, where that was refused.
+fn desk(alloc: Global, room: Room) -> Result<TreeBuilder, AddFault>
+    requires { 8 ≤ room_size room }
+    ensures ok { IfOk result (λ builder. builder ≡ record { room = room_size room; list = bench_objects }) }
     ensures err { IfErr result (λ e. e ≡ NoMemory) }
 {
-    let mut builder = TreeBuilder::new(alloc)?;
+    let mut builder = TreeBuilder::with_room(alloc, room)?;
     let root = Ono(100);
     let desk = Ono(4096);
     let desk_spec = Spec {
@@ -83,5 +83,75 @@ pub fn bench(alloc: Global) -> Result<Tree, AddFault>
         },
     };
     add(&mut builder, desk, Ono(4102), &dim_spec)?;
+    Ok(builder)
+}
+
+/// The bench device: under the root the block 4096 `desk`, and in it the mute 4097, the polarity 4098,
+/// the switch 4099 with the positions Line, Mic and Off, the Int16 4100 of 0 in -600 to 600, the Boolean
+/// 4101 and the Uint8 4102 of 10 in 0 to 100. All are lockable but 4102. Refusal: `NoMemory`, where that
+/// was refused.
+pub fn bench(alloc: Global) -> Result<Tree, AddFault>
+    ensures ok { IfOk result (λ tree. tree ≡ bench_objects) }
+    ensures err { IfErr result (λ e. e ≡ NoMemory) }
+{
+    Ok(desk(alloc, Room::default())?.finish())
+}
+
+/// Adds the strip of a channel, whose block has this ONo and whose members have the next three.
+#[tactic(auto, unfolding(crate::specs::Building::value_of))]
+fn add_strip(builder: &mut TreeBuilder, first: u32) -> Result<(), AddFault>
+    requires { first < 2 ^ 31 }
+    ensures { OnOk result (builder.new ≡ record builder.old { list = builder.old.list ++ strip first }) }
+{
+    let block = Ono(first);
+    let block_spec = Spec {
+        role: "strip",
+        lockable: true,
+        kind: Kind::Block,
+    };
+    builder.add(Ono(100), block, &block_spec)?;
+    let mute_spec = Spec {
+        role: "mute",
+        lockable: true,
+        kind: Kind::Mute(MuteState::Muted),
+    };
+    builder.add(block, Ono(first + 1), &mute_spec)?;
+    let polarity_spec = Spec {
+        role: "polarity",
+        lockable: true,
+        kind: Kind::Polarity(PolarityState::NonInverted),
+    };
+    builder.add(block, Ono(first + 2), &polarity_spec)?;
+    let trim_spec = Spec {
+        role: "trim",
+        lockable: true,
+        kind: Kind::Int16 {
+            setting: 0,
+            least: -600,
+            greatest: 600,
+        },
+    };
+    builder.add(block, Ono(first + 3), &trim_spec)?;
+    Ok(())
+}
+
+/// The bench device with so many channel strips behind its own objects: under the root, from 4103 on, for each channel a block
+/// `strip` and in it a mute, a polarity and an Int16 `trim` of 0 in -600 to 600, all lockable. It has room for these objects alone;
+/// without channels it is [`bench`]. Refusals: `Full` for more than 1,022 channels, which are more than 4,096 objects, and
+/// `NoMemory`.
+pub fn bench_with_channels(alloc: Global, channels: u16) -> Result<Tree, AddFault>
+    ensures ok { IfOk result (λ tree. tree ≡ bench_with channels) }
+    ensures most { 1022 < channels → IsErrOf result Full }
+{
+    if channels > 1022 {
+        return Err(AddFault::Full);
+    }
+    let Some(room) = Room::new(8 + 4 * channels) else {
+        return Err(AddFault::Full);
+    };
+    let mut builder = desk(alloc, room)?;
+    for channel in 0..channels {
+        add_strip(&mut builder, 4103 + 4 * u32::from(channel))?;
+    }
     Ok(builder.finish())
 }

@@ -4,6 +4,7 @@ ghost use Rattle.std.specs.List.{list_any};
 ghost use Rattle.oca_tree.specs.Kinds.{IsOfType};
 ghost use Rattle.oca_tree.specs.Building.{Adds, value_of, switch, number, has_bad_name, is_long, root};
 ghost use Rattle.oca_tree.specs.Objects.{object_of};
+ghost use Rattle.oca_tree.specs.Room.{room_size};
 ghost use Rattle.oca_tree.specs.Trees.{IsTree, IsSoundValue};
 ghost use Rattle.oca_tree.specs.PrivateSteps.{Makes, MakesValue};
 ghost use Rattle.oca_tree.specs.declared.builder.AddFault.TheVariants.{NoMemory};
@@ -11,6 +12,7 @@ ghost use Rattle.oca_tree.specs.declared.builder.AddFault.TheVariants.{NoMemory}
 use crate::object::{MuteState, NumberKind, Object, PolarityState, Range, Switch, Value};
 use crate::objects::Objects;
 use crate::place::{block_depth, contains};
+use crate::room::Room;
 use crate::tree::Tree;
 use arrayvec::ArrayVec;
 use oca_types::{Ono, Text};
@@ -21,8 +23,8 @@ use thiserror::Error;
 /// Why an object was not added, the first in this order that applies. The numbers are promised (*profile*).
 #[derive(Clone, Copy, Debug, PartialEq, Eq, Error)]
 pub enum AddFault {
-    /// 128 objects are there, the root counted.
-    #[error("128 objects are there")]
+    /// As many objects are there as the tree has room for, the root counted.
+    #[error("there is no room for another object")]
     Full = 1,
     /// The number is below 4096.
     #[error("the number is below 4096")]
@@ -350,12 +352,13 @@ fn object_for(
     ono: Ono,
     spec: &Spec<'_>,
 ) -> Result<Object, AddFault>
-    requires { IsTree objects.now }
+    requires tree { IsTree objects.now.list }
+    requires most { objects.now.room ≤ 4096 }
     ensures makes { Makes result objects.now container.0 ono.0 spec.now }
-    ensures room { OnOk result (length objects.now < 128) }
-    ensures free { IfOk result (λ o. object_of objects.now o.ono.0 ≡ None) }
+    ensures room { OnOk result (length objects.now.list < objects.now.room) }
+    ensures free { IfOk result (λ o. object_of objects.now.list o.ono.0 ≡ None) }
 {
-    if objects.len() >= 128 {
+    if objects.len() >= objects.room() {
         return Err(AddFault::Full);
     }
     if ono.0 < 4096 {
@@ -391,32 +394,42 @@ fn object_for(
     })
 }
 
-/// A tree to which objects are added. Contracts see the list of them in order of adding.
+/// A tree to which objects are added. Contracts see the list of them in order of adding, and for how many there is room.
 #[derive(Drop)]
 pub struct TreeBuilder {
     objects: Objects,
 }
 
 impl Model for TreeBuilder {
-    ghost use Rattle.std.specs.Prelude.{List};
-    ghost use Rattle.oca_tree.specs.declared.object.Object.{Object as Item};
+    ghost use Rattle.std.specs.Prelude.{◌≤◌};
+    ghost use Rattle.oca_tree.specs.Objects.{Store};
     ghost use Rattle.oca_tree.specs.Trees.{IsTree};
 
-    ghost Value = { List Item };
+    ghost Value = { Store };
 
     ghost view = { λ t. t.objects };
 
-    ghost invariant = { λ t. IsTree t.objects };
+    ghost invariant = { λ t. IsTree t.objects.list × (t.objects.room ≤ 4096) };
 }
 
 impl TreeBuilder {
-    /// A builder that holds the root alone: a block of the number 100 with the role `root`, lockable.
-    /// It takes the memory for 128 objects. Refusal: `NoMemory`, where that was refused.
+    /// A builder that holds the root alone, with room for 128 objects: as [`with_room`](TreeBuilder::with_room) of the default.
     pub fn new(alloc: Global) -> Result<TreeBuilder, AddFault>
-        ensures ok { IfOk result (λ builder. builder ≡ root ∷ []) }
+        ensures ok { IfOk result (λ builder. builder ≡ record { room = 128; list = root ∷ [] }) }
         ensures err { IfErr result (λ e. e ≡ NoMemory) }
     {
-        let mut objects = Objects::new(alloc).map_err(|_| AddFault::NoMemory)?;
+        TreeBuilder::with_room(alloc, Room::default())
+    }
+
+    /// A builder that holds the root alone: a block of the number 100 with the role `root`, lockable. It takes the memory for as
+    /// many objects as there is to be room for. Refusal: `NoMemory`, where that was refused.
+    pub fn with_room(alloc: Global, room: Room) -> Result<TreeBuilder, AddFault>
+        ensures ok { IfOk result (λ builder. builder ≡ record { room = room_size room; list = root ∷ [] }) }
+        ensures err { IfErr result (λ e. e ≡ NoMemory) }
+    {
+        let Ok(mut objects) = Objects::new(alloc, usize::from(room.get())) else {
+            return Err(AddFault::NoMemory);
+        };
         let Some(role) = Text::new("root") else {
             unreachable!()
         };
@@ -435,8 +448,8 @@ impl TreeBuilder {
     }
 
     /// Adds an object at the end: enabled, unlocked and with an empty label. It is refused by the first
-    /// variant of `AddFault` that applies, and is then unchanged. It asks for no memory, since `new` took
-    /// it: `NoMemory` does not come.
+    /// variant of `AddFault` that applies, and is then unchanged. It asks for no memory, since
+    /// `with_room` took it: `NoMemory` does not come.
     pub fn add(&mut self, container: Ono, ono: Ono, spec: &Spec<'_>) -> Result<(), AddFault>
         ensures { Adds result self.old self.new container.0 ono.0 spec.now }
     {
@@ -447,7 +460,7 @@ impl TreeBuilder {
 
     /// The tree of the objects that were added.
     pub fn finish(self) -> Tree
-        ensures { result ≡ self }
+        ensures { result ≡ self.list }
     {
         Tree::of(self.objects)
     }

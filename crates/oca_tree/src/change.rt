@@ -94,7 +94,7 @@ fn change_value(value: &mut Value, request: Request<'_>)
 pub(crate) fn change(object: &mut Object, locks: &mut usize, peer: Peer, request: Request<'_>)
     requires sound { IsSoundValue object.old.value }
     requires range { is_out_of_range object.old.value request ≡ false }
-    requires room { locks.old ≤ 128 }
+    requires room { locks.old ≤ 4096 }
     requires counted { lock_of_one object.old ≤ locks.old }
     ensures object { object.new ≡ changed object.old peer request.entry }
     ensures count { locks.new + lock_of_one object.old ≡ locks.old + lock_of_one object.new }

@@ -67,14 +67,14 @@ fn carry_out_at(
     command: &Command<'_>,
     out: &mut Params,
 ) -> Result<u8, Status>
-    requires place { position (has_number command.now.target.0) objects.old ≡ Some at }
-    requires method { (d : AnObject) → MayCall method (slice_index_or objects.old at d) peer (fields_of command.now) }
+    requires place { position (has_number command.now.target.0) objects.old.list ≡ Some at }
+    requires method { (d : AnObject) → MayCall method (slice_index_or objects.old.list at d) peer (fields_of command.now) }
     requires empty { out.old.items ≡ [] }
-    requires tree { IsTree objects.old }
-    requires count { locks.old ≡ lock_count objects.old }
-    ensures done { Executes result objects.old objects.new out.new.items peer (fields_of command.now) }
-    ensures tree { IsTree objects.new }
-    ensures count { locks.new ≡ lock_count objects.new }
+    requires tree { IsTree objects.old.list }
+    requires count { locks.old ≡ lock_count objects.old.list }
+    ensures done { Executes result objects.old.list objects.new.list out.new.items peer (fields_of command.now) }
+    ensures tree { IsTree objects.new.list }
+    ensures count { locks.new ≡ lock_count objects.new.list }
 {
     let object = objects.object_at(at);
     let request = check_request(object, command, method)?;
@@ -104,12 +104,12 @@ pub(crate) fn carry_out(
     writes: &mut bool,
 ) -> Result<u8, Status>
     requires empty { out.old.items ≡ [] }
-    requires tree { IsTree objects.old }
-    requires count { locks.old ≡ lock_count objects.old }
-    ensures done { Executes result objects.old objects.new out.new.items peer (fields_of command.now) }
-    ensures writes { OnOk result (writes.new ≡ calls_a_write objects.old (fields_of command.now)) }
-    ensures tree { IsTree objects.new }
-    ensures count { locks.new ≡ lock_count objects.new }
+    requires tree { IsTree objects.old.list }
+    requires count { locks.old ≡ lock_count objects.old.list }
+    ensures done { Executes result objects.old.list objects.new.list out.new.items peer (fields_of command.now) }
+    ensures writes { OnOk result (writes.new ≡ calls_a_write objects.old.list (fields_of command.now)) }
+    ensures tree { IsTree objects.new.list }
+    ensures count { locks.new ≡ lock_count objects.new.list }
 {
     let Some(at) = index_from(objects, recent, command.target) else {
         return Err(Status::BadOno);

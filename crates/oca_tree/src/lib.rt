@@ -17,14 +17,16 @@ mod objects;
 mod place;
 mod put;
 mod request;
+mod room;
 mod setting;
 mod take;
 mod tree;
 
-pub use bench_tree::bench;
+pub use bench_tree::{bench, bench_with_channels};
 pub use builder::{AddFault, Kind, Spec, TreeBuilder};
 pub use laws::{law_of_descendants, law_of_settings};
 pub use object::{Lock, LockKind, MuteState, PolarityState};
+pub use room::Room;
 pub use setting::{LocalValue, SetFault};
 pub use tree::{Done, ObjectInfo, Setting, Tree};
 

@@ -157,7 +157,7 @@ impl Object {
 
     /// Locks the object for the peer, and counts the lock where there was none.
     pub(crate) fn lock(&mut self, locks: &mut usize, kind: LockKind, peer: Peer)
-        requires { locks.old ≤ 128 }
+        requires { locks.old ≤ 4096 }
         ensures object { self.new ≡ record self.old { lock = Some (record { kind = kind; holder = peer }) } }
         ensures count { locks.new + lock_of_one self.old ≡ locks.old + 1 }
     {

@@ -11,10 +11,10 @@ use oca_types::Ono;
 
 /// The index of the object with this number, counted from 0 in order of adding.
 pub(crate) fn index_of(objects: &Objects, ono: Ono) -> Option<usize>
-    ensures index { result ≡ position (has_number ono.0) objects.now }
-    ensures within { IfSome result (λ at. at < length objects.now) }
-    ensures absent { IfNone result (object_of objects.now ono.0 ≡ None) }
-    ensures found { IfSome result (λ at. (d : Object) → object_of objects.now ono.0 ≡ Some (slice_index_or objects.now at d)) }
+    ensures index { result ≡ position (has_number ono.0) objects.now.list }
+    ensures within { IfSome result (λ at. at < length objects.now.list) }
+    ensures absent { IfNone result (object_of objects.now.list ono.0 ≡ None) }
+    ensures found { IfSome result (λ at. (d : Object) → object_of objects.now.list ono.0 ≡ Some (slice_index_or objects.now.list at d)) }
 {
     objects.index_of(ono)
 }
@@ -22,11 +22,11 @@ pub(crate) fn index_of(objects: &Objects, ono: Ono) -> Option<usize>
 /// As `index_of`. The object at `recent` is looked at first, since commands often come in runs for one object; the index that
 /// is found is the next `recent`.
 pub(crate) fn index_from(objects: &Objects, recent: &mut usize, ono: Ono) -> Option<usize>
-    requires { IsTree objects.now }
-    ensures index { result ≡ position (has_number ono.0) objects.now }
-    ensures within { IfSome result (λ at. at < length objects.now) }
-    ensures absent { IfNone result (object_of objects.now ono.0 ≡ None) }
-    ensures found { IfSome result (λ at. (d : Object) → object_of objects.now ono.0 ≡ Some (slice_index_or objects.now at d)) }
+    requires { IsTree objects.now.list }
+    ensures index { result ≡ position (has_number ono.0) objects.now.list }
+    ensures within { IfSome result (λ at. at < length objects.now.list) }
+    ensures absent { IfNone result (object_of objects.now.list ono.0 ≡ None) }
+    ensures found { IfSome result (λ at. (d : Object) → object_of objects.now.list ono.0 ≡ Some (slice_index_or objects.now.list at d)) }
 {
     search_from(objects, recent, ono)
 }
@@ -34,8 +34,8 @@ pub(crate) fn index_from(objects: &Objects, recent: &mut usize, ono: Ono) -> Opt
 /// Looks for the number at `recent`, and then among all, and leaves there where it was found: an index that is read in one
 /// place is not tested again.
 fn search_from(objects: &Objects, recent: &mut usize, ono: Ono) -> Option<usize>
-    requires { IsTree objects.now }
-    ensures { result ≡ position (has_number ono.0) objects.now }
+    requires { IsTree objects.now.list }
+    ensures { result ≡ position (has_number ono.0) objects.now.list }
 {
     if !is_at(objects, *recent, ono) {
         *recent = objects.index_of(ono)?;
@@ -46,24 +46,24 @@ fn search_from(objects: &Objects, recent: &mut usize, ono: Ono) -> Option<usize>
 /// Whether the object at this index has the number. If so, it is the first that has it.
 #[tactic(auto, using(crate::proofs::Containers::index_itself))]
 fn is_at(objects: &Objects, at: usize, ono: Ono) -> bool
-    requires { IsTree objects.now }
-    ensures { IsTrue result → position (has_number ono.0) objects.now ≡ Some at }
+    requires { IsTree objects.now.list }
+    ensures { IsTrue result → position (has_number ono.0) objects.now.list ≡ Some at }
 {
     at < objects.len() && objects.object_at(at).ono == ono
 }
 
 /// Whether there is an object with this number.
 pub(crate) fn contains(objects: &Objects, ono: Ono) -> bool
-    ensures { result ≡ is_some (object_of objects.now ono.0) }
+    ensures { result ≡ is_some (object_of objects.now.list ono.0) }
 {
     objects.find(ono).is_some()
 }
 
 /// How deep the object at this index stands, the root at depth 1.
 fn depth(objects: &Objects, at: usize) -> usize
-    requires tree { IsTree objects.now }
-    requires within { at < length objects.now }
-    ensures { (d : Object) → result ≡ depth (places objects.now) (slice_index_or objects.now at d).ono.0 }
+    requires tree { IsTree objects.now.list }
+    requires within { at < length objects.now.list }
+    ensures { (d : Object) → result ≡ depth (places objects.now.list) (slice_index_or objects.now.list at d).ono.0 }
 {
     let mut depth = 1;
     let mut current = at;
@@ -79,9 +79,9 @@ fn depth(objects: &Objects, at: usize) -> usize
 
 /// How deep the block with this number stands; nothing where it is not there.
 pub(crate) fn block_depth(objects: &Objects, ono: Ono) -> Option<usize>
-    requires { IsTree objects.now }
-    ensures block { is_some result ≡ is_block (places objects.now) ono.0 }
-    ensures depth { IfSome result (λ n. n ≡ depth (places objects.now) ono.0) }
+    requires { IsTree objects.now.list }
+    ensures block { is_some result ≡ is_block (places objects.now.list) ono.0 }
+    ensures depth { IfSome result (λ n. n ≡ depth (places objects.now.list) ono.0) }
 {
     let Some(at) = index_of(objects, ono) else {
         return None;

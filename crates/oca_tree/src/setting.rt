@@ -106,13 +106,13 @@ pub(crate) fn set(
     ono: Ono,
     value: LocalValue,
 ) -> Result<(), SetFault>
-    requires tree { IsTree objects.old }
-    requires count { locks.old ≡ lock_count objects.old }
-    ensures objects { objects.new ≡ after_set objects.old ono.0 value }
-    ensures refused { OnErr result (objects.new ≡ objects.old) }
-    ensures told { result_err result ≡ set_fault objects.old ono.0 value }
-    ensures tree { IsTree objects.new }
-    ensures count { locks.new ≡ lock_count objects.new }
+    requires tree { IsTree objects.old.list }
+    requires count { locks.old ≡ lock_count objects.old.list }
+    ensures objects { objects.new.list ≡ after_set objects.old.list ono.0 value }
+    ensures refused { OnErr result (objects.new.list ≡ objects.old.list) }
+    ensures told { result_err result ≡ set_fault objects.old.list ono.0 value }
+    ensures tree { IsTree objects.new.list }
+    ensures count { locks.new ≡ lock_count objects.new.list }
 {
     let Some(at) = index_from(objects, recent, ono) else {
         return Err(SetFault::NoObject);

@@ -80,16 +80,16 @@ impl Model for Tree {
 
     ghost Value = { List Item };
 
-    ghost view = { λ t. t.objects };
+    ghost view = { λ t. t.objects.list };
 
-    ghost invariant = { λ t. IsTree t.objects × (t.locks ≡ lock_count t.objects) };
+    ghost invariant = { λ t. IsTree t.objects.list × (t.locks ≡ lock_count t.objects.list) };
 }
 
 impl Tree {
     /// The tree of these objects.
     pub(crate) fn of(objects: Objects) -> Tree
-        requires { IsTree objects }
-        ensures { result ≡ objects }
+        requires { IsTree objects.list }
+        ensures { result ≡ objects.list }
     {
         let locks = count_locks(objects.as_slice());
         Tree {
@@ -162,7 +162,7 @@ impl Tree {
         }
     }
 
-    /// How many objects there are, the root counted: 1 to 128. With it comes what holds of every tree: distinct numbers, blocks
+    /// How many objects there are, the root counted: 1 to 4,096. With it comes what holds of every tree: distinct numbers, blocks
     /// that stand before what they contain, settings in their ranges, and locks of lockable objects alone.
     pub fn len(&self) -> usize
         ensures len { result ≡ length self.now }
@@ -210,7 +210,7 @@ fn info_of(object: &Object) -> ObjectInfo
 
 /// The lock of the object with this number.
 fn lock_in(objects: &Objects, ono: Ono) -> Option<Lock>
-    ensures { result ≡ lock_at objects.now ono.0 }
+    ensures { result ≡ lock_at objects.now.list ono.0 }
 {
     match objects.find(ono) {
         Some(object) => object.lock,
@@ -239,7 +239,7 @@ fn value_setting(value: &Value) -> Option<Setting>
 
 /// How the object with this number is set.
 fn setting_in(objects: &Objects, ono: Ono) -> Option<Setting>
-    ensures { result ≡ setting_at objects.now ono.0 }
+    ensures { result ≡ setting_at objects.now.list ono.0 }
 {
     match objects.find(ono) {
         Some(object) => value_setting(&object.value),

@@ -118,7 +118,7 @@ fn a_switch_needs_its_positions(rt: HostRuntime) -> Result<(), Fail> {
 #[test]
 fn faults_are_printed(rt: HostRuntime) -> Result<(), Fail> {
     for (fault, words) in [
-        (AddFault::Full, "128 objects are there"),
+        (AddFault::Full, "there is no room for another object"),
         (AddFault::Reserved, "the number is below 4096"),
         (AddFault::Taken, "the number is taken"),
         (
@@ -135,5 +135,40 @@ fn faults_are_printed(rt: HostRuntime) -> Result<(), Fail> {
     ] {
         assert_eq!(rt; fault.to_string(rt.alloc())?.as_str(), words);
     }
+    Ok(())
+}
+
+/// Mutes are added to the root until the builder is full: how many there is room for.
+fn mutes_added(rt: &impl Abort, alloc: Global, room: u16) -> Result<usize, AddFault> {
+    let Some(room) = Room::new(room) else {
+        return Ok(0);
+    };
+    let mut builder = TreeBuilder::with_room(alloc, room)?;
+    let mute = Spec {
+        role: "mute",
+        lockable: true,
+        kind: Kind::Mute(MuteState::Muted),
+    };
+    for ono in 4096..8192u32 {
+        match builder.add(Ono(100), Ono(ono), &mute) {
+            Ok(()) => {}
+            Err(fault) => {
+                assert_eq!(rt; fault, AddFault::Full);
+                break;
+            }
+        }
+    }
+    Ok(builder.finish().len())
+}
+
+/// A tree has as many objects as there is room for, the root counted.
+#[test]
+fn a_builder_has_the_room_that_was_chosen(rt: HostRuntime) -> Result<(), Fail> {
+    for room in [1, 2, 8, 129, 4096] {
+        assert_eq!(rt; mutes_added(&rt, rt.alloc(), room)?, usize::from(room), "{room}");
+    }
+    assert!(rt; Room::new(0).is_none());
+    assert!(rt; Room::new(4097).is_none());
+    assert_eq!(rt; Room::default().get(), 128);
     Ok(())
 }

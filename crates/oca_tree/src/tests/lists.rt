@@ -164,3 +164,29 @@ fn the_objects_of_the_bench_device(rt: HostRuntime) -> Result<(), Fail> {
     assert_eq!(rt; tree.setting_of(Ono(4095)), None);
     Ok(())
 }
+
+/// The strips of channels stand behind the objects of the bench device.
+#[test]
+fn the_bench_device_with_channels(rt: HostRuntime) -> Result<(), Fail> {
+    assert_eq!(rt; bench_with_channels(rt.alloc(), 0)?.len(), 8);
+    let tree = bench_with_channels(rt.alloc(), 1022)?;
+    assert_eq!(rt; tree.len(), 4096);
+    for (at, ono, container, role) in [
+        (7, 4102, 4096, "dim"),
+        (8, 4103, 100, "strip"),
+        (9, 4104, 4103, "mute"),
+        (10, 4105, 4103, "polarity"),
+        (11, 4106, 4103, "trim"),
+        (12, 4107, 100, "strip"),
+        (4095, 8190, 8187, "trim"),
+    ] {
+        let Some(info) = tree.object_at(at) else {
+            return Err("no object")?;
+        };
+        assert_eq!(rt; info.ono.0, ono);
+        assert_eq!(rt; info.container.0, container);
+        assert_eq!(rt; info.role.as_str(), role);
+    }
+    assert!(rt; bench_with_channels(rt.alloc(), 1023).is_err());
+    Ok(())
+}

@@ -1,25 +1,47 @@
-use Rattle.std.proofs.Common.{◌<◌, length, sym, ◌∙◌, arith}
+use Rattle.std.proofs.Common.{◌≡◌, ◌<◌, length, sym, ap, ◌∙◌, arith, true, false}
 use Rattle.std.proofs.lemmas.Result.{err_from_is_err_and}
-use Rattle.oca_tree.specs.PrivateSteps.{item_encoding}
-use Rattle.oca_tree.proofs.Marking.{mark_at}
-use Rattle.oca_tree.proofs.Puts.{put_step_kept, put_step_passed, put_full_kept}
+use Rattle.oca_tree.specs.PrivateSteps.{is_listed, item_encoding}
+use Rattle.oca_tree.proofs.Puts.{put_step_kept, put_step_passed, put_full_kept, count_kept, count_passed}
 use Rattle.oca_tree.proofs.answer.put_items.Goals as goal
-use Rattle.oca_tree.proofs.answer.put_items.Goals.{then-marks-at+in_ok-put_item, else-marks-at}
+use Rattle.oca_tree.proofs.answer.put_items.Goals.{then-is_listed+in_ok-put_item, else-is_listed}
 
-pub returns-in_err-put_item : goal.returns-in_err-put_item
-returns-in_err-put_item c = λ p is.
+pub returns-in_err-put_item-clause-puts : goal.returns-in_err-put_item-clause-puts
+returns-in_err-put_item-clause-puts c =
     let e = err_from_is_err_and c.from_residual.result c.from_residual.ensures.1 in
-    let within : c.loop-at.at < length c.args.objects.now = omega arith in
-    let mark = mark_at p c.args.objects.now c.loop-at.at c.object_at-object.result.now c.args.marks.now is within c.object_at-object.ensures in
-    rw e.1 (put_full_kept (item_encoding c.args.deep) c.args.objects.now c.loop-at.at c.object_at-object.result.now within c.object_at-object.ensures p _ _ _ (sym mark ∙ c.if-marks-at.true) (c.loop-at.invariant p is) c.in_err-put_item.ensures)
+    let p = is_listed c.args.objects.now.list c.args.block.0 c.args.deep in
+    let o = c.object_at-object.result.now in
+    let within : c.loop-at.at < length c.args.objects.now.list = omega arith in
+    let listed : p o ≡ true = ap p c.object_at-object.ensures ∙ sym (c.is_listed.ensures o) ∙ c.if-is_listed.true in
+    rw e.1 (put_full_kept (item_encoding c.args.deep) c.args.objects.now.list c.loop-at.at o within c.object_at-object.ensures p _ _ _ listed c.loop-at.invariant.bytes c.in_err-put_item.ensures)
+
+pub returns-in_err-put_item-clause-count : goal.returns-in_err-put_item-clause-count
+returns-in_err-put_item-clause-count c = let e = err_from_is_err_and c.from_residual.result c.from_residual.ensures.1 in rw e.1 tt
+
+pub overflow_add-count : goal.overflow_add-count
+overflow_add-count c = omega (arith, c.loop-at.invariant.few, c.requires.few)
 
 pub loop-at-preserved : goal.loop-at-preserved
-loop-at-preserved c = λ p is.
-    let within : c.loop-at.at < length c.args.objects.now = omega arith in
-    let mark = mark_at p c.args.objects.now c.loop-at.at c.object_at-object.result.now c.args.marks.now is within c.object_at-object.ensures in
-    elim c.if-marks-at.branch [
-      | then-marks-at+in_ok-put_item w ↦ rw (w.out-is, w.in_ok-put_item.ensures)
-          (put_step_kept (item_encoding c.args.deep) c.args.objects.now c.loop-at.at c.object_at-object.result.now within c.object_at-object.ensures p _ _ (sym mark ∙ w.if-marks-at.true) (c.loop-at.invariant p is))
-      | else-marks-at w ↦ rw w.out-is
-          (put_step_passed (item_encoding c.args.deep) c.args.objects.now c.loop-at.at c.object_at-object.result.now within c.object_at-object.ensures p _ _ (sym mark ∙ w.if-marks-at.false) (c.loop-at.invariant p is))
+loop-at-preserved c =
+    let p = is_listed c.args.objects.now.list c.args.block.0 c.args.deep in
+    let o = c.object_at-object.result.now in
+    let within : c.loop-at.at < length c.args.objects.now.list = omega arith in
+    elim c.if-is_listed.branch [
+      | then-is_listed+in_ok-put_item w ↦
+        let listed : p o ≡ true = ap p c.object_at-object.ensures ∙ sym (c.is_listed.ensures o) ∙ w.if-is_listed.true in
+        record {
+          bytes = rw (w.out-is, w.in_ok-put_item.ensures)
+              (put_step_kept (item_encoding c.args.deep) c.args.objects.now.list c.loop-at.at o within c.object_at-object.ensures p _ _ listed c.loop-at.invariant.bytes);
+          number = rw w.count-is
+              (count_kept (item_encoding c.args.deep) c.args.objects.now.list c.loop-at.at o within c.object_at-object.ensures p _ _ listed c.loop-at.invariant.number);
+          few = rw w.count-is (omega (arith, c.loop-at.invariant.few));
+        }
+      | else-is_listed w ↦
+        let other : p o ≡ false = ap p c.object_at-object.ensures ∙ sym (c.is_listed.ensures o) ∙ w.if-is_listed.false in
+        record {
+          bytes = rw w.out-is
+              (put_step_passed (item_encoding c.args.deep) c.args.objects.now.list c.loop-at.at o within c.object_at-object.ensures p _ _ other c.loop-at.invariant.bytes);
+          number = rw w.count-is
+              (count_passed (item_encoding c.args.deep) c.args.objects.now.list c.loop-at.at o within c.object_at-object.ensures p _ _ other c.loop-at.invariant.number);
+          few = rw w.count-is (omega (arith, c.loop-at.invariant.few));
+        }
     ]

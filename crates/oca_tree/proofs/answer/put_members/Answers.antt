@@ -1,23 +1,14 @@
-use Rattle.std.proofs.Common.{◌≡◌, length, ap, ◌∙◌, arith}
-use Rattle.std.specs.List.{filter}
-use Rattle.std.proofs.lemmas.List.{length-map}
+use Rattle.std.proofs.Common.{◌≡◌, ◌++◌, sym, ap, ◌∙◌, refl}
+use Rattle.std.specs.List.{filter, flat_map}
 use Rattle.std.specs.Int.{w16}
 use Rattle.oca_types.specs.Numbers.{unsigned_encoding}
-use Rattle.oca_tree.specs.PrivateSteps.{is_listed}
-use Rattle.oca_tree.proofs.Marking.{marks_counted}
-use Rattle.oca_tree.proofs.Puts.{puts_after}
+use Rattle.oca_tree.specs.PrivateSteps.{is_listed, item_encoding}
+use Rattle.oca_tree.proofs.Listing.{counted_front}
 use Rattle.oca_tree.proofs.answer.put_members.Goals as goal
-
-pub overflow_cast-marked_count : goal.overflow_cast-marked_count
-overflow_cast-marked_count c =
-    let listed = is_listed c.args.objects.now c.args.block.0 c.args.deep in
-    let long = ap length (c.deref.ensures.0 ∙ c.listed-marks.ensures) ∙ length-map c.args.objects.now listed in
-    omega (arith, c.marked_count.ensures.few, long, c.requires.few)
 
 pub returns : goal.returns
 returns c =
-    let listed = is_listed c.args.objects.now c.args.block.0 c.args.deep in
-    let count : c.marked_count.result ≡ length (filter listed c.args.objects.now) =
-    c.marked_count.ensures.count ∙ ap (λ ms. length (filter (λ mark. mark) ms)) (c.deref.ensures.0 ∙ c.listed-marks.ensures) ∙ marks_counted listed c.args.objects.now in
-    puts_after c.put_items.result c.args.out.now.items c.put_u16.new.params.items c.put_items.new.out.items (unsigned_encoding w16 (length (filter listed c.args.objects.now))) _
-    (rw (← count) c.in_ok-put_u16.ensures.puts) (c.put_items.ensures listed (c.deref-2.ensures.0 ∙ c.listed-marks.ensures))
+    let items = flat_map (item_encoding c.args.deep) (filter (is_listed c.args.objects.now.list c.args.block.0 c.args.deep) c.args.objects.now.list) in
+    counted_front c.args.out.now.items (unsigned_encoding w16 0) items (unsigned_encoding w16 c.in_ok-count.count) c.put_items.new.out.items c.write_u16.new.bytes c.len-start.result
+    (c.len-start.ensures) refl (c.in_ok-count.ensures.puts ∙ ap (λ ys. ys ++ items) c.in_ok-put_u16.ensures.puts) c.write_u16.ensures
+    ∙ ap (λ n. c.args.out.now.items ++ (unsigned_encoding w16 n ++ items)) c.in_ok-count.ensures.count

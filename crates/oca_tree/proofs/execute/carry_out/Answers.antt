@@ -7,19 +7,19 @@ use Rattle.oca_tree.proofs.Executing.{exec_none, exec_refused, read_at}
 use Rattle.oca_tree.proofs.execute.carry_out.Goals as goal
 
 pub returns-in_default-clause-done : goal.returns-in_default-clause-done
-returns-in_default-clause-done c = (exec_none c.args.objects.now c.args.peer (fields_of c.args.command.now) c.in_default.ensures.absent, refl, refl)
+returns-in_default-clause-done c = (exec_none c.args.objects.now.list c.args.peer (fields_of c.args.command.now) c.in_default.ensures.absent, refl, refl)
 
 pub returns-in_err-method-clause-done : goal.returns-in_err-method-clause-done
 returns-in_err-method-clause-done c =
     let p = err_from_is_err_and c.from_residual.result c.from_residual.ensures.1 in
     let found = c.in-Some.ensures.found c.object_at-object.result.now ∙ ap Some (sym c.object_at-object.ensures) in
-    rw (p.1, p.2) (exec_refused c.args.objects.now c.args.peer (fields_of c.args.command.now) c.object_at-object.result.now found _ c.in_err-method.ensures.0, refl, c.in_err-method.ensures.1)
+    rw (p.1, p.2) (exec_refused c.args.objects.now.list c.args.peer (fields_of c.args.command.now) c.object_at-object.result.now found _ c.in_err-method.ensures.0, refl, c.in_err-method.ensures.1)
 
 pub put_answer-answered-requires-clause-range : goal.put_answer-answered-requires-clause-range
 put_answer-answered-requires-clause-range c = plain_in_range c.in_ok-method.method c.in-Some-plain.request (sym c.in-Some-plain.ensures) c.object_at-object.result.now.value
 
 pub returns-clause-done : goal.returns-clause-done
 returns-clause-done c =
-    read_at c.args.objects.now c.args.peer (fields_of c.args.command.now) c.in-Some.at c.object_at-object.result.now c.in-Some.ensures.index c.object_at-object.ensures
+    read_at c.args.objects.now.list c.args.peer (fields_of c.args.command.now) c.in-Some.at c.object_at-object.result.now c.in-Some.ensures.index c.object_at-object.ensures
     c.in_ok-method.method c.in-Some-plain.request c.in_ok-method.ensures (sym c.in-Some-plain.ensures) c.if-command-eq0.true (grind (arith, c.if-is_empty.ensures))
     c.put_answer-answered.result c.put_answer-answered.new.out.items (rw c.requires.empty at c.put_answer-answered.ensures) (omega arith)

@@ -12,8 +12,8 @@ returns-in_err-request-clause-done c =
     let o = c.object_at-object.result.now in
     let here = c.object_at-object.ensures in
     let may = rw (← here) at (c.requires.method o) in
-    let found = found_at c.args.objects.now c.args.peer (fields_of c.args.command.now) c.args.at o (sym c.requires.place) here in
-    rw (p.1, p.2) (exec_refused c.args.objects.now c.args.peer (fields_of c.args.command.now) o found _ (c.in_err-request.ensures c.args.peer may).0, refl, (c.in_err-request.ensures c.args.peer may).1)
+    let found = found_at c.args.objects.now.list c.args.peer (fields_of c.args.command.now) c.args.at o (sym c.requires.place) here in
+    rw (p.1, p.2) (exec_refused c.args.objects.now.list c.args.peer (fields_of c.args.command.now) o found _ (c.in_err-request.ensures c.args.peer may).0, refl, (c.in_err-request.ensures c.args.peer may).1)
 
 pub returns-in_err-count-clause-done : goal.returns-in_err-count-clause-done
 returns-in_err-count-clause-done c =
@@ -23,7 +23,7 @@ returns-in_err-count-clause-done c =
     let may = rw (← here) at (c.requires.method o) in
     let asked = c.in_ok-request.ensures c.args.peer may in
     let puts = rw c.requires.empty at c.in_err-count.ensures in
-    rw (p.1, p.2) (full_at c.args.objects.now c.args.peer (fields_of c.args.command.now) c.args.at o (sym c.requires.place) here c.in_ok-request.request asked c.put_answer.new.out.items _ puts, refl, ap is_ok puts.0)
+    rw (p.1, p.2) (full_at c.args.objects.now.list c.args.peer (fields_of c.args.command.now) c.args.at o (sym c.requires.place) here c.in_ok-request.request asked c.put_answer.new.out.items _ puts, refl, ap is_ok puts.0)
 
 pub returns-clause-done : goal.returns-clause-done
 returns-clause-done c =
@@ -32,8 +32,8 @@ returns-clause-done c =
     let may = rw (← here) at (c.requires.method o) in
     let asked = c.in_ok-request.ensures c.args.peer may in
     let puts = rw c.requires.empty at c.in_ok-count.ensures in
-    let new = c.change_at.ensures.objects o ∙ ap (λ x. set c.args.objects.now c.args.at (changed x c.args.peer c.in_ok-request.request)) (sym here) in
-    let done = done_at c.args.objects.now c.args.peer (fields_of c.args.command.now) c.args.at o (sym c.requires.place) here c.in_ok-request.request asked c.put_answer.new.out.items c.in_ok-count.count puts (omega arith) in
+    let new = c.change_at.ensures.objects o ∙ ap (λ x. set c.args.objects.now.list c.args.at (changed x c.args.peer c.in_ok-request.request)) (sym here) in
+    let done = done_at c.args.objects.now.list c.args.peer (fields_of c.args.command.now) c.args.at o (sym c.requires.place) here c.in_ok-request.request asked c.put_answer.new.out.items c.in_ok-count.count puts (omega arith) in
     rw new done
 
 pub returns-clause-tree : goal.returns-clause-tree
@@ -42,5 +42,5 @@ returns-clause-tree c =
     let here = c.object_at-object.ensures in
     let may = rw (← here) at (c.requires.method o) in
     let asked = c.in_ok-request.ensures c.args.peer may in
-    let new = c.change_at.ensures.objects o ∙ ap (λ x. set c.args.objects.now c.args.at (changed x c.args.peer c.in_ok-request.request)) (sym here) in
-    rw new (tree_at c.args.objects.now c.args.peer (fields_of c.args.command.now) c.args.at o (sym c.requires.place) here c.in_ok-request.request asked c.put_answer.new.out.items c.requires.tree)
+    let new = c.change_at.ensures.objects o ∙ ap (λ x. set c.args.objects.now.list c.args.at (changed x c.args.peer c.in_ok-request.request)) (sym here) in
+    rw new (tree_at c.args.objects.now.list c.args.peer (fields_of c.args.command.now) c.args.at o (sym c.requires.place) here c.in_ok-request.request asked c.put_answer.new.out.items c.requires.tree)

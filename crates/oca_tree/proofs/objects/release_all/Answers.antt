@@ -19,8 +19,9 @@ loop-at-preserved c =
       valid = record {
         keyed = keyed-set_value_at c.loop-at.map.entries c.loop-at.at c.release.new.self c.index_mut.result.now c.index_mut.ensures.value
             (ap (λ (o : Object). o.ono) c.release.ensures.object ∙ released_ono c.args.peer c.index_mut.result.now) c.loop-at.invariant.valid.keyed;
-        room = rw (length-set_value c.loop-at.map.entries c.loop-at.at c.release.new.self) c.loop-at.invariant.valid.room;
       };
+      free = c.loop-at.invariant.free;
+      size = length-set_value c.loop-at.map.entries c.loop-at.at c.release.new.self ∙ c.loop-at.invariant.size;
       long = length-set_value c.loop-at.map.entries c.loop-at.at c.release.new.self ∙ c.loop-at.invariant.long;
       released = release_step c.loop-at.map.entries (values c.args.map.now) c.loop-at.at c.index_mut.result.now c.release.new.self c.args.peer c.index_mut.ensures.value c.release.ensures.object within c.loop-at.invariant.released;
       count = lock_written_get c.loop-at.map.entries c.loop-at.at c.index_mut.result.now c.index_mut.ensures.value c.release.new.self c.loop-at.locks c.release.new.locks c.loop-at.invariant.count c.release.ensures.count;

@@ -8,39 +8,39 @@ use Rattle.oca_tree.proofs.setting.set.Goals as goal
 
 pub returns-in_default-clause-objects : goal.returns-in_default-clause-objects
 returns-in_default-clause-objects c =
-    sym (unset c.args.objects.now c.args.ono.0 c.args.value _ (fault_none c.args.objects.now c.args.ono.0 c.args.value c.in_default.ensures.absent))
+    sym (unset c.args.objects.now.list c.args.ono.0 c.args.value _ (fault_none c.args.objects.now.list c.args.ono.0 c.args.value c.in_default.ensures.absent))
 
 pub returns-in_default-clause-told : goal.returns-in_default-clause-told
-returns-in_default-clause-told c = sym (fault_none c.args.objects.now c.args.ono.0 c.args.value c.in_default.ensures.absent)
+returns-in_default-clause-told c = sym (fault_none c.args.objects.now.list c.args.ono.0 c.args.value c.in_default.ensures.absent)
 
 pub returns-in_err-request-clause-objects : goal.returns-in_err-request-clause-objects
 returns-in_err-request-clause-objects c =
-    let there = fault_there c.args.objects.now c.args.ono.0 c.in-Some.at c.object_at.result.now c.in-Some.ensures.index c.object_at.ensures c.args.value in
-    sym (unset c.args.objects.now c.args.ono.0 c.args.value _ (there ∙ c.in_err-request.ensures))
+    let there = fault_there c.args.objects.now.list c.args.ono.0 c.in-Some.at c.object_at.result.now c.in-Some.ensures.index c.object_at.ensures c.args.value in
+    sym (unset c.args.objects.now.list c.args.ono.0 c.args.value _ (there ∙ c.in_err-request.ensures))
 
 pub returns-in_err-request-clause-told : goal.returns-in_err-request-clause-told
 returns-in_err-request-clause-told c =
     let p = err_from_is_err_and c.from_residual.result c.from_residual.ensures.1 in
-    let there = fault_there c.args.objects.now c.args.ono.0 c.in-Some.at c.object_at.result.now c.in-Some.ensures.index c.object_at.ensures c.args.value in
+    let there = fault_there c.args.objects.now.list c.args.ono.0 c.in-Some.at c.object_at.result.now c.in-Some.ensures.index c.object_at.ensures c.args.value in
     rw (p.1, p.2) (sym (there ∙ c.in_err-request.ensures))
 
 pub returns-clause-objects : goal.returns-clause-objects
 returns-clause-objects c =
     let o = c.object_at.result.now in
     let new = c.change_at.ensures.objects o
-    ∙ ap (λ (x : Object). set c.args.objects.now c.in-Some.at (changed x front c.in_ok-request.request)) (sym c.object_at.ensures)
-    ∙ ap (λ r. set c.args.objects.now c.in-Some.at (changed o front r)) c.in_ok-request.ensures.1 in
-    new ∙ sym (set_there c.args.objects.now c.args.ono.0 c.in-Some.at o c.in-Some.ensures.index c.object_at.ensures c.args.value c.in_ok-request.ensures.0)
+    ∙ ap (λ (x : Object). set c.args.objects.now.list c.in-Some.at (changed x front c.in_ok-request.request)) (sym c.object_at.ensures)
+    ∙ ap (λ r. set c.args.objects.now.list c.in-Some.at (changed o front r)) c.in_ok-request.ensures.1 in
+    new ∙ sym (set_there c.args.objects.now.list c.args.ono.0 c.in-Some.at o c.in-Some.ensures.index c.object_at.ensures c.args.value c.in_ok-request.ensures.0)
 
 pub returns-clause-told : goal.returns-clause-told
 returns-clause-told c =
-    let there = fault_there c.args.objects.now c.args.ono.0 c.in-Some.at c.object_at.result.now c.in-Some.ensures.index c.object_at.ensures c.args.value in
+    let there = fault_there c.args.objects.now.list c.args.ono.0 c.in-Some.at c.object_at.result.now c.in-Some.ensures.index c.object_at.ensures c.args.value in
     sym (there ∙ c.in_ok-request.ensures.0)
 
 pub returns-clause-tree : goal.returns-clause-tree
 returns-clause-tree c =
     let o = c.object_at.result.now in
     let new = c.change_at.ensures.objects o
-    ∙ ap (λ (x : Object). set c.args.objects.now c.in-Some.at (changed x front c.in_ok-request.request)) (sym c.object_at.ensures)
-    ∙ ap (λ r. set c.args.objects.now c.in-Some.at (changed o front r)) c.in_ok-request.ensures.1 in
-    rw new (tree_there c.args.objects.now c.args.ono.0 c.in-Some.at o c.in-Some.ensures.index c.object_at.ensures c.args.value c.in_ok-request.ensures.0 c.requires.tree)
+    ∙ ap (λ (x : Object). set c.args.objects.now.list c.in-Some.at (changed x front c.in_ok-request.request)) (sym c.object_at.ensures)
+    ∙ ap (λ r. set c.args.objects.now.list c.in-Some.at (changed o front r)) c.in_ok-request.ensures.1 in
+    rw new (tree_there c.args.objects.now.list c.args.ono.0 c.in-Some.at o c.in-Some.ensures.index c.object_at.ensures c.args.value c.in_ok-request.ensures.0 c.requires.tree)

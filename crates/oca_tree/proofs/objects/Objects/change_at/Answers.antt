@@ -1,6 +1,7 @@
 use Rattle.std.proofs.Common.{sym, ap, ◌∙◌, arith}
 use Rattle.indexmap.specs.IndexMap.{values}
 use Rattle.oca_tree.specs.Locks.{lock_count}
+use Rattle.oca_tree.specs.Objects.{Store}
 use Rattle.oca_tree.specs.Places.{Place, place_of}
 use Rattle.oca_tree.specs.PrivateObjects.{containers}
 use Rattle.oca_tree.proofs.Keyed.{keyed-set_value_at, length-set_value, places_kept, change_there, same_ono}
@@ -9,12 +10,12 @@ use Rattle.oca_tree.proofs.Sound.{changed_place}
 use Rattle.oca_tree.proofs.objects.Objects.change_at.Goals as goal
 
 pub change-requires-clause-room : goal.change-requires-clause-room
-change-requires-clause-room c = let few = locks_few c.args.self.now 128 c.requires.tree.few in omega (arith, few, c.requires.count)
+change-requires-clause-room c = let few = locks_few c.args.self.now.list 4096 c.requires.tree.few in omega (arith, few, c.requires.count)
 
 pub change-requires-clause-counted : goal.change-requires-clause-counted
 change-requires-clause-counted c =
     let one = lock_counted_get (values c.self.inside.map) c.args.at c.index_mut.result.now c.index_mut.ensures.value in
-    let same = ap lock_count c.self.view_is in
+    let same = ap (λ (h : Store). lock_count h.list) c.self.view_is in
     omega (arith, one, same, c.requires.count)
 
 pub invariant_of-self : goal.invariant_of-self
@@ -24,9 +25,13 @@ invariant_of-self c =
       record {
         keyed = keyed-set_value_at c.self.inside.map.entries c.args.at c.change.new.object c.index_mut.result.now c.index_mut.ensures.value
             (same_ono c.change.new.object c.index_mut.result.now (ap (λ (p : Place). p.number) place)) c.self.invariant.0.keyed;
-        room = rw (length-set_value c.self.inside.map.entries c.args.at c.change.new.object) c.self.invariant.0.room;
       },
-      c.self.invariant.1 ∙ sym same_containers,
+      record {
+        objects = rw (length-set_value c.self.inside.map.entries c.args.at c.change.new.object) c.self.invariant.1.objects;
+        containers = c.self.invariant.1.containers;
+        both = c.self.invariant.1.both ∙ sym (length-set_value c.self.inside.map.entries c.args.at c.change.new.object);
+      },
+      c.self.invariant.2 ∙ sym same_containers,
     )
 
 pub returns-clause-objects : goal.returns-clause-objects
@@ -36,4 +41,4 @@ returns-clause-objects c = λ d. rw (← c.self.view_is)
 pub returns-clause-count : goal.returns-clause-count
 returns-clause-count c =
     lock_written_get c.self.inside.map.entries c.args.at c.index_mut.result.now c.index_mut.ensures.value c.change.new.object c.args.locks.now c.change.new.locks
-    (c.requires.count ∙ ap lock_count (sym c.self.view_is)) c.change.ensures.count
+    (c.requires.count ∙ ap (λ (h : Store). lock_count h.list) (sym c.self.view_is)) c.change.ensures.count

@@ -1,4 +1,4 @@
-use Rattle.std.proofs.Common.{sym, ap, ◌∙◌}
+use Rattle.std.proofs.Common.{sym, ap, ◌∙◌, arith}
 use Rattle.indexmap.specs.IndexMap.{values}
 use Rattle.oca_tree.specs.Locks.{released}
 use Rattle.oca_tree.specs.Places.{places}
@@ -10,5 +10,10 @@ pub invariant_of-self : goal.invariant_of-self
 unfolding released
 invariant_of-self c = (
   c.release_all.ensures.map,
-  c.self.invariant.1 ∙ ap containers (sym (ap places c.release_all.ensures.objects ∙ released_places c.args.peer (values c.self.inside.map))),
+  record {
+    objects = omega (arith, c.self.invariant.1.objects, c.release_all.ensures.spare, c.release_all.ensures.len);
+    containers = c.self.invariant.1.containers;
+    both = c.self.invariant.1.both ∙ sym c.release_all.ensures.len;
+  },
+  c.self.invariant.2 ∙ ap containers (sym (ap places c.release_all.ensures.objects ∙ released_places c.args.peer (values c.self.inside.map))),
 )

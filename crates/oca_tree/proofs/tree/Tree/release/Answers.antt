@@ -6,10 +6,10 @@ use Rattle.oca_tree.proofs.tree.Tree.release.Goals as goal
 
 pub invariant_of-self : goal.invariant_of-self
 unfolding released
-invariant_of-self c = (released_tree c.args.peer c.self.inside.objects c.release.new.self c.release.ensures.objects c.self.invariant.0, c.release.ensures.count)
+invariant_of-self c = (released_tree c.args.peer c.self.inside.objects.list c.release.new.self.list c.release.ensures.objects c.self.invariant.0, c.release.ensures.count)
 
 pub returns-else-self-gt0 : goal.returns-else-self-gt0
 unfolding released
 returns-else-self-gt0 c =
-    let none : lock_count c.self.inside.objects ≡ 0 = omega (arith, c.self.invariant.1) in
-    rw (← c.self.view_is) (sym (nothing_locked c.args.peer c.self.inside.objects none))
+    let none : lock_count c.self.inside.objects.list ≡ 0 = omega (arith, c.self.invariant.1) in
+    rw (← c.self.view_is) (sym (nothing_locked c.args.peer c.self.inside.objects.list none))
