@@ -40,3 +40,15 @@ counted_front old front rest count mid new start s f e n =
     let head : take start mid ≡ old = ap (λ k. take k mid) s ∙ ap (take (length old)) (e ∙ append_assoc old front rest) ∙ take_front old (front ++ rest) in
     let tail : drop (start + 2) mid ≡ rest = ap (λ k. drop k mid) long ∙ ap (drop (length (old ++ front))) e ∙ drop_front (old ++ front) rest in
     n ∙ ap (λ ys. ys ++ count ++ drop (start + 2) mid) head ∙ ap (λ ys. old ++ count ++ ys) tail ∙ append_assoc old count rest
+
+refilled : (xs ws : List ℕ) → length ws ≡ length xs → take (length xs) (ws ++ drop (length ws) xs) ≡ ws
+refilled xs ws e = ap (λ n. take n (ws ++ drop (length ws) xs)) (sym e) ∙ take_front ws (drop (length ws) xs)
+
+-- the same of bytes that are written back as a slice
+pub counted_over : (old front rest count mid new : List ℕ) (start : ℕ) → start ≡ length old → length front ≡ 2 → length count ≡ 2 → mid ≡ (old ++ front) ++ rest
+    → new ≡ take start mid ++ count ++ drop (start + 2) mid → take (length mid) (new ++ drop (length new) mid) ≡ old ++ (count ++ rest)
+counted_over old front rest count mid new start s f k e n =
+    let is = counted_front old front rest count mid new start s f e n in
+    let long : length new ≡ length mid =
+        omega (arith, ap length is, ap length e, length-append old (count ++ rest), length-append count rest, length-append (old ++ front) rest, length-append old front, f, k) in
+    refilled mid new long ∙ is

@@ -183,7 +183,7 @@ numbers (values.Number range) n count params e = refl
 placed_at : (held : Value) (id : MethodId) (m k : Method) (a : Access) → method_kind (class_of held) id ≡ Known m a → m ≡ k → method_kind (class_of held) (place_of k) ≡ Known k (access k)
 placed_at held id m k a kind same =
     let here : method_kind (class_of held) id ≡ Known k (access k) =
-        kind ∙ ap (Known m) (known_access (class_of held) id m a kind) ∙ ap (λ x. Known x (access x)) same in
+    kind ∙ ap (Known m) (known_access (class_of held) id m a kind) ∙ ap (λ x. Known x (access x)) same in
     ap (method_kind (class_of held)) (sym (known_place (class_of held) id k here)) ∙ here
 
 taken_by : (held : Value) (id : MethodId) (m : Method) (a : Access) (count : ℕ) (params : List ℕ) (value : LocalValue) → method_kind (class_of held) id ≡ Known m a

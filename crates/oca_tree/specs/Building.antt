@@ -82,8 +82,8 @@ abbrev pub first_fault : List (Bool × AddFault) → Option AddFault
 first_fault [] = None
 first_fault (line ∷ lines) = if line.0 then Some line.1 else first_fault lines
 
--- the profile's order: as many objects as there is room for, a reserved number, a number that is there, no block to contain it, depth 9, a text that is
--- empty or long, a range that does not hold
+-- the profile's order: as many objects as there is room for, a reserved number, a number that is there, no block to
+-- contain it, depth 9, a text that is empty or long, a range that does not hold
 unfoldable pub add_fault : ℕ → List Object → ℕ → ℕ → Spec → Option AddFault
 add_fault room tree container ono spec = first_fault (
     (nat_le room (length tree), faults.Full)
@@ -95,8 +95,8 @@ add_fault room tree container ono spec = first_fault (
     ∷ (is_bad_value (value_of spec.kind), faults.BadRange)
     ∷ [])
 
--- The object is added at the end where no line applies. A refusal changes nothing, and is the first line that applies. Memory is
--- not asked for: a builder has its room from the start.
+-- The object is added at the end where no line applies. A refusal changes nothing, and is the first line that
+-- applies. Memory is not asked for: a builder has its room from the start.
 abbrev pub Adds : {X : Type 0} → Result X AddFault → Store → Store → ℕ → ℕ → Spec → Type 0
 Adds (Ok _) old new container ono spec =
     (add_fault old.room old.list container ono spec ≡ None) × (new ≡ record old { list = old.list ++ object_of_spec container ono spec ∷ [] })

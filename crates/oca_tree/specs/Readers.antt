@@ -1,10 +1,11 @@
 -- What is read of a tree.
-use Rattle.std.specs.Prelude.{ℕ, List, Option, Some, None, slice_get}
+use Rattle.std.specs.Prelude.{ℕ, map, List, Option, Some, None, slice_get}
 use Rattle.std.specs.Option.{option_map, option_and_then}
 use Rattle.oca_tree.specs.declared.object.Object.{Object}
 use Rattle.oca_tree.specs.declared.object.Lock.{Lock}
 use Rattle.oca_tree.specs.declared.object.Value.{Value}
 use Rattle.oca_tree.specs.declared.object.Value.TheVariants as values
+use Rattle.oca_tree.specs.declared.infos.ObjectInfos.{ObjectInfos}
 use Rattle.oca_tree.specs.declared.tree.ObjectInfo.{ObjectInfo}
 use Rattle.oca_tree.specs.declared.tree.Setting.{Setting}
 use Rattle.oca_tree.specs.declared.tree.Setting.TheVariants.{State, Position, Truth, Number}
@@ -17,6 +18,10 @@ info_of o = record { ono = o.ono; class = class_of o.value; container = o.contai
 -- the object at this place, counted from 0 in order of adding
 abbrev pub info_at : List Object → ℕ → Option ObjectInfo
 info_at tree n = option_map info_of (slice_get tree n)
+
+-- what the objects are that an iterator has left
+abbrev pub infos_left : ObjectInfos → List ObjectInfo
+infos_left infos = map info_of infos.rest.now
 
 abbrev pub lock_at : List Object → ℕ → Option Lock
 lock_at tree number = option_and_then (λ o. o.lock) (object_of tree number)

@@ -45,7 +45,7 @@ position_name_request count params = option_map (λ x. requests.Switch (switches
 abbrev pub position_enabled_request : ℕ → List ℕ → Option Request
 position_enabled_request count params = option_map (λ x. requests.Switch (switches.SetPositionEnabled x.0 x.1)) (with_parameters 2 (pair_at (unsigned_at w16) bool_at) count params)
 
--- a list has with_parameters as many items as the switch has positions
+-- a list has exactly as many items as the switch has positions
 abbrev pub position_names_request : Value → ℕ → List ℕ → Option Request
 position_names_request value count params = option_map (λ x. requests.Switch (switches.SetPositionNames x)) (with_parameters 1 (list_at text_at (positions value)) count params)
 

@@ -1,4 +1,5 @@
--- A change at the device's own front: an object is set as its class's own set method sets it, and no lock refuses it (profile).
+-- A change at the device's own front: an object is set as its class's own set method sets it, and no lock refuses it
+-- (profile).
 use Rattle.std.specs.Prelude.{◌≡◌, ℕ, Bool, true, false, not, if◌then◌else◌, List, Option, Some, None}
 use Rattle.oca_types.specs.declared.words.Peer.{Peer}
 use Rattle.oca_types.specs.Peers.{CommandFields}
@@ -33,7 +34,8 @@ is_set_by (values.Boolean _) (local.Truth _) = true
 is_set_by (values.Number _) (local.Number _) = true
 is_set_by _ _ = false
 
--- why an object cannot be set so, the first that applies: it is a block, it takes another kind of value, or the value is out of range
+-- why an object cannot be set so, the first that applies: it is a block, it takes another kind of value, or the value
+-- is out of range
 abbrev pub fault_at : Value → LocalValue → Option SetFault
 fault_at held value = if is_block_value held then Some faults.NoSetting
     else (if not (is_set_by held value) then Some faults.OtherKind else (if is_out_of_range held (request_for value) then Some faults.OutOfRange else None))

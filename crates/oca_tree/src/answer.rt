@@ -56,7 +56,8 @@ fn lies_in(objects: &Objects, at: usize, block: Ono) -> bool
     false
 }
 
-/// Whether the object at this index is listed for the block: as a member of it, or where all are listed as one that lies in it.
+/// Whether the object at this index is listed for the block: as a member of it, or where all are listed as one that
+/// lies in it.
 fn is_listed(objects: &Objects, at: usize, block: Ono, deep: bool) -> bool
     requires tree { IsTree objects.now.list }
     requires within { at < length objects.now.list }
@@ -70,12 +71,7 @@ fn is_listed(objects: &Objects, at: usize, block: Ono, deep: bool) -> bool
 }
 
 /// What is listed of each object that is, and how many there are. It stops at the first that does not fit.
-fn put_items(
-    out: &mut Params,
-    objects: &Objects,
-    block: Ono,
-    deep: bool,
-) -> Result<u16, PutFault>
+fn put_items(out: &mut Params, objects: &Objects, block: Ono, deep: bool) -> Result<u16, PutFault>
     requires { IsTree objects.now.list }
     ensures puts { Puts result out.old.items out.new.items (flat_map (item_encoding deep) (filter (is_listed objects.now.list block.0 deep) objects.now.list)) }
     ensures count { IfOk result (λ n. n ≡ length (filter (is_listed objects.now.list block.0 deep) objects.now.list)) }
@@ -271,8 +267,8 @@ fn put_setting(out: &mut Params, value: &Value) -> Result<u8, Status>
     }
 }
 
-/// Appends the parameters of the answer, and says how many they are, unless it is too long. Inlined, it is one jump table with
-/// the one that made the request.
+/// Appends the parameters of the answer, and says how many they are, unless it is too long. Inlined, it is one jump
+/// table with the one that made the request.
 #[inline(always)]
 #[tactic(auto, unfolding(crate::specs::Execution::parameters))]
 pub(crate) fn put_answer(

@@ -135,10 +135,10 @@ fn add_strip(builder: &mut TreeBuilder, first: u32) -> Result<(), AddFault>
     Ok(())
 }
 
-/// The bench device with so many channel strips behind its own objects: under the root, from 4103 on, for each channel a block
-/// `strip` and in it a mute, a polarity and an Int16 `trim` of 0 in -600 to 600, all lockable. It has room for these objects alone;
-/// without channels it is [`bench`]. Refusals: `Full` for more than 1,022 channels, which are more than 4,096 objects, and
-/// `NoMemory`.
+/// The bench device with so many channel strips behind its own objects: under the root, from 4103 on, for each
+/// channel a block `strip` and in it a mute, a polarity and an Int16 `trim` of 0 in -600 to 600, all lockable. It has
+/// room for these objects alone; without channels it is [`bench`]. Refusals: `Full` for more than 1,022 channels,
+/// which are more than 4,096 objects, and `NoMemory`.
 pub fn bench_with_channels(alloc: Global, channels: u16) -> Result<Tree, AddFault>
     ensures ok { IfOk result (λ tree. tree ≡ bench_with channels) }
     ensures most { 1022 < channels → IsErrOf result Full }

@@ -394,7 +394,8 @@ fn object_for(
     })
 }
 
-/// A tree to which objects are added. Contracts see the list of them in order of adding, and for how many there is room.
+/// A tree to which objects are added. Contracts see the list of them in order of adding, and for how many there is
+/// room.
 #[derive(Drop)]
 pub struct TreeBuilder {
     objects: Objects,
@@ -413,7 +414,8 @@ impl Model for TreeBuilder {
 }
 
 impl TreeBuilder {
-    /// A builder that holds the root alone, with room for 128 objects: as [`with_room`](TreeBuilder::with_room) of the default.
+    /// A builder that holds the root alone, with room for 128 objects: as [`with_room`](TreeBuilder::with_room) of
+    /// the default.
     pub fn new(alloc: Global) -> Result<TreeBuilder, AddFault>
         ensures ok { IfOk result (λ builder. builder ≡ record { room = 128; list = root ∷ [] }) }
         ensures err { IfErr result (λ e. e ≡ NoMemory) }
@@ -421,8 +423,8 @@ impl TreeBuilder {
         TreeBuilder::with_room(alloc, Room::default())
     }
 
-    /// A builder that holds the root alone: a block of the number 100 with the role `root`, lockable. It takes the memory for as
-    /// many objects as there is to be room for. Refusal: `NoMemory`, where that was refused.
+    /// A builder that holds the root alone: a block of the number 100 with the role `root`, lockable. It takes the
+    /// memory for as many objects as there is to be room for. Refusal: `NoMemory`, where that was refused.
     pub fn with_room(alloc: Global, room: Room) -> Result<TreeBuilder, AddFault>
         ensures ok { IfOk result (λ builder. builder ≡ record { room = room_size room; list = root ∷ [] }) }
         ensures err { IfErr result (λ e. e ≡ NoMemory) }

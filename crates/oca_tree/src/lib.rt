@@ -11,6 +11,7 @@ mod builder;
 mod change;
 mod execute;
 mod held;
+mod infos;
 mod laws;
 mod object;
 mod objects;
@@ -24,6 +25,7 @@ mod tree;
 
 pub use bench_tree::{bench, bench_with_channels};
 pub use builder::{AddFault, Kind, Spec, TreeBuilder};
+pub use infos::ObjectInfos;
 pub use laws::{law_of_descendants, law_of_settings};
 pub use object::{Lock, LockKind, MuteState, PolarityState};
 pub use room::Room;

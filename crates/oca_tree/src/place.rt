@@ -19,8 +19,8 @@ pub(crate) fn index_of(objects: &Objects, ono: Ono) -> Option<usize>
     objects.index_of(ono)
 }
 
-/// As `index_of`. The object at `recent` is looked at first, since commands often come in runs for one object; the index that
-/// is found is the next `recent`.
+/// As `index_of`. The object at `recent` is looked at first, since commands often come in runs for one object; the
+/// index that is found is the next `recent`.
 pub(crate) fn index_from(objects: &Objects, recent: &mut usize, ono: Ono) -> Option<usize>
     requires { IsTree objects.now.list }
     ensures index { result ≡ position (has_number ono.0) objects.now.list }
@@ -31,8 +31,8 @@ pub(crate) fn index_from(objects: &Objects, recent: &mut usize, ono: Ono) -> Opt
     search_from(objects, recent, ono)
 }
 
-/// Looks for the number at `recent`, and then among all, and leaves there where it was found: an index that is read in one
-/// place is not tested again.
+/// Looks for the number at `recent`, and then among all, and leaves there where it was found: an index that is read
+/// in one place is not tested again.
 fn search_from(objects: &Objects, recent: &mut usize, ono: Ono) -> Option<usize>
     requires { IsTree objects.now.list }
     ensures { result ≡ position (has_number ono.0) objects.now.list }

@@ -98,7 +98,8 @@ fn check_setting(held: &Value, value: LocalValue) -> Result<Request<'static>, Se
     Ok(request)
 }
 
-/// Sets the object with this number. `locks` counts the locks that are held, and `recent` is where an object was found last.
+/// Sets the object with this number. `locks` counts the locks that are held, and `recent` is where an object was
+/// found last.
 pub(crate) fn set(
     objects: &mut Objects,
     locks: &mut usize,

@@ -1,5 +1,5 @@
 //! The tree: executing commands, taking locks off, and reading its objects.
-ghost use Rattle.std.specs.Prelude.{◌≡◌, [], length, OnErr};
+ghost use Rattle.std.specs.Prelude.{◌≡◌, [], length, OnErr, map};
 ghost use Rattle.oca_types.specs.Peers.{fields_of};
 ghost use Rattle.std.specs.Result.{result_err};
 ghost use Rattle.oca_tree.specs.Locks.{released, lock_count};
@@ -7,10 +7,11 @@ ghost use Rattle.oca_tree.specs.Trees.{IsTree};
 ghost use Rattle.oca_tree.specs.Execution.{execution};
 ghost use Rattle.oca_tree.specs.Written.{wrote};
 ghost use Rattle.oca_tree.specs.Settings.{after_set, set_fault};
-ghost use Rattle.oca_tree.specs.Readers.{info_of, info_at, lock_at, value_setting, setting_at};
+ghost use Rattle.oca_tree.specs.Readers.{info_of, info_at, infos_left, lock_at, value_setting, setting_at};
 
 use crate::answer::{mute_number, polarity_number};
 use crate::execute::carry_out;
+use crate::infos::ObjectInfos;
 use crate::object::{Lock, Object, Value};
 use crate::objects::Objects;
 use crate::setting::{LocalValue, SetFault, set};
@@ -181,6 +182,13 @@ impl Tree {
         }
     }
 
+    /// What the objects are, in order of adding: those that [`object_at`](Tree::object_at) gives for 0, 1 and so on.
+    pub fn objects(&self) -> ObjectInfos<'_>
+        ensures { infos_left result ≡ map info_of self.now }
+    {
+        ObjectInfos::new(self.objects.as_slice())
+    }
+
     /// The lock of the object with this number, where it is there and locked.
     pub fn lock_of(&self, ono: Ono) -> Option<Lock>
         ensures { result ≡ lock_at self.now ono.0 }
@@ -197,7 +205,7 @@ impl Tree {
 }
 
 /// What the object is.
-fn info_of(object: &Object) -> ObjectInfo
+pub(crate) fn info_of(object: &Object) -> ObjectInfo
     ensures { result ≡ info_of object.now }
 {
     ObjectInfo {

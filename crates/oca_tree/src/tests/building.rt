@@ -165,7 +165,11 @@ fn mutes_added(rt: &impl Abort, alloc: Global, room: u16) -> Result<usize, AddFa
 #[test]
 fn a_builder_has_the_room_that_was_chosen(rt: HostRuntime) -> Result<(), Fail> {
     for room in [1, 2, 8, 129, 4096] {
-        assert_eq!(rt; mutes_added(&rt, rt.alloc(), room)?, usize::from(room), "{room}");
+        assert_eq!(rt;
+            mutes_added(&rt, rt.alloc(), room)?,
+            usize::from(room),
+            "{room}"
+        );
     }
     assert!(rt; Room::new(0).is_none());
     assert!(rt; Room::new(4097).is_none());

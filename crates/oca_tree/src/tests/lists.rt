@@ -190,3 +190,20 @@ fn the_bench_device_with_channels(rt: HostRuntime) -> Result<(), Fail> {
     assert!(rt; bench_with_channels(rt.alloc(), 1023).is_err());
     Ok(())
 }
+
+/// The iterator gives what is given by index.
+#[test]
+fn objects_in_order(rt: HostRuntime) -> Result<(), Fail> {
+    let tree = bench(rt.alloc())?;
+    let mut at = 0;
+    for info in tree.objects() {
+        let Some(same) = tree.object_at(at) else {
+            return Err("no object")?;
+        };
+        assert_eq!(rt; info.ono, same.ono);
+        assert_eq!(rt; info.role.as_str(), same.role.as_str());
+        at += 1;
+    }
+    assert_eq!(rt; at, 8);
+    Ok(())
+}

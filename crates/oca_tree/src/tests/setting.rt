@@ -28,10 +28,34 @@ fn trim(setting: i128) -> Option<Setting> {
 fn the_front_sets(rt: HostRuntime) -> Result<(), Fail> {
     let mut tree = bench(rt.alloc()).map_err(|_| "no memory")?;
     let t = &mut tree;
-    puts(&rt, t, 4097, LocalValue::State(2), (Ok(()), Some(Setting::State(2))));
-    puts(&rt, t, 4098, LocalValue::State(2), (Ok(()), Some(Setting::State(2))));
-    puts(&rt, t, 4099, LocalValue::Position(1), (Ok(()), Some(Setting::Position(1))));
-    puts(&rt, t, 4101, LocalValue::Truth(true), (Ok(()), Some(Setting::Truth(true))));
+    puts(
+        &rt,
+        t,
+        4097,
+        LocalValue::State(2),
+        (Ok(()), Some(Setting::State(2))),
+    );
+    puts(
+        &rt,
+        t,
+        4098,
+        LocalValue::State(2),
+        (Ok(()), Some(Setting::State(2))),
+    );
+    puts(
+        &rt,
+        t,
+        4099,
+        LocalValue::Position(1),
+        (Ok(()), Some(Setting::Position(1))),
+    );
+    puts(
+        &rt,
+        t,
+        4101,
+        LocalValue::Truth(true),
+        (Ok(()), Some(Setting::Truth(true))),
+    );
     puts(&rt, t, 4100, LocalValue::Number(-600), (Ok(()), trim(-600)));
     puts(&rt, t, 4100, LocalValue::Number(600), (Ok(()), trim(600)));
     Ok(())
@@ -45,14 +69,38 @@ fn the_front_is_refused(rt: HostRuntime) -> Result<(), Fail> {
     let out = Err(SetFault::OutOfRange);
     let other = Err(SetFault::OtherKind);
     let muted = Some(Setting::State(1));
-    puts(&rt, t, 9, LocalValue::State(2), (Err(SetFault::NoObject), None));
-    puts(&rt, t, 4096, LocalValue::State(2), (Err(SetFault::NoSetting), None));
+    puts(
+        &rt,
+        t,
+        9,
+        LocalValue::State(2),
+        (Err(SetFault::NoObject), None),
+    );
+    puts(
+        &rt,
+        t,
+        4096,
+        LocalValue::State(2),
+        (Err(SetFault::NoSetting), None),
+    );
     puts(&rt, t, 4097, LocalValue::Truth(true), (other, muted));
     puts(&rt, t, 4097, LocalValue::Number(3), (other, muted));
-    puts(&rt, t, 4099, LocalValue::State(1), (other, Some(Setting::Position(0))));
+    puts(
+        &rt,
+        t,
+        4099,
+        LocalValue::State(1),
+        (other, Some(Setting::Position(0))),
+    );
     puts(&rt, t, 4097, LocalValue::State(0), (out, muted));
     puts(&rt, t, 4097, LocalValue::State(3), (out, muted));
-    puts(&rt, t, 4099, LocalValue::Position(3), (out, Some(Setting::Position(0))));
+    puts(
+        &rt,
+        t,
+        4099,
+        LocalValue::Position(3),
+        (out, Some(Setting::Position(0))),
+    );
     puts(&rt, t, 4100, LocalValue::Number(601), (out, trim(0)));
     puts(&rt, t, 4100, LocalValue::Number(-601), (out, trim(0)));
     Ok(())
@@ -63,9 +111,22 @@ fn the_front_is_refused(rt: HostRuntime) -> Result<(), Fail> {
 fn the_front_takes_no_disabled_position(rt: HostRuntime) -> Result<(), Fail> {
     let mut tree = bench(rt.alloc()).map_err(|_| "no memory")?;
     let t = &mut tree;
-    sets(&rt, t, 4099, SET_POSITION_ENABLED, (2, &[0, 2, 0]), Status::Ok);
+    sets(
+        &rt,
+        t,
+        4099,
+        SET_POSITION_ENABLED,
+        (2, &[0, 2, 0]),
+        Status::Ok,
+    );
     let out = Err(SetFault::OutOfRange);
-    puts(&rt, t, 4099, LocalValue::Position(2), (out, Some(Setting::Position(0))));
+    puts(
+        &rt,
+        t,
+        4099,
+        LocalValue::Position(2),
+        (out, Some(Setting::Position(0))),
+    );
     Ok(())
 }
 

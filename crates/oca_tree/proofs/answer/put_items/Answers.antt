@@ -27,21 +27,21 @@ loop-at-preserved c =
     let within : c.loop-at.at < length c.args.objects.now.list = omega arith in
     elim c.if-is_listed.branch [
       | then-is_listed+in_ok-put_item w ↦
-        let listed : p o ≡ true = ap p c.object_at-object.ensures ∙ sym (c.is_listed.ensures o) ∙ w.if-is_listed.true in
-        record {
-          bytes = rw (w.out-is, w.in_ok-put_item.ensures)
-              (put_step_kept (item_encoding c.args.deep) c.args.objects.now.list c.loop-at.at o within c.object_at-object.ensures p _ _ listed c.loop-at.invariant.bytes);
-          number = rw w.count-is
-              (count_kept (item_encoding c.args.deep) c.args.objects.now.list c.loop-at.at o within c.object_at-object.ensures p _ _ listed c.loop-at.invariant.number);
-          few = rw w.count-is (omega (arith, c.loop-at.invariant.few));
-        }
+          let listed : p o ≡ true = ap p c.object_at-object.ensures ∙ sym (c.is_listed.ensures o) ∙ w.if-is_listed.true in
+          record {
+            bytes = rw (w.out-is, w.in_ok-put_item.ensures)
+                (put_step_kept (item_encoding c.args.deep) c.args.objects.now.list c.loop-at.at o within c.object_at-object.ensures p _ _ listed c.loop-at.invariant.bytes);
+            number = rw w.count-is
+                (count_kept (item_encoding c.args.deep) c.args.objects.now.list c.loop-at.at o within c.object_at-object.ensures p _ _ listed c.loop-at.invariant.number);
+            few = rw w.count-is (omega (arith, c.loop-at.invariant.few));
+          }
       | else-is_listed w ↦
-        let other : p o ≡ false = ap p c.object_at-object.ensures ∙ sym (c.is_listed.ensures o) ∙ w.if-is_listed.false in
-        record {
-          bytes = rw w.out-is
-              (put_step_passed (item_encoding c.args.deep) c.args.objects.now.list c.loop-at.at o within c.object_at-object.ensures p _ _ other c.loop-at.invariant.bytes);
-          number = rw w.count-is
-              (count_passed (item_encoding c.args.deep) c.args.objects.now.list c.loop-at.at o within c.object_at-object.ensures p _ _ other c.loop-at.invariant.number);
-          few = rw w.count-is (omega (arith, c.loop-at.invariant.few));
-        }
+          let other : p o ≡ false = ap p c.object_at-object.ensures ∙ sym (c.is_listed.ensures o) ∙ w.if-is_listed.false in
+          record {
+            bytes = rw w.out-is
+                (put_step_passed (item_encoding c.args.deep) c.args.objects.now.list c.loop-at.at o within c.object_at-object.ensures p _ _ other c.loop-at.invariant.bytes);
+            number = rw w.count-is
+                (count_passed (item_encoding c.args.deep) c.args.objects.now.list c.loop-at.at o within c.object_at-object.ensures p _ _ other c.loop-at.invariant.number);
+            few = rw w.count-is (omega (arith, c.loop-at.invariant.few));
+          }
     ]

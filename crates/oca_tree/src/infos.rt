@@ -1,0 +1,43 @@
+//! Going through what the objects of a tree are.
+ghost use Rattle.std.specs.Prelude.{◌≡◌, map};
+ghost use Rattle.oca_tree.specs.Readers.{info_of, infos_left};
+
+use crate::object::Object;
+use crate::tree::{ObjectInfo, info_of};
+
+/// What the objects are that are still to come, in order of adding.
+#[derive(Drop)]
+pub struct ObjectInfos<'a> {
+    rest: &'a [Object],
+}
+
+impl<'a> ObjectInfos<'a> {
+    /// At the first of these objects.
+    pub(crate) fn new(objects: &'a [Object]) -> ObjectInfos<'a>
+        ensures { infos_left result ≡ map info_of objects.now }
+    {
+        ObjectInfos { rest: objects }
+    }
+}
+
+impl<'a> Iterator for ObjectInfos<'a> {
+    ghost use Rattle.std.specs.Iterator.{YieldsFirst, item_count};
+    ghost use Rattle.oca_tree.specs.Readers.{infos_left};
+
+    type Item = ObjectInfo;
+
+    ghost next_gives = { YieldsFirst infos_left };
+
+    ghost remaining = { item_count infos_left };
+
+    /// What the next object is, or nothing after the last.
+    fn next(&mut self) -> Option<ObjectInfo> {
+        match self.rest.split_first() {
+            Some((object, rest)) => {
+                self.rest = rest;
+                Some(info_of(object))
+            }
+            None => None,
+        }
+    }
+}
