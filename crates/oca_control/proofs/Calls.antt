@@ -8,12 +8,13 @@ use Rattle.std.proofs.lemmas.Bool.Decides.{nat_tests}
 use Rattle.oca_types.specs.declared.words.Peer.{Peer}
 use Rattle.oca_types.specs.declared.words.Handle.{Handle}
 use Rattle.oca_types.specs.Peers.{CommandFields, same_peer}
+use Rattle.oca_types.specs.Sizes.{most_command_parameter_bytes}
 use Rattle.oca_pdu.specs.Messages.{Msg, Command, Response, KeepAlive, Commands}
 use Rattle.oca_pdu.specs.Encoding.{pdu_encoding}
 use Rattle.oca_control.specs.declared.fault.ControlFault.TheVariants as faults
 use Rattle.oca_control.specs.Answers.{AnswerFields, answer_in}
 use Rattle.oca_control.specs.Untaken.{Untaken, new_untaken, has_room, is_due, first_due, given_out, answered, hears_all, answer_under, without_handle, holds}
-use Rattle.oca_control.specs.Links.{LinkState, Request, present, command_under, most_params, submission, submission_under, handle_after, GivesCommand, GivesKeepAlive, GivesNothing, IsLost, decision_among, hears_content, received}
+use Rattle.oca_control.specs.Links.{LinkState, Request, present, command_under, submission, submission_under, handle_after, GivesCommand, GivesKeepAlive, GivesNothing, IsLost, decision_among, hears_content, received}
 use Rattle.oca_control.specs.Histories.{command_of, Sending, answers_in, answers_of, first_of, IsCopy, AreApart}
 use Rattle.oca_control.proofs.Following.{equal_is, equal_self, unequal, is_below, both_true, or_false, each_map, each_both, each_append, end_of, end_after, IsLast, IsSent, AreSent, AreAnswered, Follows}
 
@@ -39,8 +40,8 @@ is_accepted r h l e = by_lost l.lost e
         record { next = q ∙ ap Some number; room = sym (ap (λ k. has_room l.span k l.untaken) number) ∙ room }
 
     by_room : (n : ℕ) → (b : Bool) → l.next ≡ Some n → has_room l.span n l.untaken ≡ b →
-        cond b (cond (nat_lt most_params (length r.params)) (Err faults.TooLong) (Ok (let k : Handle = record { 0 = n } in k))) (Err faults.SpanFull) ≡ Ok h → IsAccepted r h l
-    by_room n true q room e = by_length n (nat_lt most_params (length r.params)) q room e
+        cond b (cond (nat_lt most_command_parameter_bytes (length r.params)) (Err faults.TooLong) (Ok (let k : Handle = record { 0 = n } in k))) (Err faults.SpanFull) ≡ Ok h → IsAccepted r h l
+    by_room n true q room e = by_length n (nat_lt most_command_parameter_bytes (length r.params)) q room e
     by_room n false q room e = cc
 
     by_next : (o : Option ℕ) → l.next ≡ o → submission_under r o l ≡ Ok h → IsAccepted r h l

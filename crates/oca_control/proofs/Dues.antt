@@ -1,5 +1,5 @@
 -- Which command is due, by what was sent and what came.
-use Rattle.std.proofs.Common.{◌≡◌, ℕ, ◌-◌, ◌≤◌, Bool, true, false, cond, not, ◌&&◌, ◌||◌, List, [], ◌∷◌, ◌++◌, length, map, Option, Some, None, is_none, refl, sym, ap, ◌∙◌, arith, subst, suc}
+use Rattle.std.proofs.Common.{◌≡◌, ℕ, ◌-◌, ◌<◌, ◌≤◌, Bool, true, false, cond, not, ◌&&◌, ◌||◌, List, [], ◌∷◌, ◌++◌, length, map, Option, Some, None, is_none, refl, sym, ap, ◌∙◌, arith, subst, suc}
 use Rattle.std.specs.Prelude.{nat_eq, nat_le}
 use Rattle.std.specs.List.{AllByRecursion}
 use Rattle.std.proofs.Math.Dec.{eqb}
@@ -15,18 +15,18 @@ use Rattle.oca_control.proofs.Calls.{kept_answered, each_without}
 
 abbrev pub Rises : List Untaken → Type 0
 Rises [] = Unit {0}
-Rises (u ∷ us) = AllByRecursion (λ v. u.command.handle ≤ v.command.handle) us × Rises us
+Rises (u ∷ us) = AllByRecursion (λ v. u.command.handle < v.command.handle) us × Rises us
 
 pub record Rests (last : ℕ) (lost : Bool) (l : LinkState) : Type 0 where
   pub lost_is : l.lost ≡ lost
   pub sent_is : l.sent ≡ last
   pub rises : Rises l.untaken
 
-pub rises_more : (us : List Untaken) (u : Untaken) → AllByRecursion (λ v. v.command.handle ≤ u.command.handle) us → Rises us → Rises (us ++ u ∷ [])
+pub rises_more : (us : List Untaken) (u : Untaken) → AllByRecursion (λ v. v.command.handle < u.command.handle) us → Rises us → Rises (us ++ u ∷ [])
 rises_more [] u a r = (tt, tt)
 rises_more (v ∷ us) u a r = (each_append _ us (u ∷ []) r.0 (a.0, tt), rises_more us u a.1 r.1)
 
-kept_given_out : (t h k : ℕ) (us : List Untaken) → AllByRecursion (λ v. k ≤ v.command.handle) us → AllByRecursion (λ v. k ≤ v.command.handle) (map (given_out t h) us)
+kept_given_out : (t h k : ℕ) (us : List Untaken) → AllByRecursion (λ v. k < v.command.handle) us → AllByRecursion (λ v. k < v.command.handle) (map (given_out t h) us)
 kept_given_out t h k [] a = tt
 kept_given_out t h k (u ∷ us) a = (a.0, kept_given_out t h k us a.1)
 
@@ -34,9 +34,9 @@ pub rises_given_out : (t h : ℕ) (us : List Untaken) → Rises us → Rises (ma
 rises_given_out t h [] r = tt
 rises_given_out t h (u ∷ us) r = (kept_given_out t h u.command.handle us r.0, rises_given_out t h us r.1)
 
-rises_answered : (h : ℕ) (a : AnswerFields) (us : List Untaken) → Rises us → Rises (map (answered h a) us)
+pub rises_answered : (h : ℕ) (a : AnswerFields) (us : List Untaken) → Rises us → Rises (map (answered h a) us)
 rises_answered h a [] r = tt
-rises_answered h a (u ∷ us) r = (kept_answered h a (λ c times last. u.command.handle ≤ c.handle) us r.0, rises_answered h a us r.1)
+rises_answered h a (u ∷ us) r = (kept_answered h a (λ c times last. u.command.handle < c.handle) us r.0, rises_answered h a us r.1)
 
 rises_heard : (ms : List Msg) (us : List Untaken) → Rises us → Rises (hears_all ms us)
 rises_heard [] us r = r
@@ -55,7 +55,7 @@ rises_without h (u ∷ us) r = by_test (eqb u.command.handle h) (rises_without h
   where
     by_test : (b : Bool) → Rises (without_handle h us) → Rises (cond (not b) (u ∷ without_handle h us) (without_handle h us))
     by_test true rest = rest
-    by_test false rest = (each_without h (λ v. u.command.handle ≤ v.command.handle) us r.0, rest)
+    by_test false rest = (each_without h (λ v. u.command.handle < v.command.handle) us r.0, rest)
 
 -- what holds of all that are held holds of each handle that is
 pub each_held : (Q : ℕ → Type 0) (x : ℕ) (us : List Untaken) → AllByRecursion (λ v. Q v.command.handle) us → holds x us ≡ true → Q x
@@ -105,13 +105,16 @@ first_lowest t (v ∷ us) u r e = by_test (is_due t v) refl e (first_lowest t us
     least : (a b : ℕ) → b ≡ a → a ≤ b
     least a b e = omega arith
 
+    below : (a b c : ℕ) → a ≡ b → a < c → b ≤ c
+    below a b c e p = omega arith
+
     by_test : (b : Bool) → is_due t v ≡ b → cond b (Some v) (first_due t us) ≡ Some u →
         (first_due t us ≡ Some u → AllByRecursion (λ w. is_due t w ≡ true → u.command.handle ≤ w.command.handle) us) →
         (is_due t v ≡ true → u.command.handle ≤ v.command.handle) × AllByRecursion (λ w. is_due t w ≡ true → u.command.handle ≤ w.command.handle) us
     by_test true q e rest =
         let same : v ≡ u = cc in (
           (λ d. least u.command.handle v.command.handle (ap (λ (w : Untaken). w.command.handle) same)),
-          each_map (λ w p d. subst (λ (z : Untaken). z.command.handle ≤ w.command.handle) same p) us r.0,
+          each_map (λ w p d. below v.command.handle u.command.handle w.command.handle (ap (λ (z : Untaken). z.command.handle) same) p) us r.0,
         )
     by_test false q e rest = ((λ d. absurd (differs (sym q ∙ d))), rest e)
       where

@@ -7,6 +7,7 @@ use Rattle.std.proofs.lemmas.Bool.Decides.{nat_tests}
 use Rattle.oca_types.specs.declared.words.Peer.{Peer}
 use Rattle.oca_types.specs.declared.words.Handle.{Handle}
 use Rattle.oca_types.specs.Peers.{CommandFields, same_peer}
+use Rattle.oca_types.specs.Sizes.{most_command_parameter_bytes}
 use Rattle.oca_pdu.specs.Messages.{Msg}
 use Rattle.oca_pdu.specs.Laws.{OneListOfMessages}
 use Rattle.oca_control.specs.declared.fault.ControlFault.{ControlFault}
@@ -14,7 +15,7 @@ use Rattle.oca_control.specs.declared.fault.ControlFault.TheVariants as faults
 use Rattle.oca_control.specs.Answers.{AnswerFields}
 use Rattle.oca_control.specs.Contents.{IsContent}
 use Rattle.oca_control.specs.Untaken.{Untaken, new_untaken, has_room, is_due, first_due, answer_under, without_handle, holds}
-use Rattle.oca_control.specs.Links.{LinkState, Request, present, command_under, most_params, submission, submission_under, after_submission, handle_after, Decision, GivesCommand, GivesKeepAlive, GivesNothing, IsLost, decision, decision_among, due_answer, due_bytes, after_due, taken}
+use Rattle.oca_control.specs.Links.{LinkState, Request, present, command_under, submission, submission_under, after_submission, handle_after, Decision, GivesCommand, GivesKeepAlive, GivesNothing, IsLost, decision, decision_among, due_answer, due_bytes, after_due, taken}
 use Rattle.oca_control.specs.Histories.{Call, Submits, GivesOut, Receives, TakesAnswer, IsCall, IsHistory, clock, commands, Sending, sendings, answers_to, first_of, is_untaken, last_given, is_lost, TakesTheFirst, IsLowestDue, NoneIsDue, HasRoom, IsFull, IsSubmitAnswer, AnswersSubmits, IsDueAnswer, GivesWhatIsDue, IsLawful}
 use Rattle.oca_control.proofs.Following.{equal_is, equal_self, is_below, is_at_most, both_true, each_map, each_both, end_of, IsSent, AreSent, Follows, opens}
 use Rattle.oca_control.proofs.Calls.{room_each, is_accepted, submits, is_given, each_first, gives, passes, receives, answer_is, takes}
@@ -138,7 +139,7 @@ submit_rests device first opened s before l after r now (Ok h) e f g q =
       rises = rises_more l.untaken (new_untaken (command_under h.0 r)) (each_map (λ u p. older u.command u.times u.last p) l.untaken g.are_sent) q.rises;
     })
   where
-    older : (c : CommandFields) (times last : ℕ) → IsSent s (first + length (commands before)) (commands before) (λ x. sendings opened x before) c times last → c.handle ≤ h.0
+    older : (c : CommandFields) (times last : ℕ) → IsSent s (first + length (commands before)) (commands before) (λ x. sendings opened x before) c times last → c.handle < h.0
     older c times last p =
         let b : c.handle < first + length (commands before) = p.below in
         let n : end_of l.next ≡ h.0 = ap end_of (is_accepted r h l (sym e)).next in
@@ -204,7 +205,7 @@ step device first opened s before l after (TakesAnswer h a) some g c = record {
   );
 }
 
-stands : (device : Peer) (first opened s : ℕ) (calls : List Call) (after : LinkState) → 0 < s → IsHistory device first opened s calls after → Stands device first opened s calls after
+pub stands : (device : Peer) (first opened s : ℕ) (calls : List Call) (after : LinkState) → 0 < s → IsHistory device first opened s calls after → Stands device first opened s calls after
 stands device first opened s [] after some h = subst (λ m. Stands device first opened s [] m) (sym h) (record {
   now = opens device first opened s;
   rests = record { lost_is = refl; sent_is = refl; rises = tt };
@@ -268,7 +269,7 @@ submit_right device first opened s before l r a g lost fits e = by_lost l.lost l
     low k m p q = omega arith
 
     by_length : is_lost before ≡ false → (k : ℕ) → k ≡ first + length (commands before) → k ≤ 4294967295 → has_room l.span k l.untaken ≡ true →
-        (b : Bool) → nat_lt most_params (length r.params) ≡ b → cond b (Err faults.TooLong) (Ok (let h : Handle = record { 0 = k } in h)) ≡ a →
+        (b : Bool) → nat_lt most_command_parameter_bytes (length r.params) ≡ b → cond b (Err faults.TooLong) (Ok (let h : Handle = record { 0 = k } in h)) ≡ a →
         IsSubmitAnswer s (first + length (commands before)) (length r.params) before a
     by_length q k n f room true p e = subst (λ x. IsSubmitAnswer s (first + length (commands before)) (length r.params) before x) e
         (q, low k (first + length (commands before)) f n, room_of k n room, is_below 1445 (length r.params) p)
@@ -279,9 +280,9 @@ submit_right device first opened s before l r a g lost fits e = by_lost l.lost l
         short m p = grind (arith, nat_tests)
 
     by_room : is_lost before ≡ false → (k : ℕ) → k ≡ first + length (commands before) → k ≤ 4294967295 → (b : Bool) → has_room l.span k l.untaken ≡ b →
-        cond b (cond (nat_lt most_params (length r.params)) (Err faults.TooLong) (Ok (let h : Handle = record { 0 = k } in h))) (Err faults.SpanFull) ≡ a →
+        cond b (cond (nat_lt most_command_parameter_bytes (length r.params)) (Err faults.TooLong) (Ok (let h : Handle = record { 0 = k } in h))) (Err faults.SpanFull) ≡ a →
         IsSubmitAnswer s (first + length (commands before)) (length r.params) before a
-    by_room q k n f true p e = by_length q k n f p (nat_lt most_params (length r.params)) refl e
+    by_room q k n f true p e = by_length q k n f p (nat_lt most_command_parameter_bytes (length r.params)) refl e
     by_room q k n f false p e = subst (λ x. IsSubmitAnswer s (first + length (commands before)) (length r.params) before x) e
         (q, low k (first + length (commands before)) f n, full_of k n p)
 

@@ -2,6 +2,9 @@ pub mod Following
 pub mod Calls
 pub mod Dues
 pub mod Histories
+pub mod Telling
+pub mod Answering
+pub mod Counting
 pub mod Places
 pub mod Tables
 pub mod Views
@@ -9,3 +12,4 @@ pub mod Messages
 pub mod Receiving
 pub mod Turns
 pub mod Asks
+pub mod DueTimes

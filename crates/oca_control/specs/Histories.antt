@@ -1,7 +1,7 @@
 -- THE LAW OF A LINK over whole histories of its calls (profile). Of calls, commands and sendings the LATEST STANDS FIRST, so that what
 -- stands after a member (`before`) came before it. Messages and answers stand in order, the first one first. Moments are in
 -- milliseconds.
-use Rattle.std.specs.Prelude.{◌≡◌, ◌⊎◌, ℕ, ◌+◌, ◌-◌, ◌==◌, ◌<◌, ◌≤◌, nat_le, max, Bool, true, false, not, ◌&&◌, ◌||◌, ⊤, if◌then◌else◌, List, [], ◌∷◌, ◌++◌, length, Option, Some, None, is_none, Result, Ok, Err}
+use Rattle.std.specs.Prelude.{◌≡◌, ◌⊎◌, ℕ, ◌+◌, ◌-◌, ◌==◌, ◌<◌, ◌≤◌, nat_le, max, Bool, true, false, not, ◌&&◌, ◌||◌, ⊤, if◌then◌else◌, List, [], ◌∷◌, ◌++◌, length, Option, Some, None, is_none, is_some, Result, Ok, Err}
 use Rattle.std.specs.List.{AllByRecursion}
 use Rattle.oca_types.specs.declared.words.Peer.{Peer}
 use Rattle.oca_types.specs.declared.words.Handle.{Handle}
@@ -16,7 +16,7 @@ use Rattle.oca_control.specs.declared.due.Due.TheVariants as dues
 use Rattle.oca_control.specs.declared.reception.Reception.{Reception}
 use Rattle.oca_control.specs.Answers.{AnswerFields, answer_in}
 use Rattle.oca_control.specs.Contents.{IsContent}
-use Rattle.oca_control.specs.Untaken.{answer_under}
+use Rattle.oca_control.specs.Untaken.{answer_under, first_answered}
 use Rattle.oca_control.specs.Links.{LinkState, Request, new_link, command_under, submission, submitted, decision, due_answer, due_bytes, gone_on, reception, received, taken}
 
 -- ---- what happened to a link
@@ -145,6 +145,19 @@ last_given opened (Submits request now answer ∷ before) = last_given opened be
 last_given opened (Receives from bytes content now answer ∷ before) = last_given opened before
 last_given opened (TakesAnswer h answer ∷ before) = last_given opened before
 
+-- THE LAST TIME that a well-formed datagram came from the device, and at first that of the opening.
+abbrev pub last_heard : Peer → ℕ → List Call → ℕ
+last_heard device opened [] = opened
+last_heard device opened (Receives from bytes content now answer ∷ before) =
+    if same_peer from device && is_some content then max (clock opened before) now else last_heard device opened before
+last_heard device opened (Submits request now answer ∷ before) = last_heard device opened before
+last_heard device opened (GivesOut now answer bytes ∷ before) = last_heard device opened before
+last_heard device opened (TakesAnswer h answer ∷ before) = last_heard device opened before
+
+-- A handle is ANSWERED from the first answer to it until it is taken.
+abbrev pub is_answered : Peer → ℕ → List Call → Bool
+is_answered device h calls = is_untaken h calls && is_some (first_of (answers_to device h calls))
+
 abbrev pub says_lost : Due → Bool
 says_lost (dues.Send h) = false
 says_lost dues.KeepAlive = false
@@ -262,6 +275,22 @@ abbrev pub EveryHistoryIsLawful : Type 0
 EveryHistoryIsLawful =
     (device : Peer) (first opened span : ℕ) (calls : List Call) (after : LinkState) → 0 < span → IsHistory device first opened span calls after →
     IsLawful device first opened span calls
+
+-- the lowest answered handle, where there is one
+abbrev pub IsFirstAnswered : Peer → List Call → Option ℕ → Type 0
+IsFirstAnswered device calls None = (x : ℕ) → is_answered device x calls ≡ false
+IsFirstAnswered device calls (Some h) = (is_answered device h calls ≡ true) × ((x : ℕ) → is_answered device x calls ≡ true → h ≤ x)
+
+-- WHAT A LINK TELLS OF ITSELF by `last_heard`, `is_lost` and `answered` after these calls.
+pub record TellsOfItself (device : Peer) (opened : ℕ) (calls : List Call) (after : LinkState) : Type 0 where
+  pub heard_is : after.heard ≡ last_heard device opened calls
+  pub lost_is : after.lost ≡ is_lost calls
+  pub answered_is : IsFirstAnswered device calls (first_answered after.untaken)
+
+abbrev pub EveryLinkTellsOfItself : Type 0
+EveryLinkTellsOfItself =
+    (device : Peer) (first opened span : ℕ) (calls : List Call) (after : LinkState) → 0 < span → IsHistory device first opened span calls after →
+    TellsOfItself device opened calls after
 
 -- Bytes have one content: a history says what was received by the bytes alone.
 abbrev pub BytesHaveOneContent : Type 0

@@ -7,6 +7,8 @@ pub mod Untaken
 pub mod Links
 pub mod Steps
 pub mod Histories
+pub mod Answering
+pub mod Receptions
 pub mod Driving
 pub mod Asking
 pub mod PrivateSlots

@@ -1,8 +1,9 @@
 -- THE CONTROLLER: its link to a device, and what each call makes of it (*profile*). Moments are in milliseconds.
-use Rattle.std.specs.Prelude.{ℕ, ◌+◌, ◌-◌, ◌==◌, nat_lt, nat_le, max, Bool, true, false, if◌then◌else◌, List, [], ◌∷◌, ◌++◌, map, length, Option, Some, None, is_some, Result, Ok, Err}
+use Rattle.std.specs.Prelude.{◌≡◌, ℕ, ◌+◌, ◌-◌, ◌^◌, ◌==◌, ◌<◌, ◌≤◌, nat_lt, nat_le, max, Bool, true, false, ◌&&◌, if◌then◌else◌, List, [], ◌∷◌, ◌++◌, map, length, Option, Some, None, is_some, Result, Ok, Err}
 use Rattle.oca_types.specs.declared.words.Peer.{Peer}
 use Rattle.oca_types.specs.declared.words.Handle.{Handle}
 use Rattle.oca_types.specs.Peers.{CommandFields, RequestFields, same_peer}
+use Rattle.oca_types.specs.Sizes.{most_command_parameter_bytes}
 use Rattle.oca_pdu.specs.declared.message.Form.TheVariants.{Seconds}
 use Rattle.oca_pdu.specs.Messages.{Msg, Commands, OneKeepAlive}
 use Rattle.oca_pdu.specs.Encoding.{pdu_encoding}
@@ -15,12 +16,13 @@ use Rattle.oca_control.specs.declared.reception.Reception.TheVariants as recepti
 use Rattle.oca_control.specs.Untaken.{Untaken, new_untaken, has_room, first_due, given_out, hears_all, answers_by_all, answer_under, without_handle}
 
 -- The device's address, the present moment, the handle of the next command or none, the moment when something was given out
--- last, whether the link is lost, its span, and the untaken commands.
+-- last, that of the last well-formed datagram from the device, whether the link is lost, its span, and the untaken commands.
 pub record LinkState : Type 0 where
   pub device : Peer
   pub moment : ℕ
   pub next : Option ℕ
   pub sent : ℕ
+  pub heard : ℕ
   pub lost : Bool
   pub span : ℕ
   pub untaken : List Untaken
@@ -28,7 +30,7 @@ pub record LinkState : Type 0 where
 -- a new link
 abbrev pub new_link : Peer → ℕ → ℕ → ℕ → LinkState
 new_link device first now span =
-    record { device = device; moment = now; next = Some first; sent = now; lost = false; span = span; untaken = [] }
+    record { device = device; moment = now; next = Some first; sent = now; heard = now; lost = false; span = span; untaken = [] }
 
 -- A moment earlier than one already seen counts as the one already seen.
 abbrev pub present : ℕ → LinkState → ℕ
@@ -43,15 +45,11 @@ command_under h r =
 abbrev pub Request : Type 0
 Request = RequestFields
 
--- A datagram of one command holds at most so many bytes of parameters.
-abbrev pub most_params : ℕ
-most_params = 1445
-
 -- the answer where this is the next handle, or none is left
 abbrev pub submission_under : RequestFields → Option ℕ → LinkState → Result Handle ControlFault
 submission_under r None l = Err faults.HandlesSpent
 submission_under r (Some h) l =
-    if has_room l.span h l.untaken then (if nat_lt most_params (length r.params) then Err faults.TooLong else Ok (record { 0 = h }))
+    if has_room l.span h l.untaken then (if nat_lt most_command_parameter_bytes (length r.params) then Err faults.TooLong else Ok (record { 0 = h }))
     else Err faults.SpanFull
 
 -- what `submit` answers
@@ -112,6 +110,16 @@ after_due IsLost now l = record l { moment = now; lost = true }
 abbrev pub gone_on : ℕ → LinkState → LinkState
 gone_on now l = after_due (decision now l) (present now l) l
 
+-- NEXT DUE. Something is due at this moment, or the link is lost; and at no earlier one, from the link's own on.
+pub record IsNextDue (l : LinkState) (t : ℕ) : Type 0 where
+  pub own : l.moment ≤ t
+  pub due : decision t l ≡ GivesNothing → ⊥
+  pub earlier : (s : ℕ) → l.moment ≤ s → s < t → decision s l ≡ GivesNothing
+
+-- nothing is due at any moment of 64 bits, from the link's own on
+pub record NeverIsDue (l : LinkState) : Type 0 where
+  pub never : (s : ℕ) → l.moment ≤ s → s < 2 ^ 64 → decision s l ≡ GivesNothing
+
 -- DATAGRAM. What it answers where so many commands were answered.
 abbrev pub reception_counted : ℕ → Reception
 reception_counted n = if n == 0 then receptions.NothingNew else receptions.Answered n
@@ -129,10 +137,10 @@ abbrev pub hears_content : Option (List Msg) → List Untaken → List Untaken
 hears_content None us = us
 hears_content (Some messages) us = hears_all messages us
 
--- the link after it: it keeps the moment, whatever it answers
+-- the link after it: it keeps the moment, whatever it answers; it was heard from where the device sent a well-formed datagram
 abbrev pub received : Peer → Option (List Msg) → ℕ → LinkState → LinkState
 received from content now l =
-    record l { moment = present now l; untaken = if same_peer from l.device then hears_content content l.untaken else l.untaken }
+    record l { moment = present now l; heard = if same_peer from l.device && is_some content then present now l else l.heard; untaken = if same_peer from l.device then hears_content content l.untaken else l.untaken }
 
 -- TAKE. The link without the command of the handle, where it has an answer.
 abbrev pub taken : ℕ → LinkState → LinkState

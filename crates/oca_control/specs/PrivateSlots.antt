@@ -1,6 +1,6 @@
 -- For private contracts: where the untaken commands lie in memory. The command of the handle h lies in the slot number h modulo
 -- 32, and the handle itself is not stored.
-use Rattle.std.specs.Prelude.{◌≡◌, ℕ, zero, suc, ◌+◌, ◌-◌, ◌%◌, ◌<◌, ◌≤◌, ◌==◌, nat_lt, nat_le, Bool, true, false, ◌&&◌, ◌||◌, if◌then◌else◌, List, [], ◌∷◌, ◌++◌, map, length, Option, Some, None, is_none, slice_index_or}
+use Rattle.std.specs.Prelude.{◌≡◌, ℕ, zero, suc, ◌+◌, ◌-◌, ◌%◌, ◌<◌, ◌≤◌, ◌==◌, nat_lt, nat_le, Bool, true, false, ◌&&◌, ◌||◌, if◌then◌else◌, List, [], ◌∷◌, ◌++◌, map, length, Option, Some, None, is_none, is_some, min, ◌^◌, slice_index_or}
 use Rattle.std.specs.List.{AllByRecursion}
 use Rattle.std.specs.Option.{option_map}
 use Rattle.oca_pdu.specs.Messages.{Msg, Command, Response, KeepAlive}
@@ -92,6 +92,21 @@ abbrev pub IsLowestDue : ℕ → List (Option Kept) → ℕ → ℕ → Option �
 IsLowestDue now slots low next None = first_due now (untaken_from low (next - low) slots) ≡ None
 IsLowestDue now slots low next (Some h) = (low ≤ h) × (h < next) × (kept_is_due now (kept_at h slots) ≡ true)
     × (first_due now (untaken_from low (next - low) slots) ≡ first_due now (untaken_at h (kept_at h slots)))
+
+-- a test of moments that holds from this one on, and not before; or at none of 64 bits
+abbrev pub HoldsFrom : (ℕ → Bool) → Option ℕ → Type 0
+HoldsFrom test None = (s : ℕ) → s < 2 ^ 64 → test s ≡ false
+HoldsFrom test (Some m) = (s : ℕ) → s < 2 ^ 64 → test s ≡ nat_le m s
+
+-- the earlier of two moments
+abbrev pub sooner : Option ℕ → Option ℕ → Option ℕ
+sooner None b = b
+sooner (Some m) None = Some m
+sooner (Some m) (Some n) = Some (min m n)
+
+-- a command is due
+abbrev pub some_due : List Untaken → ℕ → Bool
+some_due us s = is_some (first_due s us)
 
 -- The slot of a handle from low on and below next; another handle has none.
 abbrev pub IsPlaceOf : ℕ → ℕ → ℕ → Option ℕ → Type 0

@@ -1,5 +1,5 @@
 -- The commands whose answers have not been taken (*profile*). In a list of them the lowest handle stands first.
-use Rattle.std.specs.Prelude.{ℕ, ◌+◌, ◌-◌, ◌==◌, nat_lt, nat_le, Bool, not, ◌&&◌, ◌||◌, if◌then◌else◌, List, [], ◌∷◌, map, filter, Option, Some, None, is_none}
+use Rattle.std.specs.Prelude.{ℕ, ◌+◌, ◌-◌, ◌==◌, nat_lt, nat_le, Bool, not, ◌&&◌, ◌||◌, if◌then◌else◌, List, [], ◌∷◌, map, filter, Option, Some, None, is_none, is_some}
 use Rattle.std.specs.List.{list_any, list_all}
 use Rattle.oca_types.specs.Peers.{CommandFields}
 use Rattle.oca_pdu.specs.Messages.{Msg, Command, Response, KeepAlive}
@@ -75,6 +75,11 @@ answers_by_all (m ∷ messages) us = answers_by m us + answers_by_all messages (
 abbrev pub answer_under : ℕ → List Untaken → Option AnswerFields
 answer_under h [] = None
 answer_under h (u ∷ us) = if u.command.handle == h then u.answer else answer_under h us
+
+-- the lowest handle that has its answer
+abbrev pub first_answered : List Untaken → Option ℕ
+first_answered [] = None
+first_answered (u ∷ us) = if is_some u.answer then Some u.command.handle else first_answered us
 
 -- those with another handle
 abbrev pub without_handle : ℕ → List Untaken → List Untaken

@@ -1,5 +1,7 @@
 //! The law of a link, over whole histories. Nothing here runs: the contracts are the law.
-ghost use Rattle.oca_control.specs.Histories.{EveryHistoryIsLawful, BytesHaveOneContent};
+ghost use Rattle.oca_control.specs.Answering.{EveryAnswerIsKept, EveryDueCommandIsGivenOut};
+ghost use Rattle.oca_control.specs.Receptions.{EveryDatagramIsCounted};
+ghost use Rattle.oca_control.specs.Histories.{EveryHistoryIsLawful, EveryLinkTellsOfItself, BytesHaveOneContent};
 
 use oca_pdu::law_one_list_of_messages;
 
@@ -13,10 +15,33 @@ use oca_pdu::law_one_list_of_messages;
 /// 20 times. A take of an untaken handle gives the first answer that came to it in a well-formed datagram of the device since its
 /// submit, and nothing where none came. The next handle is at most an untaken one plus the span.
 ///
+/// `datagram` answers by the sender whether it is a stranger, by the bytes whether they are well-formed, and else how many untaken
+/// commands got their first answer in it.
+///
+/// What a link tells of itself: `last_heard` is the clock at the last well-formed datagram of the device, at first that of the opening;
+/// `is_lost` says whether `due` answered so; `answered` is the lowest handle that is untaken and to which an answer came.
+///
 /// With the clauses of [`Link`](crate::Link) this is a promise of every run of a link. And bytes have one content alone.
 pub fn law_of_histories()
     ensures law { EveryHistoryIsLawful }
+    ensures datagrams { EveryDatagramIsCounted }
+    ensures telling { EveryLinkTellsOfItself }
     ensures content { BytesHaveOneContent }
 {
     law_one_list_of_messages();
 }
+
+/// One answer that comes is enough. Where a well-formed datagram of the device has a response to a command that is untaken, whatever
+/// else stands in the datagram, the link holds an answer to it from then on, through all calls but the take of that handle, which gives
+/// it: the first that came.
+pub fn law_of_answering()
+    ensures { EveryAnswerIsKept }
+{}
+
+/// Giving out goes on. A command is due while it is untaken and no answer came to it, and was never given out or last 250 ms ago or
+/// earlier. Where k commands are due at a moment, each of them is given out within k calls of `due` at that moment, or the
+/// link is lost. So a link that is asked at least every 250 ms until it answers `Nothing` gives each command out again
+/// and again, until its answer came or the link is lost.
+pub fn law_of_giving_out()
+    ensures { EveryDueCommandIsGivenOut }
+{}

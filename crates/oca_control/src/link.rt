@@ -1,5 +1,5 @@
 //! The link of a controller to a device.
-ghost use Rattle.std.specs.Prelude.{◌≡◌, ◌≤◌, ◌<◌, ℕ, max, if◌then◌else◌, length, List, Option, Some, None};
+ghost use Rattle.std.specs.Prelude.{◌≡◌, ◌≤◌, ◌<◌, ℕ, max, if◌then◌else◌, length, List, Option, Some, None, MatchOption};
 ghost use Rattle.std.specs.Option.{option_map};
 ghost use Rattle.oca_types.specs.Peers.{RequestFields};
 ghost use Rattle.oca_types.specs.Sizes.{span_size};
@@ -7,19 +7,23 @@ ghost use Rattle.oca_pdu.specs.Messages.{Msg, msg_of};
 ghost use Rattle.oca_pdu.specs.Datagrams.{messages_left};
 ghost use Rattle.oca_control.specs.Answers.{answer_fields};
 ghost use Rattle.oca_control.specs.Contents.{IsContent};
-ghost use Rattle.oca_control.specs.Untaken.{Untaken, hears, answers_by, hears_all, answers_by_all, answer_under};
-ghost use Rattle.oca_control.specs.Links.{reception_counted, new_link, submission, submitted, decision, due_answer, due_bytes, gone_on, reception, received, taken};
+ghost use Rattle.oca_control.specs.Untaken.{Untaken, hears, answers_by, hears_all, answers_by_all, first_answered, answer_under};
+ghost use Rattle.oca_control.specs.Links.{reception_counted, new_link, submission, submitted, decision, due_answer, due_bytes, gone_on, IsNextDue, NeverIsDue, reception, received, taken};
 ghost use Rattle.oca_control.specs.Steps.{ReceivesDatagram};
 ghost use Rattle.oca_control.specs.PrivateSlots.{AreShort, IsShort};
 
 use crate::answer::Answer;
 use crate::due::Due;
 use crate::fault::ControlFault;
+use crate::moments::{later, latest, sooner};
 use crate::reception::Reception;
 use crate::table::Table;
 use oca_pdu::{Form, Message, Messages, check, write_keepalive};
-use oca_types::{Handle, MethodId, Ono, Packet, Peer, Request, Span};
+use oca_types::{Handle, MOST_COMMAND_PARAMETER_BYTES, MethodId, Ono, Packet, Peer, Request, Span};
 use std::marker::Model;
+
+/// A keep-alive is given out after so many milliseconds without anything.
+const KEEP_ALIVE_MS: u64 = 2500;
 
 /// A controller's link to one device.
 ///
@@ -32,6 +36,7 @@ pub struct Link {
     device: Peer,
     moment: u64,
     sent: u64,
+    heard: u64,
     lost: bool,
     span: Span,
     table: Table,
@@ -49,6 +54,7 @@ impl Model for Link {
       moment = l.moment;
       next = handle_left l.table.next;
       sent = l.sent;
+      heard = l.heard;
       lost = l.lost;
       span = span_size l.span;
       untaken = l.table.untaken;
@@ -65,6 +71,7 @@ impl Link {
             device,
             moment: now,
             sent: now,
+            heard: now,
             lost: false,
             span,
             table: Table::new(first_handle),
@@ -98,7 +105,7 @@ impl Link {
         if !self.table.has_room(self.span.get()) {
             return Err(ControlFault::SpanFull);
         }
-        if params.len() > 1445 {
+        if params.len() > MOST_COMMAND_PARAMETER_BYTES {
             return Err(ControlFault::TooLong);
         }
         self.moment = self.moment.max(now);
@@ -136,7 +143,7 @@ impl Link {
                 due
             }
             None => {
-                if self.moment.saturating_sub(self.sent) < 2500 {
+                if self.moment.saturating_sub(self.sent) < KEEP_ALIVE_MS {
                     return Due::Nothing;
                 }
                 self.sent = self.moment;
@@ -159,7 +166,10 @@ impl Link {
             return Reception::Stranger;
         }
         match check(bytes) {
-            Ok(datagram) => counted(hear_all(&mut self.table, datagram.messages())),
+            Ok(datagram) => {
+                self.heard = self.moment;
+                counted(hear_all(&mut self.table, datagram.messages()))
+            }
             Err(_) => Reception::Malformed,
         }
     }
@@ -170,6 +180,36 @@ impl Link {
         ensures link { self.new ≡ taken handle.0 self.old }
     {
         self.table.take(handle)
+    }
+
+    /// The earliest moment, not before the link's own, at which [`due`](Link::due) answers anything but `Nothing`: a loop may wait
+    /// until then. `None` where that lies beyond 64 bits.
+    pub fn next_due(&self) -> Option<u64>
+        ensures { MatchOption result (NeverIsDue self.now) (λ t. IsNextDue self.now t) }
+    {
+        if self.lost {
+            return Some(self.moment);
+        }
+        match sooner(self.table.due_from(), later(self.sent, KEEP_ALIVE_MS)) {
+            Some(first) => Some(latest(first, self.moment)),
+            None => None,
+        }
+    }
+
+    /// The lowest handle whose answer came and was not taken yet.
+    pub fn answered(&self) -> Option<Handle>
+        ensures { option_map (λ h. h.0) result ≡ first_answered self.now.untaken }
+    {
+        self.table.answered()
+    }
+
+    /// The moment at which the last well-formed datagram came from the device, and at first that of the link's making. A datagram
+    /// from another address does not move it, nor one that is not well-formed. A device echoes each keep-alive, so at a device that
+    /// is there it lags by little more than 2,500 ms while the link is driven.
+    pub fn last_heard(&self) -> u64
+        ensures { result ≡ self.now.heard }
+    {
+        self.heard
     }
 
     /// Whether the link is lost: a command got no answer to 20 sendings. It stays so, and gives nothing out any more; answers that

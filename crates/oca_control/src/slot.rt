@@ -2,17 +2,27 @@
 ghost use Rattle.std.specs.Prelude.{◌≡◌, ◌<◌, ◌≤◌, [], ◌∷◌, length, Some, None, true, is_some, IsSomeAnd, IfSome, IsTrue, if◌then◌else◌, nat_lt};
 ghost use Rattle.std.specs.Option.{option_map};
 ghost use Rattle.oca_types.specs.Peers.{request_of};
+ghost use Rattle.oca_types.specs.Sizes.{most_command_parameter_bytes, most_parameter_bytes};
 ghost use Rattle.oca_pdu.specs.Messages.{Commands};
 ghost use Rattle.oca_pdu.specs.Encoding.{pdu_encoding};
 ghost use Rattle.oca_control.specs.Answers.{answer_fields};
 ghost use Rattle.oca_control.specs.Links.{command_under};
-ghost use Rattle.oca_control.specs.PrivateSlots.{new_kept, kept_is_due, kept_waits, kept_answer, kept_given, kept_answered};
+ghost use Rattle.oca_control.specs.PrivateSlots.{new_kept, kept_is_due, kept_waits, kept_answer, kept_given, kept_answered, HoldsFrom};
 
 use crate::answer::Answer;
+use crate::moments::later;
 use arrayvec::ArrayVec;
 use oca_pdu::write_command;
-use oca_types::{Command, Handle, MethodId, Ono, Packet, Params, Request};
+use oca_types::{
+    Command, Handle, MOST_COMMAND_PARAMETER_BYTES, MethodId, Ono, Packet, Params, Request,
+};
 use std::marker::Model;
+
+/// A command is given out again after so many milliseconds without an answer.
+const REPEAT_MS: u64 = 250;
+
+/// A command is given out at most so often.
+const MOST_SENDINGS: u8 = 20;
 
 /// A place for one command and its answer. It is written in place: nothing of its size is moved.
 #[derive(Drop)]
@@ -24,7 +34,7 @@ pub struct Slot {
     target: Ono,
     method: MethodId,
     count: u8,
-    params: ArrayVec<u8, 1445>,
+    params: ArrayVec<u8, MOST_COMMAND_PARAMETER_BYTES>,
     answer: Answer,
 }
 
@@ -76,7 +86,30 @@ impl Slot {
     pub fn is_due(&self, now: u64) -> bool
         ensures { result ≡ kept_is_due now self.now }
     {
-        self.held && !self.answered && (self.times == 0 || now.saturating_sub(self.last) >= 250)
+        self.held
+            && !self.answered
+            && (self.times == 0 || now.saturating_sub(self.last) >= REPEAT_MS)
+    }
+
+    /// From which moment on the command is due: from the first on where it was never given out, else 250 ms after it last was.
+    /// Nothing where that lies beyond 64 bits, or no command waits.
+    pub fn due_from(&self) -> Option<u64>
+        ensures { HoldsFrom (λ s. kept_is_due s self.now) result }
+    {
+        if !self.waits() {
+            return None;
+        }
+        if self.times == 0 {
+            return Some(0);
+        }
+        later(self.last, REPEAT_MS)
+    }
+
+    /// Whether the command has its answer.
+    pub fn is_answered(&self) -> bool
+        ensures { result ≡ is_some (kept_answer self.now) }
+    {
+        self.held && self.answered
     }
 
     /// Whether a command is held and has no answer.
@@ -90,12 +123,12 @@ impl Slot {
     pub fn may_repeat(&self) -> bool
         ensures { IfSome self.now (λ k. result ≡ nat_lt k.times 20) }
     {
-        self.times < 20
+        self.times < MOST_SENDINGS
     }
 
     /// Puts a command in.
     pub fn put(&mut self, request: Request<'_>)
-        requires { length request.params.now ≤ 1445 }
+        requires { length request.params.now ≤ most_command_parameter_bytes }
         ensures { self.new ≡ Some (new_kept (request_of request.entry)) }
     {
         self.held = true;
@@ -130,7 +163,7 @@ impl Slot {
 
     /// Stores the answer.
     pub fn store(&mut self, status: u8, count: u8, params: &[u8])
-        requires { length params.now ≤ 1452 }
+        requires { length params.now ≤ most_parameter_bytes }
         ensures { self.new ≡ option_map (kept_answered (record { status = status; count = count; params = params.now })) self.old }
     {
         self.answered = true;
@@ -145,7 +178,7 @@ impl Slot {
         ensures answer { option_map answer_fields result ≡ kept_answer self.old }
         ensures slot { self.new ≡ (if is_some (kept_answer self.old) then None else self.old) }
     {
-        if !(self.held && self.answered) {
+        if !self.is_answered() {
             return None;
         }
         self.held = false;

@@ -1,15 +1,17 @@
 //! The untaken commands of a link, each in the place that its handle names.
-ghost use Rattle.std.specs.Prelude.{◌≡◌, ◌+◌, ◌-◌, ◌%◌, ◌<◌, ◌≤◌, [], ◌∷◌, ◌++◌, map, length, Option, Some, None, true, is_some, if◌then◌else◌, slice_index_or};
+ghost use Rattle.std.specs.Prelude.{◌≡◌, ◌+◌, ◌-◌, ◌%◌, ◌<◌, ◌≤◌, [], ◌∷◌, ◌++◌, map, length, Option, Some, None, true, is_some, IfSome, if◌then◌else◌, slice_index_or};
 ghost use Rattle.std.specs.List.{list_any};
 ghost use Rattle.std.specs.Option.{option_map};
 ghost use Rattle.oca_types.specs.Peers.{request_of};
+ghost use Rattle.oca_types.specs.Sizes.{most_command_parameter_bytes, most_parameter_bytes};
 ghost use Rattle.oca_control.specs.Answers.{answer_fields};
-ghost use Rattle.oca_control.specs.Untaken.{new_untaken, has_room, first_due, waits, answered, answer_under, without_handle};
+ghost use Rattle.oca_control.specs.Untaken.{new_untaken, has_room, first_due, waits, answered, first_answered, answer_under, without_handle};
 ghost use Rattle.oca_control.specs.Links.{command_under, due_answer};
-ghost use Rattle.oca_control.specs.PrivateSlots.{IsTable, untaken_from, untaken_at, kept_at, kept_is_due, handle_left, first_decided, after_decision, bytes_decided, IsLowestDue, IsPlaceOf};
+ghost use Rattle.oca_control.specs.PrivateSlots.{IsTable, untaken_from, untaken_at, kept_at, kept_is_due, some_due, HoldsFrom, handle_left, first_decided, after_decision, bytes_decided, IsLowestDue, IsPlaceOf};
 
 use crate::answer::Answer;
 use crate::due::Due;
+use crate::moments::sooner;
 use crate::slot::Slot;
 use oca_types::{Handle, Packet, Request};
 use std::marker::Model;
@@ -65,7 +67,7 @@ impl Table {
     pub fn submit(&mut self, request: Request<'_>)
         requires left { self.old.next < 4294967296 }
         requires room { has_room 32 self.old.next self.old.untaken ≡ true }
-        requires short { length request.params.now ≤ 1445 }
+        requires short { length request.params.now ≤ most_command_parameter_bytes }
         ensures { self.new ≡ record {
           next = self.old.next + 1;
           untaken = self.old.untaken ++ new_untaken (command_under self.old.next (request_of request.entry)) ∷ [];
@@ -95,9 +97,26 @@ impl Table {
         Some(Due::Send(handle))
     }
 
+    /// From which moment on a command is due, where there is such a moment.
+    pub fn due_from(&self) -> Option<u64>
+        ensures { HoldsFrom (some_due self.now.untaken) result }
+    {
+        due_from(&self.slots, self.low, self.next)
+    }
+
+    /// The lowest handle that has its answer.
+    pub fn answered(&self) -> Option<Handle>
+        ensures { option_map (λ h. h.0) result ≡ first_answered self.now.untaken }
+    {
+        match lowest_answered(&self.slots, self.low, self.next) {
+            Some(handle) => Some(Handle(handle as u32)),
+            None => None,
+        }
+    }
+
     /// Stores an answer, and answers whether a command waited for it.
     pub fn answer(&mut self, handle: Handle, status: u8, count: u8, params: &[u8]) -> bool
-        requires { length params.now ≤ 1452 }
+        requires { length params.now ≤ most_parameter_bytes }
         ensures new { result ≡ list_any (waits handle.0) self.old.untaken }
         ensures state { self.new ≡ record { next = self.old.next; untaken = map (answered handle.0 (record { status = status; count = count; params = params.now })) self.old.untaken } }
     {
@@ -124,6 +143,32 @@ impl Table {
         self.low = lowest_held(&self.slots, self.low, self.next);
         answer
     }
+}
+
+/// From which moment on a command is due of those from `low` on and below `next`, where there is such a moment.
+fn due_from(slots: &[Slot; 32], low: u64, next: u64) -> Option<u64>
+    requires { low ≤ next }
+    ensures { HoldsFrom (some_due (untaken_from low (next - low) slots.now)) result }
+{
+    let mut first = None;
+    for handle in low..next {
+        first = sooner(first, slots[place(handle)].due_from());
+    }
+    first
+}
+
+/// The lowest handle from `low` on and below `next` that has its answer.
+fn lowest_answered(slots: &[Slot; 32], low: u64, next: u64) -> Option<u64>
+    requires { low ≤ next }
+    ensures value { result ≡ first_answered (untaken_from low (next - low) slots.now) }
+    ensures below { IfSome result (λ h. h < next) }
+{
+    for handle in low..next {
+        if slots[place(handle)].is_answered() {
+            return Some(handle);
+        }
+    }
+    None
 }
 
 /// The slot of a handle.

@@ -3,6 +3,7 @@ mod asking;
 mod datagrams;
 mod driving;
 mod handles;
+mod questions;
 mod sending;
 
 use crate::{ControlFault, Link};

@@ -4,41 +4,36 @@
 //! Each command waits for the answer to the one before it. Without a port it asks a port at which nobody listens.
 #![tactic(auto)]
 
-use oca_control::{Answer, Link, drive};
+use oca_control::{Answer, Link, Outcome, ask};
 use oca_net::UdpEnd;
-use oca_types::{Cursor, Handle, MethodId, Ono, Peer, Span};
+use oca_tree::MuteState;
+use oca_types::{Class, Handle, Ono, Peer, Request, Span};
+use oca_values::{Value, get_request, read_value, set_request, word_of};
 use std::env;
 use std::net::Net;
 use std::process::ExitCode;
 use std::rt::Runtime;
 
-/// 127.0.0.1
-const LOOPBACK: u32 = 0x7f00_0001;
-
 /// How many turns of at most 50 ms to wait for an answer.
 const TURNS: u32 = 20;
 
-/// The mute and the gain of channel 1.
+/// The mute and the gain of channel 1; a gain is in tenths of a decibel.
 const MUTE: Ono = Ono(4097);
 
 const GAIN: Ono = Ono(4098);
 
-/// SetState of an OcaMute, SetSetting and GetSetting of an OcaInt16Actuator.
-const SET_STATE: MethodId = MethodId { level: 4, index: 2 };
-
-const SET_SETTING: MethodId = MethodId { level: 5, index: 2 };
-
-const GET_SETTING: MethodId = MethodId { level: 5, index: 1 };
-
 /// Sets a channel of the device at the port that the words say. Prints why where that fails; the status is 0 in either case.
 fn main(rt: HostRuntime) -> ExitCode {
-    match set_channel(&rt, port(&rt)) {
-        Ok(()) => ExitCode::SUCCESS,
-        Err(text) => {
-            let _ = println!(rt; "{text}");
-            ExitCode::SUCCESS
-        }
+    let device = Peer::loopback(port(&rt));
+    let Ok(mut end) = UdpEnd::bind(rt.alloc(), &rt, device.ip, 0) else {
+        let _ = println!(rt; "socket failed");
+        return ExitCode::SUCCESS;
+    };
+    let mut link = Link::new(device, Handle(1), 0, Span::default());
+    if let Err(text) = set_channel(&rt, &mut link, &mut end) {
+        let _ = println!(rt; "{text}: silent since {} ms", link.last_heard());
     }
+    ExitCode::SUCCESS
 }
 
 /// The port that the command line names, and 9 without one.
@@ -56,48 +51,47 @@ fn port<R: Runtime + AllocGlobal>(rt: &R) -> u16 {
 }
 
 /// Opens channel 1, sets its gain to -6 dB and reads it back.
-fn set_channel<R: Runtime + AllocGlobal + Net>(rt: &R, port: u16) -> Result<(), &'static str> {
-    let device = Peer { ip: LOOPBACK, port };
-    let Ok(mut end) = UdpEnd::bind(rt.alloc(), rt, LOOPBACK, 0) else {
-        return Err("socket failed");
-    };
-    let mut link = Link::new(device, Handle(1), 0, Span::default());
-    let opened = ask(&mut link, &mut end, MUTE, SET_STATE, 1, &[2])?;
+fn set_channel<R: Runtime + Net>(
+    rt: &R,
+    link: &mut Link,
+    end: &mut UdpEnd<'_, R>,
+) -> Result<(), &'static str> {
+    let open = set_request(Value::Mute(MuteState::Unmuted));
+    let opened = answer(link, end, MUTE, &open)?;
     let _ = println!(rt; "open channel 1: status {}", opened.status);
-    let gain = (-60i16).to_be_bytes();
-    let set = ask(&mut link, &mut end, GAIN, SET_SETTING, 1, &gain)?;
-    let _ = println!(rt; "gain to -6 dB: status {}", set.status);
-    let read = ask(&mut link, &mut end, GAIN, GET_SETTING, 0, &[])?;
-    match Cursor::new(read.params.as_slice()).take_i16() {
-        Ok(tenths) => {
-            let _ = println!(rt; "gain: {tenths} dB/10");
+    let lower = set_request(Value::Int16(-60));
+    let lowered = answer(link, end, GAIN, &lower)?;
+    let _ = println!(rt; "gain to -6 dB: status {}", lowered.status);
+    let get = get_request(Class::Int16).ok_or("no gain")?;
+    let read = answer(link, end, GAIN, &get)?;
+    match read_value(Class::Int16, read.params.as_slice()) {
+        Some(gain) => {
+            let _ = println!(rt; "gain: {} dB/10", word_of(gain).as_str());
         }
-        Err(_) => {
+        None => {
             let _ = println!(rt; "gain: status {}", read.status);
         }
     }
     Ok(())
 }
 
-/// Sends a command, and waits for its answer. The moment 0 is earlier than what the link has seen, and counts as that.
-fn ask<R: Runtime>(
+/// Asks an object, and gives its answer, or why there is none.
+fn answer<R: Runtime>(
     link: &mut Link,
     end: &mut UdpEnd<'_, R>,
     target: Ono,
-    method: MethodId,
-    count: u8,
-    params: &[u8],
+    request: &oca_values::Request,
 ) -> Result<Answer, &'static str> {
-    let Ok(handle) = link.submit(target, method, count, params, 0) else {
-        return Err("not submitted");
+    let request = Request {
+        target,
+        method: request.method,
+        count: request.count,
+        params: request.params.as_slice(),
     };
-    for _ in 0..TURNS {
-        if drive(link, end, 1).lost {
-            return Err("lost");
-        }
-        if let Some(answer) = link.take(handle) {
-            return Ok(answer);
-        }
+    match ask(link, end, request, TURNS) {
+        Outcome::Answered(answer) => Ok(answer),
+        Outcome::Refused(_) => Err("not submitted"),
+        Outcome::Lost => Err("lost"),
+        Outcome::Unanswered => Err("no answer"),
     }
-    Err("no answer")
 }

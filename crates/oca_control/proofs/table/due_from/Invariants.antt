@@ -1,0 +1,7 @@
+use Rattle.std.proofs.Common.{◌-◌}
+use Rattle.oca_control.specs.PrivateSlots.{untaken_from, some_due, HoldsFrom}
+use Rattle.oca_control.proofs.table.due_from.Given as goal
+
+-- of those below
+abbrev pub invariant-loop-handle : goal.invariant-loop-handle
+invariant-loop-handle l = HoldsFrom (some_due (untaken_from l.low (l.handle - l.low) l.slots)) l.first
