@@ -54,7 +54,7 @@ abbrev the_link : PeerLink
 the_link =
     record {
       peer = controller;
-      link = record { device = device_address; moment = 0; next = Some 4; sent = 0; lost = false; span = 3; untaken = held 1 ∷ held 2 ∷ held 3 ∷ [] };
+      link = record { device = device_address; moment = 0; next = Some 4; sent = 0; heard = 0; lost = false; span = 3; untaken = held 1 ∷ held 2 ∷ held 3 ∷ [] };
     }
 
 fits : RequestFits get_state
@@ -89,7 +89,7 @@ still_untaken : (tree : List Object) → HoldsUntaken 0 third (meanwhile 2 400 b
 still_untaken tree = record {
   link = record {
     peer = controller;
-    link = record { device = device_address; moment = 410; next = Some 4; sent = 410; lost = false; span = 3; untaken = again ∷ held 2 ∷ held 3 ∷ [] };
+    link = record { device = device_address; moment = 410; next = Some 4; sent = 410; heard = 0; lost = false; span = 3; untaken = again ∷ held 2 ∷ held 3 ∷ [] };
   };
   there = refl;
   untaken = held 3;
