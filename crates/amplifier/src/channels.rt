@@ -1,6 +1,7 @@
 //! What the amplifier's electronics do, and the objects by which a controller sets it.
 ghost use Rattle.std.specs.Prelude.{◌<◌};
 
+use oca_device::Electronics;
 use oca_tree::{AddFault, Kind, MuteState, Setting, Spec, Tree, TreeBuilder};
 use oca_types::Ono;
 use std::alloc::Global;
@@ -15,18 +16,24 @@ pub struct Channel {
     pub gain: i16,
 }
 
-/// Both channels, as the electronics were last told.
+/// The blocks of the channels. A mute stands behind each, and a gain behind that.
+pub const FIRST: u32 = 4096;
+
+pub const SECOND: u32 = 5096;
+
+/// Both channels, as the electronics were last told, and whether an object was set since that was last asked.
 #[derive(Clone, Copy, Debug, PartialEq, Eq)]
 pub struct Channels {
     pub first: Channel,
     pub second: Channel,
+    is_set: bool,
 }
 
 /// The objects: a block for each channel, 4096 and 5096, with a mute and a gain behind it.
 pub fn build(alloc: Global) -> Result<Tree, AddFault> {
     let mut builder = TreeBuilder::new(alloc)?;
-    add_channel(&mut builder, 4096, "channel 1")?;
-    add_channel(&mut builder, 5096, "channel 2")?;
+    add_channel(&mut builder, FIRST, "channel 1")?;
+    add_channel(&mut builder, SECOND, "channel 2")?;
     Ok(builder.finish())
 }
 
@@ -69,18 +76,38 @@ impl Channels {
         Channels {
             first: channel,
             second: channel,
+            is_set: false,
         }
     }
 
-    /// Brings the electronics to what the objects say: whether that changed anything.
-    pub fn follow(&mut self, tree: &Tree) -> bool {
-        let wanted = Channels {
-            first: wanted(tree, 4096),
-            second: wanted(tree, 5096),
-        };
-        let changed = wanted != *self;
-        *self = wanted;
-        changed
+    /// Whether an object was set since this was last asked.
+    pub fn take_set(&mut self) -> bool {
+        let is_set = self.is_set;
+        self.is_set = false;
+        is_set
+    }
+
+    /// Brings the channel that this object belongs to to what the objects say.
+    fn bring(&mut self, tree: &Tree, ono: Ono) {
+        if ono.0 < SECOND {
+            self.first = wanted(tree, FIRST);
+        } else {
+            self.second = wanted(tree, SECOND);
+        }
+        self.is_set = true;
+    }
+}
+
+impl Electronics for Channels {
+    ghost use Rattle.std.specs.Prelude.{[], false};
+
+    ghost state = { λ _. record { tells = false; followed = [] } };
+
+    /// Brings the channels to what the objects that were written to say. No other object is read.
+    fn follow(&mut self, tree: &Tree, written: &[Ono]) {
+        for ono in written {
+            self.bring(tree, *ono);
+        }
     }
 }
 

@@ -1,15 +1,20 @@
 //! A two-channel amplifier as an OCA device at a UDP socket: an example of embedding.
 //!
 //! `amplifier [PORT TURNS]` binds 127.0.0.1, says where on standard error, and serves so many turns; a line is printed
-//! whenever a controller changed what a channel does.
+//! whenever a controller or a knob set an object. Where standard input is no terminal, its lines turn knobs: `mute 1`, `open 2`,
+//! `gain 2 -60` in tenths of a decibel. They are read to their end at first, since reading waits, and one is turned before
+//! each turn.
 #![tactic(auto)]
 
 mod channels;
+mod knob;
 
 use channels::{Channels, build};
-use oca_device::{Device, Outbox};
-use oca_net::{End, Heard, UdpEnd};
-use oca_types::{Packet, Window};
+use knob::Knob;
+use oca_device::{Device, Outbox, serve_with};
+use oca_net::UdpEnd;
+use oca_types::Window;
+use std::io::IsTerminal;
 use std::net::Net;
 use std::process::ExitCode;
 use std::rt::Runtime;
@@ -21,7 +26,11 @@ const LOOPBACK: u32 = 0x7f00_0001;
 /// Serves the channels at the port and for the turns that the words say, and ends with 1 where that fails.
 fn main(rt: HostRuntime) -> ExitCode {
     let (port, turns) = words(&rt);
-    match serve(&rt, port, turns) {
+    let Some(knobs) = knobs(&rt, rt.stdin().is_terminal()) else {
+        let _ = eprintln!(rt; "read failed");
+        return ExitCode::FAILURE;
+    };
+    match serve(&rt, port, turns, &knobs) {
         Ok(()) => ExitCode::SUCCESS,
         Err(text) => {
             let _ = eprintln!(rt; "{text}");
@@ -47,11 +56,28 @@ fn words<R: Runtime + AllocGlobal>(rt: &R) -> (u16, u32) {
     }
 }
 
-/// Makes the device and serves it. After each turn the channels are brought to what the objects say.
+/// The knobs that standard input turns, in order, unless it is a terminal; a line that turns none is left out. Nothing where reading
+/// fails or memory is refused.
+fn knobs<R: Runtime + AllocGlobal>(rt: &R, is_terminal: bool) -> Option<Vec<Knob>> {
+    let mut knobs = Vec::new(rt.alloc());
+    if is_terminal {
+        return Some(knobs);
+    }
+    for line in rt.lines(rt.alloc()) {
+        let line = line.ok()?;
+        if let Some(knob) = Knob::read(line.as_str()) {
+            knobs.push(knob).ok()?;
+        }
+    }
+    Some(knobs)
+}
+
+/// Makes the device and serves it. Before each turn a knob is turned, while there are any.
 fn serve<R: Runtime + AllocGlobal + Net>(
     rt: &R,
     port: u16,
     turns: u32,
+    knobs: &[Knob],
 ) -> Result<(), &'static str> {
     let Ok(tree) = build(rt.alloc()) else {
         return Err("no memory");
@@ -67,31 +93,23 @@ fn serve<R: Runtime + AllocGlobal + Net>(
     };
     let _ = eprintln!(rt; "listening 127.0.0.1:{}", end.local().port);
     let mut channels = Channels::new();
-    let mut packet = Packet::new();
-    for _ in 0..turns {
-        turn(&mut device, &mut end, &mut outbox, &mut packet);
-        if channels.follow(device.tree()) && show(rt, &channels).is_err() {
-            return Err("write failed");
+    for turn in 0..turns {
+        if let Some(knob) = knobs.get(turn as usize) {
+            knob.turn(&mut device, &mut channels);
+            shown(rt, &mut channels)?;
         }
+        let _ = serve_with(&mut device, &mut end, &mut outbox, &mut channels, 1);
+        shown(rt, &mut channels)?;
     }
     Ok(())
 }
 
-/// Receives once, and answers what came.
-fn turn<E: End>(device: &mut Device, end: &mut E, outbox: &mut Outbox, packet: &mut Packet) {
-    outbox.clear();
-    match end.receive(packet) {
-        Heard::Datagram { from, now } => {
-            let _ = device.datagram(from, packet.as_slice(), now, outbox);
-            for number in 0..outbox.len() {
-                if let Some(answer) = outbox.get(number) {
-                    let _ = end.send(from, answer.as_slice());
-                }
-            }
-        }
-        Heard::Quiet { now } | Heard::Oversize { now } => device.tick(now),
-        Heard::Failed | Heard::Closed => {}
+/// Prints what the channels do, where an object was set since that was last asked.
+fn shown<R: Runtime>(rt: &R, channels: &mut Channels) -> Result<(), &'static str> {
+    if channels.take_set() && show(rt, channels).is_err() {
+        return Err("write failed");
     }
+    Ok(())
 }
 
 /// Prints the mutes and the gains, in tenths of a decibel.
