@@ -50,5 +50,5 @@ pub counted_over : (old front rest count mid new : List ℕ) (start : ℕ) → s
 counted_over old front rest count mid new start s f k e n =
     let is = counted_front old front rest count mid new start s f e n in
     let long : length new ≡ length mid =
-        omega (arith, ap length is, ap length e, length-append old (count ++ rest), length-append count rest, length-append (old ++ front) rest, length-append old front, f, k) in
+    omega (arith, ap length is, ap length e, length-append old (count ++ rest), length-append count rest, length-append (old ++ front) rest, length-append old front, f, k) in
     refilled mid new long ∙ is
