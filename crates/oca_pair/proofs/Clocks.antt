@@ -1,23 +1,18 @@
--- When datagrams of a peer came, and whether the device knows the peer.
+-- What one datagram notes.
 use Rattle.std.proofs.Common.{◌≡◌, ℕ, Bool, true, false, cond, List, [], ◌∷◌, ◌++◌, refl, sym, ap, ◌∙◌, append_assoc}
-use Rattle.std.specs.Prelude.{max, Result, Ok, Err}
+use Rattle.std.specs.Prelude.{Result, Ok, Err}
 use Rattle.std.specs.List.{AllByRecursion}
 use Rattle.oca_types.specs.declared.words.Peer.{Peer}
 use Rattle.oca_types.specs.Peers.{same_peer, CommandFields}
 use Rattle.oca_types.specs.Sizes.{DeviceSizes}
 use Rattle.oca_pdu.specs.declared.fault.PduFault.{PduFault}
 use Rattle.oca_pdu.specs.Messages.{Msg, Command, Response, KeepAlive}
-use Rattle.oca_pdu.specs.Reading.{read_datagram}
-use Rattle.oca_tree.specs.declared.object.Object.{Object}
 use Rattle.oca_session.specs.Accepted.{Judgement, Fresh, Duplicate, Reused, Old}
-use Rattle.oca_device.specs.Events.{Event, Datagram, Tick, Local, clock_after}
-use Rattle.oca_device.specs.Notes.{Noted, Admitted, Heartbeat, Executed, Note, notes_of, is_within}
-use Rattle.oca_device.specs.States.{State, noted, moved_to, admits, judged_in, reply_of, after_command, after_message, after_messages, after_reading, state_after, time_of}
-use Rattle.oca_pair.specs.Premises.{moments_of, is_soon_after, are_close, KeepsItsSession}
+use Rattle.oca_device.specs.Notes.{Noted, Admitted, Heartbeat, Executed, Note, notes_of}
+use Rattle.oca_device.specs.States.{State, noted, admits, judged_in, reply_of, after_command, after_message, after_messages, after_reading, time_of}
 use Rattle.oca_pair.proofs.Core.{each_append}
-use Rattle.oca_pair.proofs.Lists.{both_true, same_self}
 
--- ---- the clock
+-- ---- a message leaves the clock
 
 moment_command : (j : Judgement) (p : Peer) (c : CommandFields) (s : State) → (after_command j p c s).moment ≡ s.moment
 moment_command Fresh p c s = refl
@@ -29,27 +24,6 @@ moment_message : (w : DeviceSizes) (p : Peer) (m : Msg) (s : State) → (after_m
 moment_message w p (Command respond c) s = moment_command (judged_in w s p c) p c s
 moment_message w p (KeepAlive form) s = refl
 moment_message w p (Response r) s = refl
-
-moment_messages : (w : DeviceSizes) (p : Peer) (ms : List Msg) (s : State) → (after_messages w p ms s).moment ≡ s.moment
-moment_messages w p [] s = refl
-moment_messages w p (m ∷ ms) s = moment_messages w p ms (after_message w p m s) ∙ moment_message w p m s
-
-moment_reading : (w : DeviceSizes) (p : Peer) (r : Result (List Msg) PduFault) (s : State) → (after_reading w p r s).moment ≡ s.moment
-moment_reading w p (Err fault) s = refl
-moment_reading w p (Ok ms) s = by_room (admits w s p)
-  where
-    by_room : (b : Bool) → (let x : State = cond b (after_messages w p ms (noted p (Admitted ms) s)) s in x).moment ≡ s.moment
-    by_room true = moment_messages w p ms (noted p (Admitted ms) s)
-    by_room false = refl
-
--- The device's clock is the greatest moment seen.
-pub clock_is : (w : DeviceSizes) (tree : List Object) (events : List Event) → (state_after w tree events).moment ≡ clock_after events
-clock_is w tree [] = refl
-clock_is w tree (Datagram p bytes now ∷ events) =
-    let s = state_after w tree events in
-    moment_reading w p (read_datagram bytes) (moved_to (max s.moment now) s) ∙ ap (λ t. max t now) (clock_is w tree events)
-clock_is w tree (Tick now ∷ events) = ap (λ t. max t now) (clock_is w tree events)
-clock_is w tree (Local ono value ∷ events) = clock_is w tree events
 
 -- ---- what one datagram notes
 
@@ -106,39 +80,3 @@ notes_of_grown p q t ns ms other g = ap (notes_of p) g.is ∙ skipped g.more g.o
     skipped [] own = refl
     skipped (n ∷ more) own =
         ap (λ b. cond b (n ∷ notes_of p (more ++ ns)) (notes_of p (more ++ ns))) (ap (λ x. same_peer x p) own.0.0 ∙ other) ∙ skipped more own.1
-
--- ---- the latest note of a peer is of its latest datagram
-
--- with no note, or where the latest is of the latest of these moments
-abbrev pub IsLatest : List Note → List ℕ → Type 0
-IsLatest [] times = Unit {0}
-IsLatest (n ∷ ns) times = (earlier : List ℕ) × (times ≡ n.at ∷ earlier)
-
--- a peer that was noted is known at a moment that is soon after its latest datagram
-pub known_soon : (t : ℕ) (n : Note) (ns : List Note) (times : List ℕ) → IsLatest (n ∷ ns) times → is_soon_after t times ≡ true → is_within t (n ∷ ns) ≡ true
-known_soon t n ns times l soon = sym (ap (is_soon_after t) l.1) ∙ soon
-
--- where it says nothing of the peer, its moments stay
-pub moments_other : (p from : Peer) (bytes : List ℕ) (now : ℕ) (before : List Event) → same_peer from p ≡ false →
-    moments_of p (Datagram from bytes now ∷ before) ≡ moments_of p before
-moments_other p from bytes now before other = ap (λ b. cond b (clock_after (Datagram from bytes now ∷ before) ∷ moments_of p before) (moments_of p before)) other
-
-pub moments_own : (p : Peer) (bytes : List ℕ) (now : ℕ) (before : List Event) →
-    moments_of p (Datagram p bytes now ∷ before) ≡ max (clock_after before) now ∷ moments_of p before
-moments_own p bytes now before = ap (λ b. cond b (clock_after (Datagram p bytes now ∷ before) ∷ moments_of p before) (moments_of p before)) (same_self p)
-
--- a premise for all that came holds for what had come
-pub keeps_before : (p : Peer) (e : Event) (before : List Event) → KeepsItsSession p (e ∷ before) → KeepsItsSession p before
-keeps_before p (Tick now) before k = k
-keeps_before p (Local ono value) before k = k
-keeps_before p (Datagram from bytes now) before k = by_test (same_peer from p) k
-  where
-    by_test : (b : Bool) → are_close (cond b (clock_after (Datagram from bytes now ∷ before) ∷ moments_of p before) (moments_of p before)) ≡ true → are_close (moments_of p before) ≡ true
-    by_test true k = (both_true (is_soon_after (clock_after (Datagram from bytes now ∷ before)) (moments_of p before)) (are_close (moments_of p before)) k).1
-    by_test false k = k
-
-pub soon_now : (p : Peer) (bytes : List ℕ) (now : ℕ) (before : List Event) → KeepsItsSession p (Datagram p bytes now ∷ before) →
-    is_soon_after (max (clock_after before) now) (moments_of p before) ≡ true
-soon_now p bytes now before k =
-    let k' : are_close (max (clock_after before) now ∷ moments_of p before) ≡ true = sym (ap are_close (moments_own p bytes now before)) ∙ k in
-    (both_true (is_soon_after (max (clock_after before) now) (moments_of p before)) (are_close (moments_of p before)) k').0

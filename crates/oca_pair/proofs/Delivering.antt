@@ -29,9 +29,11 @@ use Rattle.oca_control.specs.Links.{LinkState, Request, command_under, submissio
 use Rattle.oca_pair.specs.Networks.{SentDatagram, SubmittedCommand, TakenAnswer, device_address}
 use Rattle.oca_pair.specs.Steps.{sendings, submitted_by, given_by, content_of, taken_by}
 use Rattle.oca_pair.specs.Premises.{RequestFits}
-use Rattle.oca_pair.specs.Laws.{Execution, executed_for, answer_of, handles_of, AreConsecutive}
+use Rattle.oca_pair.specs.Laws.{Execution, answer_of, handles_of, AreConsecutive}
 use Rattle.oca_pair.proofs.Core.{each_map, each_append}
 use Rattle.oca_pair.proofs.Lists.{IsIn, in_parts, in_last, each_in, same_self, same_of, other_is, equal_is}
+use Rattle.oca_pair.proofs.Executions.{executed_for}
+use Rattle.oca_pair.proofs.Arrivals.{looked_at}
 use Rattle.oca_pair.proofs.Wire.{IsSendable, read_command, read_keep_alive, read_response}
 use Rattle.oca_pair.proofs.Fitting.{response_to, reply_fits}
 use Rattle.oca_pair.proofs.Truths.{Past, and_then, and_submitted, state_of, IsSubmitted, IsHonest, IsTrueAnswer, window_executed}
@@ -39,10 +41,7 @@ use Rattle.oca_pair.proofs.Fair.{end_of, NextFits, IsOut, IsBack, IsHeld, IsFair
 
 -- ---- a datagram of the link itself
 
--- the state when the datagram is looked at, and when it is admitted
-abbrev pub looked_at : ℕ → Past → State
-looked_at now g = moved_to (max (state_of g).moment now) (state_of g)
-
+-- the state when the datagram is admitted
 abbrev pub let_in : Peer → Msg → ℕ → Past → State
 let_in p m now g = noted p (Admitted (m ∷ [])) (looked_at now g)
 

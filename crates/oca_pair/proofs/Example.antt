@@ -1,20 +1,28 @@
--- A schedule with loss, repeats and overtaking, of which the laws speak: it meets all that they ask.
-use Rattle.std.proofs.Common.{ℕ, true, false, List, [], ◌∷◌, Some, None, refl, lit<, lit≤}
+-- Schedules with loss, repeats and overtaking, of which the laws speak: they meet all that they ask.
+use Rattle.std.proofs.Common.{◌≡◌, ℕ, ◌^◌, ◌<◌, true, false, List, [], ◌∷◌, ◌++◌, Some, None, refl, sym, subst, lit<, lit≤}
+use Rattle.std.specs.Prelude.{Result, Ok}
 use Rattle.oca_types.specs.declared.words.Peer.{Peer}
 use Rattle.oca_types.specs.Peers.{CommandFields}
 use Rattle.oca_types.specs.Sizes.{DeviceSizes}
-use Rattle.oca_pdu.specs.Messages.{Commands}
+use Rattle.oca_pdu.specs.declared.fault.PduFault.{PduFault}
+use Rattle.oca_pdu.specs.declared.message.Form.TheVariants.{Seconds}
+use Rattle.oca_pdu.specs.Messages.{Msg, Command, KeepAlive, Commands, OneKeepAlive}
 use Rattle.oca_pdu.specs.Encoding.{pdu_encoding}
+use Rattle.oca_pdu.specs.Reading.{read_datagram}
 use Rattle.oca_pdu.specs.Laws.{WrittenIsReadBack}
 use Rattle.oca_tree.specs.declared.object.Object.{Object}
+use Rattle.oca_device.specs.LawByEvents.{Happening, Passes, admitted}
 use Rattle.oca_control.specs.Untaken.{Untaken}
 use Rattle.oca_control.specs.Links.{Request, command_under}
 use Rattle.oca_pair.specs.declared.start.Start.{Start}
 use Rattle.oca_pair.specs.Networks.{Network, PeerLink, SentDatagram, device_address, opening}
-use Rattle.oca_pair.specs.Steps.{Step, Submit, Due, ToDevice, Take, after_steps}
-use Rattle.oca_pair.specs.Premises.{RequestFits, Fit}
+use Rattle.oca_pair.specs.Steps.{Step, Submit, Due, ToDevice, Other, Take, after_steps}
+use Rattle.oca_pair.specs.Happenings.{sayings}
+use Rattle.oca_pair.specs.Premises.{RequestFits, Fit, KeepsItsSession}
 use Rattle.oca_pair.specs.Laws.{CarriesUntaken, IsAnswered}
 use Rattle.oca_pair.specs.RoundTrip.{HoldsUntaken, HoldsItsAnswer, meanwhile, come_back, ComesBack}
+use Rattle.oca_pair.proofs.Wire.{read_command, read_keep_alive}
+use Rattle.oca_pair.proofs.Arrivals.{HasOneSession}
 use Rattle.oca_pair.proofs.Lawful.{never_old_law}
 use Rattle.oca_pair.proofs.RoundTrip.{round_trip_law}
 
@@ -66,11 +74,35 @@ meets = ((lit< tt, tt), (fits, (fits, (fits, (tt, (tt, (tt, (tt, (tt, (tt, tt)))
 carries_third : CarriesUntaken sent_third the_link third
 carries_third = record { peer = refl; untaken = held 3; held = (2, lit< tt, refl); command = refl; bytes = refl }
 
+-- what the controller sends for a command, and what is read of it
+abbrev bytes_of : ℕ → List ℕ
+bytes_of h = pdu_encoding (Commands true (command_under h get_state ∷ []))
+
+abbrev said : ℕ → Result (List Msg) PduFault
+said h = Ok (Command true (command_under h get_state) ∷ [])
+
+read_of : WrittenIsReadBack → (h : ℕ) → h < 2 ^ 32 → read_datagram (bytes_of h) ≡ said h
+read_of law h low =
+    read_command law (command_under h get_state)
+    (record { fits = record { handle = low; target = fits.target; level = fits.level; index = fits.index; count = fits.count; size = lit< tt }; short = lit≤ tt })
+
+-- the controller keeps its session, where this is read of its first and of its third command
+abbrev KeepsWhere : Result (List Msg) PduFault → Result (List Msg) PduFault → Type 0
+KeepsWhere first third =
+    let H : List Happening =
+    sayings controller third ++ Passes 400 ∷ (sayings controller first ++ Passes 300 ∷ (sayings controller third ++ Passes 200 ∷ (sayings controller third ++ Passes 100 ∷ []))) in
+    HasOneSession controller (admitted the_sizes H)
+
+keeps : WrittenIsReadBack → KeepsWhere (read_datagram (bytes_of 1)) (read_datagram (bytes_of 3))
+keeps law =
+    subst (λ (r : Result (List Msg) PduFault). KeepsWhere r (read_datagram (bytes_of 3))) (sym (read_of law 1 (lit< tt)))
+    (subst (λ (r : Result (List Msg) PduFault). KeepsWhere (said 1) r) (sym (read_of law 3 (lit< tt))) refl)
+
 -- so the third command, delivered once more, is answered
 pub repeated_is_answered : WrittenIsReadBack → (tree : List Object) → IsAnswered 2 400 (the_network tree) sent_third third
 repeated_is_answered law tree =
     never_old_law law the_sizes 3 tree the_starts the_steps (lit< tt) (lit≤ tt) refl meets 2 400 0 sent_third the_link third (controller ∷ [])
-    refl refl carries_third refl (lit≤ tt) (refl, (refl, (refl, (refl, tt))))
+    refl refl carries_third (keeps law) (lit≤ tt) (refl, (refl, (refl, (refl, tt))))
 
 -- Before the device's datagram, the fourth that it sent, comes to the link, the first command is given out again, the third is asked
 -- for in vain, and the second comes to the device at last.
@@ -80,7 +112,7 @@ between = Due 0 410 ∷ Take 0 3 ∷ ToDevice 1 420 ∷ []
 pub repeated_comes_back : WrittenIsReadBack → (tree : List Object) → ComesBack 2 400 between 500 0 third controller (the_network tree)
 repeated_comes_back law tree =
     round_trip_law law the_sizes 3 tree the_starts the_steps (lit< tt) (lit≤ tt) refl meets 2 400 0 sent_third the_link third (controller ∷ []) between 500
-    refl refl carries_third refl (lit≤ tt) (refl, (refl, (refl, (refl, tt)))) (tt, (tt, (tt, tt)))
+    refl refl carries_third (keeps law) (lit≤ tt) (refl, (refl, (refl, (refl, tt)))) (tt, (tt, (tt, tt)))
 
 abbrev again : Untaken
 again = record { command = command_under 1 get_state; times = 2; last = 410; answer = None }
@@ -98,5 +130,27 @@ still_untaken tree = record {
 }
 
 -- so the link holds the third command's answer then
-pub repeated_is_held : WrittenIsReadBack → (tree : List Object) → HoldsItsAnswer 0 third (come_back 2 400 between 500 (the_network tree))
+pub repeated_is_held : WrittenIsReadBack → (tree : List Object) → HoldsItsAnswer 0 third controller (come_back 2 400 between 500 (the_network tree))
 repeated_is_held law tree = (repeated_comes_back law tree).held (still_untaken tree)
+
+-- Another peer is known when the controller's datagram comes first, at 0, and there is room for one alone: it finds no room. It comes again
+-- at 200,000, when the other is forgotten, and is executed. The controller keeps its session, since its first datagram was not admitted.
+abbrev other : Peer
+other = record { ip = 0x7F000001; port = 9100 }
+
+abbrev alive : List ℕ
+alive = pdu_encoding (OneKeepAlive (Seconds 5))
+
+abbrev crowded : List Step
+crowded = Other other alive 0 ∷ Submit 0 get_state 0 ∷ Due 0 0 ∷ ToDevice 0 0 ∷ ToDevice 0 200000 ∷ []
+
+abbrev KeepsInTheCrowd : Result (List Msg) PduFault → Result (List Msg) PduFault → Type 0
+KeepsInTheCrowd command beat =
+    let H : List Happening =
+    sayings controller command ++ Passes 200000 ∷ (sayings controller command ++ Passes 0 ∷ (sayings other beat ++ Passes 0 ∷ [])) in
+    HasOneSession controller (admitted the_sizes H)
+
+pub crowded_keeps : WrittenIsReadBack → (tree : List Object) → KeepsItsSession controller (after_steps crowded (opening the_sizes 3 tree the_starts))
+crowded_keeps law tree =
+    subst (λ (r : Result (List Msg) PduFault). KeepsInTheCrowd r (read_datagram alive)) (sym (read_of law 1 (lit< tt)))
+    (subst (λ (r : Result (List Msg) PduFault). KeepsInTheCrowd (said 1) r) (sym (read_keep_alive law)) refl)

@@ -1,5 +1,5 @@
 -- What holds of a peer whose session is never forgotten: its accepted commands are all that were ever executed for it, each once.
-use Rattle.std.proofs.Common.{◌≡◌, ℕ, ◌-◌, Bool, true, false, cond, List, [], ◌∷◌, ◌++◌, length, refl, sym, ap, ◌∙◌, arith, ◌⊎◌, inl, inr}
+use Rattle.std.proofs.Common.{◌≡◌, ℕ, ◌-◌, Bool, true, false, cond, List, [], ◌∷◌, ◌++◌, length, refl, sym, ap, ◌∙◌, subst, arith, ◌⊎◌, inl, inr}
 use Rattle.std.specs.Prelude.{nat_lt, nat_le, max, ◌||◌, map, Ok}
 use Rattle.std.specs.List.{list_any, AllByRecursion, IsDistinct}
 use Rattle.std.proofs.Math.Dec.{eqb}
@@ -12,17 +12,20 @@ use Rattle.oca_pdu.specs.declared.message.Form.{Form}
 use Rattle.oca_pdu.specs.Messages.{Msg, Command, KeepAlive}
 use Rattle.oca_pdu.specs.Reading.{read_datagram}
 use Rattle.oca_session.specs.Accepted.{Entry, has_handle, Judgement, Fresh, Duplicate, Reused, Old}
-use Rattle.oca_device.specs.Events.{Datagram, clock_after}
+use Rattle.oca_device.specs.Events.{Datagram}
 use Rattle.oca_device.specs.Notes.{Noted, Admitted, Heartbeat, Executed, Note, notes_of, is_within, unbroken, run, known, accepted, accepted_after}
 use Rattle.oca_device.specs.States.{State, noted, admits, judged_in, reply_of, after_command, after_message, after_reading, time_of}
-use Rattle.oca_pair.specs.Premises.{moments_of, is_soon_after, KeepsItsSession}
-use Rattle.oca_pair.specs.Laws.{Execution, executed_in, executed_for}
+use Rattle.oca_device.specs.LawByEvents.{Arrival}
+use Rattle.oca_pair.specs.Laws.{Execution}
 use Rattle.oca_pair.proofs.Core.{each_map, has, none_passes}
-use Rattle.oca_pair.proofs.Lists.{IsIn, same_self, differs}
-use Rattle.oca_pair.proofs.Clocks.{clock_is, Grows, grows_reading, notes_of_grown, IsLatest, moments_other, moments_own, soon_now}
+use Rattle.oca_pair.proofs.Lists.{IsIn, same_self}
+use Rattle.oca_pair.proofs.Clocks.{Grows, grows_reading, notes_of_grown}
+use Rattle.oca_pair.proofs.Executions.{executed_in, executed_for}
 use Rattle.oca_pair.proofs.Truths.{Past, and_then, state_of}
 use Rattle.oca_pair.proofs.Fair.{judged_fresh}
-use Rattle.oca_pair.proofs.Delivering.{looked_at, let_in, after_read}
+use Rattle.oca_pair.proofs.Delivering.{let_in, after_read}
+use Rattle.oca_pair.proofs.ByEvents.{stands_by}
+use Rattle.oca_pair.proofs.Arrivals.{HasOneSession, one_own, IsKnownThen, known_then, arrived, Keeps, looked_at, arrived_read}
 
 -- the handles of the commands that were executed for the peer
 abbrev pub handles_for : Peer → List Note → List ℕ
@@ -32,13 +35,12 @@ handles_for p ns = map (λ x. x.command.handle) (executed_for p ns)
 abbrev pub accepted_by : Peer → Past → List Entry
 accepted_by p g = accepted (notes_of p (state_of g).notes)
 
-pub record KeptState (p : Peer) (times : List ℕ) (ns : List Note) : Type 0 where
-  pub latest : IsLatest (notes_of p ns) times
+pub record KeptState (p : Peer) (ns : List Note) : Type 0 where
   pub whole : run p ns ≡ notes_of p ns
   pub once : IsDistinct eqb (handles_for p ns)
 
 abbrev pub Kept : Peer → Past → Type 0
-Kept p g = KeptState p (moments_of p g.events) (state_of g).notes
+Kept p g = KeptState p (state_of g).notes
 
 -- ---- what was executed is what was accepted
 
@@ -91,15 +93,6 @@ executed_has h p ns x i e = has_executed h p ns ∙ any (executed_for p ns) i
 
 -- ---- one more note of the peer
 
--- with no note, or where the peer is known at the moment
-abbrev pub IsKnownThen : ℕ → List Note → Type 0
-IsKnownThen t [] = Unit {0}
-IsKnownThen t (n ∷ ns) = is_within t (n ∷ ns) ≡ true
-
-known_then : (t : ℕ) (ns : List Note) (times : List ℕ) → IsLatest ns times → is_soon_after t times ≡ true → IsKnownThen t ns
-known_then t [] times l soon = tt
-known_then t (n ∷ ns) times l soon = sym (ap (is_soon_after t) l.1) ∙ soon
-
 now_within : (t : ℕ) → nat_le (t - t) 120000 ≡ true
 now_within t = grind (arith, nat_tests)
 
@@ -108,13 +101,12 @@ notes_noted p x s =
     let n : Note = record { peer = p; at = s.moment; what = x } in
     ap (λ b. cond b (n ∷ notes_of p s.notes) (notes_of p s.notes)) (same_self p)
 
-executed_noted : (p : Peer) (x : Noted) (s : State) → executed_for p (noted p x s).notes ≡ executed_in x ++ executed_for p s.notes
+pub executed_noted : (p : Peer) (x : Noted) (s : State) → executed_for p (noted p x s).notes ≡ executed_in x ++ executed_for p s.notes
 executed_noted p x s = ap (λ b. cond b (executed_in x) [] ++ executed_for p s.notes) (same_self p)
 
-kept_noted : (p : Peer) (x : Noted) (s : State) (times : List ℕ) → run p s.notes ≡ notes_of p s.notes → IsKnownThen s.moment (notes_of p s.notes) →
-    IsDistinct eqb (map (λ (y : Execution). y.command.handle) (executed_in x ++ executed_for p s.notes)) → KeptState p (s.moment ∷ times) (noted p x s).notes
-kept_noted p x s times whole known once = record {
-  latest = rw (notes_noted p x s) (times, refl);
+kept_noted : (p : Peer) (x : Noted) (s : State) → run p s.notes ≡ notes_of p s.notes → IsKnownThen s.moment (notes_of p s.notes) →
+    IsDistinct eqb (map (λ (y : Execution). y.command.handle) (executed_in x ++ executed_for p s.notes)) → KeptState p (noted p x s).notes
+kept_noted p x s whole known once = record {
   whole = ap unbroken (notes_noted p x s) ∙ by_notes (notes_of p s.notes) whole known ∙ sym (notes_noted p x s);
   once = rw (executed_noted p x s) once;
 }
@@ -139,9 +131,17 @@ pub record Delivers (p : Peer) (m : Msg) (g g' : Past) : Type 0 where
   pub kept : Kept p g'
   pub grown : IsGrown m (accepted_by p g) (accepted_by p g')
 
+-- the peer is known when its datagram is admitted
+known_now : (p : Peer) (m : Msg) (bytes : List ℕ) (now : ℕ) (g : Past) → read_datagram bytes ≡ Ok (m ∷ []) → admits g.sizes (looked_at now g) p ≡ true →
+    Keeps p (and_then (Datagram p bytes now) g) → IsKnownThen (looked_at now g).moment (notes_of p (looked_at now g).notes)
+known_now p m bytes now g read room keeps =
+    let t : ℕ = (looked_at now g).moment in
+    known_then g.sizes t p (notes_of p (state_of g).notes) (arrived g) ((stands_by g.sizes g.tree g.events).bridged.each p)
+    (one_own p (m ∷ []) t (arrived g) (subst (λ (D : List Arrival). HasOneSession p D) (arrived_read p (m ∷ []) bytes now g true read room) keeps))
+
 pub delivers : (p : Peer) (m : Msg) (bytes : List ℕ) (now : ℕ) (g : Past) → read_datagram bytes ≡ Ok (m ∷ []) →
     ((c : CommandFields) × (m ≡ Command true c)) ⊎ ((form : Form) × (m ≡ KeepAlive form)) →
-    KeepsItsSession p (Datagram p bytes now ∷ g.events) → Kept p g → Delivers p m g (and_then (Datagram p bytes now) g)
+    Keeps p (and_then (Datagram p bytes now) g) → Kept p g → Delivers p m g (and_then (Datagram p bytes now) g)
 unfolding IsDistinct
 delivers p m bytes now g read kind keeps k = by_room (admits g.sizes s1 p) refl
   where
@@ -154,17 +154,8 @@ delivers p m bytes now g read kind keeps k = by_room (admits g.sizes s1 p) refl
     s2 : State
     s2 = let_in p m now g
 
-    clock : s1.moment ≡ max (clock_after g.events) now
-    clock = ap (λ t. max t now) (clock_is g.sizes g.tree g.events)
-
-    times : moments_of p (Datagram p bytes now ∷ g.events) ≡ s1.moment ∷ moments_of p g.events
-    times = moments_own p bytes now g.events ∙ ap (λ t. t ∷ moments_of p g.events) (sym clock)
-
-    known1 : IsKnownThen s1.moment (notes_of p s1.notes)
-    known1 = known_then s1.moment (notes_of p s1.notes) (moments_of p g.events) k.latest (ap (λ t. is_soon_after t (moments_of p g.events)) clock ∙ soon_now p bytes now g.events keeps)
-
-    kept2 : KeptState p (s1.moment ∷ moments_of p g.events) s2.notes
-    kept2 = kept_noted p (Admitted (m ∷ [])) s1 (moments_of p g.events) k.whole known1 k.once
+    kept2 : admits g.sizes s1 p ≡ true → KeptState p s2.notes
+    kept2 room = kept_noted p (Admitted (m ∷ [])) s1 k.whole (known_now p m bytes now g read room keeps) k.once
 
     known2 : IsKnownThen s2.moment (notes_of p s2.notes)
     known2 = known_noted p (Admitted (m ∷ [])) s1
@@ -173,22 +164,18 @@ delivers p m bytes now g read kind keeps k = by_room (admits g.sizes s1 p) refl
     accepted2 = ap accepted (notes_noted p (Admitted (m ∷ [])) s1)
 
     -- what follows from the state
-    made : (s : State) → state_of g' ≡ s → KeptState p (s1.moment ∷ moments_of p g.events) s.notes → IsGrown m (accepted_by p g) (accepted (notes_of p s.notes)) → Delivers p m g g'
-    made s is kept grown = record { kept = rw (times, is) kept; grown = rw is grown }
+    made : (s : State) → state_of g' ≡ s → KeptState p s.notes → IsGrown m (accepted_by p g) (accepted (notes_of p s.notes)) → Delivers p m g g'
+    made s is kept grown = record { kept = rw is kept; grown = rw is grown }
 
-    -- not admitted: then the peer was never noted
-    unknown : (ns : List Note) → IsKnownThen s1.moment ns → (is_within s1.moment ns || nat_lt (length (known s1.moment s1.notes)) g.sizes.peers) ≡ false → ns ≡ []
-    unknown [] q e = refl
-    unknown (n ∷ ns) q e = differs (sym (ap (λ b. b || nat_lt (length (known s1.moment s1.notes)) g.sizes.peers) q) ∙ e)
-
-    by_judgement : (c : CommandFields) → m ≡ Command true c → (j : Judgement) → judged_in g.sizes s2 p c ≡ j → state_of g' ≡ after_command j p c s2 → Delivers p m g g'
-    by_judgement c is Fresh q state_is =
+    by_judgement : (c : CommandFields) → m ≡ Command true c → admits g.sizes s1 p ≡ true → (j : Judgement) → judged_in g.sizes s2 p c ≡ j →
+        state_of g' ≡ after_command j p c s2 → Delivers p m g g'
+    by_judgement c is room Fresh q state_is =
         let r : Reply = reply_of s2.tree p c in
         let new : has c.handle (accepted_by p g) ≡ false =
-        sym (ap (has c.handle) (ap accepted kept2.whole ∙ accepted2)) ∙ judged_fresh g.sizes.window (accepted (run p s2.notes)) c q in
+        sym (ap (has c.handle) (ap accepted (kept2 room).whole ∙ accepted2)) ∙ judged_fresh g.sizes.window (accepted (run p s2.notes)) c q in
         let new2 : has c.handle (accepted (notes_of p s2.notes)) ≡ false = ap (has c.handle) accepted2 ∙ new in
         made (after_command Fresh p c s2) state_is
-        (kept_noted p (Executed s2.tree c r) s2' (moments_of p g.events) kept2.whole known2 (fresh c.handle s2.notes new2, kept2.once))
+        (kept_noted p (Executed s2.tree c r) s2' (kept2 room).whole known2 (fresh c.handle s2.notes new2, (kept2 room).once))
         (inr (c, r, is, new, ap accepted (notes_noted p (Executed s2.tree c r) s2') ∙ ap (λ A. A ++ (let e : Entry = record { command = c; reply = r } in e) ∷ []) accepted2))
       where
         s2' : State
@@ -199,31 +186,25 @@ delivers p m bytes now g read kind keeps k = by_room (admits g.sizes s1 p) refl
 
         fresh : (h : ℕ) (ns : List Note) → has h (accepted (notes_of p ns)) ≡ false → AllByRecursion (λ y. eqb h y ≡ false) (handles_for p ns)
         fresh h ns e = each_map (λ y t. flipped y h t) (handles_for p ns) (none_passes (λ y. eqb y h) (handles_for p ns) (sym (has_executed h p ns) ∙ e))
-    by_judgement c is (Duplicate r) q state_is = made s2 state_is kept2 (inl accepted2)
-    by_judgement c is Reused q state_is = made s2 state_is kept2 (inl accepted2)
-    by_judgement c is Old q state_is = made s2 state_is kept2 (inl accepted2)
+    by_judgement c is room (Duplicate r) q state_is = made s2 state_is (kept2 room) (inl accepted2)
+    by_judgement c is room Reused q state_is = made s2 state_is (kept2 room) (inl accepted2)
+    by_judgement c is room Old q state_is = made s2 state_is (kept2 room) (inl accepted2)
 
     by_room : (b : Bool) → admits g.sizes s1 p ≡ b → Delivers p m g g'
     by_room true room = elim kind [
-      | inl (c, is) ↦ by_judgement c is (judged_in g.sizes s2 p c) refl (after_read g.sizes p m bytes now g true read room ∙ ap (λ x. after_message g.sizes p x s2) is)
+      | inl (c, is) ↦ by_judgement c is room (judged_in g.sizes s2 p c) refl (after_read g.sizes p m bytes now g true read room ∙ ap (λ x. after_message g.sizes p x s2) is)
       | inr (form, is) ↦ made (noted p (Heartbeat (time_of form)) s2) (after_read g.sizes p m bytes now g true read room ∙ ap (λ x. after_message g.sizes p x s2) is)
-          (kept_noted p (Heartbeat (time_of form)) s2 (moments_of p g.events) kept2.whole known2 kept2.once)
+          (kept_noted p (Heartbeat (time_of form)) s2 (kept2 room).whole known2 (kept2 room).once)
           (inl (ap accepted (notes_noted p (Heartbeat (time_of form)) s2) ∙ accepted2))
     ]
-    by_room false room =
-        let none : notes_of p s1.notes ≡ [] = unknown (notes_of p s1.notes) known1 room in
-        made s1 (after_read g.sizes p m bytes now g false read room)
-        (record { latest = rw none tt; whole = k.whole; once = k.once }) (inl refl)
+    by_room false room = made s1 (after_read g.sizes p m bytes now g false read room) (record { whole = k.whole; once = k.once }) (inl refl)
 
 -- when a datagram of the peer is admitted, the accepted commands are as before
-pub accepted_let_in : (p : Peer) (m : Msg) (bytes : List ℕ) (now : ℕ) (g : Past) → KeepsItsSession p (Datagram p bytes now ∷ g.events) → Kept p g →
-    accepted (run p (let_in p m now g).notes) ≡ accepted_by p g
-accepted_let_in p m bytes now g keeps k =
+pub accepted_let_in : (p : Peer) (m : Msg) (bytes : List ℕ) (now : ℕ) (g : Past) → read_datagram bytes ≡ Ok (m ∷ []) → admits g.sizes (looked_at now g) p ≡ true →
+    Keeps p (and_then (Datagram p bytes now) g) → Kept p g → accepted (run p (let_in p m now g).notes) ≡ accepted_by p g
+accepted_let_in p m bytes now g read room keeps k =
     let s1 : State = looked_at now g in
-    let clock : s1.moment ≡ max (clock_after g.events) now = ap (λ t. max t now) (clock_is g.sizes g.tree g.events) in
-    let known1 : IsKnownThen s1.moment (notes_of p s1.notes) =
-    known_then s1.moment (notes_of p s1.notes) (moments_of p g.events) k.latest (ap (λ t. is_soon_after t (moments_of p g.events)) clock ∙ soon_now p bytes now g.events keeps) in
-    let kept2 : KeptState p (s1.moment ∷ moments_of p g.events) (let_in p m now g).notes = kept_noted p (Admitted (m ∷ [])) s1 (moments_of p g.events) k.whole known1 k.once in
+    let kept2 : KeptState p (let_in p m now g).notes = kept_noted p (Admitted (m ∷ [])) s1 k.whole (known_now p m bytes now g read room keeps) k.once in
     ap accepted kept2.whole ∙ ap accepted (notes_noted p (Admitted (m ∷ [])) s1)
 
 -- ---- what else happens
@@ -234,7 +215,6 @@ kept_other p q bytes now g other k =
     let grows : Grows q s1.moment s1.notes (after_reading g.sizes q (read_datagram bytes) s1).notes = grows_reading g.sizes q (read_datagram bytes) s1 in
     let same : notes_of p (after_reading g.sizes q (read_datagram bytes) s1).notes ≡ notes_of p s1.notes = notes_of_grown p q s1.moment s1.notes _ other grows in
     record {
-      latest = rw (moments_other p q bytes now g.events other, same) k.latest;
       whole = ap unbroken same ∙ k.whole ∙ sym same;
       once = rw (executed_other grows.more grows.is grows.own) k.once;
     }

@@ -16,8 +16,9 @@ use Rattle.oca_tree.specs.declared.object.Object.{Object}
 use Rattle.oca_session.specs.Accepted.{Entry, window, entry_under, Judgement, Fresh, Duplicate, Reused, Old, judgement}
 use Rattle.oca_device.specs.declared.verdict.Verdict.{Verdict}
 use Rattle.oca_device.specs.declared.verdict.Verdict.TheVariants as verdicts
-use Rattle.oca_device.specs.Events.{Event, Datagram}
-use Rattle.oca_device.specs.Notes.{run, accepted}
+use Rattle.oca_device.specs.Events.{Event, Datagram, Tick}
+use Rattle.oca_device.specs.LawByEvents.{changes}
+use Rattle.oca_device.specs.Notes.{Admitted, Executed, run, accepted}
 use Rattle.oca_device.specs.States.{State, admits, judged_in, reply_of, after_command}
 use Rattle.oca_device.specs.Answers.{response, answer_to_command, answers_to_reading, packets_of, count_of_command, counts, plus, served, verdict_of_reading, verdict}
 use Rattle.oca_control.specs.Answers.{AnswerFields}
@@ -28,16 +29,19 @@ use Rattle.oca_pair.specs.Networks.{Network, PeerLink, SentDatagram, SubmittedCo
 use Rattle.oca_pair.specs.Steps as steps
 use Rattle.oca_control.specs.Links.{Request}
 use Rattle.oca_pair.specs.Steps.{Step, Submit, Due, ToDevice, ToLink, Other, Take, has_link, sendings, after_submit, after_due_step, after_delivery, after_reception, after_take, after_step, after_steps}
+use Rattle.oca_pair.specs.Happenings.{happenings}
 use Rattle.oca_pair.specs.Premises.{are_apart, Fit, KeepsItsSession, ComeFrom}
-use Rattle.oca_pair.specs.Laws.{Execution, executed_for, executions_for, executions_under, IsAnswerOfItsCommand, handles_of, AreConsecutive, AnswersItsCommands, CarriesUntaken, IsAnswered, AnswersUntaken, ExecutesOnce}
+use Rattle.oca_pair.specs.Laws.{Execution, executions, executions_for, executions_under, IsAnswerOfItsCommand, handles_of, AreConsecutive, AnswersItsCommands, CarriesUntaken, IsAnswered, AnswersUntaken, ExecutesOnce}
 use Rattle.oca_pair.proofs.Core.{IsServed}
 use Rattle.oca_pair.proofs.Lists.{IsIn, contains_in, in_contains, each_at, each_in, equal_is}
-use Rattle.oca_pair.proofs.Clocks.{keeps_before}
+use Rattle.oca_pair.proofs.Arrivals.{Keeps, keeps_before, looked_at}
+use Rattle.oca_pair.proofs.ByEvents.{stands_by}
+use Rattle.oca_pair.proofs.Executions.{executed_for, executions_are}
 use Rattle.oca_pair.proofs.Wire.{IsSendable, read_command}
 use Rattle.oca_pair.proofs.Truths.{Past, past, and_then, state_of, IsSubmitted, IsTrueAnswer, window_executed}
 use Rattle.oca_pair.proofs.Fair.{end_of, IsFair, AreOwn, Fair, owns_then, judged_duplicate}
-use Rattle.oca_pair.proofs.Delivering.{looked_at, let_in, executed_now, after_read, answers_read, held_answer}
-use Rattle.oca_pair.proofs.Keeping.{accepted_by, Kept, accepted_let_in}
+use Rattle.oca_pair.proofs.Delivering.{let_in, after_read, answers_read, held_answer}
+use Rattle.oca_pair.proofs.Keeping.{accepted_by, Kept, executed_noted, accepted_let_in}
 use Rattle.oca_pair.proofs.Span.{Good, untaken_served}
 use Rattle.oca_pair.proofs.Room.{noted_among, room_for}
 use Rattle.oca_pair.proofs.Networks.{LinkSound, Sound, sound_after}
@@ -71,17 +75,26 @@ only_one h x (y ∷ ys) d (inr i) e =
     member P (z ∷ zs) a (inl q) = let his : z.command.handle ≡ x.command.handle = ap (λ (w : Execution). w.command.handle) q in rw his at a.0
     member P (z ∷ zs) a (inr i) = member P zs a.1 i
 
-pub true_answer : (p : Peer) (h : ℕ) (a : AnswerFields) (n : Network) → (KeepsItsSession p n.events → Kept p (past n)) → IsTrueAnswer p h a (past n) → IsAnswerOfItsCommand p h a n
-true_answer p h a n kept t = record {
-  execution = t.execution;
-  executed = in_contains t.execution (executions_for p n) t.executed;
-  came = record { later = t.honest.came.later; before = t.honest.came.before; now = t.honest.came.now; events = t.honest.came.events; objects = t.honest.came.objects };
-  submitted = in_contains _ n.submitted t.honest.submitted;
-  handle = t.handle;
-  reply = t.honest.reply;
-  answer_is = t.answer_is;
-  only = λ keeps. only_one h t.execution (executions_for p n) (kept keeps).once t.executed t.handle;
-}
+pub true_answer : (p : Peer) (h : ℕ) (a : AnswerFields) (n : Network) → (KeepsItsSession p n → Kept p (past n)) → IsTrueAnswer p h a (past n) → IsAnswerOfItsCommand p h a n
+true_answer p h a n kept t =
+    let are : executions_for p n ≡ executed_for p (state_of (past n)).notes = executions_are n.sizes p n.tree n.events in
+    record {
+      execution = t.execution;
+      executed = in_contains t.execution (executions_for p n) (subst (λ (xs : List Execution). IsIn t.execution xs) (sym are) t.executed);
+      came = record {
+        later = t.honest.came.later;
+        before = t.honest.came.before;
+        now = t.honest.came.now;
+        events = t.honest.came.events;
+        objects = t.honest.came.objects ∙ (stands_by n.sizes n.tree (Tick t.honest.came.now ∷ t.honest.came.before)).tree_is;
+      };
+      submitted = in_contains _ n.submitted t.honest.submitted;
+      handle = t.handle;
+      reply = t.honest.reply;
+      answer_is = t.answer_is;
+      only = λ keeps. subst (λ (xs : List Execution). executions_under h xs ≡ t.execution ∷ []) (sym are)
+          (only_one h t.execution (executed_for p (state_of (past n)).notes) (kept keeps).once t.executed t.handle);
+    }
 
 -- without the last
 before_last : (xs : List ℕ) (h : ℕ) → AreConsecutive (xs ++ h ∷ []) → AreConsecutive xs
@@ -114,7 +127,7 @@ once_law law w s tree starts es apart fit i l own keeps =
     let n : Network = after_steps es (opening w s tree starts) in
     let sound : Sound s n = sound_after law w s tree starts es apart fit in
     let of : LinkSound s n l = each_at (LinkSound s n) n.links i l sound.each own in
-    (of.kept keeps).once
+    subst (λ (xs : List Execution). IsDistinct eqb (map (λ (x : Execution). x.command.handle) xs)) (sym (executions_are n.sizes l.peer n.tree n.events)) (of.kept keeps).once
 
 -- ---- the law of commands in hand
 
@@ -122,7 +135,7 @@ once_law law w s tree starts es apart fit i l own keeps =
 answered_now : WrittenIsReadBack → (w : DeviceSizes) (s f : ℕ) (n : Network) (k now : ℕ) (d : SentDatagram) (next : Option ℕ) (us : List Untaken) (u : Untaken) (c : CommandFields) (peers : List Peer) →
     2 * s ≤ n.sizes.window + 1 → slice_get n.to_device k ≡ Some d → (fair : Fair d.peer next us (past n) n.to_device n.to_links n.taken) (kept : Kept d.peer (past n)) →
     Good s f d.peer next us n.submitted (accepted_by d.peer (past n)) → IsIn u us → u.command ≡ c → d.bytes ≡ pdu_encoding (Commands true (c ∷ [])) →
-    KeepsItsSession d.peer (Datagram d.peer d.bytes now ∷ n.events) → length peers ≤ n.sizes.peers → ComeFrom peers (Datagram d.peer d.bytes now ∷ n.events) → IsAnswered k now n d c
+    Keeps d.peer (and_then (Datagram d.peer d.bytes now) (past n)) → length peers ≤ n.sizes.peers → ComeFrom peers (Datagram d.peer d.bytes now ∷ n.events) → IsAnswered k now n d c
 answered_now law w s f n k now d next us u c peers wide there fair kept good held command bytes keeps small come =
     by_judgement (judged_in n.sizes s2 p c) refl (rw is_accepted served_by)
   where
@@ -160,7 +173,7 @@ answered_now law w s f n k now d next us u c peers wide there fair kept good hel
     own2 = ((λ same. tt), owns_then p g e (state_of g).notes fair.own)
 
     is_accepted : accepted (run p s2.notes) ≡ accepted_by p g
-    is_accepted = accepted_let_in p m d.bytes now g keeps kept
+    is_accepted = accepted_let_in p m d.bytes now g read room keeps kept
 
     -- what the window has under the handle is the command
     same_command : (A : List Entry) → accepted (run p s2.notes) ≡ A → (x : Entry) → entry_under c.handle (window n.sizes.window A) ≡ Some x → x.command ≡ c
@@ -173,22 +186,36 @@ answered_now law w s f n k now d next us u c peers wide there fair kept good hel
         rw command at (untaken_served n.sizes.window s f p next us n.submitted (accepted_by p g) u wide
         (λ x q. same_command (accepted_by p g) is_accepted x (rw command at q) ∙ sym command) good held)
 
+    was : executions_for p n ≡ executed_for p (state_of g).notes
+    was = executions_are n.sizes p n.tree n.events
+
+    -- admitting it executes nothing
+    let_in_none : executed_for p s2.notes ≡ executed_for p (state_of g).notes
+    let_in_none = executed_noted p (Admitted (m ∷ [])) (looked_at now g)
+
     -- from the state and the answers
     made : (s' : State) (reply : Reply) (x : Execution) (v : Verdict) → state_of (and_then e g) ≡ s' →
         answers_to_reading g.sizes p (read_datagram d.bytes) (looked_at now g) ≡ response c.handle reply ∷ [] →
         verdict n.sizes n.tree n.events d.peer d.bytes now ≡ v →
-        (v ≡ verdicts.Served 1 0 0 0) ⊎ (v ≡ verdicts.Served 0 1 0 0) →
-        IsIn x (executed_for p s'.notes) → x.command ≡ c → reply ≡ x.reply → IsAnswered k now n d c
-    made s' reply x v state_is answers_are verdict_is kind i command reply_is = record {
-      served = rw there (elim kind [
-        | inl q ↦ inl (ap (λ y. outcomes.Device y ∷ []) (verdict_is ∙ q))
-        | inr q ↦ inr (ap (λ y. outcomes.Device y ∷ []) (verdict_is ∙ q))
-      ]);
-      execution = x;
-      executed = rw (there, state_is) (in_contains x (executed_for p s'.notes) i);
-      command = command;
-      sent = rw there (ap (λ ps. n.to_links ++ sendings p ps) (ap packets_of answers_are ∙ ap (λ r. packets_of (response c.handle r ∷ [])) reply_is));
-    }
+        ((v ≡ verdicts.Served 1 0 0 0) × (executed_for p s'.notes ≡ x ∷ executed_for p (state_of g).notes))
+        ⊎ ((v ≡ verdicts.Served 0 1 0 0) × (executed_for p s'.notes ≡ executed_for p (state_of g).notes) × IsIn x (executed_for p (state_of g).notes)) →
+        x.command ≡ c → reply ≡ x.reply → IsAnswered k now n d c
+    made s' reply x v state_is answers_are verdict_is kind command reply_is =
+        let after : executions p n.tree (changes n.sizes (happenings (e ∷ n.events))) ≡ executed_for p s'.notes =
+        executions_are n.sizes p n.tree (e ∷ n.events) ∙ ap (λ (s : State). executed_for p s.notes) state_is in
+        record {
+          execution = x;
+          command = command;
+          executed = rw there (elim kind [
+            | inl q ↦ inl (ap (λ y. outcomes.Device y ∷ []) (verdict_is ∙ q.0), after ∙ q.1 ∙ ap (λ (xs : List Execution). x ∷ xs) (sym was))
+            | inr q ↦ inr (
+              ap (λ y. outcomes.Device y ∷ []) (verdict_is ∙ q.0),
+              after ∙ q.1 ∙ sym was,
+              in_contains x (executions_for p n) (subst (λ (xs : List Execution). IsIn x xs) (sym was) q.2),
+            )
+          ]);
+          sent = rw there (ap (λ ps. n.to_links ++ sendings p ps) (ap packets_of answers_are ∙ ap (λ r. packets_of (response c.handle r ∷ [])) reply_is));
+        }
 
     verdict_read : verdict n.sizes n.tree n.events d.peer d.bytes now ≡ served (plus (count_of_command (judged_in n.sizes s2 p c)) (counts 0 0 0 0))
     verdict_read =
@@ -202,7 +229,7 @@ answered_now law w s f n k now d next us u c peers wide there fair kept good hel
         (after_read n.sizes p m d.bytes now g true read room ∙ ap (λ j. after_command j p c s2) q)
         (answers_read n.sizes p m d.bytes now g true read room ∙ ap (λ j. answer_to_command j p c s2 ++ []) q)
         (verdict_read ∙ ap (λ j. served (plus (count_of_command j) (counts 0 0 0 0))) q)
-        (inl refl) (executed_now p s2.moment s2.tree c x.reply s2.notes) refl refl
+        (inl (refl, executed_noted p (Executed s2.tree c x.reply) s2 ∙ ap (λ (xs : List Execution). x ∷ xs) let_in_none)) refl refl
     by_judgement (Duplicate r) q t =
         let f = judged_duplicate n.sizes.window (accepted (run p s2.notes)) c r q in
         let a = window_executed n.sizes p (and_then e g) c.handle f.0 s2.notes own2 f.1 in
@@ -211,17 +238,17 @@ answered_now law w s f n k now d next us u c peers wide there fair kept good hel
         (after_read n.sizes p m d.bytes now g true read room ∙ ap (λ j. after_command j p c s2) q)
         (answers_read n.sizes p m d.bytes now g true read room ∙ ap (λ j. answer_to_command j p c s2 ++ []) q)
         (verdict_read ∙ ap (λ j. served (plus (count_of_command j) (counts 0 0 0 0))) q)
-        (inr refl) a.0.executed
+        (inr (refl, let_in_none, subst (λ (xs : List Execution). IsIn x xs) let_in_none a.0.executed))
         (fair.unique f.0.command c a.0.honest.submitted sub (equal_is f.0.command.handle c.handle a.1)) (sym f.2)
     by_judgement Reused q t = absurd t
     by_judgement Old q t = absurd t
 
 delivered : WrittenIsReadBack → (w : DeviceSizes) (s : ℕ) (n : Network) (k now : ℕ) (d : SentDatagram) (l : PeerLink) (c : CommandFields) (peers : List Peer) → 0 < s → 2 * s ≤ n.sizes.window + 1 →
     slice_get n.to_device k ≡ Some d → LinkSound s n l → CarriesUntaken d l c →
-    KeepsItsSession d.peer (Datagram d.peer d.bytes now ∷ n.events) → length peers ≤ n.sizes.peers → ComeFrom peers (Datagram d.peer d.bytes now ∷ n.events) → IsAnswered k now n d c
+    Keeps d.peer (and_then (Datagram d.peer d.bytes now) (past n)) → length peers ≤ n.sizes.peers → ComeFrom peers (Datagram d.peer d.bytes now ∷ n.events) → IsAnswered k now n d c
 delivered law w s n k now d l c peers some wide there of of_untaken keeps small come =
-    let As : Peer → Type 0 = λ x. KeepsItsSession x n.events in
-    let before : KeepsItsSession l.peer n.events = subst As (sym of_untaken.peer) (keeps_before d.peer (Datagram d.peer d.bytes now) n.events keeps) in
+    let As : Peer → Type 0 = λ x. Keeps x (past n) in
+    let before : Keeps l.peer (past n) = subst As (sym of_untaken.peer) (keeps_before d.peer (Datagram d.peer d.bytes now) (past n) keeps) in
     let FairAs : Peer → Type 0 = λ x. Fair x l.link.next l.link.untaken (past n) n.to_device n.to_links n.taken in
     let KeptAs : Peer → Type 0 = λ x. Kept x (past n) in
     let good = of.good some before in

@@ -3,7 +3,10 @@ pub mod Lists
 pub mod Wire
 pub mod Fitting
 pub mod Clocks
+pub mod ByEvents
+pub mod Executions
 pub mod Truths
+pub mod Arrivals
 pub mod Fair
 pub mod Delivering
 pub mod Keeping

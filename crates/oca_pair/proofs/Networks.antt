@@ -23,10 +23,10 @@ use Rattle.oca_pair.specs.declared.start.Start.{Start}
 use Rattle.oca_pair.specs.Networks.{Network, PeerLink, SentDatagram, SubmittedCommand, TakenAnswer, device_address, started, opening}
 use Rattle.oca_pair.specs.Steps.{Step, Submit, Due, ToDevice, ToLink, Other, Take, has_link, sendings, submitted_by, after_submit, given_by, after_due_step, after_delivery, content_of, hears_datagram, after_reception, after_take, after_step, after_steps}
 use Rattle.oca_pair.specs.Steps as steps
-use Rattle.oca_pair.specs.Premises.{is_of_another_peer, are_apart, RequestFits, StepFits, StartFits, Fit, KeepsItsSession}
+use Rattle.oca_pair.specs.Premises.{is_of_another_peer, are_apart, RequestFits, StepFits, StartFits, Fit}
 use Rattle.oca_pair.proofs.Core.{each_map, none_passes, has}
 use Rattle.oca_pair.proofs.Lists.{both_true, not_true, same_is, same_turned, other_of, each_at, each_in, each_set}
-use Rattle.oca_pair.proofs.Clocks.{keeps_before}
+use Rattle.oca_pair.proofs.Arrivals.{Keeps, keeps_before}
 use Rattle.oca_pair.proofs.Wire.{IsSendable, read_command, read_keep_alive}
 use Rattle.oca_pair.proofs.Truths.{Past, past, and_then, state_of, IsSubmitted, IsTrueAnswer}
 use Rattle.oca_pair.proofs.Fair.{end_of, IsOut, IsBack, IsHeld, Fair, fair_other, fair_tick, fair_local}
@@ -78,8 +78,8 @@ apart_hears d now (x ∷ xs) a = (heads xs a.0, apart_hears d now xs a.1)
 pub record LinkSound (s : ℕ) (n : Network) (l : PeerLink) : Type 0 where
   pub span : l.link.span ≡ s
   pub fair : Fair l.peer l.link.next l.link.untaken (past n) n.to_device n.to_links n.taken
-  pub kept : KeepsItsSession l.peer n.events → Kept l.peer (past n)
-  pub good : 0 < s → KeepsItsSession l.peer n.events → (f : ℕ) × Good s f l.peer l.link.next l.link.untaken n.submitted (accepted_by l.peer (past n))
+  pub kept : Keeps l.peer (past n) → Kept l.peer (past n)
+  pub good : 0 < s → Keeps l.peer (past n) → (f : ℕ) × Good s f l.peer l.link.next l.link.untaken n.submitted (accepted_by l.peer (past n))
 
 pub record Sound (s : ℕ) (n : Network) : Type 0 where
   pub apart : Apart n.links
@@ -277,13 +277,13 @@ sound_reception s now n g d k e = record { apart = apart_hears d now n.links g.a
 -- of another peer
 sound_elsewhere : (s : ℕ) (n : Network) (q : Peer) (bytes : List ℕ) (now : ℕ) (packets : List (List ℕ)) (z : PeerLink) → same_peer q z.peer ≡ false → LinkSound s n z →
     Fair z.peer z.link.next z.link.untaken (and_then (Datagram q bytes now) (past n)) n.to_device (n.to_links ++ sendings q packets) n.taken
-    × (KeepsItsSession z.peer (Datagram q bytes now ∷ n.events) → Kept z.peer (and_then (Datagram q bytes now) (past n)))
-    × (0 < s → KeepsItsSession z.peer (Datagram q bytes now ∷ n.events) →
+    × (Keeps z.peer (and_then (Datagram q bytes now) (past n)) → Kept z.peer (and_then (Datagram q bytes now) (past n)))
+    × (0 < s → Keeps z.peer (and_then (Datagram q bytes now) (past n)) →
     (f : ℕ) × Good s f z.peer z.link.next z.link.untaken n.submitted (accepted_by z.peer (and_then (Datagram q bytes now) (past n))))
 sound_elsewhere s n q bytes now packets z other w = (
   fair_other z.peer q z.link.next z.link.untaken (past n) n.to_device n.to_links n.taken bytes now packets (other_of q z.peer other) w.fair,
-  (λ keeps. kept_other z.peer q bytes now (past n) other (w.kept (keeps_before z.peer (Datagram q bytes now) n.events keeps))),
-  (λ some keeps. let good = w.good some (keeps_before z.peer (Datagram q bytes now) n.events keeps) in
+  (λ keeps. kept_other z.peer q bytes now (past n) other (w.kept (keeps_before z.peer (Datagram q bytes now) (past n) keeps))),
+  (λ some keeps. let good = w.good some (keeps_before z.peer (Datagram q bytes now) (past n) keeps) in
       (good.0, moved good.0 (accepted_by z.peer (and_then (Datagram q bytes now) (past n))) (accepted_other z.peer q bytes now (past n) other) good.1)),
 )
   where
@@ -303,7 +303,7 @@ own_fair law p next us g out back handed bytes now (inl (c, sub, is)) f =
 own_fair law p next us g out back handed bytes now (inr is) f = rw is (fair_keep_alive law p next us g out back handed now f)
 
 own_kept : (law : WrittenIsReadBack) (s f : ℕ) (p : Peer) (next : Option ℕ) (us : List Untaken) (g : Past) (out back : List SentDatagram) (handed : List TakenAnswer) (bytes : List ℕ) (now : ℕ) →
-    IsOut p g.submitted bytes → Fair p next us g out back handed → KeepsItsSession p (Datagram p bytes now ∷ g.events) → Kept p g →
+    IsOut p g.submitted bytes → Fair p next us g out back handed → Keeps p (and_then (Datagram p bytes now) g) → Kept p g →
     Kept p (and_then (Datagram p bytes now) g)
     × (Good s f p next us g.submitted (accepted_by p g) → Good s f p next us g.submitted (accepted_by p (and_then (Datagram p bytes now) g)))
 own_kept law s f p next us g out back handed bytes now (inl (c, sub, is)) fair keeps k =
@@ -330,8 +330,8 @@ own_kept law s f p next us g out back handed bytes now (inr is) fair keeps k =
 
 sound_own : (law : WrittenIsReadBack) (s : ℕ) (n : Network) (bytes : List ℕ) (now : ℕ) (z : PeerLink) → IsOut z.peer n.submitted bytes → LinkSound s n z →
     Fair z.peer z.link.next z.link.untaken (and_then (Datagram z.peer bytes now) (past n)) n.to_device (n.to_links ++ sendings z.peer (packets n.sizes n.tree n.events (Datagram z.peer bytes now))) n.taken
-    × (KeepsItsSession z.peer (Datagram z.peer bytes now ∷ n.events) → Kept z.peer (and_then (Datagram z.peer bytes now) (past n)))
-    × (0 < s → KeepsItsSession z.peer (Datagram z.peer bytes now ∷ n.events) →
+    × (Keeps z.peer (and_then (Datagram z.peer bytes now) (past n)) → Kept z.peer (and_then (Datagram z.peer bytes now) (past n)))
+    × (0 < s → Keeps z.peer (and_then (Datagram z.peer bytes now) (past n)) →
     (f : ℕ) × Good s f z.peer z.link.next z.link.untaken n.submitted (accepted_by z.peer (and_then (Datagram z.peer bytes now) (past n))))
 sound_own law s n bytes now z out w = (
   own_fair law z.peer z.link.next z.link.untaken (past n) n.to_device n.to_links n.taken bytes now out w.fair,
@@ -340,15 +340,15 @@ sound_own law s n bytes now z out w = (
       (good.0, (own_kept law s good.0 z.peer z.link.next z.link.untaken (past n) n.to_device n.to_links n.taken bytes now out w.fair keeps (w.kept (before keeps))).1 good.1)),
 )
   where
-    before : KeepsItsSession z.peer (Datagram z.peer bytes now ∷ n.events) → KeepsItsSession z.peer n.events
-    before keeps = keeps_before z.peer (Datagram z.peer bytes now) n.events keeps
+    before : Keeps z.peer (and_then (Datagram z.peer bytes now) (past n)) → Keeps z.peer (past n)
+    before keeps = keeps_before z.peer (Datagram z.peer bytes now) (past n) keeps
 
 -- what is known of a link after a datagram of the peer q with these bytes came, and these packets were sent back
 abbrev AfterDatagram : ℕ → Network → PeerLink → Peer → List ℕ → ℕ → Type 0
 AfterDatagram s n z q bytes now =
     Fair z.peer z.link.next z.link.untaken (and_then (Datagram q bytes now) (past n)) n.to_device (n.to_links ++ sendings q (packets n.sizes n.tree n.events (Datagram q bytes now))) n.taken
-    × (KeepsItsSession z.peer (Datagram q bytes now ∷ n.events) → Kept z.peer (and_then (Datagram q bytes now) (past n)))
-    × (0 < s → KeepsItsSession z.peer (Datagram q bytes now ∷ n.events) →
+    × (Keeps z.peer (and_then (Datagram q bytes now) (past n)) → Kept z.peer (and_then (Datagram q bytes now) (past n)))
+    × (0 < s → Keeps z.peer (and_then (Datagram q bytes now) (past n)) →
     (f : ℕ) × Good s f z.peer z.link.next z.link.untaken n.submitted (accepted_by z.peer (and_then (Datagram q bytes now) (past n))))
 
 sound_delivery : (law : WrittenIsReadBack) (s now : ℕ) (n : Network) → Sound s n → (d : SentDatagram) (k : ℕ) → slice_get n.to_device k ≡ Some d → Sound s (after_delivery now (Some d) n)
@@ -468,7 +468,7 @@ sound_opening w s tree starts a fits = record { apart = apart starts a; each = e
       record {
         span = refl;
         fair = record { fits = f.0; own = tt; outgoing = tt; incoming = tt; untaken = tt; was_taken = tt; sendable = tt; unique = λ c d i j e. absurd i; rising = tt };
-        kept = λ keeps. record { latest = tt; whole = refl; once = tt };
+        kept = λ keeps. record { whole = refl; once = tt };
         good = λ some keeps. (x.first_handle.0, record { start = omega arith; untaken = tt; taken = λ y p q free. nothing x.first_handle.0 y p q; own = tt; order = tt; from = tt });
       },
       each xs f.1,

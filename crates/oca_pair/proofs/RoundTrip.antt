@@ -1,5 +1,5 @@
 -- A command that came to the device comes back to its link as an answer.
-use Rattle.std.proofs.Common.{append-nil, append_assoc, ◌≡◌, ℕ, ◌+◌, ◌*◌, ◌<◌, ◌≤◌, ◌^◌, Bool, true, false, cond, List, [], ◌∷◌, ◌++◌, length, Option, Some, None, refl, sym, ap, ◌∙◌, zero, suc, ◌⊎◌, inl, inr}
+use Rattle.std.proofs.Common.{append-nil, append_assoc, ◌≡◌, ℕ, ◌+◌, ◌*◌, ◌<◌, ◌≤◌, ◌^◌, Bool, true, false, cond, List, [], ◌∷◌, ◌++◌, length, Option, Some, None, refl, sym, ap, ◌∙◌, subst, zero, suc, ◌⊎◌, inl, inr}
 use Rattle.std.specs.Prelude.{nat_eq, ◌&&◌, ◌||◌, map, is_some, is_none, Result, Ok, Err}
 use Rattle.std.specs.List.{AllByRecursion, slice_get, slice_set}
 use Rattle.std.proofs.lemmas.List.Folds.{list_any-append}
@@ -14,6 +14,7 @@ use Rattle.oca_pdu.specs.Encoding.{pdu_encoding}
 use Rattle.oca_pdu.specs.Laws.{WrittenIsReadBack}
 use Rattle.oca_tree.specs.declared.object.Object.{Object}
 use Rattle.oca_device.specs.Events.{Datagram}
+use Rattle.oca_device.specs.Events as event
 use Rattle.oca_device.specs.Notes.{Noted, Admitted, Heartbeat, Executed, Note}
 use Rattle.oca_device.specs.Groups.{pdu_of}
 use Rattle.oca_device.specs.Answers.{packets, response}
@@ -26,12 +27,13 @@ use Rattle.oca_pair.specs.Networks.{Network, PeerLink, SentDatagram, SubmittedCo
 use Rattle.oca_pair.specs.Steps.{Step, Submit, Due, ToDevice, ToLink, Other, Take, has_link, sendings, with_link, submitted_by, after_submit, after_due_step, after_delivery, messages_read, content_of, hears_datagram, after_reception, taken_by, after_take, after_step, after_steps}
 use Rattle.oca_pair.specs.Steps as steps
 use Rattle.oca_pair.specs.Premises.{are_apart, StepFits, Fit}
-use Rattle.oca_pair.specs.Laws.{Execution, executed_in, executed_for, executions_for, CarriesUntaken, IsAnswered}
-use Rattle.oca_pair.specs.RoundTrip.{HoldsUntaken, IsAnswerTo, HoldsItsAnswer, GotItsAnswer, asked, meanwhile, ComesBack, RoundTrips}
+use Rattle.oca_pair.specs.Laws.{Execution, executions_under, executions_for, answer_of, IsExecutedNow, WasExecuted, CarriesUntaken, IsAnswered}
+use Rattle.oca_pair.specs.RoundTrip.{HoldsUntaken, IsAnswerTo, HoldsItsAnswer, GotItsAnswer, asked, meanwhile, come_back, ComesBack, RoundTrips}
 use Rattle.oca_pair.proofs.Lists.{IsIn, contains_in, in_contains, in_more, in_last, each_at, each_in, each_set, same_of, same_is, equal_self}
 use Rattle.oca_pair.proofs.Wire.{IsSendable, read_response}
 use Rattle.oca_pair.proofs.Fitting.{response_to, reply_fits}
-use Rattle.oca_pair.proofs.Truths.{Past, past, state_of, IsSubmitted, IsHonest, IsTrueAnswer, IsOwn}
+use Rattle.oca_pair.proofs.Executions.{executed_in, executed_for, executions_are}
+use Rattle.oca_pair.proofs.Truths.{Past, past, state_of, IsSubmitted, IsHonest, IsTrueAnswer, IsOwn, executed_then}
 use Rattle.oca_pair.proofs.Fair.{end_of, IsFair, AreOwn}
 use Rattle.oca_pair.proofs.Delivering.{held_answer}
 use Rattle.oca_pair.proofs.Span.{holds_given_out, holds_answered, holds_without}
@@ -392,8 +394,8 @@ abbrev pub arrived : ℕ → SentDatagram → Network → Network
 arrived later x m = after_reception later (Some x) m
 
 pub record Arrives (i : ℕ) (c : CommandFields) (l : PeerLink) (m m' : Network) : Type 0 where
-  pub held : holds c.handle l.link.untaken ≡ true → HoldsItsAnswer i c m'
-  pub got : IsKept l.peer c.handle l.link.untaken m.taken → GotItsAnswer i c m'
+  pub held : holds c.handle l.link.untaken ≡ true → HoldsItsAnswer i c l.peer m'
+  pub got : IsKept l.peer c.handle l.link.untaken m.taken → GotItsAnswer i c l.peer m'
 
 arrives : (s i later : ℕ) (m : Network) (x : SentDatagram) (r : ResponseFields) (l : PeerLink) (c : CommandFields) → Sound s (arrived later x m) →
     slice_get m.links i ≡ Some l → l.link.device ≡ device_address → l.peer ≡ x.peer → content_of x.bytes ≡ Some (Response r ∷ []) → r.handle ≡ c.handle →
@@ -424,21 +426,97 @@ arrives s i later m x r l c sound there device peer content handle sub = record 
         let its = true_answer l.peer c.handle a m' of.kept t in
         record { of_its_command = its; command = of.fair.unique its.execution.command c (contains_in _ m'.submitted its.submitted) sub its.handle }
 
-    holding : holds c.handle l.link.untaken ≡ true → HoldsItsAnswer i c m'
+    holding : holds c.handle l.link.untaken ≡ true → HoldsItsAnswer i c l.peer m'
     holding q =
         let b = has_answer c.handle (answer_in r) l.link.untaken q in
         let held : answer_under c.handle l'.link.untaken ≡ Some b.0 = ap (answer_under c.handle) untaken_is ∙ b.1 in
-        record { link = l'; there = there'; answer = b.0; held = held; is_its = is_its b.0 (rw held at (held_answer l.peer (past m') c.handle l'.link.untaken of.fair.untaken)) }
+        record { link = l'; there = there'; peer = refl; answer = b.0; held = held; is_its = is_its b.0 (rw held at (held_answer l.peer (past m') c.handle l'.link.untaken of.fair.untaken)) }
 
-    got : IsKept l.peer c.handle l.link.untaken m.taken → GotItsAnswer i c m'
-    got (inl q) = let t = holding q in record { link = t.link; there = t.there; answer = t.answer; got = inl t.held; is_its = t.is_its }
+    got : IsKept l.peer c.handle l.link.untaken m.taken → GotItsAnswer i c l.peer m'
+    got (inl q) = let t = holding q in record { link = t.link; there = t.there; peer = t.peer; answer = t.answer; got = inl t.held; is_its = t.is_its }
     got (inr (a, t)) = record {
       link = l';
       there = there';
+      peer = refl;
       answer = a;
       got = inr (in_contains _ m'.taken t);
       is_its = is_its a (each_in (λ (y : TakenAnswer). y.peer ≡ l.peer → IsTrueAnswer l.peer y.handle y.answer (past m')) _ m'.taken of.fair.was_taken t refl);
     }
+
+-- ---- what was executed stays so
+
+executed_steps : (p : Peer) (x : Execution) (es : List Step) (n : Network) → IsIn x (executed_for p (state_of (past n)).notes) → IsIn x (executed_for p (state_of (past (after_steps es n))).notes)
+executed_steps p x [] n i = i
+executed_steps p x (e ∷ es) n i = executed_steps p x es (after_step e n) (one e)
+  where
+    Has : Network → Type 0
+    Has m = IsIn x (executed_for p (state_of (past m)).notes)
+
+    by_submit : (i : ℕ) (r : Request) (now : ℕ) (o : Option PeerLink) → Has (after_submit i r now o n)
+    by_submit k r now None = i
+    by_submit k r now (Some l) = i
+
+    by_due : (i now : ℕ) (o : Option PeerLink) → Has (after_due_step i now o n)
+    by_due k now None = i
+    by_due k now (Some l) = i
+
+    by_delivery : (now : ℕ) (o : Option SentDatagram) → Has (after_delivery now o n)
+    by_delivery now None = i
+    by_delivery now (Some d) = executed_then p x (past n) (Datagram d.peer d.bytes now) i
+
+    by_reception : (now : ℕ) (o : Option SentDatagram) → Has (after_reception now o n)
+    by_reception now None = i
+    by_reception now (Some d) = i
+
+    by_other : (from : Peer) (bytes : List ℕ) (now : ℕ) (b : Bool) → Has (let m : Network = cond b n (record n { events = Datagram from bytes now ∷ n.events }) in m)
+    by_other from bytes now true = i
+    by_other from bytes now false = executed_then p x (past n) (Datagram from bytes now) i
+
+    by_take : (i h : ℕ) (o : Option PeerLink) → Has (after_take i h o n)
+    by_take k h None = i
+    by_take k h (Some l) = i
+
+    one : (step : Step) → Has (after_step step n)
+    one (Submit k r now) = by_submit k r now (slice_get n.links k)
+    one (Due k now) = by_due k now (slice_get n.links k)
+    one (ToDevice k now) = by_delivery now (slice_get n.to_device k)
+    one (ToLink k now) = by_reception now (slice_get n.to_links k)
+    one (Other from bytes now) = by_other from bytes now (has_link from n.links)
+    one (steps.Tick now) = executed_then p x (past n) (event.Tick now) i
+    one (steps.Local ono value) = executed_then p x (past n) (event.Local ono value) i
+    one (Take k h) = by_take k h (slice_get n.links k)
+
+-- what a delivery is answered with was executed then or before
+executed_by : (k now : ℕ) (p : Peer) (x : Execution) (n : Network) → IsExecutedNow k now p x n ⊎ WasExecuted k now p x n →
+    IsIn x (executed_for p (state_of (past (asked k now n))).notes)
+executed_by k now p x n e = subst (λ (xs : List Execution). IsIn x xs) (executions_are m.sizes p m.tree m.events) (by_kind e)
+  where
+    m : Network
+    m = asked k now n
+
+    by_kind : IsExecutedNow k now p x n ⊎ WasExecuted k now p x n → IsIn x (executions_for p m)
+    by_kind (inl q) = subst (λ (xs : List Execution). IsIn x xs) (sym q.1) (inl refl)
+    by_kind (inr q) = subst (λ (xs : List Execution). IsIn x xs) (sym q.1) (contains_in x (executions_for p n) q.2)
+
+-- an execution under a handle is the only one where there is one
+is_only : (h : ℕ) (x y : Execution) (xs : List Execution) → IsIn x xs → x.command.handle ≡ h → executions_under h xs ≡ y ∷ [] → x ≡ y
+is_only h x y xs i e only = alone (subst (λ (zs : List Execution). IsIn x zs) only (under xs i))
+  where
+    alone : IsIn x (y ∷ []) → x ≡ y
+    alone (inl q) = sym q
+    alone (inr q) = absurd q
+
+    handle_is : (z : Execution) → z ≡ x → nat_eq z.command.handle h ≡ true
+    handle_is z q = ap (λ (u : ℕ). nat_eq u h) (ap (λ (v : Execution). v.command.handle) q ∙ e) ∙ equal_self h
+
+    further : (z : Execution) (zs : List Execution) (b : Bool) → IsIn x zs → IsIn x (cond b (z ∷ zs) zs)
+    further z zs true i = inr i
+    further z zs false i = i
+
+    under : (zs : List Execution) → IsIn x zs → IsIn x (executions_under h zs)
+    under [] i = i
+    under (z ∷ zs) (inl q) = subst (λ (b : Bool). IsIn x (cond b (z ∷ executions_under h zs) (executions_under h zs))) (sym (handle_is z q)) (inl q)
+    under (z ∷ zs) (inr i) = further z (executions_under h zs) (nat_eq z.command.handle h) (under zs i)
 
 -- ---- there and back
 
@@ -446,9 +524,13 @@ comes_back : WrittenIsReadBack → (s : ℕ) (n : Network) (k now i later : ℕ)
     slice_get n.to_device k ≡ Some d → slice_get n.links i ≡ Some l → CarriesUntaken d l c → AllByRecursion StepFits between → IsAnswered k now n d c →
     ComesBack k now between later i c l.peer n
 comes_back law s n k now i later d l c between sound devices sent_to own carries fits is_answered = record {
-  sent_back = record { datagram = back; peer = sym carries.peer; sent = is_answered.sent; delivered = delivered };
-  held = λ h. rw delivered (then.held (still h));
-  got = rw delivered (then.got kept_own);
+  sent_back = record { datagram = back; peer = sym carries.peer; reply = x.reply; bytes = refl; sent = is_answered.sent; delivered = delivered };
+  held = λ h. rw delivered (subst (λ (y : Peer). HoldsItsAnswer i c y (arrived later back n2)) stands.peer (then.held (still h)));
+  got = rw delivered (subst (λ (y : Peer). GotItsAnswer i c y (arrived later back n2)) stands.peer (then.got kept_own));
+  carried = λ keeps answer its.
+      let of = its.of_its_command in
+      let same : x ≡ of.execution = is_only c.handle x of.execution (executions_for p n3) executed3 (ap (λ (y : CommandFields). y.handle) is_answered.command) (of.only keeps) in
+      of.answer_is ∙ ap (λ (y : Execution). answer_of y.reply) (sym same);
 }
   where
     p : Peer
@@ -460,8 +542,18 @@ comes_back law s n k now i later d l c between sound devices sent_to own carries
     n2 : Network
     n2 = meanwhile k now between n
 
+    n3 : Network
+    n3 = come_back k now between later n
+
     x : Execution
     x = is_answered.execution
+
+    executed1 : IsIn x (executed_for p (state_of (past n1)).notes)
+    executed1 = executed_by k now p x n (subst (λ (y : Peer). IsExecutedNow k now y x n ⊎ WasExecuted k now y x n) (sym carries.peer) is_answered.executed)
+
+    executed3 : IsIn x (executions_for p n3)
+    executed3 = subst (λ (xs : List Execution). IsIn x xs) (sym (executions_are n3.sizes p n3.tree n3.events))
+        (executed_steps p x (ToLink (length n.to_links) later ∷ []) n2 (executed_steps p x between n1 executed1))
 
     back : SentDatagram
     back = record { peer = d.peer; bytes = pdu_encoding (pdu_of (response c.handle x.reply)) }
@@ -491,7 +583,7 @@ comes_back law s n k now i later d l c between sound devices sent_to own carries
     sendable = (each_in (λ (y : SubmittedCommand). y.peer ≡ p → IsSendable y.command × (y.command.handle < end_of l.link.next)) _ n.submitted of.fair.sendable sub refl).0
 
     honest : IsHonest p x (past n1)
-    honest = honest_of p (past n1) x (state_of (past n1)).notes of1.fair.own (contains_in x (executions_for p n1) (rw carries.peer is_answered.executed))
+    honest = honest_of p (past n1) x (state_of (past n1)).notes of1.fair.own executed1
 
     grown : Grown n1 n2
     grown = grown_steps between n1

@@ -15,7 +15,8 @@ use Rattle.oca_device.specs.Notes.{Noted, Admitted, Heartbeat, Executed, Note, n
 use Rattle.oca_device.specs.States.{State, moved_to, reply_of, after_reading, state_after}
 use Rattle.oca_control.specs.Answers.{AnswerFields}
 use Rattle.oca_pair.specs.Networks.{Network, SubmittedCommand}
-use Rattle.oca_pair.specs.Laws.{Execution, executed_in, executed_for, answer_of}
+use Rattle.oca_pair.specs.Laws.{Execution, answer_of}
+use Rattle.oca_pair.proofs.Executions.{executed_in, executed_for}
 use Rattle.oca_pair.proofs.Lists.{IsIn, in_more, in_behind, in_parts, same_is}
 use Rattle.oca_pair.proofs.Clocks.{Grows, grows_reading}
 
@@ -92,7 +93,7 @@ event_peer (Datagram from bytes now) p = from
 event_peer (Tick now) p = p
 event_peer (Local ono value) p = p
 
-executed_then : (p : Peer) (x : Execution) (g : Past) (e : Event) → IsIn x (executed_for p (state_of g).notes) → IsIn x (executed_for p (state_of (and_then e g)).notes)
+pub executed_then : (p : Peer) (x : Execution) (g : Past) (e : Event) → IsIn x (executed_for p (state_of g).notes) → IsIn x (executed_for p (state_of (and_then e g)).notes)
 executed_then p x g (Tick now) i = i
 executed_then p x g (Local ono value) i = i
 executed_then p x g (Datagram from bytes now) i =

@@ -9,10 +9,14 @@ use Rattle.oca_types.specs.Sizes.{DeviceSizes}
 use Rattle.oca_pdu.specs.Messages.{Commands}
 use Rattle.oca_pdu.specs.Encoding.{pdu_encoding}
 use Rattle.oca_tree.specs.declared.object.Object.{Object}
+use Rattle.oca_tree.specs.Execution.{execution}
+use Rattle.oca_tree.specs.Locks.{released}
+use Rattle.oca_tree.specs.Settings.{after_set}
 use Rattle.oca_device.specs.declared.verdict.Verdict.TheVariants as verdicts
 use Rattle.oca_device.specs.Events.{Event, Datagram, Tick}
-use Rattle.oca_device.specs.Notes.{Noted, Admitted, Heartbeat, Executed, Note}
-use Rattle.oca_device.specs.States.{state_after, reply_of}
+use Rattle.oca_device.specs.States.{reply_of}
+use Rattle.oca_device.specs.LawByEvents.{Change, Executes, Releases, Sets, changes}
+use Rattle.oca_device.specs.LawByEvents as law
 use Rattle.oca_device.specs.Groups.{pdu_of}
 use Rattle.oca_device.specs.Answers.{response}
 use Rattle.oca_control.specs.Answers.{AnswerFields}
@@ -21,6 +25,7 @@ use Rattle.oca_pair.specs.declared.outcome.Outcome.TheVariants as outcomes
 use Rattle.oca_pair.specs.declared.start.Start.{Start}
 use Rattle.oca_pair.specs.Networks.{Network, PeerLink, SentDatagram, SubmittedCommand, TakenAnswer, opening}
 use Rattle.oca_pair.specs.Steps.{Step, ToDevice, after_step, after_steps, outcome_of}
+use Rattle.oca_pair.specs.Happenings.{happenings}
 use Rattle.oca_pair.specs.Premises.{are_apart, Fit, KeepsItsSession, ComeFrom}
 
 -- ---- what the device executed
@@ -31,18 +36,22 @@ pub record Execution : Type 0 where
   pub command : CommandFields
   pub reply : Reply
 
-abbrev pub executed_in : Noted → List Execution
-executed_in (Admitted messages) = []
-executed_in (Heartbeat ms) = []
-executed_in (Executed objects command reply) = (record { objects = objects; command = command; reply = reply }) ∷ []
+-- of a peer's command on these objects
+abbrev pub execution_of : List Object → Peer → CommandFields → Execution
+execution_of tree p c = record { objects = tree; command = c; reply = reply_of tree p c }
 
-abbrev pub executed_for : Peer → List Note → List Execution
-executed_for p [] = []
-executed_for p (n ∷ notes) = (if same_peer n.peer p then executed_in n.what else []) ++ executed_for p notes
+-- the executions for a peer among changes of these objects, the latest first
+abbrev pub executions : Peer → List Object → List Change → List Execution
+executions p tree [] = []
+executions p tree (Releases q ∷ more) = executions p (released tree q) more
+executions p tree (Sets ono value ∷ more) = executions p (after_set tree ono value) more
+executions p tree (Executes q c ∷ more) =
+    executions p (execution tree q c).tree more
+    ++ (if same_peer q p then execution_of tree q c ∷ [] else [])
 
--- THE EXECUTIONS for a peer, the latest first.
+-- THE EXECUTIONS for a peer by what happened to the device, the latest first.
 abbrev pub executions_for : Peer → Network → List Execution
-executions_for p n = executed_for p (state_after n.sizes n.tree n.events).notes
+executions_for p n = executions p n.tree (changes n.sizes (happenings n.events))
 
 -- those of the commands under a handle
 abbrev pub executions_under : ℕ → List Execution → List Execution
@@ -68,10 +77,10 @@ pub record CameWithADatagram (p : Peer) (x : Execution) (n : Network) : Type 0 w
   pub before : List Event
   pub now : ℕ
   pub events : n.events ≡ later ++ Datagram p (pdu_encoding (Commands true (x.command ∷ []))) now ∷ before
-  pub objects : x.objects ≡ (state_after n.sizes n.tree (Tick now ∷ before)).tree
+  pub objects : x.objects ≡ law.objects n.tree (changes n.sizes (happenings (Tick now ∷ before)))
 
 -- The answer is what an execution gave, of the very command that the peer's link submitted under the handle, for that peer.
--- Where the peer's session was never forgotten, it is the only execution for the peer under that handle.
+-- Where the peer kept its session, it is the only execution for the peer under that handle.
 pub record IsAnswerOfItsCommand (p : Peer) (h : ℕ) (answer : AnswerFields) (n : Network) : Type 0 where
   pub execution : Execution
   pub executed : Contains (executions_for p n) execution
@@ -80,7 +89,7 @@ pub record IsAnswerOfItsCommand (p : Peer) (h : ℕ) (answer : AnswerFields) (n 
   pub handle : execution.command.handle ≡ h
   pub reply : execution.reply ≡ reply_of execution.objects p execution.command
   pub answer_is : answer ≡ answer_of execution.reply
-  pub only : KeepsItsSession p n.events → executions_under h (executions_for p n) ≡ execution ∷ []
+  pub only : KeepsItsSession p n → executions_under h (executions_for p n) ≡ execution ∷ []
 
 -- the handles of the commands that the link of this peer submitted, in order
 abbrev pub handles_of : Peer → List SubmittedCommand → List ℕ
@@ -118,23 +127,34 @@ pub record CarriesUntaken (d : SentDatagram) (l : PeerLink) (c : CommandFields) 
   pub command : untaken.command ≡ c
   pub bytes : d.bytes ≡ pdu_encoding (Commands true (c ∷ []))
 
--- The delivery is answered: the device executes the command now, or finds it in its window; and it sends the link one datagram, the
--- response with the reply of an execution of that command for that peer.
+-- With the delivery the device executes a command, and nothing else.
+abbrev pub IsExecutedNow : ℕ → ℕ → Peer → Execution → Network → Type 0
+IsExecutedNow k now p x n =
+    (outcome_of (ToDevice k now) n ≡ outcomes.Device (verdicts.Served 1 0 0 0) ∷ [])
+    × (executions_for p (after_step (ToDevice k now) n) ≡ x ∷ executions_for p n)
+
+-- With the delivery the device executes nothing: it finds in its window what it executed before.
+abbrev pub WasExecuted : ℕ → ℕ → Peer → Execution → Network → Type 0
+WasExecuted k now p x n =
+    (outcome_of (ToDevice k now) n ≡ outcomes.Device (verdicts.Served 0 1 0 0) ∷ [])
+    × (executions_for p (after_step (ToDevice k now) n) ≡ executions_for p n)
+    × Contains (executions_for p n) x
+
+-- The delivery is answered: the device executes the command now, or did before; and it sends the link one datagram, the response with
+-- the reply of that execution.
 pub record IsAnswered (k now : ℕ) (n : Network) (d : SentDatagram) (c : CommandFields) : Type 0 where
-  pub served : (outcome_of (ToDevice k now) n ≡ outcomes.Device (verdicts.Served 1 0 0 0) ∷ [])
-      ⊎ (outcome_of (ToDevice k now) n ≡ outcomes.Device (verdicts.Served 0 1 0 0) ∷ [])
   pub execution : Execution
-  pub executed : Contains (executions_for d.peer (after_step (ToDevice k now) n)) execution
   pub command : execution.command ≡ c
+  pub executed : IsExecutedNow k now d.peer execution n ⊎ WasExecuted k now d.peer execution n
   pub sent : (after_step (ToDevice k now) n).to_links
       ≡ n.to_links ++ (record { peer = d.peer; bytes = pdu_encoding (pdu_of (response c.handle execution.reply)) }) ∷ []
 
--- A delivery of a datagram that carries an untaken command is answered, where with it no session of the link's peer was
--- forgotten, and the datagrams that came to the device came from at most as many peers as the device has room for.
+-- A delivery of a datagram that carries an untaken command is answered, where the link's peer kept its session, this datagram counted,
+-- and the datagrams that came to the device came from at most as many peers as the device has room for.
 abbrev pub AnswersUntaken : Network → Type 0
 AnswersUntaken n = (k now i : ℕ) (d : SentDatagram) (l : PeerLink) (c : CommandFields) (peers : List Peer) →
     slice_get n.to_device k ≡ Some d → slice_get n.links i ≡ Some l → CarriesUntaken d l c →
-    KeepsItsSession d.peer (after_step (ToDevice k now) n).events → length peers ≤ n.sizes.peers → ComeFrom peers (after_step (ToDevice k now) n).events →
+    KeepsItsSession d.peer (after_step (ToDevice k now) n) → length peers ≤ n.sizes.peers → ComeFrom peers (after_step (ToDevice k now) n).events →
     IsAnswered k now n d c
 
 -- Over every schedule, for all sizes where the window is at least twice the span less one:
@@ -143,9 +163,9 @@ NoUntakenCommandIsTooOld =
     (w : DeviceSizes) (s : ℕ) (tree : List Object) (starts : List Start) (steps : List Step) → 0 < s → 2 * s ≤ w.window + 1 → are_apart starts ≡ true → Fit starts steps →
     AnswersUntaken (after_steps steps (opening w s tree starts))
 
--- No command of a link is executed twice, where no session of its peer was forgotten.
+-- No command of a link is executed twice, where its peer kept its session.
 abbrev pub ExecutesOnce : Network → Type 0
-ExecutesOnce n = (i : ℕ) (l : PeerLink) → slice_get n.links i ≡ Some l → KeepsItsSession l.peer n.events →
+ExecutesOnce n = (i : ℕ) (l : PeerLink) → slice_get n.links i ≡ Some l → KeepsItsSession l.peer n →
     IsDistinct (λ (x y : ℕ). x == y) (map (λ x. x.command.handle) (executions_for l.peer n))
 
 -- Over every schedule, for all sizes:

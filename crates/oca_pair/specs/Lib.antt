@@ -1,5 +1,6 @@
 pub mod Networks
 pub mod Steps
+pub mod Happenings
 pub mod Premises
 pub mod Laws
 pub mod RoundTrip

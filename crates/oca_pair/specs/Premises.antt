@@ -1,14 +1,15 @@
 -- WHAT THE LAWS ASK of a schedule (profile), said by the steps and by the datagrams that came to the device.
-use Rattle.std.specs.Prelude.{◌≡◌, ℕ, ◌-◌, ◌<◌, ◌^◌, nat_le, Bool, true, not, ◌&&◌, if◌then◌else◌, List, [], ◌∷◌}
+use Rattle.std.specs.Prelude.{◌≡◌, ℕ, ◌<◌, ◌^◌, Bool, true, not, ◌&&◌, List, [], ◌∷◌, filter}
 use Rattle.std.specs.List.{list_any, list_all, AllByRecursion}
 use Rattle.oca_types.specs.declared.words.Peer.{Peer}
 use Rattle.oca_types.specs.Peers.{same_peer}
-use Rattle.oca_session.specs.Limits.{longest_silence}
-use Rattle.oca_device.specs.Events.{Event, Datagram, Tick, Local, clock_after}
+use Rattle.oca_device.specs.Events.{Event, Datagram, Tick, Local}
+use Rattle.oca_device.specs.LawByEvents.{Arrival, admitted, session, last_moment}
 use Rattle.oca_control.specs.Links.{Request}
 use Rattle.oca_pair.specs.declared.start.Start.{Start}
-use Rattle.oca_pair.specs.Networks.{device_address}
+use Rattle.oca_pair.specs.Networks.{Network, device_address}
 use Rattle.oca_pair.specs.Steps.{Step, Submit}
+use Rattle.oca_pair.specs.Happenings.{happenings}
 
 -- ---- of starts: no two have one peer, and none has the device's
 abbrev pub is_of_another_peer : Peer → Start → Bool
@@ -35,26 +36,17 @@ StartFits x = x.first_handle.0 < 2 ^ 32
 abbrev pub Fit : List Start → List Step → Type 0
 Fit starts steps = AllByRecursion StartFits starts × AllByRecursion StepFits steps
 
--- ---- no session of a peer is forgotten: each datagram of the peer comes at most 120,000 ms after the one before it
--- when the datagrams of a peer came, by the device's clock, the latest first
-abbrev pub moments_of : Peer → List Event → List ℕ
-moments_of p [] = []
-moments_of p (Datagram from bytes now ∷ before) =
-    if same_peer from p then clock_after (Datagram from bytes now ∷ before) ∷ moments_of p before else moments_of p before
-moments_of p (Tick now ∷ before) = moments_of p before
-moments_of p (Local ono value ∷ before) = moments_of p before
+-- ---- a peer has one session
+-- the admitted datagrams of a peer
+abbrev pub arrivals_of : Peer → List Arrival → List Arrival
+arrivals_of p arrivals = filter (λ a. same_peer a.from p) arrivals
 
--- the moment lies at most 120,000 ms after the latest of these
-abbrev pub is_soon_after : ℕ → List ℕ → Bool
-is_soon_after t [] = true
-is_soon_after t (u ∷ earlier) = nat_le (t - u) longest_silence
-
-abbrev pub are_close : List ℕ → Bool
-are_close [] = true
-are_close (t ∷ earlier) = is_soon_after t earlier && are_close earlier
-
-abbrev pub KeepsItsSession : Peer → List Event → Type 0
-KeepsItsSession p events = are_close (moments_of p events) ≡ true
+-- THE PEER KEEPS ITS SESSION: the session to which its last admitted datagram belongs has all its admitted datagrams. So each of them
+-- came at most 120,000 ms after the one before it. (A datagram that found no room was not admitted, and is not counted.)
+abbrev pub KeepsItsSession : Peer → Network → Type 0
+KeepsItsSession p n =
+    let arrivals = admitted n.sizes (happenings n.events) in
+    session (last_moment (arrivals_of p arrivals)) p arrivals ≡ arrivals_of p arrivals
 
 -- ---- few peers: all datagrams came from peers of a list, as long as the law says
 abbrev pub is_among : List Peer → Peer → Bool

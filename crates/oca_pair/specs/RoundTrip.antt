@@ -3,16 +3,20 @@
 use Rattle.std.specs.Prelude.{◌≡◌, ◌⊎◌, ℕ, ◌+◌, ◌*◌, ◌<◌, ◌≤◌, true, List, [], ◌∷◌, ◌++◌, length, Some}
 use Rattle.std.specs.List.{slice_get, AllByRecursion, Contains}
 use Rattle.oca_types.specs.declared.words.Peer.{Peer}
+use Rattle.oca_types.specs.declared.words.Reply.{Reply}
 use Rattle.oca_types.specs.Peers.{CommandFields}
 use Rattle.oca_types.specs.Sizes.{DeviceSizes}
+use Rattle.oca_pdu.specs.Encoding.{pdu_encoding}
 use Rattle.oca_tree.specs.declared.object.Object.{Object}
+use Rattle.oca_device.specs.Groups.{pdu_of}
+use Rattle.oca_device.specs.Answers.{response}
 use Rattle.oca_control.specs.Answers.{AnswerFields}
 use Rattle.oca_control.specs.Untaken.{Untaken, answer_under}
 use Rattle.oca_pair.specs.declared.start.Start.{Start}
 use Rattle.oca_pair.specs.Networks.{Network, PeerLink, SentDatagram, opening}
 use Rattle.oca_pair.specs.Steps.{Step, ToDevice, ToLink, after_step, after_steps}
 use Rattle.oca_pair.specs.Premises.{are_apart, StepFits, Fit, KeepsItsSession, ComeFrom}
-use Rattle.oca_pair.specs.Laws.{IsAnswerOfItsCommand, WasTaken, CarriesUntaken}
+use Rattle.oca_pair.specs.Laws.{answer_of, IsAnswerOfItsCommand, WasTaken, CarriesUntaken}
 
 -- The link of this number holds the command untaken.
 pub record HoldsUntaken (i : ℕ) (c : CommandFields) (n : Network) : Type 0 where
@@ -27,21 +31,23 @@ pub record IsAnswerTo (c : CommandFields) (p : Peer) (answer : AnswerFields) (n 
   pub of_its_command : IsAnswerOfItsCommand p c.handle answer n
   pub command : of_its_command.execution.command ≡ c
 
--- The link of this number holds the answer to the command.
-pub record HoldsItsAnswer (i : ℕ) (c : CommandFields) (n : Network) : Type 0 where
+-- The link of this number, which is the peer's, holds the answer to the command.
+pub record HoldsItsAnswer (i : ℕ) (c : CommandFields) (p : Peer) (n : Network) : Type 0 where
   pub link : PeerLink
   pub there : slice_get n.links i ≡ Some link
+  pub peer : link.peer ≡ p
   pub answer : AnswerFields
   pub held : answer_under c.handle link.link.untaken ≡ Some answer
-  pub is_its : IsAnswerTo c link.peer answer n
+  pub is_its : IsAnswerTo c p answer n
 
--- The link of this number holds the answer to the command, or the answer was taken from it.
-pub record GotItsAnswer (i : ℕ) (c : CommandFields) (n : Network) : Type 0 where
+-- It holds the answer to the command, or the answer was taken from it.
+pub record GotItsAnswer (i : ℕ) (c : CommandFields) (p : Peer) (n : Network) : Type 0 where
   pub link : PeerLink
   pub there : slice_get n.links i ≡ Some link
+  pub peer : link.peer ≡ p
   pub answer : AnswerFields
-  pub got : (answer_under c.handle link.link.untaken ≡ Some answer) ⊎ WasTaken link.peer c.handle answer n.taken
-  pub is_its : IsAnswerTo c link.peer answer n
+  pub got : (answer_under c.handle link.link.untaken ≡ Some answer) ⊎ WasTaken p c.handle answer n.taken
+  pub is_its : IsAnswerTo c p answer n
 
 -- A round trip starts from a network. The network after the step ToDevice, after the steps between, and after the step ToLink:
 abbrev pub asked : ℕ → ℕ → Network → Network
@@ -53,27 +59,33 @@ meanwhile k now between n = after_steps between (asked k now n)
 abbrev pub come_back : ℕ → ℕ → List Step → ℕ → Network → Network
 come_back k now between later n = after_step (ToLink (length n.to_links) later) (meanwhile k now between n)
 
--- With the step ToDevice the device sends one datagram, to the peer, and that very datagram is the one that the step ToLink delivers.
-pub record IsSentBack (k now : ℕ) (between : List Step) (n : Network) (p : Peer) : Type 0 where
+-- With the step ToDevice the device sends one datagram, to the peer: the response to the command with a reply. That very datagram is
+-- the one that the step ToLink delivers.
+pub record IsSentBack (k now : ℕ) (between : List Step) (n : Network) (c : CommandFields) (p : Peer) : Type 0 where
   pub datagram : SentDatagram
   pub peer : datagram.peer ≡ p
+  pub reply : Reply
+  pub bytes : datagram.bytes ≡ pdu_encoding (pdu_of (response c.handle reply))
   pub sent : (asked k now n).to_links ≡ n.to_links ++ datagram ∷ []
   pub delivered : slice_get (meanwhile k now between n).to_links (length n.to_links) ≡ Some datagram
 
 -- What comes of it, whatever the steps between are.
 pub record ComesBack (k now : ℕ) (between : List Step) (later i : ℕ) (c : CommandFields) (p : Peer) (n : Network) : Type 0 where
-  pub sent_back : IsSentBack k now between n p
+  pub sent_back : IsSentBack k now between n c p
   -- where the link still holds the command before the step ToLink, it holds the command's answer after it
-  pub held : HoldsUntaken i c (meanwhile k now between n) → HoldsItsAnswer i c (come_back k now between later n)
+  pub held : HoldsUntaken i c (meanwhile k now between n) → HoldsItsAnswer i c p (come_back k now between later n)
   -- and in any case it holds the answer then, or the answer was taken from it
-  pub got : GotItsAnswer i c (come_back k now between later n)
+  pub got : GotItsAnswer i c p (come_back k now between later n)
+  -- where the peer kept its session till then, the answer is the reply that the datagram carried: there is no other
+  pub carried : KeepsItsSession p (come_back k now between later n) → (answer : AnswerFields) → IsAnswerTo c p answer (come_back k now between later n) →
+      answer ≡ answer_of sent_back.reply
 
 -- Each delivery of a datagram that carries an untaken command comes back, under the premises of `AnswersUntaken`. Of what happens
 -- after that delivery nothing is asked.
 abbrev pub RoundTrips : Network → Type 0
 RoundTrips n = (k now i : ℕ) (d : SentDatagram) (l : PeerLink) (c : CommandFields) (peers : List Peer) (between : List Step) (later : ℕ) →
     slice_get n.to_device k ≡ Some d → slice_get n.links i ≡ Some l → CarriesUntaken d l c →
-    KeepsItsSession d.peer (asked k now n).events → length peers ≤ n.sizes.peers → ComeFrom peers (asked k now n).events →
+    KeepsItsSession d.peer (asked k now n) → length peers ≤ n.sizes.peers → ComeFrom peers (asked k now n).events →
     AllByRecursion StepFits between → ComesBack k now between later i c l.peer n
 
 -- Over every schedule, for all sizes where the window is at least twice the span less one:

@@ -5,7 +5,7 @@ use crate::{
 };
 use oca_control::{ControlFault, Reception};
 use oca_device::Verdict;
-use oca_tree::{SetFault, bench};
+use oca_tree::{LocalValue, SetFault, bench};
 use oca_types::{Handle, MethodId, Ono, Peer, Peers, Sizes, Span, Window};
 use std::alloc::Global;
 use std::process::Abort;
@@ -382,5 +382,118 @@ fn sixteen_overtakes_fifteen(rt: HostRuntime) -> Result<(), Fail> {
         .filter(|outcome| shown(outcome) == served(1, 0, 0))
         .count();
     assert_eq!(rt; executed, 31);
+    Ok(())
+}
+
+/// What other peers send: a keep-alive of 5 seconds.
+const KEEP_ALIVE: [u8; 12] = [0x3b, 0, 1, 0, 0, 0, 0x0b, 4, 0, 1, 0, 5];
+
+/// A datagram that found no room is executed when it comes again, and its answer is taken: its peer kept its session, since only the
+/// second of its datagrams was admitted.
+#[test]
+fn a_datagram_without_room(rt: HostRuntime) -> Result<(), Fail> {
+    let alloc = rt.alloc();
+    let mut steps = Vec::new(alloc);
+    for number in 0..16u16 {
+        steps.push(Step::Other {
+            from: peer(9100 + number),
+            bytes: &KEEP_ALIVE,
+            now: 0,
+        })?;
+    }
+    steps.push(get_state(0))?;
+    steps.push(Step::Due { link: 0, now: 0 })?;
+    steps.push(Step::ToDevice { k: 0, now: 0 })?;
+    steps.push(Step::ToDevice { k: 0, now: 200_000 })?;
+    steps.push(Step::ToLink { k: 0, now: 0 })?;
+    steps.push(Step::Take {
+        link: 0,
+        handle: Handle(1),
+    })?;
+    let transcript = run(alloc, 32, 16, &[start(A, 1)], steps.as_slice())?;
+    let expected = [
+        Seen::Submitted(1),
+        Seen::Sent(0),
+        Seen::Device(Verdict::NoRoom),
+        served(1, 0, 0),
+        Seen::Link(Reception::Answered(1)),
+        Seen::Answer(0, 1, 1),
+    ];
+    assert_eq!(rt; transcript.log.len(), 22);
+    for (outcome, want) in transcript.log.iter().skip(16).zip(&expected) {
+        assert_eq!(rt; shown(outcome), *want);
+    }
+    assert_eq!(rt; transcript.device.sessions(), 1);
+    Ok(())
+}
+
+/// A change at the device's front is seen by the next command, and a refused one changes nothing.
+#[test]
+fn a_local_change(rt: HostRuntime) -> Result<(), Fail> {
+    let mute = |value| Step::Local {
+        ono: Ono(4097),
+        value,
+    };
+    let steps = [
+        mute(LocalValue::State(2)),
+        mute(LocalValue::State(3)),
+        mute(LocalValue::Truth(true)),
+        get_state(0),
+        Step::Due { link: 0, now: 0 },
+        Step::ToDevice { k: 0, now: 1 },
+    ];
+    let transcript = run(rt.alloc(), 32, 16, &[start(A, 1)], &steps)?;
+    let expected = [
+        Seen::Set,
+        Seen::NotSet(SetFault::OutOfRange),
+        Seen::NotSet(SetFault::OtherKind),
+        Seen::Submitted(1),
+        Seen::Sent(0),
+        served(1, 0, 0),
+    ];
+    expect_log(&rt, &transcript, &expected);
+    let Some(answer) = transcript.to_links.last() else {
+        panic!(rt; "no answer");
+    };
+    assert_eq!(rt; answer.bytes.last(), Some(&2));
+    Ok(())
+}
+
+/// Seventeen links run, of which each submits a command.
+#[test]
+fn seventeen_starts(rt: HostRuntime) -> Result<(), Fail> {
+    let alloc = rt.alloc();
+    let mut starts = Vec::new(alloc);
+    let mut steps = Vec::new(alloc);
+    for number in 0..17u16 {
+        starts.push(start(9001 + number, 1))?;
+        steps.push(Step::Submit {
+            link: usize::from(number),
+            target: Ono(4097),
+            method: MethodId { level: 4, index: 1 },
+            count: 0,
+            params: &[],
+            now: 0,
+        })?;
+    }
+    let transcript = run(alloc, 32, 16, starts.as_slice(), steps.as_slice())?;
+    assert_eq!(rt; transcript.log.len(), 17);
+    for outcome in &transcript.log {
+        assert_eq!(rt; shown(outcome), Seen::Submitted(1));
+    }
+    Ok(())
+}
+
+/// Five thousand clock readings run.
+#[test]
+fn five_thousand_ticks(rt: HostRuntime) -> Result<(), Fail> {
+    let alloc = rt.alloc();
+    let mut steps = Vec::new(alloc);
+    for now in 0..5000u64 {
+        steps.push(Step::Tick { now })?;
+    }
+    let transcript = run(alloc, 32, 16, &[], steps.as_slice())?;
+    assert_eq!(rt; transcript.log.len(), 5000);
+    assert_eq!(rt; transcript.log.last().map(shown), Some(Seen::Ticked));
     Ok(())
 }

@@ -1,0 +1,24 @@
+-- WHAT HAPPENED TO THE DEVICE of a network (profile), in the words of the device's law by events. Of events and happenings the latest stands
+-- first.
+use Rattle.std.specs.Prelude.{List, [], ◌∷◌, ◌++◌, Result, Ok, Err}
+use Rattle.oca_types.specs.declared.words.Peer.{Peer}
+use Rattle.oca_pdu.specs.declared.fault.PduFault.{PduFault}
+use Rattle.oca_pdu.specs.Messages.{Msg}
+use Rattle.oca_pdu.specs.Reading.{read_datagram}
+use Rattle.oca_device.specs.Events.{Event, Datagram, Tick, Local}
+use Rattle.oca_device.specs.LawByEvents.{Happening, Passes, Says, Sets, Happened, EventsAreBytes}
+
+-- what a peer says with bytes of which this was read: the messages of a datagram, and nothing with other bytes
+abbrev pub sayings : Peer → Result (List Msg) PduFault → List Happening
+sayings p (Ok messages) = Says p messages ∷ []
+sayings p (Err fault) = []
+
+abbrev pub happenings : List Event → List Happening
+happenings [] = []
+happenings (Datagram from bytes now ∷ before) = sayings from (read_datagram bytes) ++ Passes now ∷ happenings before
+happenings (Tick now ∷ before) = Passes now ∷ happenings before
+happenings (Local ono value ∷ before) = Sets ono value ∷ happenings before
+
+-- They are what the law by events says that happened.
+abbrev pub TheseHappened : Type 0
+TheseHappened = (E : List Event) → EventsAreBytes E → Happened E (happenings E)
