@@ -37,7 +37,7 @@ these_happened exact (Datagram p bytes now ∷ E) b = by_read (these_happened ex
 -- ---- the state after events stands by them
 
 pub stands_by : (w : DeviceSizes) (tree : List Object) (E : List Event) → Stands w tree (state_after w tree E) (happenings E)
-stands_by w tree [] = record { clock_is = refl; bridged = record { each = λ q. none_bridged w; opened_is = refl }; tree_is = refl; replied = λ q h e f. absurd cc }
+stands_by w tree [] = record { clock_is = refl; bridged = record { each = λ q. none_bridged w; opened_is = refl }; tree_is = refl; replied = λ q h e f. absurd cc; executions_are = refl }
 stands_by w tree (Tick now ∷ E) = passing w tree now (state_after w tree E) (happenings E) (stands_by w tree E)
 stands_by w tree (Local ono value ∷ E) = setting w tree ono value (state_after w tree E) (happenings E) (stands_by w tree E)
 stands_by w tree (Datagram p bytes now ∷ E) = by_read (stands_by w tree E) (read_datagram bytes)
