@@ -4,20 +4,18 @@
 //! and CHANNELS channel strips behind the bench's own objects. The lines after it are its events, in order: `N P HEX` is a datagram of the
 //! peer P at the moment N, `N quiet` a clock reading, and `set ONO state|position|truth|number VALUE` a change at the device's own front.
 //!
-//! What is printed: `history`, and for each event what the device said of it; its packets, each behind `> `; `sessions` and how many it has;
+//! What is printed: `history`, and for each event what the device said of it; its packets, each behind `> `; `written` and the objects that a
+//! datagram wrote to, where there are any; `sessions` and how many it has;
 //! and `objects` with each object that has a setting or a lock: its number, `=`, its setting or `-`, and behind `/t` or `/r` the holder of
 //! its total or its read-only lock.
 use crate::fields::{Fields, LineFault};
 use crate::lines::{Full, RunFault, put_bytes, put_peer, put_set_fault, put_verdict};
 use oca_device::{Device, Outbox};
 use oca_script::field::{moment, peer};
-use oca_tree::{LocalValue, Lock, LockKind, Setting, Tree, bench};
-use oca_types::{Ono, Peer, Window};
+use oca_tree::{AddFault, LocalValue, Lock, LockKind, Setting, Tree, bench_with_channels};
+use oca_types::{Ono, Peer, Peers, Sizes, Window};
 use std::alloc::Global;
 use std::fmt::Write;
-
-/// How many peers have room.
-const PEERS: u8 = 16;
 
 /// A device in the middle of its history, and what is to be printed of it.
 #[derive(Drop)]
@@ -121,24 +119,24 @@ fn begun(alloc: Global, fields: &mut Fields<'_>) -> Result<History, LineFault> {
     let peers = fields.byte()?;
     let channels = fields.short_number()?;
     fields.end()?;
-    let Some(window) = Window::new(window) else {
+    let (Some(window), Some(peers)) = (Window::new(window), Peers::new(peers)) else {
         return Err(LineFault::Number);
     };
-    if peers != PEERS || channels != 0 {
-        return Err(LineFault::Number);
-    }
-    match new_history(alloc, window) {
+    let tree = match bench_with_channels(alloc, channels) {
+        Ok(tree) => tree,
+        Err(AddFault::NoMemory) => return Err(LineFault::NoMemory),
+        Err(_) => return Err(LineFault::Number),
+    };
+    match new_history(alloc, tree, Sizes { window, peers }) {
         Ok(history) => Ok(history),
         Err(_) => Err(LineFault::NoMemory),
     }
 }
 
-/// A bench device with windows of this size.
-fn new_history(alloc: Global, window: Window) -> Result<History, Full> {
-    let Ok(tree) = bench(alloc) else {
-        return Err(Full);
-    };
-    let (Ok(device), Ok(outbox)) = (Device::new(alloc, tree, window), Outbox::new(alloc)) else {
+/// A device of these objects and sizes.
+fn new_history(alloc: Global, tree: Tree, sizes: Sizes) -> Result<History, Full> {
+    let (Ok(device), Ok(outbox)) = (Device::with_sizes(alloc, tree, sizes), Outbox::new(alloc))
+    else {
         return Err(Full);
     };
     let mut out = String::new(alloc);
@@ -171,6 +169,9 @@ impl History {
             },
         }
         put_packets(alloc, &mut self.out, &self.outbox)?;
+        if let Happens::Datagram(..) = happens {
+            put_written(&mut self.out, self.device.written())?;
+        }
         let sessions = self.device.sessions();
         writeln!(self.out, "sessions {sessions}")?;
         put_objects(&mut self.out, self.device.tree())
@@ -184,6 +185,19 @@ fn put_packets(alloc: Global, out: &mut String, outbox: &Outbox) -> Result<(), F
         put_bytes(alloc, out, packet.as_slice())?;
     }
     Ok(())
+}
+
+/// The line of the objects that a datagram wrote to, where there are any.
+fn put_written(out: &mut String, written: &[Ono]) -> Result<(), Full> {
+    if written.is_empty() {
+        return Ok(());
+    }
+    write!(out, "written")?;
+    for ono in written {
+        let number = ono.0;
+        write!(out, " {number}")?;
+    }
+    Ok(writeln!(out, "")?)
 }
 
 /// The line of the objects that have a setting or a lock.

@@ -1,4 +1,5 @@
 //! Damaged datagrams: what a device refuses leaves it as it was, and what it accepts is what the writer writes.
+use crate::readings::readings;
 use crate::vectors::{COUNT, vector};
 use oca_device::{Device, Outbox, Verdict};
 use oca_pdu::{Message, Messages, PduFault, check, write_command, write_keepalive};
@@ -16,6 +17,12 @@ const SENDER: Peer = Peer {
 const STRANGER: Peer = Peer {
     ip: 0x7f00_0001,
     port: 9002,
+};
+
+/// Who reads.
+const READER: Peer = Peer {
+    ip: 0x7f00_0001,
+    port: 9003,
 };
 
 /// What the trial found.
@@ -40,6 +47,7 @@ struct Bench {
     untouched: Device,
     outbox: Outbox,
     expected: Outbox,
+    next_handle: u32,
     tally: Tally,
 }
 
@@ -51,33 +59,40 @@ impl Bench {
             untouched: device(alloc)?,
             outbox: Outbox::new(alloc)?,
             expected: Outbox::new(alloc)?,
+            next_handle: 1,
             tally: Tally::default(),
         };
         for number in [2, 4, 10, 12] {
-            bench.probe(vector(number));
+            bench.probe(SENDER, vector(number));
         }
         Ok(bench)
     }
 
-    /// Both devices hear the datagram: whether they answer alike.
-    fn probe(&mut self, bytes: &[u8]) -> bool {
+    /// Both devices hear the datagram of this peer: whether they answer alike.
+    fn probe(&mut self, from: Peer, bytes: &[u8]) -> bool {
         self.outbox.clear();
         self.expected.clear();
-        let _ = self.tried.datagram(SENDER, bytes, 0, &mut self.outbox);
-        let _ = self
-            .untouched
-            .datagram(SENDER, bytes, 0, &mut self.expected);
+        let _ = self.tried.datagram(from, bytes, 0, &mut self.outbox);
+        let _ = self.untouched.datagram(from, bytes, 0, &mut self.expected);
         same_packets(&self.outbox, &self.expected)
     }
 
+    /// Whether both devices read labels, enabled flags, and names and flags of positions alike.
+    fn reads_alike(&mut self) -> bool {
+        let mut packet = Packet::new();
+        self.next_handle = readings(&mut packet, self.next_handle);
+        self.probe(READER, packet.as_slice())
+    }
+
     /// Whether both devices have the same objects, sessions and retained replies, as far as duplicates of all retained
-    /// commands, one differing command and the readers of the tree show.
+    /// commands, one differing command, the readers of the tree and the commands that read an object show.
     fn is_untouched(&mut self) -> bool {
         self.tried.sessions() == self.untouched.sessions()
             && same_objects(&self.tried, &self.untouched)
-            && self.probe(vector(2))
-            && self.probe(vector(4))
-            && self.probe(vector(10))
+            && self.reads_alike()
+            && self.probe(SENDER, vector(2))
+            && self.probe(SENDER, vector(4))
+            && self.probe(SENDER, vector(10))
     }
 
     /// Whether the bytes of this peer are refused with this fault, and nothing is answered.

@@ -15,6 +15,7 @@ mod fields;
 mod history;
 mod hostile;
 mod lines;
+mod readings;
 mod schedule;
 mod vectors;
 mod world;

@@ -1,7 +1,7 @@
 //! The lines of a list of schedules: what begins one, and its steps.
 //!
-//! `schedule W S P/H ..` begins a schedule over a device with windows of size W and links of span S, one for each `P/H`: the link of
-//! the peer P whose first handle is H. The lines after it are its steps, in order, with N a moment, LINK the number of a link and K
+//! `schedule W S P/H ..` begins a schedule over a device with windows of size W and room for 16 peers, and links of span S, one for each
+//! `P/H`: the link of the peer P whose first handle is H. Between S and the links a number of peers may stand, for which there is room then. The lines after it are its steps, in order, with N a moment, LINK the number of a link and K
 //! that of a datagram, both from 0; the other fields are those of the scripts.
 //!
 //!     N submit LINK ONO LEVEL INDEX COUNT HEX      N due LINK
@@ -12,8 +12,8 @@
 //! The last sets an object at the device's own front: VALUE is the number of a state, a position, 0 or 1, or an integer.
 use crate::fields::{Fields, LineFault, number_32};
 use oca_pair::{Start, Step};
-use oca_script::field::{moment, peer};
-use oca_types::{Handle, MethodId, Ono, Span, Window};
+use oca_script::field::{moment, number, peer};
+use oca_types::{Handle, MethodId, Ono, Peers, Sizes, Span, Window};
 use std::alloc::Global;
 
 /// A step with its own bytes.
@@ -59,8 +59,8 @@ impl HeldStep {
 /// A schedule.
 #[derive(Drop)]
 pub struct Schedule {
-    /// The size of the device's windows.
-    pub window: Window,
+    /// The sizes of the device.
+    pub sizes: Sizes,
     /// The span of the links.
     pub span: Span,
     /// The links.
@@ -95,21 +95,38 @@ fn begun(alloc: Global, fields: &mut Fields<'_>) -> Result<Schedule, LineFault> 
     let (Some(window), Some(span)) = (Window::new(window), Span::new(span)) else {
         return Err(LineFault::Number);
     };
-    let mut starts = Vec::new(alloc);
-    for _ in 0..64 {
+    let mut schedule = Schedule {
+        sizes: Sizes {
+            window,
+            peers: Peers::default(),
+        },
+        span,
+        starts: Vec::new(alloc),
+        steps: Vec::new(alloc),
+    };
+    for place in 0..66 {
         if fields.end().is_ok() {
-            return Ok(Schedule {
-                window,
-                span,
-                starts,
-                steps: Vec::new(alloc),
-            });
+            return Ok(schedule);
         }
-        if starts.push(start(fields.next()?)?).is_err() {
+        let text = fields.next()?;
+        if place == 0 && !text.is_empty() && !text.contains(&b'/') && !text.contains(&b':') {
+            schedule.sizes.peers = peers(text)?;
+        } else if schedule.starts.push(start(text)?).is_err() {
             return Err(LineFault::NoMemory);
         }
     }
     Err(LineFault::Form)
+}
+
+/// How many peers have room.
+fn peers(text: &[u8]) -> Result<Peers, LineFault> {
+    let Some(count) = number(text, 3, 255) else {
+        return Err(LineFault::Number);
+    };
+    match Peers::new(count as u8) {
+        Some(peers) => Ok(peers),
+        None => Err(LineFault::Number),
+    }
 }
 
 /// A link: `P/H`.

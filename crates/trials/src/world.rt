@@ -3,7 +3,7 @@ use crate::fields::LineFault;
 use crate::lines::{Full, RunFault, put_bytes, put_peer, put_set_fault, put_verdict};
 use crate::schedule::{Line, Schedule, read_line};
 use oca_control::{Answer, ControlFault, Reception};
-use oca_pair::{Outcome, PairFault, Sent, Transcript, run_pair};
+use oca_pair::{Outcome, PairFault, Sent, Transcript, run_pair_with_sizes};
 use oca_tree::bench;
 use std::alloc::Global;
 use std::fmt::Write;
@@ -64,10 +64,10 @@ fn run(alloc: Global, schedule: &Schedule) -> Result<Transcript, PairFault> {
             return Err(PairFault::NoMemory);
         }
     }
-    run_pair(
+    run_pair_with_sizes(
         alloc,
         tree,
-        schedule.window,
+        schedule.sizes,
         schedule.span,
         schedule.starts.as_slice(),
         steps.as_slice(),
