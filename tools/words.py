@@ -5,10 +5,12 @@ Usage: words.py BIN     BIN is the folder with `ocadev` and `ocactl`
 
 A device of this script hears what `ocactl` sends, byte for byte, and from which port; a controller of this script speaks to `ocadev
 serve` and compares the counts at the end, each of another number. The last line is 'N passed, M failed'."""
+import contextlib
 import re
 import socket
 import subprocess
 import sys
+import time
 from pathlib import Path
 
 import oca_profile as oca
@@ -82,6 +84,61 @@ def runs(checks):
         checks.same("run: an answer and a refusal", (*out, run.returncode), ("answer 7 0 -\nrefused 2 handles-spent\n", "", 3))
 
 
+def runs_ahead(checks):
+    """`run --ahead`: three commands leave before an answer is there; answers that come the other way round are printed in order."""
+    with bound() as device:
+        run = checks.start("ocactl", "run", "--device", f"127.0.0.1:{device.getsockname()[1]}", "--first-handle", 1, "--ahead", 3, "--port", free_port())
+        run.stdin.write("1 2 3 0 -\n" * 3)
+        run.stdin.close()
+        run.stdin = None
+        wanted = [oca.pdu(1, [oca.Command(handle, 1, 2, 3, 0, b"").body()]) for handle in (1, 2, 3)]
+        heard = []
+        for _ in wanted:
+            data, sender = device.recvfrom(2000)
+            heard.append(data)
+        checks.same("run --ahead: its bytes", heard, wanted)
+        for handle in (3, 2, 1):
+            device.sendto(response(handle, handle, 0, b""), sender)
+        out = run.communicate(timeout=30)
+        checks.same("run --ahead: its answers", (*out, run.returncode), ("answer 1 0 -\nanswer 2 0 -\nanswer 3 0 -\n", "", 0))
+
+
+def own_ports(checks):
+    """`run` without a port is at 65001, or at another where that is in use; its first handle is the clock's."""
+    for taken in (False, True):
+        with bound() as device, contextlib.ExitStack() as more:
+            if taken:
+                more.enter_context(bound(65001))
+            run = checks.start("ocactl", "run", "--device", f"127.0.0.1:{device.getsockname()[1]}")
+            run.stdin.write("1 2 3 0 -\n")
+            run.stdin.close()
+            run.stdin = None
+            data, sender = device.recvfrom(2000)
+            handle = int.from_bytes(data[14:18], "big")
+            checks.same("run: its own port", sender[1] == 65001, not taken)
+            checks.same("run: a handle by the clock", abs(int(time.time() * 1000) % 2**31 - handle) < 60000, True)
+            device.sendto(response(handle, 0, 0, b""), sender)
+            out = run.communicate(timeout=30)
+            checks.same("run: an answer", (*out, run.returncode), ("answer 0 0 -\n", "", 0))
+
+
+def faults(checks):
+    """The fault's line is the last, and a line before it tells more; words that are no UTF-8 are bad words."""
+    with bound() as taken:
+        port = taken.getsockname()[1]
+        send = ("--device", "127.0.0.1:65000", "--target", 1, "--level", 1, "--index", 1, "--count", 0)
+        for words, fault, code in ((("ocactl", "send", "--port"), "bad words", 2), (("ocadev", "serve", "--prot", 1), "bad words", 2),
+                                   (("ocactl", "send", *send, "--turns", "x"), "bad words", 2),
+                                   (("ocactl", "send", *send, "--port", port), "socket failed", 1)):
+            run = checks.start(*words)
+            out, said = run.communicate(timeout=30)
+            lines = said.splitlines()
+            checks.same(f"faults of {words}", (out, lines[-1:], len(lines), said[:6], run.returncode), ("", [fault], 2, "note: ", code))
+    for program in ("ocadev", "ocactl"):
+        done = subprocess.run([f"{checks.folder}/{program}".encode(), b"\xff"], capture_output=True, timeout=30)
+        checks.same(f"{program}: words that are no UTF-8", (done.stdout, done.stderr, done.returncode), (b"", b"bad words\n", 2))
+
+
 def serves(checks):
     """`serve`: where it listens, its window and its counts."""
     run = checks.start("ocadev", "serve", "--port", 0, "--turns", TURNS, "--ip", "127.0.0.2", "--window", 2)
@@ -132,7 +189,7 @@ def helps(checks):
 
 def main():
     checks = Checks(sys.argv[1])
-    for part in (sends, runs, serves, helps):
+    for part in (sends, runs, runs_ahead, own_ports, faults, serves, helps):
         try:
             part(checks)
         except (OSError, TypeError, subprocess.TimeoutExpired) as fault:  # nothing came, or other words than those that were waited for

@@ -6,7 +6,8 @@ use Rattle.std.specs.Io.KnownBytes.{Appends, Keeps}
 use Rattle.std.proofs.KnownBytes.{Appends-nil, Appends-trans}
 use Rattle.oca_script.specs.declared.fault.WriteFailed.{WriteFailed}
 use Rattle.oca_script.specs.Ends.{Output, output}
-use Rattle.oca_script.specs.Printing.{AppendsFront, Emits, Prints, PrintsAll, PrintsPart, WritesBytes}
+use Rattle.oca_script.specs.Printing.{AppendsFront, Emits, Prints, PrintsAll, PrintsPart, WritesBytes, WritesWhole, WritesFront, WritesOut}
+use Rattle.std.specs.Prelude.{OnOk}
 
 pub front-of : (a b : Option (List ℕ)) (n : ℕ) (x : List ℕ) → Appends a b (take n x) → AppendsFront a b x
 front-of a b n x h = record { front = take n x; rest = drop n x; whole = sym (take-append-drop n x); appends = h }
@@ -137,5 +138,75 @@ prints-unwritten f a b held now e h = record {
   emits = record { sent = h.0.front; appends = h.0.appends; whole = append-nil held ∙ sym e ∙ h.0.whole };
   failed = h.1;
 }
+
+-- ---- one text after another
+
+-- a text, and then another as far as the writes go
+pub prints-then : (r : Result Unit WriteFailed) (a b c : Output) (x y : List ℕ) → PrintsAll a b x → Prints r b c y → Prints r a c (x ++ y)
+prints-then (Ok v) a b c x y h k = PrintsAll-then a b c x y h k
+prints-then (Err e) a b c x y h k = PrintsPart-then a b c x y h k
+
+-- a write failed within the first text
+part-less : (a b : Output) (x y : List ℕ) → PrintsPart a b x → PrintsPart a b (x ++ y)
+part-less a b x y h = record {
+  lost = h.lost ++ y;
+  emits = record {
+    sent = h.emits.sent;
+    appends = h.emits.appends;
+    whole = sym (append_assoc a.held x y) ∙ ap (λ (l : List ℕ). l ++ y) h.emits.whole ∙ append_assoc h.emits.sent h.lost y;
+  };
+  failed = h.failed;
+}
+
+pub prints-less : (r : Result Unit WriteFailed) (e : WriteFailed) (a b : Output) (x y : List ℕ) → r ≡ Err e → PrintsPart a b x → Prints r a b (x ++ y)
+prints-less r e a b x y is h = subst (λ (z : Result Unit WriteFailed). Prints z a b (x ++ y)) (sym is) (part-less a b x y h)
+
+-- it was printed in part
+pub not-printed : (r : Result Unit WriteFailed) (e f : WriteFailed) (a b : Output) (text : List ℕ) → r ≡ Err e → Prints (Err f) a b text → Prints r a b text
+not-printed r e f a b text is h = subst (λ (z : Result Unit WriteFailed). Prints z a b text) (sym is) h
+
+-- room was made, and then a text is held
+pub printed-held : (a b c : Output) (text : List ℕ) → c ≡ output b.contents (b.held ++ text) b.failed → PrintsAll a b [] → PrintsAll a c text
+printed-held a b c text e h =
+    subst (λ (o : Output). PrintsAll a o text) (sym e) (PrintsAll-then a b (output b.contents (b.held ++ text) b.failed) [] text h (prints-held b (b.held ++ text) text refl))
+
+-- ---- handed on
+
+-- the text was printed, and then what is held was handed on
+pub then-flushed : (r : Result Unit WriteFailed) (a b c : Output) (text : List ℕ) → PrintsAll a b text → Prints r b c [] → Prints r a c text
+then-flushed (Ok u) a b c text h k = subst (PrintsAll a c) (append-nil text) (PrintsAll-then a b c text [] h k)
+then-flushed (Err e) a b c text h k = subst (PrintsPart a c) (append-nil text) (PrintsPart-then a b c text [] h k)
+
+-- all that was printed is written, and nothing held
+pub whole : (a c : Output) (text : List ℕ) → PrintsAll a c text → c.held ≡ [] → WritesWhole a c text
+whole a c text h none = record {
+  appends = subst (Appends a.contents c.contents) (sym (append-nil h.emits.sent) ∙ ap (λ (l : List ℕ). h.emits.sent ++ l) (sym none) ∙ sym h.emits.whole) h.emits.appends;
+  none_held = none;
+  failed = h.failed;
+}
+
+-- printed, and then handed on
+pub written : (a b c : Output) (text : List ℕ) → PrintsAll a b text → PrintsAll b c [] → c.held ≡ [] → WritesWhole a c text
+written a b c text h k none = whole a c text (subst (PrintsAll a c) (append-nil text) (PrintsAll-then a b c text [] h k)) none
+
+-- a front was printed
+pub front : (a c : Output) (text : List ℕ) → PrintsPart a c text → WritesFront a c text
+front a c text h = record {
+  front = record { front = h.emits.sent; rest = h.lost; whole = h.emits.whole; appends = h.emits.appends };
+  failed = h.failed;
+}
+
+-- the text was printed, and then all that is held was handed on, as far as the writes went
+pub written-out : (r : Result Unit WriteFailed) (a b c : Output) (text : List ℕ) → PrintsAll a b text → Prints r b c [] → OnOk r (c.held ≡ []) → WritesOut r a c text
+written-out (Ok u) a b c text h k none = written a b c text h k none
+written-out (Err e) a b c text h k none = front a c text (then-flushed (Err e) a b c text h k)
+
+-- it was printed in part
+pub not-written : (r : Result Unit WriteFailed) (e f : WriteFailed) (a b : Output) (text : List ℕ) → r ≡ Err e → Prints (Err f) a b text → WritesOut r a b text
+not-written r e f a b text is h = subst (λ (z : Result Unit WriteFailed). WritesOut z a b text) (sym is) (front a b text h)
+
+-- there was no room for it
+pub not-written-room : (r : Result Unit WriteFailed) (e : WriteFailed) (a b : Output) (text : List ℕ) → r ≡ Err e → PrintsPart a b [] → WritesOut r a b text
+not-written-room r e a b text is h = subst (λ (z : Result Unit WriteFailed). WritesOut z a b text) (sym is) (front a b text (prints-lost a b b.held text h))
 
 pub ruleset print_rules = (prints-held, prints-flushed)

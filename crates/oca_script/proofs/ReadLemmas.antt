@@ -13,7 +13,7 @@ use Rattle.oca_script.specs.PrivateScript.{script_from}
 use Rattle.oca_script.specs.Script.{Script, script, behind, ends_by, line_then, parsed}
 use Rattle.oca_script.specs.Replaying.{Runs, BeginsWith, Ends, known_bytes, Outcome, Replays, ReadFails, Writes}
 use Rattle.oca_script.specs.PrivateSteps.{Printed, PrintedAtEnd, AccountsFor, Step, Performs, Performance, is_end_failure}
-use Rattle.oca_script.proofs.PrintLemmas.{PrintsAll-nil, PrintsAll-then, PrintsPart-then}
+use Rattle.oca_script.proofs.PrintLemmas.{PrintsAll-nil, PrintsAll-then, PrintsPart-then, whole, written, front}
 use Rattle.oca_script.proofs.ScriptLemmas.{script-from, script_from-end, script_from-too_much}
 use Rattle.oca_script.proofs.StepLemmas.{Runs-then, Printed-then, Step-then, Step-at, Step-as, Step-nothing, Step-unread, behind-behind}
 
@@ -257,24 +257,6 @@ module _ {S R : Type 0} (asked : List (List ℕ) → Result R LineFault) (serves
   reading-ends a b c u v w had has after p left (x ∷ xs) line r h k f none end same d = absurd (omega arith)
 
   -- ---- the whole
-
-  -- all that was printed is written, and nothing held
-  whole : (a c : Output) (text : List ℕ) → PrintsAll a c text → c.held ≡ [] → WritesWhole a c text
-  whole a c text h none = record {
-    appends = subst (Appends a.contents c.contents) (sym (append-nil h.emits.sent) ∙ ap (λ (l : List ℕ). h.emits.sent ++ l) (sym none) ∙ sym h.emits.whole) h.emits.appends;
-    none_held = none;
-    failed = h.failed;
-  }
-
-  -- printed, and then handed on
-  written : (a b c : Output) (text : List ℕ) → PrintsAll a b text → PrintsAll b c [] → c.held ≡ [] → WritesWhole a c text
-  written a b c text h k none = whole a c text (subst (PrintsAll a c) (append-nil text) (PrintsAll-then a b c text [] h k)) none
-
-  front : (a c : Output) (text : List ℕ) → PrintsPart a c text → WritesFront a c text
-  front a c text h = record {
-    front = record { front = h.emits.sent; rest = h.lost; whole = h.emits.whole; appends = h.emits.appends };
-    failed = h.failed;
-  }
 
   begins : (r : Result Unit ReplayFault) (s : Script R) (requests : List R) → Ends r s requests → BeginsWith requests s
   begins (Ok u) s requests h = (ends_by (Ok tt), h ∙ ap (λ (l : List R). ended l) (sym (append-nil requests)))

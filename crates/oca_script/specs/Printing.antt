@@ -44,6 +44,11 @@ pub record WritesFront (old new : Output) (text : List ℕ) : Type 0 where
   pub front : AppendsFront old.contents new.contents (old.held ++ text)
   pub failed : new.failed ≡ true
 
+-- the text was written behind what was held, and nothing is held; or a write failed
+abbrev pub WritesOut : Result Unit WriteFailed → Output → Output → List ℕ → Type 0
+WritesOut (Ok u) old new text = WritesWhole old new text
+WritesOut (Err e) old new text = WritesFront old new text
+
 -- all of the bytes were written, or a write failed
 abbrev pub WritesBytes : Result Unit WriteFailed → Output → Output → List ℕ → Type 0
 WritesBytes (Ok u) old new bytes = Appends old.contents new.contents bytes × (new.failed ≡ old.failed)

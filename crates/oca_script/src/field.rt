@@ -193,6 +193,7 @@ pub fn peer_before(text: &[u8]) -> Option<(Peer, &[u8])>
 pub fn hex_bytes<'a>(text: &[u8], room: &'a mut [u8]) -> Option<&'a [u8]>
     requires { length text.now ≤ 2 * length room.old }
     ensures value { given_bytes result ≡ hex_of text.now }
+    ensures within { IfSome result (λ bytes. length bytes.now ≤ length room.old) }
     ensures field { OnSome result (fields text.now ≡ text.now ∷ []) }
 {
     if text == b"-".as_slice() {

@@ -24,12 +24,14 @@ pub trait Language {
     // From a state a request leads to a state, and prints a text.
     ghost serves: { Self.State → Self.Request → Self.State → List ℕ → Type 0 };
 
-    /// Serves what the line asks for and prints its text; or answers the fault of its fields, and
-    /// then does nothing. Lines that are skipped or are not ASCII do not come here.
+    /// Serves what the line asks for and prints its text; or returns the fault of its fields, and
+    /// then does nothing. Lines that are skipped or are not ASCII do not come here. `more` tells whether further bytes of lines
+    /// are at hand: where there are none, the next line may be long in coming.
     fn serve_line<W: Sink>(
         state: &mut Self::State,
         room: &mut Self::Room,
         line: &[u8],
+        more: bool,
         printer: &mut Printer<W>,
     ) -> Result<(), Stop>
         requires { length line.now ≤ 4096 }

@@ -1,9 +1,10 @@
 -- Facts on how many fields a text has.
 use Rattle.std.proofs.Common.{◌≡◌, ℕ, List, [], ◌∷◌, ◌++◌, Option, Some, None, refl, sym, ap, ◌∙◌, ◌==◌, Bool, true, false, cond}
 use Rattle.oca_script.specs.Fields.{fields, fields_after, onto_first}
-use Rattle.std.specs.Prelude.{Err}
+use Rattle.std.specs.Prelude.{Err, codes}
+use Rattle.std.specs.Str.{bytes_eq}
 use Rattle.oca_script.specs.declared.fault.LineFault.TheVariants as fault
-use Rattle.ocactl.specs.Requests.{one_text, two_texts, CommandTexts, command_texts, due_of}
+use Rattle.ocactl.specs.Requests.{is_wait, one_text, two_texts, CommandTexts, command_texts, due_of}
 
 -- there is at least one field
 pub record AtLeastOne (fs : List (List ℕ)) : Type 0 where
@@ -37,6 +38,16 @@ pub more_than_one : (o p : Option (List ℕ)) (a r : List ℕ) → fields_after 
 more_than_one o p a r e is =
     let some = after-some p r is in
     sym (ap one_text (e ∙ ap (λ (fs : List (List ℕ)). a ∷ fs) some.are))
+
+-- nor the one field `wait`
+pub more_than_wait : (o p : Option (List ℕ)) (a r : List ℕ) → fields_after o ≡ a ∷ fields_after p → p ≡ Some r → false ≡ is_wait (fields_after o)
+more_than_wait o p a r e is =
+    let some = after-some p r is in
+    sym (ap is_wait (e ∙ ap (λ (fs : List (List ℕ)). a ∷ fs) some.are))
+
+-- one field is `wait` where it is that word
+pub only-wait : (o p : Option (List ℕ)) (a : List ℕ) → fields_after o ≡ a ∷ fields_after p → p ≡ None → bytes_eq a (codes "wait") ≡ is_wait (fields_after o)
+only-wait o p a e is = sym (ap is_wait (e ∙ ap (λ (q : Option (List ℕ)). a ∷ fields_after q) is))
 
 -- two and more are not two
 pub more_than_two : (o p q : Option (List ℕ)) (a b r : List ℕ) → fields_after o ≡ a ∷ fields_after p → fields_after p ≡ b ∷ fields_after q → q ≡ Some r

@@ -1,4 +1,3 @@
 pub mod FieldLemmas
-pub mod PrintLemmas
 pub mod ServeLemmas
 pub mod ExchangeLemmas

@@ -1,17 +1,24 @@
--- How a command fares that is sent over a network (*profile*).
-use Rattle.std.specs.Prelude.{◌≡◌, ℕ, ◌+◌, ◌≤◌, ◌<◌, ◌==◌, Bool, ◌||◌, true, if◌then◌else◌, List, codes, Some, None, Result, Ok, Err}
+-- How commands fare that are sent over a network, one or those of lines (*profile*).
+use Rattle.std.specs.Prelude.{IfSome, ◌≡◌, ℕ, ◌+◌, ◌-◌, ◌<◌, ◌≤◌, ◌==◌, Bool, ◌||◌, true, if◌then◌else◌, List, [], ◌∷◌, ◌++◌, length, codes, Result, Ok, Err}
 use Rattle.oca_types.specs.declared.words.Handle.{Handle}
+use Rattle.oca_types.specs.Peers.{RequestFields}
 use Rattle.oca_net.specs.Ends.{last_u64}
+use Rattle.oca_net.specs.EndStates.{EndState}
 use Rattle.oca_control.specs.declared.fault.ControlFault.{ControlFault}
-use Rattle.oca_control.specs.declared.fault.ControlFault.TheVariants as faults
+use Rattle.oca_control.specs.declared.outcome.Outcome.{Outcome}
+use Rattle.oca_control.specs.declared.outcome.Outcome.TheVariants as outcomes
 use Rattle.oca_control.specs.declared.report.DriveReport.{DriveReport}
 use Rattle.oca_control.specs.Answers.{answer_fields}
-use Rattle.oca_control.specs.Links.{LinkState, Request, submission, submitted, taken}
-use Rattle.oca_control.specs.Untaken.{answer_under}
-use Rattle.oca_net.specs.EndStates.{EndState}
-use Rattle.oca_control.specs.Driving.{DrivesEnd}
-use Rattle.ocactl.specs.declared.exchange.Outcome.{Outcome}
-use Rattle.ocactl.specs.declared.exchange.Outcome.TheVariants as outcomes
+use Rattle.oca_control.specs.Links.{LinkState, submission, submitted}
+use Rattle.oca_control.specs.Driving.{GivesOut}
+use Rattle.oca_control.specs.Asking.{Waits, AsksEnd, Asks, refused_by}
+use Rattle.oca_script.specs.declared.fault.ReplayFault.{ReplayFault}
+use Rattle.oca_script.specs.declared.fault.ReplayFault.TheVariants.{Line, Read, Write, TooMuch}
+use Rattle.oca_script.specs.declared.fault.WriteFailed.{WriteFailed}
+use Rattle.oca_script.specs.Ends.{Input, Output}
+use Rattle.oca_script.specs.Printing.{WritesOut, WritesWhole, WritesFront}
+use Rattle.oca_script.specs.Replaying.{Replays, Outcome as ReadsLines}
+use Rattle.ocactl.specs.Requests.{LineAsked, Send, Wait, asked_line}
 use Rattle.ocactl.specs.Printing.{answer_text, refusal_text}
 
 -- the line that is printed
@@ -28,48 +35,103 @@ outcome_status (outcomes.Refused fault) = 3
 outcome_status outcomes.Lost = 3
 outcome_status outcomes.Unanswered = 3
 
--- The link was driven, time after time.
-pub data HasDriven : (old new : LinkState) (before after : EndState) → Type 0 where
-  NotYet : {l : LinkState} {e : EndState} → HasDriven l l e e
-  OnceMore : {old l new : LinkState} {d e f : EndState} (report : DriveReport) → HasDriven old l d e → DrivesEnd l new e f report → HasDriven old new d f
+-- What was written of an outcome, and the exit status, or a write failed.
+abbrev pub WritesOutcome : Outcome → Result ℕ WriteFailed → Output → Output → Type 0
+WritesOutcome outcome (Ok status) was is = (status ≡ outcome_status outcome) × WritesWhole was is (outcome_text outcome)
+WritesOutcome outcome (Err e) was is = WritesFront was is (outcome_text outcome)
 
--- From a link under whose handle h an answer is waited for, to the link after it. The link is driven; an answer is the one that
--- it then holds, and is taken.
-abbrev pub Waits : ℕ → LinkState → Outcome → LinkState → EndState → EndState → Type 0
-Waits h old (outcomes.Answered a) new before after =
-    (l : LinkState) × HasDriven old l before after × (answer_under h l.untaken ≡ Some (answer_fields a)) × (new ≡ taken h l)
-Waits h old (outcomes.Refused fault) new before after = ⊥
-Waits h old outcomes.Lost new before after =
-    (l : LinkState) × (e : EndState) × (report : DriveReport) × HasDriven old l before e × DrivesEnd l new e after report × (report.lost ≡ true)
-Waits h old outcomes.Unanswered new before after = HasDriven old new before after × (answer_under h new.untaken ≡ None)
+-- ONE COMMAND was asked over an end, and how it fared was written.
+pub record AsksOnce (request : RequestFields) (turns : ℕ) (old new : LinkState) (before after : EndState) (result : Result ℕ WriteFailed) (was is : Output) : Type 0 where
+  pub outcome : Outcome
+  pub asks : Asks request turns (submission request old) old outcome new before after
+  pub writes : WritesOutcome outcome result was is
 
--- How often the end was asked meanwhile, where so many turns were allowed: at most so often, and just so often where no answer came.
-abbrev pub AsksEnd : ℕ → Outcome → ℕ → ℕ → Type 0
-AsksEnd turns (outcomes.Answered a) before after = after ≤ before + turns
-AsksEnd turns (outcomes.Refused fault) before after = after ≡ before
-AsksEnd turns outcomes.Lost before after = after ≤ before + turns
-AsksEnd turns outcomes.Unanswered before after = after ≡ before + turns
-
--- how a command fares that the link refuses
-abbrev pub refused_by : ControlFault → Outcome
-refused_by faults.Lost = outcomes.Lost
-refused_by faults.HandlesSpent = outcomes.Refused faults.HandlesSpent
-refused_by faults.SpanFull = outcomes.Refused faults.SpanFull
-refused_by faults.TooLong = outcomes.Refused faults.TooLong
-
--- The command was submitted at moment 0, and its answer waited for; or it was refused, which changes nothing.
-abbrev pub Sends : Request → Result Handle ControlFault → LinkState → Outcome → LinkState → EndState → EndState → Type 0
-Sends request (Ok handle) old outcome new before after = Waits handle.0 (submitted request 0 old) outcome new before after
-Sends request (Err fault) old outcome new before after = (outcome ≡ refused_by fault) × (new ≡ old) × (after ≡ before)
+-- ---- commands of lines
 
 -- A command of a line waits for so many turns.
 abbrev pub most_turns : ℕ
 most_turns = 4294967295
 
--- The command was sent, and how it fared is printed; `lost` says whether a command got no answer so far, `before` what the end said of
--- itself.
-abbrev pub Exchanges : LinkState → Bool → EndState → Request → LinkState → Bool → EndState → List ℕ → Type 0
-Exchanges old lost before request new lost' after text =
-    (outcome : Outcome) × Sends request (submission request old) old outcome new before after
-    × (after.receives < last_u64 → AsksEnd most_turns outcome before.receives after.receives)
-    × (text ≡ outcome_text outcome) × (lost' ≡ (lost || outcome_status outcome == 3))
+-- A link, what the end that it is driven over says of itself, the handles of the commands under way in the order of their lines, how
+-- many may be, and whether a command got no answer so far.
+pub record SessionState : Type 0 where
+  pub link : LinkState
+  pub end_state : EndState
+  pub under_way : List ℕ
+  pub ahead : ℕ
+  pub unanswered : Bool
+
+-- The first command under way was waited for, and came out so.
+pub record AwaitsFirst (old new : SessionState) (outcome : Outcome) : Type 0 where
+  pub handle : ℕ
+  pub first : old.under_way ≡ handle ∷ new.under_way
+  pub waits : Waits handle most_turns old.link outcome new.link old.end_state new.end_state
+  pub asks : new.end_state.receives < last_u64 → AsksEnd most_turns outcome old.end_state.receives new.end_state.receives
+  pub ahead : new.ahead ≡ old.ahead
+  pub unanswered : new.unanswered ≡ (old.unanswered || outcome_status outcome == 3)
+
+-- Commands under way were waited for, one after another, while more than `left` were; how each came out is printed.
+pub data Awaits (left : ℕ) : (old new : SessionState) (text : List ℕ) → Type 0 where
+  NoneAwaited : {s : SessionState} → Awaits left s s []
+  OneAwaited : {r s t : SessionState} {text : List ℕ} (outcome : Outcome) → Awaits left r s text → left < length s.under_way →
+      AwaitsFirst s t outcome → Awaits left r t (text ++ outcome_text outcome)
+
+-- until at most so many are under way
+abbrev pub AwaitsUntil : ℕ → SessionState → SessionState → List ℕ → Type 0
+AwaitsUntil left old new text = Awaits left old new text × (length new.under_way ≤ left)
+
+-- The command got this handle and was given out at once, and is under way behind the others.
+pub record Submits (request : RequestFields) (handle : Handle) (old new : SessionState) : Type 0 where
+  pub report : DriveReport
+  pub gives : GivesOut 0 ((submitted request 0 old.link).span + 1) (submitted request 0 old.link) new.link old.end_state new.end_state report
+  pub under_way : new.under_way ≡ old.under_way ++ handle.0 ∷ []
+  pub ahead : new.ahead ≡ old.ahead
+  pub unanswered : new.unanswered ≡ old.unanswered
+
+-- A command is submitted, and as many are waited for as need be, so that fewer are under way than may be. Where it is refused all
+-- that are under way are waited for first.
+abbrev pub Sends : RequestFields → Result Handle ControlFault → SessionState → SessionState → List ℕ → Type 0
+Sends request (Ok handle) old new text =
+    (s : SessionState) × (left : ℕ) × Submits request handle old s × (left < old.ahead) × AwaitsUntil left s new text
+Sends request (Err fault) old new text =
+    (s : SessionState) × (x : List ℕ) × AwaitsUntil 0 old s x × (new ≡ record s { unanswered = true }) × (text ≡ x ++ outcome_text (refused_by fault))
+
+-- WHAT A LINE DOES, from a session to the one after it, with the text that it prints.
+abbrev pub Serves : SessionState → LineAsked → SessionState → List ℕ → Type 0
+Serves old (Send request) new text =
+    (s : SessionState) × (x : List ℕ) × (y : List ℕ) × AwaitsUntil (old.ahead - 1) old s x × Sends request (submission request s.link) s new y × (text ≡ x ++ y)
+Serves old Wait new text = AwaitsUntil 0 old new text
+
+-- ---- all lines
+
+-- how it all ended, where what was printed last was written, or a write failed
+abbrev pub ended_by : Result Unit WriteFailed → Result Unit ReplayFault → Result Unit ReplayFault
+ended_by (Ok u) ended = ended
+ended_by (Err e) ended = Err Write
+
+-- All that were still under way were waited for, and how they fared was written.
+pub record Concludes (ended : Result Unit ReplayFault) (old new : SessionState) (was is : Output) (result : Result Unit ReplayFault) : Type 0 where
+  pub text : List ℕ
+  pub written : Result Unit WriteFailed
+  pub awaits : AwaitsUntil 0 old new text
+  pub writes : WritesOut written was is text
+  pub ends : result ≡ ended_by written ended
+
+-- the same, unless a write had failed
+abbrev pub Finishes : Result Unit ReplayFault → SessionState → SessionState → Output → Output → Result Unit ReplayFault → Type 0
+Finishes (Ok u) old new was is result = Concludes (Ok u) old new was is result
+Finishes (Err (Line number fault)) old new was is result = Concludes (Err (Line number fault)) old new was is result
+Finishes (Err Read) old new was is result = Concludes (Err Read) old new was is result
+Finishes (Err Write) old new was is result = (result ≡ Err Write) × (new ≡ old) × (is ≡ was)
+Finishes (Err TooMuch) old new was is result = Concludes (Err TooMuch) old new was is result
+
+-- THE LINES of a source were served one after another, and then all commands under way were waited for. Where the bytes that the source
+-- had are known, these were its lines; whatever source, there are bytes, those that it gave where it tells them, and the rest of what it
+-- had, of which they were.
+pub record SendsLines (old new : SessionState) (was is : Output) (had has : Input) (result : Result Unit ReplayFault) : Type 0 where
+  pub middle : SessionState
+  pub between : Output
+  pub ended : Result Unit ReplayFault
+  pub known : IfSome had.remaining (λ given. Replays asked_line Serves old middle was between ended given)
+  pub reads : ReadsLines asked_line Serves old middle was between had has ended
+  pub finishes : Finishes ended middle new between is result

@@ -1,8 +1,8 @@
 pub mod Requests
 pub mod Printing
 pub mod Replaying
-pub mod Faults
 pub mod Exchanges
 pub mod PrivateRequests
 pub mod PrivateLines
 pub mod PrivateExchanges
+pub mod Words

@@ -1,10 +1,10 @@
 -- For private contracts: what the program's own values say.
 use Rattle.std.specs.Prelude.{◌≤◌, ℕ, List, length, Option, Some, None, Result, Ok, Err}
 use Rattle.std.specs.Option.{option_map}
-use Rattle.oca_control.specs.Links.{Request}
+use Rattle.oca_types.specs.declared.words.Request.{Request}
+use Rattle.oca_types.specs.Peers.{RequestFields, request_of}
 use Rattle.oca_script.specs.declared.fault.LineFault.{LineFault}
 use Rattle.ocactl.specs.declared.request.Texts.{Texts}
-use Rattle.ocactl.specs.declared.request.Submission.{Submission}
 use Rattle.ocactl.specs.declared.request.Call.{Call}
 use Rattle.ocactl.specs.declared.request.Call.TheVariants as calls
 use Rattle.ocactl.specs.Requests.{LinkCall, Submit, Due, Datagram, Take, CommandTexts}
@@ -22,15 +22,12 @@ texts_in t = record { target = t.target.now; level = t.level.now; index = t.inde
 abbrev pub texts_given : Option Texts → Option CommandTexts
 texts_given r = option_map texts_in r
 
-abbrev pub request_in : Submission → Request
-request_in s = record { target = s.target.0; level = s.method.level; index = s.method.index; count = s.count; params = s.params.now }
-
-abbrev pub request_asked : Result Submission LineFault → Result Request LineFault
-request_asked (Ok s) = Ok (request_in s)
+abbrev pub request_asked : Result Request LineFault → Result RequestFields LineFault
+request_asked (Ok s) = Ok (request_of s)
 request_asked (Err f) = Err f
 
 abbrev pub call_in : Call → LinkCall
-call_in (calls.Submit now s) = Submit now (request_in s)
+call_in (calls.Submit now s) = Submit now (request_of s)
 call_in (calls.Due now) = Due now
 call_in (calls.Datagram now from bytes) = Datagram now from bytes.now
 call_in (calls.Take handle) = Take handle.0

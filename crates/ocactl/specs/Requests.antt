@@ -1,24 +1,20 @@
 -- What the lines of the controller's scripts ask for (*profile*).
-use Rattle.std.specs.Prelude.{ℕ, Bool, if◌then◌else◌, List, [], ◌∷◌, codes, Option, Some, None, Result, Ok, Err}
+use Rattle.std.specs.Prelude.{ℕ, Bool, false, if◌then◌else◌, List, [], ◌∷◌, codes, Option, Some, None, Result, Ok, Err}
 use Rattle.std.specs.Str.{bytes_eq}
 use Rattle.oca_types.specs.declared.words.Peer.{Peer}
-use Rattle.oca_control.specs.Links.{Request}
-use Rattle.oca_script.specs.Fields.{number_of, moment_of, peer_of, hex_of}
+use Rattle.oca_types.specs.Peers.{RequestFields}
+use Rattle.oca_script.specs.Fields.{moment_of, peer_of, hex_of}
+use Rattle.oca_program.specs.Fields.{needs, u32_of, u16_of, u8_of}
 use Rattle.oca_script.specs.declared.fault.LineFault.{LineFault}
 use Rattle.oca_script.specs.declared.fault.LineFault.TheVariants as fault
 
 -- What a line asks of a link: a command is submitted, what is due is given out, a datagram has come, or an answer is taken.
 -- Moments are in milliseconds.
 pub data LinkCall : Type 0 where
-  Submit : (now : ℕ) (request : Request) → LinkCall
+  Submit : (now : ℕ) (request : RequestFields) → LinkCall
   Due : (now : ℕ) → LinkCall
   Datagram : (now : ℕ) (from : Peer) (bytes : List ℕ) → LinkCall
   Take : (handle : ℕ) → LinkCall
-
--- a value, or that fault
-abbrev pub needs : {A B : Type 0} → LineFault → Option A → (A → Result B LineFault) → Result B LineFault
-needs f None next = Err f
-needs f (Some x) next = next x
 
 -- ---- how many fields there are
 
@@ -52,18 +48,8 @@ command_texts (a ∷ b ∷ c ∷ d ∷ e ∷ f ∷ more) = None
 
 -- ---- what they ask for
 
--- a number of at most ten digits in 32 bits, of five in 16, of three in 8
-abbrev pub u32_of : List ℕ → Option ℕ
-u32_of text = number_of 10 4294967295 text
-
-abbrev pub u16_of : List ℕ → Option ℕ
-u16_of text = number_of 5 65535 text
-
-abbrev pub u8_of : List ℕ → Option ℕ
-u8_of text = number_of 3 255 text
-
 -- a command
-unfoldable pub command_of : CommandTexts → Result Request LineFault
+unfoldable pub command_of : CommandTexts → Result RequestFields LineFault
 command_of t =
     needs fault.Number (u32_of t.target) (λ target.
     needs fault.Number (u16_of t.level) (λ level.
@@ -73,7 +59,7 @@ command_of t =
     Ok (record { target = target; level = level; index = index; count = count; params = params }))))))
 
 -- a command that is submitted at a moment
-abbrev pub submit_at : ℕ → Result Request LineFault → Result LinkCall LineFault
+abbrev pub submit_at : ℕ → Result RequestFields LineFault → Result LinkCall LineFault
 submit_at now (Err f) = Err f
 submit_at now (Ok request) = Ok (Submit now request)
 
@@ -114,5 +100,26 @@ asked_call [] = Err fault.Form
 asked_call (first ∷ rest) = if bytes_eq first (codes "take") then take_of rest else timed_of first rest
 
 -- What the fields of a line of commands ask for: ONO LEVEL INDEX COUNT HEX.
-abbrev pub asked_command : List (List ℕ) → Result Request LineFault
+abbrev pub asked_command : List (List ℕ) → Result RequestFields LineFault
 asked_command fs = needs fault.Form (command_texts fs) command_of
+
+-- ---- lines of commands
+
+-- What a line of commands asks for: a command is sent, or all before it are to be answered first.
+pub data LineAsked : Type 0 where
+  Send : (request : RequestFields) → LineAsked
+  Wait : LineAsked
+
+-- the one field `wait`
+abbrev pub is_wait : List (List ℕ) → Bool
+is_wait [] = false
+is_wait (a ∷ []) = bytes_eq a (codes "wait")
+is_wait (a ∷ b ∷ more) = false
+
+abbrev pub sent : Result RequestFields LineFault → Result LineAsked LineFault
+sent (Ok request) = Ok (Send request)
+sent (Err f) = Err f
+
+-- What the fields of a line ask for: `wait`, or ONO LEVEL INDEX COUNT HEX.
+unfoldable pub asked_line : List (List ℕ) → Result LineAsked LineFault
+asked_line fs = if is_wait fs then Ok Wait else sent (asked_command fs)

@@ -1,40 +1,32 @@
-//! Commands from lines, each sent and answered before the next is read.
-ghost use Rattle.std.specs.Prelude.{◌≡◌, ◌||◌, ◌==◌, IfSome};
+//! Commands from lines, so many at once as may be under way.
+ghost use Rattle.std.specs.Prelude.{◌≡◌, ◌≤◌, ◌<◌, [], codes, length, OnOk};
+ghost use Rattle.std.specs.Str.{bytes_eq};
 ghost use Rattle.oca_script.specs.Ends.{input};
+ghost use Rattle.oca_script.specs.Fields.{fields};
 ghost use Rattle.oca_script.specs.Printing.{Prints};
-ghost use Rattle.oca_script.specs.Replaying.{Outcome as ReplayOutcome, Replays};
-ghost use Rattle.oca_control.specs.Links.{Request};
-ghost use Rattle.ocactl.specs.Requests.{asked_command};
-ghost use Rattle.ocactl.specs.Exchanges.{Exchanges, outcome_status};
-ghost use Rattle.ocactl.specs.PrivateRequests.{request_in};
-ghost use Rattle.ocactl.specs.PrivateExchanges.{ExchangesAndPrints};
+ghost use Rattle.oca_types.specs.Peers.{request_of};
+ghost use Rattle.oca_control.specs.Links.{submission};
+ghost use Rattle.ocactl.specs.Requests.{LineAsked, asked_line, is_wait as wait_line};
+ghost use Rattle.ocactl.specs.Exchanges.{Serves, SendsLines, outcome_text};
+ghost use Rattle.oca_control.specs.Asking.{refused_by};
+ghost use Rattle.ocactl.specs.PrivateExchanges.{AwaitsAndPrints, SendsAndPrints, ServesAndPrints, GoesOn, is_write_failure, line_in, line_asked};
 
-use super::exchange::{Outcome, print_outcome, send};
-use super::request::{MOST_BYTES, Submission, command_by};
-use oca_control::Link;
+use super::exchange::print_outcome;
+use super::request::{MOST_BYTES, command_by};
+use super::session::Session;
+use oca_control::{ControlFault, Outcome};
 use oca_net::End;
-use oca_script::{Language, Printer, ReplayFault, Sink, Source, Stop, WriteFailed};
+use oca_script::field::first_field;
+use oca_script::lines::serve_lines;
+use oca_script::{Language, LineFault, Printer, ReplayFault, Sink, Source, Stop, WriteFailed};
+use oca_types::Request;
 use std::marker::PhantomData;
 
-/// How many turns a command of a line waits for its answer: where not every receive fails, the link is lost long before.
-const TURNS: u32 = u32::MAX;
-
-/// A link, the end that it is driven over, and whether a command got no answer so far.
-pub struct Session<E> {
-    pub link: Link,
-    pub end: E,
-    pub lost: bool,
-}
-
-impl<E: Drop> Drop for Session<E> {
-    /// Lets the link and the end go.
-    fn drop(self) {
-        let Session {
-            link: _,
-            end: _,
-            lost: _,
-        } = self;
-    }
+/// What a line asks for: to send a command, or that all before it are answered first.
+#[derive(Clone, Copy)]
+pub enum Asked<'a> {
+    Send(Request<'a>),
+    Wait,
 }
 
 /// The language of lines of commands.
@@ -45,22 +37,23 @@ impl<E: End> Language for Commands<E> {
 
     type Room = [u8; MOST_BYTES];
 
-    ghost Request = { Request };
+    ghost Request = { LineAsked };
 
-    ghost asked = { asked_command };
+    ghost asked = { asked_line };
 
-    ghost serves = { λ old request new text. Exchanges old.link old.lost (E.state old.end) request new.link new.lost (E.state new.end) text };
+    ghost serves = { Serves };
 
-    /// Reads the command of the line, sends it, and prints how it fared.
+    /// Reads what the line asks for, does it, and prints how commands fared.
     fn serve_line<W: Sink>(
         session: &mut Session<E>,
         room: &mut [u8; MOST_BYTES],
         line: &[u8],
+        more: bool,
         printer: &mut Printer<W>,
     ) -> Result<(), Stop> {
-        match command_by(line, room) {
+        match asked_by(line, room) {
             Err(fault) => Err(Stop::Line(fault)),
-            Ok(command) => match exchange(session, command, printer) {
+            Ok(asked) => match serve(session, asked, more, printer) {
                 Ok(()) => Ok(()),
                 Err(WriteFailed) => Err(Stop::Write),
             },
@@ -68,42 +61,172 @@ impl<E: End> Language for Commands<E> {
     }
 }
 
-/// Sends a command, and writes how it fared.
-fn exchange<E: End, W: Sink>(
+/// Whether the word is `wait`.
+fn says_wait(word: &[u8]) -> bool
+    ensures { result ≡ bytes_eq word.now (codes "wait") }
+{
+    word == b"wait".as_slice()
+}
+
+/// Whether the line is `wait` alone.
+fn is_wait(line: &[u8]) -> bool
+    ensures { result ≡ wait_line (fields line.now) }
+{
+    let (first, rest) = first_field(line);
+    match rest {
+        None => says_wait(first),
+        Some(_) => false,
+    }
+}
+
+/// What the line asks for. The bytes of a command's parameters are put into `room`.
+#[tactic(auto, unfolding(crate::specs::Requests::asked_line))]
+fn asked_by<'a>(line: &[u8], room: &'a mut [u8; MOST_BYTES]) -> Result<Asked<'a>, LineFault>
+    requires { length line.now ≤ 4096 }
+    ensures { line_asked result ≡ asked_line (fields line.now) }
+{
+    if is_wait(line) {
+        return Ok(Asked::Wait);
+    }
+    match command_by(line, room) {
+        Ok(request) => Ok(Asked::Send(request)),
+        Err(fault) => Err(fault),
+    }
+}
+
+/// Does what a line asks for, and prints how commands fared.
+fn serve<E: End, W: Sink>(
     session: &mut Session<E>,
-    command: Submission<'_>,
+    asked: Asked<'_>,
+    more: bool,
     printer: &mut Printer<W>,
 ) -> Result<(), WriteFailed>
-    ensures { ExchangesAndPrints session.old.link session.old.lost (E.state session.old.end) (request_in command.entry) session.new.link session.new.lost (E.state session.new.end) result printer.old printer.new }
+    ensures { ServesAndPrints session.old (line_in asked.entry) session.new result printer.old printer.new }
 {
-    let outcome = send(&mut session.link, &mut session.end, command, TURNS);
-    session.lost = gets_none(session.lost, &outcome);
-    print_outcome(&outcome, printer)?;
+    match asked {
+        Asked::Send(request) => {
+            let left = session.left();
+            let written = await_until(session, left, Ok(()), printer);
+            send(session, request, more, written, printer)
+        }
+        Asked::Wait => await_until(session, 0, Ok(()), printer),
+    }
+}
+
+/// Submits a command; then so many are waited for that one more may be under way, or all where no further bytes are at hand.
+fn send<E: End, W: Sink>(
+    session: &mut Session<E>,
+    request: Request<'_>,
+    more: bool,
+    written: Result<(), WriteFailed>,
+    printer: &mut Printer<W>,
+) -> Result<(), WriteFailed>
+    requires { length session.old.under_way < 32 }
+    ensures { SendsAndPrints (request_of request.entry) (submission (request_of request.entry) session.old.link) written session.old session.new result printer.old printer.new }
+{
+    match session.submit(request) {
+        Ok(_) => {
+            let left = session.left_after(more);
+            await_until(session, left, written, printer)
+        }
+        Err(fault) => {
+            let written = await_until(session, 0, written, printer);
+            session.refuse();
+            print_next(&refused(fault), written, printer)
+        }
+    }
+}
+
+/// How a command fares that the link refuses.
+fn refused(fault: ControlFault) -> Outcome
+    ensures { result ≡ refused_by fault }
+{
+    match fault {
+        ControlFault::Lost => Outcome::Lost,
+        ControlFault::HandlesSpent => Outcome::Refused(ControlFault::HandlesSpent),
+        ControlFault::SpanFull => Outcome::Refused(ControlFault::SpanFull),
+        ControlFault::TooLong => Outcome::Refused(ControlFault::TooLong),
+    }
+}
+
+/// Waits for commands under way, in the order of their lines, until at most so many are. How each fared is printed and handed on,
+/// unless a write has failed.
+fn await_until<E: End, W: Sink>(
+    session: &mut Session<E>,
+    left: usize,
+    written: Result<(), WriteFailed>,
+    printer: &mut Printer<W>,
+) -> Result<(), WriteFailed>
+    ensures { AwaitsAndPrints left written session.old session.new result printer.old printer.new }
+{
+    let mut so_far = written;
+    while session.under_way() > left {
+        let outcome = session.await_first();
+        so_far = print_next(&outcome, so_far, printer);
+    }
+    so_far
+}
+
+/// Prints how a command fared, and hands it on, unless a write has failed.
+fn print_next<W: Sink>(
+    outcome: &Outcome,
+    written: Result<(), WriteFailed>,
+    printer: &mut Printer<W>,
+) -> Result<(), WriteFailed>
+    ensures { GoesOn written result printer.old printer.new (outcome_text outcome.now) }
+{
+    match written {
+        Ok(()) => write_outcome(outcome, printer),
+        Err(WriteFailed) => Err(WriteFailed),
+    }
+}
+
+/// Prints how a command fared, and hands it on.
+fn write_outcome<W: Sink>(outcome: &Outcome, printer: &mut Printer<W>) -> Result<(), WriteFailed>
+    ensures { Prints result printer.old printer.new (outcome_text outcome.now) }
+{
+    print_outcome(outcome, printer)?;
     printer.flush()
 }
 
-/// Whether a command got no answer so far, this one included.
-fn gets_none(lost: bool, outcome: &Outcome) -> bool
-    ensures { result ≡ (lost || outcome_status outcome.now == 3) }
-{
-    lost || outcome.status() == 3
-}
-
-/// Sends the commands that the source has to give over the session, each once it is known how the one before fared, and writes
-/// how each fared. Faults are those of a replay: the first bad line, too much input, a failed read or write.
+/// Sends the commands that the source has to give over the session, and prints how each fared, in the order of their lines.
+/// Commands that are still under way at the end are waited for. Faults: the first bad line, too much input, a failed read or write.
 pub fn send_all<E: End, R: Source, W: Sink>(
     session: &mut Session<E>,
     reader: &mut R,
     printer: &mut Printer<W>,
 ) -> Result<(), ReplayFault>
-    // Where the bytes that the source had are known, the commands of their lines were sent, and how each fared was printed.
-    ensures known { IfSome (R.remaining reader.old) (λ given.
-        Replays asked_command (λ old request new text. Exchanges old.link old.lost (E.state old.end) request new.link new.lost (E.state new.end) text) session.old session.new printer.old printer.new result given) }
-    // Whatever source: there are bytes, those that it gave where it tells them, and the rest of what it had, and the same holds of
-    // these.
-    ensures reads { ReplayOutcome asked_command (λ old request new text. Exchanges old.link old.lost (E.state old.end) request new.link new.lost (E.state new.end) text) session.old session.new printer.old printer.new
-        (input (R.remaining reader.old) (R.failed reader.old)) (input (R.remaining reader.new) (R.failed reader.new)) result }
+    ensures { SendsLines session.old session.new printer.old printer.new (input (R.remaining reader.old) (R.failed reader.old)) (input (R.remaining reader.new) (R.failed reader.new)) result }
 {
     let mut room = [0; MOST_BYTES];
-    oca_script::replay::replay::<Commands<E>, R, W>(session, &mut room, reader, printer)
+    let ended = serve_lines::<Commands<E>, R, W>(session, &mut room, reader, printer);
+    if is_unwritten(ended) {
+        return ended;
+    }
+    let written = await_until(session, 0, Ok(()), printer);
+    match hand_on(written, printer) {
+        Ok(()) => ended,
+        Err(WriteFailed) => Err(ReplayFault::Write),
+    }
+}
+
+/// Whether a write failed.
+fn is_unwritten(ended: Result<(), ReplayFault>) -> bool
+    ensures { result ≡ is_write_failure ended }
+{
+    matches!(ended, Err(ReplayFault::Write))
+}
+
+/// Hands on what is held, unless a write has failed.
+fn hand_on<W: Sink>(
+    written: Result<(), WriteFailed>,
+    printer: &mut Printer<W>,
+) -> Result<(), WriteFailed>
+    ensures goes_on { GoesOn written result printer.old printer.new [] }
+    ensures empty { OnOk result (printer.new.held ≡ []) }
+{
+    match written {
+        Ok(()) => printer.flush(),
+        Err(WriteFailed) => Err(WriteFailed),
+    }
 }

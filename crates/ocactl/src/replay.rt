@@ -1,16 +1,18 @@
 //! The replay of a script on a link.
 ghost use Rattle.std.specs.Prelude.{◌≡◌, IfSome};
+ghost use Rattle.oca_types.specs.Peers.{request_of};
 ghost use Rattle.oca_script.specs.Ends.{input};
 ghost use Rattle.oca_script.specs.Replaying.{Outcome, Replays};
 ghost use Rattle.ocactl.specs.Requests.{LinkCall, Submit as SubmitCall, Due as DueCall, Datagram as DatagramCall, Take as TakeCall, asked_call};
 ghost use Rattle.ocactl.specs.Replaying.{Serves, ServesAndPrints};
-ghost use Rattle.ocactl.specs.PrivateRequests.{call_in, request_in};
+ghost use Rattle.ocactl.specs.PrivateRequests.{call_in};
 
 use super::line::{Line, print_line};
-use super::request::{Call, MOST_BYTES, Submission, call_by};
+use super::request::{Call, MOST_BYTES, call_by};
 use oca_control::Link;
+use oca_script::lines::serve_lines;
 use oca_script::{Language, Printer, ReplayFault, Sink, Source, Stop, WriteFailed};
-use oca_types::{Handle, Packet, Peer};
+use oca_types::{Handle, Packet, Peer, Request};
 
 /// The language of the controller's scripts: a line is a call of the link.
 pub struct LinkScript;
@@ -48,6 +50,7 @@ impl Language for LinkScript {
         link: &mut Link,
         room: &mut LinkRoom,
         line: &[u8],
+        _more: bool,
         printer: &mut Printer<W>,
     ) -> Result<(), Stop> {
         match call_by(line, &mut room.bytes) {
@@ -81,10 +84,10 @@ fn serve<W: Sink>(
 fn submit<W: Sink>(
     link: &mut Link,
     now: u64,
-    command: Submission<'_>,
+    command: Request<'_>,
     printer: &mut Printer<W>,
 ) -> Result<(), WriteFailed>
-    ensures { ServesAndPrints link.old (SubmitCall now (request_in command.entry)) link.new result printer.old printer.new }
+    ensures { ServesAndPrints link.old (SubmitCall now (request_of command.entry)) link.new result printer.old printer.new }
 {
     let answer = link.submit(
         command.target,
@@ -160,5 +163,5 @@ pub fn replay<R: Source, W: Sink>(
         (input (R.remaining reader.old) (R.failed reader.old)) (input (R.remaining reader.new) (R.failed reader.new)) result }
 {
     let mut room = LinkRoom::new();
-    oca_script::replay::replay::<LinkScript, R, W>(link, &mut room, reader, printer)
+    serve_lines::<LinkScript, R, W>(link, &mut room, reader, printer)
 }

@@ -1,32 +1,24 @@
 //! What a line of a script asks the link for.
 ghost use Rattle.std.specs.Prelude.{◌≡◌, ◌≤◌, ◌*◌, IfSome, length};
-ghost use Rattle.std.specs.Option.{ok_or, option_copied};
-ghost use Rattle.oca_script.specs.Fields.{fields, fields_after, moment_of};
-ghost use Rattle.ocactl.specs.Requests.{one_text, two_texts, command_texts, u32_of, u16_of, u8_of, command_of, submit_of, due_of, datagram_of, from_of, take_of, timed_of, asked_call, asked_command};
+ghost use Rattle.std.specs.Option.{option_copied};
+ghost use Rattle.oca_script.specs.Fields.{fields, fields_after};
+ghost use Rattle.ocactl.specs.Requests.{one_text, two_texts, command_texts, command_of, submit_of, due_of, datagram_of, from_of, take_of, timed_of, asked_call, asked_command};
 ghost use Rattle.ocactl.specs.PrivateRequests.{text_given, pair_given, texts_in, texts_given, request_asked, call_asked};
 
+use oca_program::field::{moment, u8_in, u16_in, u32_in};
 use oca_script::LineFault;
-use oca_script::field::{first_field, hex_bytes, number, peer};
-use oca_types::{Handle, MethodId, Ono, Peer};
+use oca_script::field::{first_field, hex_bytes, peer};
+use oca_types::{Handle, MethodId, Ono, Peer, Request};
 
 /// Room for the bytes of a field.
 pub const MOST_BYTES: usize = 2048;
-
-/// A command that is to be submitted.
-#[derive(Clone, Copy)]
-pub struct Submission<'a> {
-    pub target: Ono,
-    pub method: MethodId,
-    pub count: u8,
-    pub params: &'a [u8],
-}
 
 /// What a line asks for. Moments are in milliseconds.
 #[derive(Clone, Copy)]
 pub enum Call<'a> {
     Submit {
         now: u64,
-        command: Submission<'a>,
+        command: Request<'a>,
     },
     Due {
         now: u64,
@@ -97,46 +89,9 @@ fn command_fields(rest: Option<&[u8]>) -> Option<Texts<'_>>
     }
 }
 
-/// A moment.
-fn moment(text: &[u8]) -> Result<u64, LineFault>
-    ensures { result ≡ ok_or (moment_of text.now) LineFault.Moment }
-{
-    oca_script::field::moment(text).ok_or(LineFault::Moment)
-}
-
-/// A number of 32 bits.
-fn u32_in(text: &[u8]) -> Result<u32, LineFault>
-    ensures { result ≡ ok_or (u32_of text.now) LineFault.Number }
-{
-    match number(text, 10, 4294967295) {
-        Some(n) => Ok(n as u32),
-        None => Err(LineFault::Number),
-    }
-}
-
-/// A number of 16 bits.
-fn u16_in(text: &[u8]) -> Result<u16, LineFault>
-    ensures { result ≡ ok_or (u16_of text.now) LineFault.Number }
-{
-    match number(text, 5, 65535) {
-        Some(n) => Ok(n as u16),
-        None => Err(LineFault::Number),
-    }
-}
-
-/// A number of 8 bits.
-fn u8_in(text: &[u8]) -> Result<u8, LineFault>
-    ensures { result ≡ ok_or (u8_of text.now) LineFault.Number }
-{
-    match number(text, 3, 255) {
-        Some(n) => Ok(n as u8),
-        None => Err(LineFault::Number),
-    }
-}
-
 /// The command of these fields. The bytes of its parameters are put into `room`.
 #[tactic(auto, unfolding(crate::specs::Requests::command_of))]
-fn command_in<'a>(texts: Texts<'_>, room: &'a mut [u8]) -> Result<Submission<'a>, LineFault>
+fn command_in<'a>(texts: Texts<'_>, room: &'a mut [u8]) -> Result<Request<'a>, LineFault>
     requires { length texts.params.now ≤ 2 * length room.old }
     ensures { request_asked result ≡ command_of (texts_in texts.entry) }
 {
@@ -147,7 +102,7 @@ fn command_in<'a>(texts: Texts<'_>, room: &'a mut [u8]) -> Result<Submission<'a>
     let Some(params) = hex_bytes(texts.params, room) else {
         return Err(LineFault::Hex);
     };
-    Ok(Submission {
+    Ok(Request {
         target: Ono(target),
         method: MethodId { level, index },
         count,
@@ -269,10 +224,7 @@ pub fn call_by<'a>(line: &[u8], room: &'a mut [u8; MOST_BYTES]) -> Result<Call<'
 }
 
 /// What the fields of the line of a command ask for. The bytes of its parameters are put into `room`.
-pub fn command_by<'a>(
-    line: &[u8],
-    room: &'a mut [u8; MOST_BYTES],
-) -> Result<Submission<'a>, LineFault>
+pub fn command_by<'a>(line: &[u8], room: &'a mut [u8; MOST_BYTES]) -> Result<Request<'a>, LineFault>
     requires { length line.now ≤ 4096 }
     ensures { request_asked result ≡ asked_command (fields line.now) }
 {

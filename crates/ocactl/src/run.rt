@@ -1,25 +1,31 @@
 //! A run of the program.
-use super::commands::{Session, send_all};
-use super::exchange::{print_outcome, send};
-use super::fault::{RunFault, report};
+use super::commands::send_all;
+use super::exchange::ask_once;
 use super::replay::replay;
-use super::words::{Asked, Linking, Sending, asked_for};
-use oca_net::{End, UdpEnd};
+use super::session::Session;
+use super::words::{Asked, Reach, Sending, asked_for};
+use oca_net::{BindError, End, UdpEnd};
+use oca_program::{Failure, RunFault, print_note, report};
 use oca_script::{Printer, Sink, Source};
 use std::alloc::Global;
 use std::convert::AsStr;
 use std::net::Net;
 use std::rt::Clock;
+use std::time::{SystemTime, UNIX_EPOCH};
 
-/// The address that sockets are bound to.
-const LOCALHOST: u32 = 0x7f00_0001;
+/// The port that `run` is bound to, unless the words give one or it is in use.
+const OWN_PORT: u16 = 65001;
 
-/// Runs the program on the words of its command line, its name first, and answers its exit status.
+/// Handles that the clock gives are below this.
+const HANDLES: u64 = 2_147_483_648;
+
+/// Runs the program on the words of its command line, its name first, and returns its exit status.
 ///
 /// `replay` runs a link over the script that the source has to give. `send` sends a command and prints its answer: 0 for an
 /// answer with the status 0, 4 for another, 3 where the link is lost or no answer came. `run` sends the commands that the
-/// source has to give, one after another, and prints the answer of each, or why there is none: 3 where one got none. Else 0 where all was done, 2
-/// where the words or a line are bad, and 1 where something could not be done. A fault is printed on `faults` as one line.
+/// source has to give, and prints the answer of each, or why there is none, in the order of their lines: 3 where one got none. Else 0
+/// where all was done, 2 where the words or a line are bad, and 1 where something could not be done. A fault is printed on `faults` as one
+/// line, behind one that begins with `note: ` where more is known; such a line also says why a send failed where no answer came.
 pub fn run<N: Net + Clock, S: AsStr, R: Source, W: Sink, F: Sink>(
     alloc: Global,
     system: &N,
@@ -28,32 +34,39 @@ pub fn run<N: Net + Clock, S: AsStr, R: Source, W: Sink, F: Sink>(
     printer: &mut Printer<W>,
     faults: &mut Printer<F>,
 ) -> u8 {
-    match served(alloc, system, words, reader, printer) {
+    match served(alloc, system, words, reader, printer, faults) {
         Ok(status) => status,
-        Err(fault) => report(fault, faults),
+        Err(failure) => report(&failure, faults),
     }
 }
 
-/// Does what the words ask for, and answers the exit status.
-fn served<N: Net + Clock, S: AsStr, R: Source, W: Sink>(
+/// Does what the words ask for, and returns the exit status.
+fn served<N: Net + Clock, S: AsStr, R: Source, W: Sink, F: Sink>(
     alloc: Global,
     system: &N,
     words: &[S],
     reader: &mut R,
     printer: &mut Printer<W>,
-) -> Result<u8, RunFault> {
+    faults: &mut Printer<F>,
+) -> Result<u8, Failure> {
     match asked_for(alloc, words)? {
         Asked::Replay(linking) => {
             replay(&mut linking.link(), reader, printer)?;
             Ok(0)
         }
-        Asked::Send(linking, port, sending) => {
-            let mut end = UdpEnd::bind(alloc, system, LOCALHOST, port)?;
-            send_one(linking, &mut end, &sending, printer)
+        Asked::Send(reach, sending) => {
+            let mut end = bind(alloc, system, reach.ip, reach.port.unwrap_or(0))?;
+            let status = send_one(system, reach, &mut end, &sending, printer)?;
+            note_sends(alloc, &end, status, faults);
+            Ok(status)
         }
-        Asked::Run(linking, port) => {
-            let end = UdpEnd::bind(alloc, system, LOCALHOST, port)?;
-            send_lines(linking, end, reader, printer)
+        Asked::Run(reach, ahead) => {
+            let end = bind_own(alloc, system, reach)?;
+            let mut session = Session::new(reach.link(handle_now(system)), end, ahead);
+            send_all(&mut session, reader, printer)?;
+            let status = if session.unanswered() { 3 } else { 0 };
+            note_sends(alloc, session.end(), status, faults);
+            Ok(status)
         }
         Asked::Help(text) => {
             printer.print(text.as_bytes())?;
@@ -63,32 +76,84 @@ fn served<N: Net + Clock, S: AsStr, R: Source, W: Sink>(
     }
 }
 
+/// A handle by the clock: its milliseconds, modulo 2,147,483,648, so that a session that is used again goes on rising. 0 where the clock
+/// can't be read.
+fn handle_now<C: Clock>(clock: &C) -> u32 {
+    let Ok(now) = SystemTime::now(clock) else {
+        return 0;
+    };
+    let Ok(since) = now.duration_since(UNIX_EPOCH) else {
+        return 0;
+    };
+    let seconds = since.as_secs() % HANDLES;
+    ((seconds * 1000 + u64::from(since.subsec_millis())) % HANDLES) as u32
+}
+
+/// An end at this address and port; a refusal has the system's reason as its note.
+fn bind<N: Net + Clock>(
+    alloc: Global,
+    system: &N,
+    ip: u32,
+    port: u16,
+) -> Result<UdpEnd<'_, N>, Failure> {
+    match UdpEnd::bind_with_reason(alloc, system, ip, port) {
+        Ok(end) => Ok(end),
+        Err(error) => Err(refused(alloc, &error)),
+    }
+}
+
+/// Why a run fails that got no socket.
+fn refused(alloc: Global, error: &BindError) -> Failure {
+    let fault = RunFault::from(error.fault());
+    match error {
+        BindError::NoMemory => Failure::from(fault),
+        BindError::Io(reason) => match format!(in alloc; "{reason}") {
+            Ok(note) => Failure::noted(fault, note),
+            Err(_) => Failure::from(fault),
+        },
+    }
+}
+
+/// An end at the port that the words give; else at the program's own, or where that is in use at one of the system's choice.
+fn bind_own<N: Net + Clock>(
+    alloc: Global,
+    system: &N,
+    reach: Reach,
+) -> Result<UdpEnd<'_, N>, Failure> {
+    match reach.port {
+        Some(port) => bind(alloc, system, reach.ip, port),
+        None => match bind(alloc, system, reach.ip, OWN_PORT) {
+            Ok(end) => Ok(end),
+            Err(_) => bind(alloc, system, reach.ip, 0),
+        },
+    }
+}
+
 /// Sends a command and prints how it fared.
-fn send_one<E: End, W: Sink>(
-    linking: Linking,
+fn send_one<C: Clock, E: End, W: Sink>(
+    clock: &C,
+    reach: Reach,
     end: &mut E,
     sending: &Sending,
     printer: &mut Printer<W>,
-) -> Result<u8, RunFault> {
-    let mut link = linking.link();
-    let outcome = send(&mut link, end, sending.command(), sending.turns);
-    print_outcome(&outcome, printer)?;
-    printer.flush()?;
-    Ok(outcome.status())
+) -> Result<u8, Failure> {
+    let mut link = reach.link(handle_now(clock));
+    Ok(ask_once(&mut link, end, sending.command(), sending.turns, printer)?)
 }
 
-/// Sends the commands that the source has to give, one after another, and prints how each fared.
-fn send_lines<E: End + Drop, R: Source, W: Sink>(
-    linking: Linking,
-    end: E,
-    reader: &mut R,
-    printer: &mut Printer<W>,
-) -> Result<u8, RunFault> {
-    let mut session = Session {
-        link: linking.link(),
-        end,
-        lost: false,
-    };
-    send_all(&mut session, reader, printer)?;
-    Ok(if session.lost { 3 } else { 0 })
+/// Prints why a send failed, where a command got no answer and one has.
+fn note_sends<C: Clock, F: Sink>(
+    alloc: Global,
+    end: &UdpEnd<'_, C>,
+    status: u8,
+    faults: &mut Printer<F>,
+) {
+    if status != 3 {
+        return;
+    }
+    if let Some(reason) = end.last_failed_send() {
+        if let Ok(note) = format!(in alloc; "a send failed: {reason}") {
+            print_note(note.as_str(), faults);
+        }
+    }
 }

@@ -1,7 +1,7 @@
 //! What the clauses leave open: printed lines and exit statuses of whole runs, and what goes over sockets.
 use super::run::run;
+use oca_fakes::{PieceReader, ShortWriter, behind_notes};
 use oca_script::Printer;
-use oca_script::fakes::{PieceReader, ShortWriter};
 use std::net::Net;
 use std::process::Abort;
 use std::rt::Clock;
@@ -21,7 +21,7 @@ const MUTED_1: &[u8] = b"3b0001000000140300010000000b00000001000101";
 /// Whatever a writer may take.
 const NO_LIMIT: usize = usize::MAX;
 
-/// The words, run on the input, give the status, and print just that.
+/// The words, run on the input, give the status, and print just that, the fault behind notes.
 fn runs_as(
     rt: &(impl Abort + AllocGlobal + Net + Clock),
     words: &[&str],
@@ -35,6 +35,9 @@ fn runs_as(
     let mut faults = Printer::new(ShortWriter::new(5000, NO_LIMIT));
     let answer = run(rt.alloc(), rt, words, &mut from, &mut to, &mut faults);
     assert!(rt; to.sink().taken.as_slice() == output, "{words:?}");
-    assert!(rt; faults.sink().taken.as_slice() == fault, "{words:?}");
+    assert!(rt;
+        behind_notes(faults.sink().taken.as_slice()) == fault,
+        "{words:?}"
+    );
     assert_eq!(rt; answer, status);
 }

@@ -8,33 +8,13 @@ use Rattle.std.specs.List.{flat_map}
 use Rattle.oca_script.specs.declared.fault.WriteFailed.{WriteFailed}
 use Rattle.oca_script.specs.Ends.{Output, output}
 use Rattle.oca_script.specs.Printing.{Prints, PrintsAll, PrintsPart}
-use Rattle.oca_script.proofs.PrintLemmas.{PrintsAll-then, PrintsPart-then, prints-held}
+use Rattle.oca_script.proofs.PrintLemmas.{PrintsAll-then, PrintsPart-then, prints-less}
 
 flat_map-more : (f : List ℕ → List ℕ) (xs : List (List ℕ)) (i : ℕ) (x : List ℕ) → slice_get xs i ≡ Some x
     → flat_map f (take (i + 1) xs) ≡ flat_map f (take i xs) ++ f x
 flat_map-more f xs i x e =
     ap (flat_map f) (take_more xs i x (slice_get_within xs i x e) ∙ ap (λ (y : List ℕ). take i xs ++ y ∷ []) (get_or_from_slice_get xs i x x e))
     ∙ flat_map-append f (take i xs) (x ∷ []) ∙ ap (λ (l : List ℕ). flat_map f (take i xs) ++ l) (append-nil (f x))
-
--- a text, and then another as far as the writes go
-pub prints-then : (r : Result Unit WriteFailed) (a b c : Output) (x y : List ℕ) → PrintsAll a b x → Prints r b c y → Prints r a c (x ++ y)
-prints-then (Ok v) a b c x y h k = PrintsAll-then a b c x y h k
-prints-then (Err e) a b c x y h k = PrintsPart-then a b c x y h k
-
--- a write failed within the first text
-part-less : (a b : Output) (x y : List ℕ) → PrintsPart a b x → PrintsPart a b (x ++ y)
-part-less a b x y h = record {
-  lost = h.lost ++ y;
-  emits = record {
-    sent = h.emits.sent;
-    appends = h.emits.appends;
-    whole = sym (append_assoc a.held x y) ∙ ap (λ (l : List ℕ). l ++ y) h.emits.whole ∙ append_assoc h.emits.sent h.lost y;
-  };
-  failed = h.failed;
-}
-
-pub prints-less : (r : Result Unit WriteFailed) (e : WriteFailed) (a b : Output) (x y : List ℕ) → r ≡ Err e → PrintsPart a b x → Prints r a b (x ++ y)
-prints-less r e a b x y is h = subst (λ (z : Result Unit WriteFailed). Prints z a b (x ++ y)) (sym is) (part-less a b x y h)
 
 -- one packet more was printed
 pub packets-more : (a b c : Output) (f : List ℕ → List ℕ) (xs : List (List ℕ)) (i : ℕ) (x : List ℕ)
@@ -50,8 +30,3 @@ packets-less r e a b c f xs i x found is h k =
     ∙ ap (λ (l : List ℕ). l ++ flat_map f (drop (i + 1) xs)) (flat_map-more f xs i x found) in
     rw all (prints-less r e a c (flat_map f (take i xs) ++ f x) (flat_map f (drop (i + 1) xs)) is
     (PrintsPart-then a b c (flat_map f (take i xs)) (f x) h k))
-
--- room was made, and then a text is held
-pub printed-held : (a b c : Output) (text : List ℕ) → c ≡ output b.contents (b.held ++ text) b.failed → PrintsAll a b [] → PrintsAll a c text
-printed-held a b c text e h =
-    subst (λ (o : Output). PrintsAll a o text) (sym e) (PrintsAll-then a b (output b.contents (b.held ++ text) b.failed) [] text h (prints-held b (b.held ++ text) text refl))

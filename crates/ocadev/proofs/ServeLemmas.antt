@@ -20,7 +20,7 @@ use Rattle.oca_script.specs.Script.{Script}
 use Rattle.oca_script.specs.Replaying.{Runs, ServesLine, Writes, BeginsWith, known_bytes, Replays as ReplaysScript, Outcome as ScriptOutcome}
 use Rattle.ocadev.specs.declared.request.Request.{Request}
 use Rattle.ocadev.specs.declared.request.Request.TheVariants as asks
-use Rattle.ocadev.proofs.PacketLemmas.{prints-then, prints-less}
+use Rattle.oca_script.proofs.PrintLemmas.{prints-then, prints-less}
 use Rattle.ocadev.specs.Requests.{asked_event}
 use Rattle.ocadev.specs.PrivateRequests.{event_of}
 use Rattle.ocadev.specs.Printing.{verdict_text, packet_text, event_text, events_text, events_then}

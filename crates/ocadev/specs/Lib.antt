@@ -1,5 +1,5 @@
-pub mod Faults
 pub mod Requests
 pub mod Printing
 pub mod Replaying
 pub mod PrivateRequests
+pub mod Words

@@ -7,7 +7,8 @@ use Rattle.oca_script.specs.Fields.{moment_of, peer_of, hex_of, then_in, read_be
 use denote.Ref.{Bor}
 use Rattle.oca_types.specs.declared.words.Peer.{Peer}
 use Rattle.oca_device.specs.Events.{Event, Datagram, Tick}
-use Rattle.ocadev.specs.Requests.{asked_event, needs}
+use Rattle.oca_program.specs.Fields.{needs}
+use Rattle.ocadev.specs.Requests.{asked_event}
 use Rattle.ocadev.specs.declared.request.Fields.{Fields}
 use Rattle.ocadev.specs.declared.request.Fields.TheVariants as fields
 use Rattle.ocadev.specs.declared.request.Request.{Request}

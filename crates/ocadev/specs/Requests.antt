@@ -4,12 +4,8 @@ use Rattle.std.specs.Str.{bytes_eq}
 use Rattle.oca_script.specs.Fields.{moment_of, peer_of, hex_of}
 use Rattle.oca_script.specs.declared.fault.LineFault.{LineFault}
 use Rattle.oca_script.specs.declared.fault.LineFault.TheVariants.{Form, Moment, Peer, Hex}
+use Rattle.oca_program.specs.Fields.{needs}
 use Rattle.oca_device.specs.Events.{Event, Datagram, Tick}
-
--- a value, or that fault
-abbrev pub needs : {A : Type 0} → LineFault → Option A → (A → Result Event LineFault) → Result Event LineFault
-needs fault None f = Err fault
-needs fault (Some x) f = f x
 
 abbrev pub is_quiet : List ℕ → Bool
 is_quiet word = bytes_eq word (codes "quiet")

@@ -12,6 +12,7 @@ ghost use Rattle.ocadev.specs.PrivateRequests.{event_of};
 use super::answer::{print_packets, print_verdict};
 use super::request::{MOST_BYTES, Request, asked_by};
 use oca_device::{Device, Outbox};
+use oca_script::lines::serve_lines;
 use oca_script::{Language, Printer, ReplayFault, Sink, Source, Stop, WriteFailed};
 use oca_types::Peer;
 
@@ -47,6 +48,7 @@ impl<'a> Language for DeviceScript<'a> {
         device: &mut Device,
         room: &mut DeviceScript<'a>,
         line: &[u8],
+        _more: bool,
         printer: &mut Printer<W>,
     ) -> Result<(), Stop> {
         match asked_by(line, &mut room.bytes) {
@@ -123,5 +125,5 @@ pub fn replay<R: Source, W: Sink>(
         outbox,
         bytes: [0; MOST_BYTES],
     };
-    oca_script::replay::replay::<DeviceScript<'_>, R, W>(device, &mut room, reader, printer)
+    serve_lines::<DeviceScript<'_>, R, W>(device, &mut room, reader, printer)
 }

@@ -1,11 +1,11 @@
 //! What a line of a script asks the device for.
 ghost use Rattle.std.specs.Prelude.{◌≡◌, ℕ, ◌≤◌, ◌*◌, IfSome, length, None, Err};
-ghost use Rattle.std.specs.Option.{ok_or};
 ghost use Rattle.oca_types.specs.declared.words.Peer.{Peer as PeerFields};
-ghost use Rattle.oca_script.specs.Fields.{fields, moment_of, hex_of};
+ghost use Rattle.oca_script.specs.Fields.{fields, hex_of};
 ghost use Rattle.ocadev.specs.Requests.{is_quiet as quiet_word, tick_of, datagram_of, asked_event};
 ghost use Rattle.ocadev.specs.PrivateRequests.{AreFields, FieldsWithin, begun, moment_and_peer_of, datagram_after, event_asked};
 
+use oca_program::field::moment;
 use oca_script::LineFault;
 use oca_script::field::{first_field, hex_bytes, number_before, peer, peer_before, split_at_byte};
 use oca_types::Peer;
@@ -59,13 +59,6 @@ fn is_quiet(word: &[u8]) -> bool
     ensures { result ≡ quiet_word word.now }
 {
     word == b"quiet".as_slice()
-}
-
-/// A moment, or that it is none.
-fn moment(text: &[u8]) -> Result<u64, LineFault>
-    ensures { result ≡ ok_or (moment_of text.now) LineFault.Moment }
-{
-    oca_script::field::moment(text).ok_or(LineFault::Moment)
 }
 
 /// A clock reading at this moment.

@@ -1,7 +1,8 @@
 //! What the clauses leave open: printed lines and exit statuses of whole runs, and what goes over sockets.
 use super::run::run;
 use oca_device::Device;
-use oca_script::fakes::{PieceReader, ShortWriter};
+use oca_fakes::{PieceReader, ShortWriter, behind_notes};
+use oca_script::Printer;
 use oca_tree::bench;
 use oca_types::Window;
 use std::net::Net;
@@ -38,7 +39,7 @@ fn bench_device(rt: &(impl Abort + AllocGlobal)) -> Device {
     Device::new(rt.alloc(), tree, Window::default()).expect(rt, "the device")
 }
 
-/// The words, run on the input, give the status, and print just that.
+/// The words, run on the input, give the status, and print just that, the fault behind notes.
 fn runs_as(
     rt: &(impl Abort + AllocGlobal + Net + Clock),
     words: &[&str],
@@ -48,11 +49,14 @@ fn runs_as(
     fault: &[u8],
 ) {
     let mut from = PieceReader::new(input, 4000, usize::MAX);
-    let mut to = ShortWriter::new(5000, usize::MAX);
-    let mut faults = ShortWriter::new(5000, usize::MAX);
+    let mut to = Printer::new(ShortWriter::new(5000, usize::MAX));
+    let mut faults = Printer::new(ShortWriter::new(5000, usize::MAX));
     let answer = run(rt.alloc(), rt, words, &mut from, &mut to, &mut faults);
-    assert!(rt; to.taken.as_slice() == output, "{words:?}");
-    assert!(rt; faults.taken.as_slice() == fault);
+    assert!(rt; to.sink().taken.as_slice() == output, "{words:?}");
+    assert!(rt;
+        behind_notes(faults.sink().taken.as_slice()) == fault,
+        "{words:?}"
+    );
     assert_eq!(rt; answer, status);
 }
 

@@ -1,8 +1,13 @@
 //! The words of the command line.
-use super::fault::RunFault;
-use clap::error::ErrorKind;
-use clap::{Arg, ArgAction, ArgMatches, Command, Error};
-use oca_script::field::{address, number};
+ghost use Rattle.std.specs.Prelude.{◌≡◌};
+ghost use Rattle.std.specs.Option.{option_map};
+ghost use Rattle.oca_types.specs.Sizes.{window_size};
+ghost use Rattle.ocadev.specs.Words.{window_of as window_said, window_in, serving_fields, serving_in};
+
+use clap::{Arg, ArgMatches, Command, Error};
+use oca_program::options::{address_or, help_or_failure, number_in, option, text_of};
+use oca_program::{Failure, RunFault};
+use oca_script::field::number;
 use oca_types::Window;
 use std::alloc::{AllocError, Global};
 use std::convert::AsStr;
@@ -30,15 +35,6 @@ pub struct Serving {
     pub port: u16,
     pub turns: u32,
     pub window: Window,
-}
-
-/// An option that has a value.
-fn option<'a>(alloc: Global, name: &'a str, value: &'a str, help: &'a str) -> Arg<'a> {
-    Arg::new(alloc, name)
-        .long(name)
-        .value_name(value)
-        .help(help)
-        .action(ArgAction::Set)
 }
 
 /// How many commands are kept with their replies.
@@ -112,17 +108,17 @@ fn matches_of<'a, S: AsStr>(alloc: Global, words: &'a [S]) -> Result<ArgMatches<
 }
 
 /// What the words ask for, the program's name first, or why they ask for nothing.
-pub fn asked_for<S: AsStr>(alloc: Global, words: &[S]) -> Result<Asked, RunFault> {
+pub fn asked_for<S: AsStr>(alloc: Global, words: &[S]) -> Result<Asked, Failure> {
     match matches_of(alloc, words) {
-        Ok(matches) => asked_by_matches(&matches).ok_or(RunFault::BadWords),
-        Err(error) => match error.kind() {
-            ErrorKind::DisplayHelp => match error.to_string(alloc) {
-                Ok(text) => Ok(Asked::Help(text)),
-                Err(_) => Err(RunFault::NoMemory),
-            },
-            ErrorKind::OutOfMemory => Err(RunFault::NoMemory),
-            _ => Err(RunFault::BadWords),
+        Ok(matches) => match asked_by_matches(&matches) {
+            Some(asked) => Ok(asked),
+            None => Err(Failure::told(
+                alloc,
+                RunFault::BadWords,
+                "an option has a value that is not of its form: see --help",
+            )),
         },
+        Err(error) => Ok(Asked::Help(help_or_failure(alloc, &error)?)),
     }
 }
 
@@ -136,27 +132,38 @@ fn asked_by_matches(matches: &ArgMatches<'_>) -> Option<Asked> {
     }
 }
 
-/// The window: 1 to 3 digits, 1 to 64.
-fn window(options: &ArgMatches<'_>) -> Option<Window> {
-    match options.get_str("window") {
-        Some(text) => Window::new(number(text.as_bytes(), 3, 255)? as u8),
+/// The window that a text says: 1 to 3 digits, 1 to 64.
+#[tactic(auto, using(oca_program::proofs::OptionLemmas::size_rules))]
+fn window_of(text: &[u8]) -> Option<Window>
+    ensures { option_map window_size result ≡ window_said text.now }
+{
+    let size = number(text, 3, 255)? as u8;
+    Window::new(size)
+}
+
+/// The window that the options ask for: of 32 commands unless it is given.
+fn window(options: &ArgMatches<'_>) -> Option<Window>
+    ensures { option_map window_size result ≡ window_in options.now }
+{
+    match text_of(options, "window") {
+        Some(text) => window_of(text.as_bytes()),
         None => Some(Window::default()),
     }
 }
 
 /// Where to serve: 1 to 5 digits of a port, 1 to 10 of turns, and an address `a.b.c.d`.
-fn serving_of(options: &ArgMatches<'_>) -> Option<Serving> {
-    let ip = match options.get_str("ip") {
-        Some(text) => address(text.as_bytes())?,
-        None => LOOPBACK,
-    };
-    let port = number(options.get_str("port")?.as_bytes(), 5, 65535)? as u16;
-    let turns = number(options.get_str("turns")?.as_bytes(), 10, 4294967295)? as u32;
+#[tactic(auto, unfolding(crate::specs::Words::serving_in))]
+fn serving_of(options: &ArgMatches<'_>) -> Option<Serving>
+    ensures { option_map serving_fields result ≡ serving_in options.now }
+{
+    let ip = address_or(options, "ip", LOOPBACK)?;
+    let port = number_in(options, "port", 5, 65535)?;
+    let turns = number_in(options, "turns", 10, 4294967295)?;
     let window = window(options)?;
     Some(Serving {
         ip,
-        port,
-        turns,
+        port: port as u16,
+        turns: turns as u32,
         window,
     })
 }

@@ -2,7 +2,7 @@
 use super::super::replay::replay;
 use super::{GET_1, MUTED_1, NO_LIMIT, runs_as};
 use oca_control::Link;
-use oca_script::fakes::{PatternReader, PieceReader, ShortWriter};
+use oca_fakes::{PatternReader, PieceReader, ShortWriter};
 use oca_script::{LineFault, Printer, ReplayFault};
 use oca_types::{Handle, MethodId, Ono, Peer, Span};
 use std::net::Net;

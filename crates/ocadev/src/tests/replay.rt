@@ -2,8 +2,8 @@
 use super::super::replay::replay;
 use super::{GET_1, UNMUTED, UNMUTES, bench_device, replays_as, runs_as};
 use oca_device::Outbox;
+use oca_fakes::{PieceReader, ShortWriter};
 use oca_script::Printer;
-use oca_script::fakes::{PieceReader, ShortWriter};
 use std::test::Fail;
 
 /// Two peers: one locks 4097 and unlocks it again, and the other asks for its role.

@@ -3,9 +3,9 @@ use super::super::report::print_report;
 use super::super::run::run;
 use super::{bench_device, runs_as};
 use oca_device::{Outbox, Report, serve};
+use oca_fakes::{PieceReader, ShortWriter};
 use oca_net::{End, Heard, UdpEnd};
 use oca_script::Printer;
-use oca_script::fakes::{PieceReader, ShortWriter};
 use oca_types::{Packet, Peer};
 use std::process::Abort;
 use std::test::Fail;
@@ -13,8 +13,8 @@ use std::test::Fail;
 #[test]
 fn serves_nobody(rt: HostRuntime) {
     let mut from = PieceReader::new(b"", 1000, 0);
-    let mut to = ShortWriter::new(1000, usize::MAX);
-    let mut faults = ShortWriter::new(1000, usize::MAX);
+    let mut to = Printer::new(ShortWriter::new(1000, usize::MAX));
+    let mut faults = Printer::new(ShortWriter::new(1000, usize::MAX));
     let words = ["ocadev", "serve", "--port", "0", "--turns", "2"];
     assert_eq!(rt;
         run(
@@ -29,9 +29,15 @@ fn serves_nobody(rt: HostRuntime) {
     );
     let text =
         b"turns 2 executed 0 kept 0 old 0 reused 0 malformed 0 no-room 0 oversize 0 quiet 2 failed-receives 0 failed-sends 0\n";
-    assert!(rt; to.taken.as_slice() == text.as_slice());
-    assert!(rt; faults.taken.as_slice().starts_with(b"listening 127.0.0.1:"));
-    assert!(rt; faults.taken.as_slice().ends_with(b"\n"));
+    assert!(rt; to.sink().taken.as_slice() == text.as_slice());
+    assert!(rt;
+        faults
+            .sink()
+            .taken
+            .as_slice()
+            .starts_with(b"listening 127.0.0.1:")
+    );
+    assert!(rt; faults.sink().taken.as_slice().ends_with(b"\n"));
     runs_as(
         &rt,
         &[

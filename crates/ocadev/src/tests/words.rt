@@ -1,7 +1,8 @@
 //! The words of the command line.
 use super::super::run::run;
 use super::{GET_1, runs_as};
-use oca_script::fakes::{PieceReader, ShortWriter};
+use oca_fakes::{PieceReader, ShortWriter};
+use oca_script::Printer;
 
 #[test]
 fn bad_words(rt: HostRuntime) {
@@ -69,13 +70,13 @@ fn help(rt: HostRuntime) {
         &["ocadev", "replay", "--help"],
     ] {
         let mut from = PieceReader::new(GET_1, 1000, 0);
-        let mut to = ShortWriter::new(1000, usize::MAX);
-        let mut faults = ShortWriter::new(1000, usize::MAX);
+        let mut to = Printer::new(ShortWriter::new(1000, usize::MAX));
+        let mut faults = Printer::new(ShortWriter::new(1000, usize::MAX));
         assert_eq!(rt;
             run(rt.alloc(), &rt, words, &mut from, &mut to, &mut faults),
             0
         );
-        assert!(rt; !to.taken.is_empty());
-        assert!(rt; faults.taken.is_empty());
+        assert!(rt; !to.sink().taken.is_empty());
+        assert!(rt; faults.sink().taken.is_empty());
     }
 }

@@ -1,6 +1,6 @@
 use Rattle.std.proofs.lemmas.Result.{err_from_is_err_and}
 use Rattle.oca_script.proofs.PrintLemmas.{prints-err}
-use Rattle.ocadev.proofs.PacketLemmas.{printed-held}
+use Rattle.oca_script.proofs.PrintLemmas.{printed-held}
 use Rattle.ocadev.proofs.answer.print_verdict.Goals as goal
 
 pub returns-in_err-make_room : goal.returns-in_err-make_room

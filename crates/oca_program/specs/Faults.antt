@@ -1,0 +1,65 @@
+-- Why a run of a program fails: its exit status, and the lines that are printed (*profile*).
+use Rattle.std.specs.Prelude.{ℕ, List, [], ◌++◌, Option, None, Some, codes, decimal, length, nat_le, if◌then◌else◌, string_bytes}
+use Rattle.std.specs.Option.{option_map}
+use Rattle.oca_net.specs.declared.udp.BindFault.{BindFault}
+use Rattle.oca_net.specs.declared.udp.BindFault.TheVariants as binds
+use Rattle.oca_script.specs.declared.fault.ReplayFault.{ReplayFault}
+use Rattle.oca_script.specs.declared.fault.ReplayFault.TheVariants as replays
+use Rattle.oca_script.specs.Faults.{fault_word}
+use Rattle.oca_script.specs.Fields.{split_at}
+use Rattle.oca_program.specs.declared.fault.RunFault.{RunFault}
+use Rattle.oca_program.specs.declared.fault.RunFault.TheVariants.{BadWords, Line, NoMemory, Read, Write, TooMuch, Socket}
+use Rattle.oca_program.specs.declared.fault.Failure.{Failure}
+
+-- 2 for what was asked wrongly, 1 for what could not be done
+abbrev pub fault_status : RunFault → ℕ
+fault_status BadWords = 2
+fault_status (Line number fault) = 2
+fault_status NoMemory = 1
+fault_status Read = 1
+fault_status Write = 1
+fault_status TooMuch = 1
+fault_status Socket = 1
+
+-- the fault of the run, where lines that are served had this one
+abbrev pub run_fault : ReplayFault → RunFault
+run_fault (replays.Line number fault) = Line number fault
+run_fault replays.Read = Read
+run_fault replays.Write = Write
+run_fault replays.TooMuch = TooMuch
+
+-- the fault of the run, where no socket was bound
+abbrev pub bind_fault : BindFault → RunFault
+bind_fault binds.Io = Socket
+bind_fault binds.NoMemory = NoMemory
+
+-- the line that is printed
+abbrev pub fault_text : RunFault → List ℕ
+fault_text BadWords = codes "bad words\n"
+fault_text (Line number fault) = codes "line " ++ decimal number ++ codes ": " ++ fault_word fault ++ codes "\n"
+fault_text NoMemory = codes "no memory\n"
+fault_text Read = codes "read failed\n"
+fault_text Write = codes "write failed\n"
+fault_text TooMuch = codes "too much input\n"
+fault_text Socket = codes "socket failed\n"
+
+-- a text up to its first line feed
+abbrev pub front_line : Option (List ℕ × List ℕ) → List ℕ → List ℕ
+front_line None text = text
+front_line (Some p) text = p.0
+
+unfoldable pub first_line : List ℕ → List ℕ
+first_line text = front_line (split_at 10 text) text
+
+-- the line of what more is known: the first line of that, where it has at most 1,000 bytes
+abbrev pub note_text : List ℕ → List ℕ
+note_text note = if nat_le (length (first_line note)) 1000 then codes "note: " ++ first_line note ++ codes "\n" else []
+
+-- the line of a note, where there is one, and the fault's line
+abbrev pub noted_text : Option (List ℕ) → RunFault → List ℕ
+noted_text None fault = fault_text fault
+noted_text (Some note) fault = note_text note ++ fault_text fault
+
+-- what is printed of a failure
+abbrev pub failure_text : Failure → List ℕ
+failure_text failure = noted_text (option_map string_bytes failure.note) failure.fault

@@ -1,0 +1,265 @@
+//! Why a run of a program fails.
+ghost use Rattle.std.specs.Prelude.{◌≡◌, ◌+◌, ◌++◌, ◌≤◌, Result, Some, length};
+ghost use Rattle.oca_script.specs.Ends.{output};
+ghost use Rattle.oca_script.specs.declared.fault.WriteFailed.{WriteFailed as Failed};
+ghost use Rattle.oca_script.specs.Printing.{WritesOut};
+ghost use Rattle.oca_program.specs.Faults.{fault_status, fault_text, failure_text, first_line as first_line_of, note_text};
+
+use oca_net::BindFault;
+use oca_script::field::split_at_byte;
+use oca_script::{LineFault, Printer, ReplayFault, Sink, WriteFailed};
+use std::alloc::Global;
+use thiserror::Error;
+
+/// Why a run fails. It is printed as one line, and gives the exit status.
+#[derive(Clone, Copy, PartialEq, Eq, Debug, Error)]
+pub enum RunFault {
+    /// The words of the command line ask for nothing that there is, or an option's value is not of its form.
+    #[error("bad words")]
+    BadWords,
+    /// The line of this number has this fault.
+    #[error("line {0}: {1}")]
+    Line(u64, LineFault),
+    /// Memory was refused.
+    #[error("no memory")]
+    NoMemory,
+    /// The input could not be read.
+    #[error("read failed")]
+    Read,
+    /// The output could not be written.
+    #[error("write failed")]
+    Write,
+    /// The input has more than 16,777,216 bytes.
+    #[error("too much input")]
+    TooMuch,
+    /// No socket was bound.
+    #[error("socket failed")]
+    Socket,
+}
+
+impl RunFault {
+    /// The exit status: 2 for what was asked wrongly, 1 for what could not be done.
+    pub fn status(self) -> u8
+        ensures { result ≡ fault_status self }
+    {
+        match self {
+            RunFault::BadWords | RunFault::Line(_, _) => 2,
+            RunFault::NoMemory
+            | RunFault::Read
+            | RunFault::Write
+            | RunFault::TooMuch
+            | RunFault::Socket => 1,
+        }
+    }
+}
+
+/// Why a run fails, and what more is known of it, where there is something: its first line is printed before the fault's.
+#[derive(Drop)]
+pub struct Failure {
+    pub fault: RunFault,
+    pub note: Option<String>,
+}
+
+impl Failure {
+    /// The fault, of which this is known.
+    pub fn noted(fault: RunFault, note: String) -> Failure
+        ensures fault { result.fault ≡ fault }
+        ensures note { result.note ≡ Some note }
+    {
+        Failure {
+            fault,
+            note: Some(note),
+        }
+    }
+
+    /// The fault, with this note where there is memory for it.
+    pub fn told(alloc: Global, fault: RunFault, note: &str) -> Failure
+        ensures { result.fault ≡ fault }
+    {
+        match String::from_str(alloc, note) {
+            Ok(note) => Failure::noted(fault, note),
+            Err(_) => Failure::from(fault),
+        }
+    }
+}
+
+/// Prints why a run fails, and hands it on: a line that begins with `note: ` where more is known, and then the fault's own, which is
+/// the last. Returns the exit status, also where that can't be written.
+pub fn report<F: Sink>(failure: &Failure, faults: &mut Printer<F>) -> u8
+    ensures status { result ≡ fault_status failure.now.fault }
+    ensures lines { (written : Result Unit Failed) × WritesOut written faults.old faults.new (failure_text failure.now) }
+{
+    let _ = write_failure(failure, faults);
+    failure.fault.status()
+}
+
+/// Prints a line that begins with `note: `, the first of the text, and hands it on, as far as the writes go.
+pub fn print_note<F: Sink>(note: &str, faults: &mut Printer<F>)
+    ensures { (written : Result Unit Failed) × WritesOut written faults.old faults.new (note_text note.now) }
+{
+    let _ = write_note(note, faults);
+}
+
+/// Writes the line of a note.
+fn write_note<F: Sink>(note: &str, faults: &mut Printer<F>) -> Result<(), WriteFailed>
+    ensures { WritesOut result faults.old faults.new (note_text note.now) }
+{
+    faults.make_room(1200)?;
+    put_note(note, faults);
+    faults.flush()
+}
+
+/// Writes the lines of a failure.
+fn write_failure<F: Sink>(failure: &Failure, faults: &mut Printer<F>) -> Result<(), WriteFailed>
+    ensures { WritesOut result faults.old faults.new (failure_text failure.now) }
+{
+    faults.make_room(1200)?;
+    put_failure(failure, faults);
+    faults.flush()
+}
+
+/// Holds the lines of a failure.
+fn put_failure<F: Sink>(failure: &Failure, faults: &mut Printer<F>)
+    requires { length faults.old.held + 1200 ≤ 8192 }
+    ensures { faults.new ≡ output faults.old.contents (faults.old.held ++ failure_text failure.now) faults.old.failed }
+{
+    match &failure.note {
+        Some(note) => {
+            put_note(note.as_str(), faults);
+            put_fault(failure.fault, faults);
+        }
+        None => put_fault(failure.fault, faults),
+    }
+}
+
+/// The first line of a text.
+fn first_line(text: &[u8]) -> &[u8]
+    ensures { result.now ≡ first_line_of text.now }
+{
+    match split_at_byte(text, b'\n') {
+        Some((line, _)) => line,
+        None => text,
+    }
+}
+
+/// Holds the line of a note, where its text has at most 1,000 bytes.
+fn put_note<F: Sink>(note: &str, faults: &mut Printer<F>)
+    requires { length faults.old.held + 1200 ≤ 8192 }
+    ensures value { faults.new ≡ output faults.old.contents (faults.old.held ++ note_text note.now) faults.old.failed }
+    ensures len { length faults.new.held ≤ length faults.old.held + 1007 }
+{
+    let line = first_line(note.as_bytes());
+    if line.len() <= 1000 {
+        faults.put(b"note: ");
+        faults.put(line);
+        faults.put(b"\n");
+    }
+}
+
+/// Holds the line of a fault.
+fn put_fault<F: Sink>(fault: RunFault, faults: &mut Printer<F>)
+    requires { length faults.old.held + 100 ≤ 8192 }
+    ensures { faults.new ≡ output faults.old.contents (faults.old.held ++ fault_text fault) faults.old.failed }
+{
+    match fault {
+        RunFault::BadWords => faults.put(b"bad words\n"),
+        RunFault::Line(number, fault) => put_line_fault(number, fault, faults),
+        RunFault::NoMemory => faults.put(b"no memory\n"),
+        RunFault::Read => faults.put(b"read failed\n"),
+        RunFault::Write => faults.put(b"write failed\n"),
+        RunFault::TooMuch => faults.put(b"too much input\n"),
+        RunFault::Socket => faults.put(b"socket failed\n"),
+    }
+}
+
+/// Holds the line of a line's fault.
+fn put_line_fault<F: Sink>(number: u64, fault: LineFault, faults: &mut Printer<F>)
+    requires { length faults.old.held + 100 ≤ 8192 }
+    ensures { faults.new ≡ output faults.old.contents (faults.old.held ++ fault_text (RunFault.Line number fault)) faults.old.failed }
+{
+    faults.put(b"line ");
+    faults.put_number(number);
+    faults.put(b": ");
+    faults.put(fault.word().as_bytes());
+    faults.put(b"\n");
+}
+
+impl From<ReplayFault> for RunFault {
+    ghost use Rattle.std.specs.Prelude.{◌≡◌};
+    ghost use Rattle.oca_program.specs.Faults.{run_fault};
+
+    ghost from_gives = { λ fault r. r ≡ run_fault fault };
+
+    /// Why a run fails whose lines were not served to their end.
+    fn from(fault: ReplayFault) -> RunFault {
+        match fault {
+            ReplayFault::Line(number, fault) => RunFault::Line(number, fault),
+            ReplayFault::Read => RunFault::Read,
+            ReplayFault::Write => RunFault::Write,
+            ReplayFault::TooMuch => RunFault::TooMuch,
+        }
+    }
+}
+
+impl From<BindFault> for RunFault {
+    ghost use Rattle.std.specs.Prelude.{◌≡◌};
+    ghost use Rattle.oca_program.specs.Faults.{bind_fault};
+
+    ghost from_gives = { λ fault r. r ≡ bind_fault fault };
+
+    /// Why a run fails that got no socket.
+    fn from(fault: BindFault) -> RunFault {
+        match fault {
+            BindFault::Io => RunFault::Socket,
+            BindFault::NoMemory => RunFault::NoMemory,
+        }
+    }
+}
+
+impl From<RunFault> for Failure {
+    ghost use Rattle.std.specs.Prelude.{◌≡◌, None};
+    ghost use Rattle.oca_program.specs.declared.fault.Failure.{Failure};
+
+    ghost from_gives = { λ fault r. (r.fault ≡ fault) × (r.note ≡ None) };
+
+    /// The fault, of which nothing more is known.
+    fn from(fault: RunFault) -> Failure {
+        Failure { fault, note: None }
+    }
+}
+
+impl From<ReplayFault> for Failure {
+    ghost use Rattle.std.specs.Prelude.{◌≡◌, None};
+    ghost use Rattle.oca_program.specs.Faults.{run_fault};
+
+    ghost from_gives = { λ fault r. (r.fault ≡ run_fault fault) × (r.note ≡ None) };
+
+    /// Why a run fails whose lines were not served to their end.
+    fn from(fault: ReplayFault) -> Failure {
+        Failure::from(RunFault::from(fault))
+    }
+}
+
+impl From<WriteFailed> for Failure {
+    ghost use Rattle.std.specs.Prelude.{◌≡◌, None};
+    ghost use Rattle.oca_program.specs.declared.fault.RunFault.TheVariants.{Write};
+
+    ghost from_gives = { λ _ r. (r.fault ≡ Write) × (r.note ≡ None) };
+
+    /// Why a run fails that could not print.
+    fn from(_fault: WriteFailed) -> Failure {
+        Failure::from(RunFault::Write)
+    }
+}
+
+impl From<BindFault> for Failure {
+    ghost use Rattle.std.specs.Prelude.{◌≡◌, None};
+    ghost use Rattle.oca_program.specs.Faults.{bind_fault};
+
+    ghost from_gives = { λ fault r. (r.fault ≡ bind_fault fault) × (r.note ≡ None) };
+
+    /// Why a run fails that got no socket.
+    fn from(fault: BindFault) -> Failure {
+        Failure::from(RunFault::from(fault))
+    }
+}

@@ -1,0 +1,45 @@
+//! The fields of a line, or the fault that they have.
+ghost use Rattle.std.specs.Prelude.{◌≡◌};
+ghost use Rattle.std.specs.Option.{ok_or};
+ghost use Rattle.oca_script.specs.Fields.{moment_of};
+ghost use Rattle.oca_program.specs.Fields.{u32_of, u16_of, u8_of};
+
+use oca_script::LineFault;
+use oca_script::field::number;
+
+/// A moment in milliseconds: 1 to 20 digits, in 64 bits.
+pub fn moment(text: &[u8]) -> Result<u64, LineFault>
+    ensures { result ≡ ok_or (moment_of text.now) LineFault.Moment }
+{
+    oca_script::field::moment(text).ok_or(LineFault::Moment)
+}
+
+/// A number of 1 to 10 digits, in 32 bits.
+pub fn u32_in(text: &[u8]) -> Result<u32, LineFault>
+    ensures { result ≡ ok_or (u32_of text.now) LineFault.Number }
+{
+    match number(text, 10, 4294967295) {
+        Some(n) => Ok(n as u32),
+        None => Err(LineFault::Number),
+    }
+}
+
+/// A number of 1 to 5 digits, in 16 bits.
+pub fn u16_in(text: &[u8]) -> Result<u16, LineFault>
+    ensures { result ≡ ok_or (u16_of text.now) LineFault.Number }
+{
+    match number(text, 5, 65535) {
+        Some(n) => Ok(n as u16),
+        None => Err(LineFault::Number),
+    }
+}
+
+/// A number of 1 to 3 digits, in 8 bits.
+pub fn u8_in(text: &[u8]) -> Result<u8, LineFault>
+    ensures { result ≡ ok_or (u8_of text.now) LineFault.Number }
+{
+    match number(text, 3, 255) {
+        Some(n) => Ok(n as u8),
+        None => Err(LineFault::Number),
+    }
+}

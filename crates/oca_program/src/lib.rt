@@ -1,0 +1,17 @@
+//! What the programs over the two ends have in common: why a run fails, with its exit status and what is printed of it; the
+//! words of a command line; the fields of a line, with their faults.
+//!
+//! A program's `main` takes its words by [`words_of`], and prints a [`Failure`] by [`report`]. [`options`] reads the values of
+//! the options that `clap` has found.
+#![tactic(auto)]
+
+pub mod fault;
+pub mod field;
+pub mod options;
+pub mod start;
+
+pub use fault::{Failure, RunFault, print_note, report};
+pub use start::words_of;
+
+#[cfg(test)]
+mod tests;
