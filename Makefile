@@ -7,15 +7,16 @@
 # make world   schedules for both ends, held against the laws and the second implementation: SCHEDULES=8000 SEED=1
 # make law     histories of events, held against the law by events, and wrong devices: HISTORIES=2000 SEED=1
 # make bench   instructions, memory by size, requests a second beside bare loops, with the goals
-# make install puts the programs and their manual pages below PREFIX (of DESTDIR)
+# make install puts the programs, their manual pages and the library for C below PREFIX (of DESTDIR)
 COMMANDS = 200
 SECONDS = 60
 SCHEDULES = 8000
 HISTORIES = 2000
 SEED = 1
 PREFIX = /usr/local
+LIBRARY = crates/oca_c/out/liboca_c.a
 PROGRAMS = ocadev ocactl trials amplifier panel
-.PHONY: build demo test lossy fuzz world law bench install clean
+.PHONY: build demo test lossy fuzz world law bench install install-library clean
 
 demo:
 	@echo "Building by 'rt try' and running the examples; nothing is proved yet by that. This takes about a minute."
@@ -59,11 +60,20 @@ bench: build
 	python3 bench/memory.py bin
 	python3 bench/sockets.py bin
 
-install:
+install: install-library
 	@test -x bin/ocactl || $(MAKE) build
 	install -d $(DESTDIR)$(PREFIX)/bin $(DESTDIR)$(PREFIX)/share/man/man1
 	install -m 755 bin/ocadev bin/ocactl $(DESTDIR)$(PREFIX)/bin
 	install -m 644 man/ocadev.1 man/ocactl.1 $(DESTDIR)$(PREFIX)/share/man/man1
+
+# liboca.a is liboca_c.a with the toolchain's heap over malloc; liboca_c.a is for a heap of the program's own
+install-library:
+	@test -f $(LIBRARY) || (cd crates/oca_c && rt lib)
+	install -d $(DESTDIR)$(PREFIX)/include $(DESTDIR)$(PREFIX)/lib/pkgconfig
+	install -m 644 include/oca.h $(DESTDIR)$(PREFIX)/include
+	install -m 644 $(LIBRARY) $(DESTDIR)$(PREFIX)/lib/liboca_c.a
+	printf 'create %s\naddlib %s\naddlib %s\nsave\nend\n' $(DESTDIR)$(PREFIX)/lib/liboca.a $(LIBRARY) $(dir $(shell rt doc))c/liblibc_c.a | ar -M
+	sed 's|@PREFIX@|$(PREFIX)|' include/oca.pc.in > $(DESTDIR)$(PREFIX)/lib/pkgconfig/oca.pc
 
 clean:
 	rm -rf bin crates/*/out out

@@ -1,0 +1,2 @@
+mod DeviceAsBox
+mod LinkAsBox

@@ -1,0 +1,5 @@
+pub mod DeviceSlots
+pub mod LinkSlots
+pub mod Numbers
+pub mod Calls
+pub mod LinkCalls

@@ -1,0 +1,57 @@
+-- What the calls of a link promise of what is behind a handle, and what they tell.
+use Rattle.std.specs.Prelude.{◌≡◌, ℕ, List, take, length, Option, Some, None, Result, Ok, Err, IsSomeAnd}
+use Rattle.oca_types.specs.declared.words.Handle.{Handle}
+use Rattle.oca_control.specs.declared.fault.ControlFault.{ControlFault}
+use Rattle.oca_control.specs.declared.due.Due.{Due}
+use Rattle.oca_control.specs.declared.due.Due.TheVariants as dues
+use Rattle.oca_control.specs.declared.reception.Reception.{Reception}
+use Rattle.oca_control.specs.declared.reception.Reception.TheVariants as receptions
+use Rattle.oca_control.specs.Answers.{AnswerFields}
+use Rattle.oca_control.specs.Links.{LinkState}
+use Rattle.oca_c.specs.declared.link.LinkBehind.{LinkBehind}
+use Rattle.oca_c.specs.Numbers.{answer_number, submission_answer}
+
+-- behind an open handle there is this link
+abbrev pub HoldsLink : Option LinkBehind → LinkState → Type 0
+HoldsLink behind l = IsSomeAnd behind (λ b. b.link ≡ l)
+
+-- these bytes lie at the front of a place, and this is their number
+pub record LiesIn (bytes place : List ℕ) (number : ℕ) : Type 0 where
+  pub counted : number ≡ length bytes
+  pub front : take (length bytes) place ≡ bytes
+
+-- the number that a submission is answered with, and the handle where it has one
+abbrev pub TellsSubmission : ℕ → ℕ → Result Handle ControlFault → Type 0
+TellsSubmission number handle (Ok h) = (number ≡ 0) × (handle ≡ h.0)
+TellsSubmission number handle (Err fault) = number ≡ answer_number (submission_answer fault)
+
+-- what is told of what is due: 0 nothing, 1 a command with its handle, 2 a keep-alive, 3 the link is lost
+abbrev pub due_kind : Due → ℕ
+due_kind dues.Nothing = 0
+due_kind (dues.Send handle) = 1
+due_kind dues.KeepAlive = 2
+due_kind dues.Lost = 3
+
+abbrev pub due_handle : Due → ℕ
+due_handle dues.Nothing = 0
+due_handle (dues.Send handle) = handle.0
+due_handle dues.KeepAlive = 0
+due_handle dues.Lost = 0
+
+-- what is told of a datagram: 0 nothing new, 1 how many commands it answered, 2 a stranger's, 3 malformed
+abbrev pub reception_kind : Reception → ℕ
+reception_kind receptions.NothingNew = 0
+reception_kind (receptions.Answered count) = 1
+reception_kind receptions.Stranger = 2
+reception_kind receptions.Malformed = 3
+
+abbrev pub answered_count : Reception → ℕ
+answered_count receptions.NothingNew = 0
+answered_count (receptions.Answered count) = count
+answered_count receptions.Stranger = 0
+answered_count receptions.Malformed = 0
+
+-- what is told of an answer that is taken: its status, its ParamCount and its parameters; or that there is none
+abbrev pub TellsAnswer : ℕ → ℕ → ℕ → List ℕ → ℕ → Option AnswerFields → Type 0
+TellsAnswer number status count place size None = number ≡ 13
+TellsAnswer number status count place size (Some a) = (number ≡ 0) × (status ≡ a.status) × (count ≡ a.count) × LiesIn a.params place size

@@ -1,0 +1,19 @@
+//! Both ends for C: `liboca_c.a`, with `include/oca.h`, which says what a caller promises.
+//!
+//! C gives the storage of a handle (16 bytes, zeroed at first) and one handle to a call. Everything behind it is taken by the
+//! calls that open and start; no other call takes memory. A call answers a number of [`answer::Answer`].
+#![tactic(auto)]
+
+mod answer;
+mod device;
+mod device_calls;
+mod device_handle;
+mod device_slot;
+mod link;
+mod link_calls;
+mod link_handle;
+mod link_slot;
+mod parts;
+mod reading;
+mod version;
+mod words;

@@ -1,0 +1,154 @@
+//! What C calls of a link.
+ghost use Rattle.std.specs.Prelude.{◌≡◌, ◌≤◌, ◌<◌, List, Option, None, IfSome, length};
+ghost use Rattle.oca_types.specs.Peers.{RequestFields};
+ghost use Rattle.oca_pdu.specs.Messages.{Msg};
+ghost use Rattle.oca_control.specs.Contents.{IsContent};
+ghost use Rattle.oca_control.specs.Links.{decision, due_answer, due_bytes, gone_on, new_link, received, reception, submission, submitted, taken};
+ghost use Rattle.oca_control.specs.Untaken.{answer_under};
+ghost use Rattle.oca_c.specs.LinkCalls.{HoldsLink, LiesIn, TellsAnswer, TellsSubmission, answered_count, due_handle, due_kind, reception_kind};
+
+use crate::answer::Answer;
+use crate::link::LinkBehind;
+use crate::link_handle::LinkHandle;
+use oca_control::Link;
+use oca_types::{Handle, MethodId, Ono, Peer, Span};
+use std::alloc::Global;
+
+/// Opens a link to the device at this address.
+#[unsafe(no_mangle)]
+pub extern "C" fn oca_link_open(
+    alloc: Global,
+    handle: &mut LinkHandle,
+    ip: u32,
+    port: u16,
+    first_handle: u32,
+    now: u64,
+    span: u8,
+) -> u32
+    ensures { result ≡ 0 → HoldsLink handle.new.slot.inner (new_link (record { ip = ip; port = port }) first_handle now span) }
+{
+    if handle.is_open {
+        return Answer::Open.number();
+    }
+    let Some(span) = Span::new(span) else {
+        return Answer::BadSize.number();
+    };
+    let link = Link::new(Peer { ip, port }, Handle(first_handle), now, span);
+    match Box::new(alloc, LinkBehind { link }) {
+        Ok(behind) => {
+            handle.put(behind);
+            Answer::Done.number()
+        }
+        Err(_) => Answer::NoMemory.number(),
+    }
+}
+
+/// Closes a link, and gives its memory back.
+#[unsafe(no_mangle)]
+pub extern "C" fn oca_link_close(alloc: Global, handle: &mut LinkHandle)
+    ensures { handle.new.slot.inner ≡ None }
+{
+    drop(handle.take(alloc));
+}
+
+/// Submits a command.
+#[unsafe(no_mangle)]
+pub extern "C" fn oca_link_submit(
+    alloc: Global,
+    handle: &mut LinkHandle,
+    target: u32,
+    level: u16,
+    index: u16,
+    count: u8,
+    params: &[u8],
+    now: u64,
+    command: &mut u32,
+) -> u32
+    ensures closed { handle.old.slot.inner ≡ None → result ≡ 9 }
+    ensures submits { let request : RequestFields = record { target = target; level = level; index = index; count = count; params = params.now } in
+        IfSome handle.old.slot.inner (λ b. HoldsLink handle.new.slot.inner (submitted request now b.link)
+        × TellsSubmission result command.new (submission request b.link)) }
+{
+    let Some(mut behind) = handle.take(alloc) else {
+        return Answer::Closed.number();
+    };
+    let method = MethodId { level, index };
+    let number = behind.submit(Ono(target), method, count, params, now, command);
+    handle.put(behind);
+    number
+}
+
+/// Gives out what is due.
+#[unsafe(no_mangle)]
+pub extern "C" fn oca_link_due(
+    alloc: Global,
+    handle: &mut LinkHandle,
+    now: u64,
+    out: &mut [u8],
+    len: &mut usize,
+    kind: &mut u32,
+    command: &mut u32,
+) -> u32
+    ensures closed { handle.old.slot.inner ≡ None → result ≡ 9 }
+    ensures small { IfSome handle.old.slot.inner (λ b. length out.old < 1472 → HoldsLink handle.new.slot.inner b.link × (result ≡ 14)) }
+    ensures gives { IfSome handle.old.slot.inner (λ b. 1472 ≤ length out.old → HoldsLink handle.new.slot.inner (gone_on now b.link) × (result ≡ 0)
+        × (kind.new ≡ due_kind (due_answer (decision now b.link))) × (command.new ≡ due_handle (due_answer (decision now b.link)))
+        × LiesIn (due_bytes (decision now b.link)) out.new len.new) }
+{
+    let Some(mut behind) = handle.take(alloc) else {
+        return Answer::Closed.number();
+    };
+    let number = behind.due(now, out, len, kind, command);
+    handle.put(behind);
+    number
+}
+
+/// Takes a datagram that came from an address.
+#[unsafe(no_mangle)]
+pub extern "C" fn oca_link_datagram(
+    alloc: Global,
+    handle: &mut LinkHandle,
+    ip: u32,
+    port: u16,
+    bytes: &[u8],
+    now: u64,
+    kind: &mut u32,
+    answered: &mut u32,
+) -> u32
+    ensures closed { handle.old.slot.inner ≡ None → result ≡ 9 }
+    ensures receives { IfSome handle.old.slot.inner (λ b. (content : Option (List Msg)) → IsContent content bytes.now →
+        HoldsLink handle.new.slot.inner (received (record { ip = ip; port = port }) content now b.link) × (result ≡ 0)
+        × (kind.new ≡ reception_kind (reception (record { ip = ip; port = port }) content b.link))
+        × (answered.new ≡ answered_count (reception (record { ip = ip; port = port }) content b.link))) }
+{
+    let Some(mut behind) = handle.take(alloc) else {
+        return Answer::Closed.number();
+    };
+    let number = behind.datagram(Peer { ip, port }, bytes, now, kind, answered);
+    handle.put(behind);
+    number
+}
+
+/// Takes the answer to a command.
+#[unsafe(no_mangle)]
+pub extern "C" fn oca_link_take(
+    alloc: Global,
+    handle: &mut LinkHandle,
+    command: u32,
+    status: &mut u32,
+    count: &mut u32,
+    out: &mut [u8],
+    len: &mut usize,
+) -> u32
+    ensures closed { handle.old.slot.inner ≡ None → result ≡ 9 }
+    ensures small { IfSome handle.old.slot.inner (λ b. length out.old < 1452 → HoldsLink handle.new.slot.inner b.link × (result ≡ 14)) }
+    ensures takes { IfSome handle.old.slot.inner (λ b. 1452 ≤ length out.old → HoldsLink handle.new.slot.inner (taken command b.link)
+        × TellsAnswer result status.new count.new out.new len.new (answer_under command b.link.untaken)) }
+{
+    let Some(mut behind) = handle.take(alloc) else {
+        return Answer::Closed.number();
+    };
+    let number = behind.take(command, status, count, out, len);
+    handle.put(behind);
+    number
+}

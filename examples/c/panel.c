@@ -1,0 +1,83 @@
+/* A panel for an amplifier in C: it opens channel 1, sets its gain to -6 dB, and reads the gain back.
+ * Usage: panel PORT [MUTE GAIN]     The amplifier is at 127.0.0.1; its mute and its gain are 4097 and 4098 unless named. */
+#include <oca.h>
+
+#include <arpa/inet.h>
+#include <netinet/in.h>
+#include <stdio.h>
+#include <stdlib.h>
+#include <string.h>
+#include <sys/socket.h>
+#include <sys/time.h>
+#include <time.h>
+
+static uint64_t now_ms(void) {
+    struct timespec time;
+    clock_gettime(CLOCK_MONOTONIC, &time);
+    return (uint64_t)time.tv_sec * 1000 + (uint64_t)time.tv_nsec / 1000000;
+}
+
+struct answer { uint32_t status, count; size_t size; uint8_t params[OCA_MOST_ANSWER]; };
+
+/* Gives out all that is due; whether the link lives. */
+static bool give_out(struct oca_link *link, int file, const struct sockaddr_in *to) {
+    static uint8_t bytes[OCA_MOST_BYTES];
+    uint32_t due = OCA_DUE_NOTHING, handle = 0;
+    size_t length = 0;
+    for (;;) {
+        if (oca_link_due(link, now_ms(), bytes, sizeof bytes, &length, &due, &handle) != OCA_DONE || due == OCA_DUE_LOST) return false;
+        if (due == OCA_DUE_NOTHING) return true;
+        sendto(file, bytes, length, 0, (const struct sockaddr *)to, sizeof *to);
+    }
+}
+
+/* Sends a command and waits for its answer. */
+static bool ask(struct oca_link *link, int file, const struct sockaddr_in *to, uint32_t target, uint16_t level, uint16_t index,
+                uint8_t count, const uint8_t *params, size_t size, struct answer *answer) {
+    static uint8_t bytes[OCA_MOST_BYTES + 1];
+    uint32_t handle = 0, reception = 0, answered = 0;
+    if (oca_link_submit(link, target, level, index, count, params, size, now_ms(), &handle) != OCA_DONE) return false;
+    while (give_out(link, file, to)) {
+        struct sockaddr_in from;
+        socklen_t length = sizeof from;
+        ssize_t got = recvfrom(file, bytes, sizeof bytes, 0, (struct sockaddr *)&from, &length);
+        if (got >= 0)
+            oca_link_datagram(link, ntohl(from.sin_addr.s_addr), ntohs(from.sin_port), bytes, (size_t)got, now_ms(), &reception, &answered);
+        if (oca_link_take(link, handle, &answer->status, &answer->count, answer->params, sizeof answer->params, &answer->size) == OCA_DONE)
+            return true;
+    }
+    return false;
+}
+
+int main(int count, char **words) {
+    struct oca_link link;
+    struct answer answer;
+    struct sockaddr_in to;
+    struct timeval wait = {0, 50000}, briefly = {0, 1000};
+    static const uint8_t open_it[] = {2}, minus_six[] = {0xff, 0xc4};
+    uint32_t mute = count > 3 ? (uint32_t)atoi(words[2]) : 4097, gain = count > 3 ? (uint32_t)atoi(words[3]) : 4098;
+    int file = socket(AF_INET, SOCK_DGRAM, 0);
+    if (count < 2 || file < 0) return 2;
+    memset(&link, 0, sizeof link);
+    memset(&answer, 0, sizeof answer);
+    memset(&to, 0, sizeof to);
+    to.sin_family = AF_INET;
+    to.sin_port = htons((uint16_t)atoi(words[1]));
+    to.sin_addr.s_addr = htonl(INADDR_LOOPBACK);
+    setsockopt(file, SOL_SOCKET, SO_RCVTIMEO, &wait, sizeof wait);
+    setsockopt(file, SOL_SOCKET, SO_SNDTIMEO, &briefly, sizeof briefly);
+    uint32_t opened = oca_link_open(&link, 0x7F000001, (uint16_t)atoi(words[1]), 1, now_ms(), 16);
+    if (opened != OCA_DONE) {
+        fprintf(stderr, "not opened: %u\n", opened);
+        return 1;
+    }
+    bool good = ask(&link, file, &to, mute, 4, 2, 1, open_it, sizeof open_it, &answer);
+    if (good) printf("open channel 1: status %u\n", answer.status);
+    good = good && ask(&link, file, &to, gain, 5, 2, 1, minus_six, sizeof minus_six, &answer);
+    if (good) printf("gain to -6 dB: status %u\n", answer.status);
+    good = good && ask(&link, file, &to, gain, 5, 1, 0, open_it, 0, &answer);
+    if (good && answer.status == 0 && answer.size >= 2) printf("gain: %d dB/10\n", (int16_t)(answer.params[0] << 8 | answer.params[1]));
+    else puts(good ? "gain: not read" : "lost");
+    oca_link_close(&link);
+    return good ? 0 : 1;
+}

@@ -1,0 +1,198 @@
+/* Each call of the C library on a closed handle, at its limits, and once as it should be. It prints what is wrong. */
+#include <oca.h>
+
+#include <stdio.h>
+#include <string.h>
+
+static int passed, failed;
+
+static void same(const char *what, uint32_t got, uint32_t expected) {
+    if (got == expected) passed++;
+    else { failed++; printf("%s: %u in place of %u\n", what, got, expected); }
+}
+
+static const uint8_t *text(const char *words) { return (const uint8_t *)words; }
+
+static const uint8_t get_state[] = {0x3b, 0, 1, 0, 0, 0, 0x1a, 1, 0, 1, 0, 0, 0, 0x11, 0, 0, 0, 1, 0, 0, 0x10, 1, 0, 4, 0, 1, 0};
+static const uint8_t muted[] = {0x3b, 0, 1, 0, 0, 0, 0x14, 3, 0, 1, 0, 0, 0, 0x0b, 0, 0, 0, 1, 0, 1, 1};
+
+static void closed_device(struct oca_device *d) {
+    uint8_t bytes[OCA_MOST_BYTES] = {0};
+    size_t size = 0;
+    struct oca_verdict v = {9, 9, 9, 9, 9, 9, 9};
+    struct oca_setting s = {0, 0, 0};
+    same("closed: block", oca_device_add_block(d, 100, 4096, text("a"), 1, true), OCA_CLOSED);
+    same("closed: mute", oca_device_add_mute(d, 100, 4096, text("a"), 1, true, true), OCA_CLOSED);
+    same("closed: polarity", oca_device_add_polarity(d, 100, 4096, text("a"), 1, true, true), OCA_CLOSED);
+    same("closed: boolean", oca_device_add_boolean(d, 100, 4096, text("a"), 1, true, true), OCA_CLOSED);
+    same("closed: int8", oca_device_add_int8(d, 100, 4096, text("a"), 1, true, 0, 0, 0), OCA_CLOSED);
+    same("closed: int16", oca_device_add_int16(d, 100, 4096, text("a"), 1, true, 0, 0, 0), OCA_CLOSED);
+    same("closed: int32", oca_device_add_int32(d, 100, 4096, text("a"), 1, true, 0, 0, 0), OCA_CLOSED);
+    same("closed: int64", oca_device_add_int64(d, 100, 4096, text("a"), 1, true, 0, 0, 0), OCA_CLOSED);
+    same("closed: uint8", oca_device_add_uint8(d, 100, 4096, text("a"), 1, true, 0, 0, 0), OCA_CLOSED);
+    same("closed: uint16", oca_device_add_uint16(d, 100, 4096, text("a"), 1, true, 0, 0, 0), OCA_CLOSED);
+    same("closed: uint32", oca_device_add_uint32(d, 100, 4096, text("a"), 1, true, 0, 0, 0), OCA_CLOSED);
+    same("closed: uint64", oca_device_add_uint64(d, 100, 4096, text("a"), 1, true, 0, 0, 0), OCA_CLOSED);
+    same("closed: start", oca_device_start(d, 32, 16), OCA_CLOSED);
+    same("closed: datagram", oca_device_datagram(d, 1, 2, get_state, sizeof get_state, 0, &v), OCA_CLOSED);
+    same("closed: the verdict is left alone", v.kind, 9);
+    same("closed: packets", oca_device_packets(d, &size), OCA_CLOSED);
+    same("closed: packet", oca_device_packet(d, 0, bytes, sizeof bytes, &size), OCA_CLOSED);
+    same("closed: tick", oca_device_tick(d, 0), OCA_CLOSED);
+    same("closed: state", oca_device_set_state(d, 4097, 1), OCA_CLOSED);
+    same("closed: position", oca_device_set_position(d, 4097, 1), OCA_CLOSED);
+    same("closed: truth", oca_device_set_truth(d, 4097, true), OCA_CLOSED);
+    same("closed: signed", oca_device_set_signed(d, 4097, -1), OCA_CLOSED);
+    same("closed: unsigned", oca_device_set_unsigned(d, 4097, 1), OCA_CLOSED);
+    same("closed: setting", oca_device_setting(d, 4097, &s), OCA_CLOSED);
+    oca_device_close(d);
+}
+
+static void closed_link(struct oca_link *l) {
+    uint8_t bytes[OCA_MOST_BYTES] = {0};
+    size_t size = 0;
+    uint32_t a = 0, b = 0;
+    same("closed: submit", oca_link_submit(l, 1, 1, 1, 0, bytes, 0, 0, &a), OCA_CLOSED);
+    same("closed: due", oca_link_due(l, 0, bytes, sizeof bytes, &size, &a, &b), OCA_CLOSED);
+    same("closed: link datagram", oca_link_datagram(l, 1, 2, muted, sizeof muted, 0, &a, &b), OCA_CLOSED);
+    same("closed: take", oca_link_take(l, 1, &a, &b, bytes, sizeof bytes, &size), OCA_CLOSED);
+    oca_link_close(l);
+}
+
+static void device(void) {
+    struct oca_device d;
+    struct oca_verdict v = {9, 9, 9, 9, 9, 9, 9};
+    struct oca_setting s = {0, 0, 0};
+    uint8_t bytes[OCA_MOST_BYTES] = {0};
+    uint32_t words[2] = {9, 9};
+    size_t size = 99;
+    memset(&d, 0, sizeof d);
+    closed_device(&d);
+    same("room for none", oca_device_open(&d, 0), OCA_BAD_SIZE);
+    same("room for 4,097", oca_device_open(&d, 4097), OCA_BAD_SIZE);
+    same("open", oca_device_open(&d, 128), OCA_DONE);
+    same("open again", oca_device_open(&d, 128), OCA_OPEN);
+    same("datagram before the start", oca_device_datagram(&d, 1, 2, get_state, sizeof get_state, 0, &v), OCA_NOT_STARTED);
+    same("tick before the start", oca_device_tick(&d, 0), OCA_NOT_STARTED);
+    same("setting before the start", oca_device_setting(&d, 4097, &s), OCA_NOT_STARTED);
+    same("state before the start", oca_device_set_state(&d, 4097, 1), OCA_NOT_STARTED);
+    same("reserved", oca_device_add_block(&d, 100, 4095, text("a"), 1, true), OCA_RESERVED);
+    same("block", oca_device_add_block(&d, 100, 4096, text("desk"), 4, true), OCA_DONE);
+    same("taken", oca_device_add_block(&d, 100, 4096, text("desk"), 4, true), OCA_TAKEN);
+    same("no such block", oca_device_add_mute(&d, 5000, 4097, text("mute"), 4, true, true), OCA_NO_SUCH_BLOCK);
+    same("an empty role", oca_device_add_mute(&d, 4096, 4097, text("mute"), 0, true, true), OCA_BAD_TEXT);
+    same("a role that is no UTF-8", oca_device_add_mute(&d, 4096, 4097, text("\xff"), 1, true, true), OCA_BAD_TEXT);
+    same("mute", oca_device_add_mute(&d, 4096, 4097, text("mute"), 4, true, true), OCA_DONE);
+    same("polarity", oca_device_add_polarity(&d, 4096, 4098, text("polarity"), 8, true, true), OCA_DONE);
+    same("boolean", oca_device_add_boolean(&d, 4096, 4099, text("on"), 2, true, true), OCA_DONE);
+    same("limits the wrong way round", oca_device_add_int8(&d, 4096, 4100, text("x"), 1, true, 0, 1, -1), OCA_BAD_RANGE);
+    same("int8", oca_device_add_int8(&d, 4096, 4100, text("int8"), 4, true, -128, -128, 127), OCA_DONE);
+    same("int16", oca_device_add_int16(&d, 4096, 4101, text("int16"), 5, true, -600, -600, 600), OCA_DONE);
+    same("int32", oca_device_add_int32(&d, 4096, 4102, text("int32"), 5, true, 1, 0, 2), OCA_DONE);
+    same("int64", oca_device_add_int64(&d, 4096, 4103, text("int64"), 5, true, INT64_MIN, INT64_MIN, INT64_MAX), OCA_DONE);
+    same("uint8", oca_device_add_uint8(&d, 4096, 4104, text("uint8"), 5, true, 255, 0, 255), OCA_DONE);
+    same("uint16", oca_device_add_uint16(&d, 4096, 4105, text("uint16"), 6, true, 1, 0, 2), OCA_DONE);
+    same("uint32", oca_device_add_uint32(&d, 4096, 4106, text("uint32"), 6, true, 1, 0, 2), OCA_DONE);
+    same("uint64", oca_device_add_uint64(&d, 4096, 4107, text("uint64"), 6, true, UINT64_MAX, 0, UINT64_MAX), OCA_DONE);
+    same("a window of 0", oca_device_start(&d, 0, 16), OCA_BAD_SIZE);
+    same("a window of 65", oca_device_start(&d, 65, 16), OCA_BAD_SIZE);
+    same("no peers", oca_device_start(&d, 32, 0), OCA_BAD_SIZE);
+    same("65 peers", oca_device_start(&d, 32, 65), OCA_BAD_SIZE);
+    same("start", oca_device_start(&d, 32, 16), OCA_DONE);
+    same("start again", oca_device_start(&d, 32, 16), OCA_STARTED);
+    same("an addition after the start", oca_device_add_block(&d, 100, 5000, text("late"), 4, true), OCA_STARTED);
+    same("the first packet of none", oca_device_packet(&d, 0, bytes, sizeof bytes, &size), OCA_NOTHING);
+    same("datagram", oca_device_datagram(&d, 1, 2, get_state, sizeof get_state, 0, &v), OCA_DONE);
+    same("served", v.kind, 0);
+    same("one executed", v.executed, 1);
+    same("packets", oca_device_packets(&d, &size), OCA_DONE);
+    same("one packet", (uint32_t)size, 1);
+    same("no room for it", oca_device_packet(&d, 0, bytes, sizeof muted - 1, &size), OCA_TOO_SMALL);
+    same("its size all the same", (uint32_t)size, sizeof muted);
+    same("packet", oca_device_packet(&d, 0, bytes, sizeof muted, &size), OCA_DONE);
+    same("its bytes", (uint32_t)memcmp(bytes, muted, sizeof muted), 0);
+    same("an empty datagram", oca_device_datagram(&d, 1, 2, get_state, 0, 0, &v), OCA_DONE);
+    same("malformed", v.kind, 1);
+    same("its fault", v.fault, 1);
+    same("two words alone", oca_device_datagram_words(&d, 1, 2, get_state, sizeof get_state, 0, words, 2), OCA_DONE);
+    same("the first word", words[0], 0);
+    same("the second word", words[1], 0);
+    same("tick", oca_device_tick(&d, 1000), OCA_DONE);
+    same("setting", oca_device_setting(&d, 4103, &s), OCA_DONE);
+    same("a number", s.kind, 4);
+    same("a negative one", s.negative, 1);
+    same("its magnitude", s.magnitude == UINT64_C(1) << 63, 1);
+    same("the setting of a block", oca_device_setting(&d, 4096, &s), OCA_NOTHING);
+    same("state", oca_device_set_state(&d, 4097, 2), OCA_DONE);
+    same("what it is now", oca_device_setting(&d, 4097, &s), OCA_DONE);
+    same("unmuted", (uint32_t)s.magnitude, 2);
+    same("a state that is none", oca_device_set_state(&d, 4097, 3), OCA_OUT_OF_RANGE);
+    same("another kind", oca_device_set_truth(&d, 4097, true), OCA_OTHER_KIND);
+    same("no setting", oca_device_set_position(&d, 4096, 1), OCA_NO_SETTING);
+    same("no object", oca_device_set_position(&d, 5000, 1), OCA_NO_OBJECT);
+    same("truth", oca_device_set_truth(&d, 4099, false), OCA_DONE);
+    same("signed", oca_device_set_signed(&d, 4101, -1), OCA_DONE);
+    same("its setting", oca_device_setting(&d, 4101, &s), OCA_DONE);
+    same("minus one", s.negative == 1 && s.magnitude == 1, 1);
+    same("unsigned", oca_device_set_unsigned(&d, 4107, UINT64_MAX - 1), OCA_DONE);
+    same("beyond its limits", oca_device_set_unsigned(&d, 4105, 3), OCA_OUT_OF_RANGE);
+    oca_device_close(&d);
+    closed_device(&d);
+}
+
+static void link(void) {
+    struct oca_link l;
+    uint8_t bytes[OCA_MOST_BYTES] = {0};
+    size_t size = 99;
+    uint32_t a = 9, b = 9, handle = 0;
+    memset(&l, 0, sizeof l);
+    closed_link(&l);
+    same("a span of 0", oca_link_open(&l, 1, 2, 1, 0, 0), OCA_BAD_SIZE);
+    same("a span of 33", oca_link_open(&l, 1, 2, 1, 0, 33), OCA_BAD_SIZE);
+    same("open", oca_link_open(&l, 1, 2, 1, 0, 1), OCA_DONE);
+    same("open again", oca_link_open(&l, 1, 2, 1, 0, 1), OCA_OPEN);
+    same("above 1,445 bytes", oca_link_submit(&l, 4097, 4, 1, 0, bytes, 1446, 0, &handle), OCA_TOO_LONG);
+    same("submit", oca_link_submit(&l, 4097, 4, 1, 0, bytes, 0, 0, &handle), OCA_DONE);
+    same("its handle", handle, 1);
+    same("a full span", oca_link_submit(&l, 4097, 4, 1, 0, bytes, 0, 0, &handle), OCA_SPAN_FULL);
+    same("no room", oca_link_due(&l, 0, bytes, sizeof bytes - 1, &size, &a, &b), OCA_TOO_SMALL);
+    same("due", oca_link_due(&l, 0, bytes, sizeof bytes, &size, &a, &b), OCA_DONE);
+    same("a command", a == OCA_DUE_COMMAND && b == 1, 1);
+    same("its size", (uint32_t)size, sizeof get_state);
+    same("its bytes", (uint32_t)memcmp(bytes, get_state, sizeof get_state), 0);
+    same("due again", oca_link_due(&l, 0, bytes, sizeof bytes, &size, &a, &b), OCA_DONE);
+    same("nothing", a == OCA_DUE_NOTHING && size == 0, 1);
+    same("no answer yet", oca_link_take(&l, 1, &a, &b, bytes, sizeof bytes, &size), OCA_NOTHING);
+    same("a stranger", oca_link_datagram(&l, 1, 3, muted, sizeof muted, 0, &a, &b), OCA_DONE);
+    same("a stranger's", a, OCA_STRANGER);
+    same("an empty datagram", oca_link_datagram(&l, 1, 2, muted, 0, 0, &a, &b), OCA_DONE);
+    same("malformed", a, OCA_MALFORMED);
+    same("the answer", oca_link_datagram(&l, 1, 2, muted, sizeof muted, 0, &a, &b), OCA_DONE);
+    same("one answered", a == OCA_ANSWERED && b == 1, 1);
+    same("a copy", oca_link_datagram(&l, 1, 2, muted, sizeof muted, 0, &a, &b), OCA_DONE);
+    same("nothing new", a, OCA_NOTHING_NEW);
+    same("no room for it", oca_link_take(&l, 1, &a, &b, bytes, OCA_MOST_ANSWER - 1, &size), OCA_TOO_SMALL);
+    same("take", oca_link_take(&l, 1, &a, &b, bytes, sizeof bytes, &size), OCA_DONE);
+    same("status, count and parameters", a == 0 && b == 1 && size == 1 && bytes[0] == 1, 1);
+    same("take again", oca_link_take(&l, 1, &a, &b, bytes, sizeof bytes, &size), OCA_NOTHING);
+    same("keep-alive", oca_link_due(&l, 2500, bytes, sizeof bytes, &size, &a, &b), OCA_DONE);
+    same("it is one", a, OCA_DUE_KEEP_ALIVE);
+    same("submit", oca_link_submit(&l, 4097, 4, 1, 0, bytes, 0, 2500, &handle), OCA_DONE);
+    for (uint64_t k = 0; k <= 20; k++) oca_link_due(&l, 2500 + 250 * k, bytes, sizeof bytes, &size, &a, &b);
+    same("lost after 20 sendings", a, OCA_DUE_LOST);
+    same("submit when lost", oca_link_submit(&l, 4097, 4, 1, 0, bytes, 0, 9000, &handle), OCA_LOST);
+    oca_link_close(&l);
+    same("the last handle", oca_link_open(&l, 1, 2, UINT32_MAX, 0, 16), OCA_DONE);
+    same("submit the last", oca_link_submit(&l, 4097, 4, 1, 0, bytes, 0, 0, &handle), OCA_DONE);
+    same("none is left", oca_link_submit(&l, 4097, 4, 1, 0, bytes, 0, 0, &handle), OCA_HANDLES_SPENT);
+    oca_link_close(&l);
+    closed_link(&l);
+}
+
+int main(void) {
+    same("version", oca_version(), OCA_VERSION);
+    device();
+    link();
+    printf("%d passed, %d failed\n", passed, failed);
+    return failed != 0;
+}
