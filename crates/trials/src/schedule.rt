@@ -110,7 +110,10 @@ fn begun(alloc: Global, fields: &mut Fields<'_>) -> Result<Schedule, LineFault> 
         }
         let text = fields.next()?;
         if place == 0 && !text.is_empty() && !text.contains(&b'/') && !text.contains(&b':') {
-            schedule.sizes.peers = peers(text)?;
+            schedule.sizes = Sizes {
+                window,
+                peers: peers(text)?,
+            };
         } else if schedule.starts.push(start(text)?).is_err() {
             return Err(LineFault::NoMemory);
         }
