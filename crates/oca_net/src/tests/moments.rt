@@ -26,7 +26,7 @@ fn quiet(heard: Heard) -> Result<u64, Fail> {
 
 /// Whole milliseconds.
 fn milliseconds(time: Duration) -> u64 {
-    time.as_millis() as u64
+    u64::try_from(time.as_millis()).unwrap_or(u64::MAX)
 }
 
 #[test]
