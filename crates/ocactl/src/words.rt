@@ -121,7 +121,7 @@ fn networked<'a>(command: Command<'a>, alloc: Global) -> Result<Command<'a>, All
             alloc,
             "first-handle",
             "H",
-            "The handle of the first command, 0 to 4294967295 [the clock's milliseconds, modulo 2147483648, unless given]",
+            "The handle of the first command, 0 to 4294967295 [by the clock unless given: it rises by 100000 a second, and begins anew at 2147483648]",
         ))?
         .arg(option(
             alloc,
