@@ -206,7 +206,7 @@ def main():
         subprocess.run(["gcc", "-O1", "-Wall", "-shared", "-fPIC", "-o", layer, str(HERE / "unreliable.c"), "-ldl"], check=True)
         checks = Checks(os.path.abspath(sys.argv[1]), layer)
         try:
-            for part in (quiet_turns, signals, refused_sends, a_stalled_neighbour, calls_in_a_row, other_addresses):
+            for part in (closed_descriptors, quiet_turns, signals, refused_sends, a_stalled_neighbour, calls_in_a_row, other_addresses):
                 part(checks)
         finally:
             for run in checks.runs:
