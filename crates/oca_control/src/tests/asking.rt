@@ -30,7 +30,9 @@ fn end(alloc: Global, handle: u8) -> Result<MemoryEnd, Fail> {
 fn quiet(alloc: Global, count: u64) -> Result<MemoryEnd, Fail> {
     let mut script = Vec::new(alloc);
     for turn in 0..count {
-        script.push(Scripted::Quiet { now: turn * 250 })?;
+        script.push(Scripted::Quiet {
+            now: turn.saturating_mul(250),
+        })?;
     }
     let end = MemoryEnd::new(alloc, script, 32, None).map_err(|_| "no memory")?;
     Ok(end)
