@@ -91,7 +91,7 @@ fn of_64_that_lapse_the_first_16_are_answered(rt: HostRuntime) -> Result<(), Fai
         all.as_slice().get(..16).unwrap_or_default()
     );
     for (i, silent) in all.iter().enumerate() {
-        assert_eq!(rt; usize::from(silent.port), 9001 + i);
+        assert_eq!(rt; usize::from(silent.port), 9001usize.saturating_add(i));
     }
     assert!(rt; sessions.is_empty());
     Ok(())
@@ -133,7 +133,7 @@ fn has_room_for_sixteen(rt: HostRuntime) -> Result<(), Fail> {
     let lapsed = sessions.advance(120_001);
     assert_eq!(rt; lapsed.len(), 16);
     for (i, silent) in lapsed.iter().enumerate() {
-        assert_eq!(rt; usize::from(silent.port), 9001 + i);
+        assert_eq!(rt; usize::from(silent.port), 9001usize.saturating_add(i));
     }
     assert_eq!(rt; sessions.len(), 15);
     assert!(rt; !sessions.is_known(A));
