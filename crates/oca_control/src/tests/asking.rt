@@ -48,8 +48,11 @@ fn a_command_is_answered(rt: HostRuntime) -> Result<(), Fail> {
     assert_eq!(rt; answer.status, 0);
     assert_eq!(rt; answer.params.as_slice(), [1].as_slice());
     assert_eq!(rt; end.taken().len(), 1);
-    assert_eq!(rt; end.taken()[0].0, DEVICE);
-    assert_eq!(rt; end.taken()[0].1.as_slice(), COMMAND.as_slice());
+    let Some(sent) = end.taken().first() else {
+        return Err(Fail::from("nothing was sent"));
+    };
+    assert_eq!(rt; sent.0, DEVICE);
+    assert_eq!(rt; sent.1.as_slice(), COMMAND.as_slice());
     assert!(rt; link.take(Handle(1)).is_none());
     Ok(())
 }
