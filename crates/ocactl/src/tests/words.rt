@@ -1,6 +1,6 @@
 //! The words of the command line, and the faults of a run.
 use super::super::run::run;
-use super::super::words::{Asked, Reach, Sending, asked_for};
+use super::super::words::{Asked, asked_for};
 use super::{NO_LIMIT, runs_as};
 use oca_fakes::{PieceReader, ShortWriter};
 use oca_script::Printer;
@@ -157,95 +157,6 @@ fn bad_words_of_send(rt: HostRuntime) {
         b"",
         b"bad words\n",
     );
-}
-
-/// What `send` of four numbers to a device asks for, with more words.
-fn asked_send(
-    rt: &(impl Abort + AllocGlobal),
-    device: &str,
-    numbers: [&str; 4],
-    more: &[&str],
-) -> (Reach, Sending) {
-    let [target, level, index, count] = numbers;
-    let all = [
-        "ocactl", "send", "--device", device, "--target", target, "--level", level, "--index",
-        index, "--count", count,
-    ];
-    let mut words = Vec::new(rt.alloc());
-    for word in all.iter().chain(more) {
-        words.push(*word).expect(rt, "memory");
-    }
-    let asked = match asked_for(rt.alloc(), words.as_slice()) {
-        Ok(Asked::Send(reach, sending)) => Some((reach, sending)),
-        _ => None,
-    };
-    asked.expect(rt, "send")
-}
-
-/// The largest values of each option.
-#[test]
-fn largest_values(rt: HostRuntime) {
-    let mut params = String::new(rt.alloc());
-    for _ in 0..1445 {
-        params.push_str("fE").expect(&rt, "memory");
-    }
-    let (reach, sending) = asked_send(
-        &rt,
-        "254.255.255.255:65535",
-        ["4294967295", "65535", "65535", "255"],
-        &[
-            "--port",
-            "65535",
-            "--turns",
-            "4294967295",
-            "--first-handle",
-            "4294967295",
-            "--span",
-            "32",
-            "--ip",
-            "255.255.255.255",
-            "--params",
-            params.as_str(),
-        ],
-    );
-    assert_eq!(rt; (reach.device.ip, reach.device.port), (0xfeff_ffff, 65535));
-    assert_eq!(rt;
-        (reach.ip, reach.port, reach.first_handle),
-        (u32::MAX, Some(65535), Some(u32::MAX))
-    );
-    assert_eq!(rt; reach.span.get(), 32);
-    assert_eq!(rt;
-        (sending.target.0, sending.count, sending.turns),
-        (u32::MAX, 255, u32::MAX)
-    );
-    assert_eq!(rt;
-        (sending.method.level, sending.method.index),
-        (65535, 65535)
-    );
-    assert_eq!(rt; sending.params.len(), 1445);
-    assert!(rt; sending.params.as_slice().iter().all(|byte| *byte == 0xfe));
-}
-
-/// What is not given: the port and the first handle are left open, 200 turns, a span of 16, and the address by the device's.
-#[test]
-fn values_that_are_not_given(rt: HostRuntime) {
-    for (device, more, ip) in [
-        ("127.0.0.1:65000", [].as_slice(), 0x7f00_0001),
-        ("127.255.0.9:65000", &[], 0x7f00_0001),
-        ("126.255.255.255:65000", &[], 0),
-        ("128.0.0.0:65000", &[], 0),
-        ("192.0.2.7:65000", &["--ip", "10.0.0.1"], 0x0a00_0001),
-        ("127.0.0.1:65000", &["--ip", "0.0.0.0"], 0),
-    ] {
-        let (reach, sending) = asked_send(&rt, device, ["0", "0", "0", "0"], more);
-        assert_eq!(rt;
-            (reach.ip, reach.port, reach.first_handle),
-            (ip, None, None)
-        );
-        assert_eq!(rt; reach.span.get(), 16);
-        assert_eq!(rt; sending.turns, 200);
-        assert!(rt; sending.params.is_empty());
-    }
 }
 
 /// How many commands `run` lets be under way; nothing where the words are bad.
