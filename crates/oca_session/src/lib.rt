@@ -1,4 +1,4 @@
-//! Sessions of at most 16 peers over UDP (profile): who was heard when, which heartbeat each set, and for
+//! Sessions of as many peers over UDP as were chosen, 1 to 64 (profile): who was heard when, which heartbeat each set, and for
 //! each session a reply window, which tells a fresh command from a duplicate, from another command under a
 //! handle that it retains, and from one that is too old.
 //!
