@@ -7,7 +7,8 @@
 # make world   schedules for both ends, held against the laws and the second implementation: SCHEDULES=8000 SEED=1
 # make law     histories of events, held against the law by events, and wrong devices: HISTORIES=2000 SEED=1
 # make bench   instructions, memory by size, requests a second beside bare loops, with the goals
-# make install puts the programs, their manual pages and the library for C below PREFIX (of DESTDIR)
+# make install puts the programs, their manual pages and the library for C below PREFIX (of DESTDIR); the library is proved
+#              and built anew where a source is newer, bin is taken as it is (make build first)
 COMMANDS = 200
 SECONDS = 60
 SCHEDULES = 8000
@@ -67,13 +68,15 @@ install: install-library
 	install -m 644 man/ocadev.1 man/ocactl.1 $(DESTDIR)$(PREFIX)/share/man/man1
 
 # liboca.a is liboca_c.a with the toolchain's heap over malloc; liboca_c.a is for a heap of the program's own
-install-library:
-	@test -f $(LIBRARY) || (cd crates/oca_c && rt lib)
+install-library: $(LIBRARY)
 	install -d $(DESTDIR)$(PREFIX)/include $(DESTDIR)$(PREFIX)/lib/pkgconfig
 	install -m 644 include/oca.h $(DESTDIR)$(PREFIX)/include
 	install -m 644 $(LIBRARY) $(DESTDIR)$(PREFIX)/lib/liboca_c.a
 	printf 'create %s\naddlib %s\naddlib %s\nsave\nend\n' $(DESTDIR)$(PREFIX)/lib/liboca.a $(LIBRARY) $(dir $(shell rt doc))c/liblibc_c.a | ar -M
 	sed 's|@PREFIX@|$(PREFIX)|' include/oca.pc.in > $(DESTDIR)$(PREFIX)/lib/pkgconfig/oca.pc
+
+crates/oca_c/out/liboca_c.a: $(foreach name,c types pdu tree session net device control,$(wildcard crates/oca_$(name)/src/*.rt crates/oca_$(name)/specs/*.antt crates/oca_$(name)/proofs/*.antt))
+	cd crates/oca_c && rt lib && touch out/liboca_c.a
 
 clean:
 	rm -rf bin crates/*/out out

@@ -37,17 +37,11 @@ def a_command(program, kind, objects, sessions):
     return (counts[1] - counts[0]) / (count * commands)
 
 
-def knows_sizes(program):
-    """Whether `trials bench` measures more than 128 objects and 16 sessions: then it refuses more than 4,096."""
-    return instructions(program, "single", 4097, 1, 1, "made") is None
-
-
 def main():
-    first, largest = None, 4096 if knows_sizes(f"{sys.argv[1]}/trials") else 128
+    first = None
     print("kind    objects sessions instructions-a-command  goal")
     for kind, objects, sessions, goal in ROWS:
-        is_there = objects <= largest and (sessions <= 16 or largest == 4096)
-        cost = a_command(f"{sys.argv[1]}/trials", kind, objects, sessions) if is_there else None
+        cost = a_command(f"{sys.argv[1]}/trials", kind, objects, sessions)
         first = first or cost
         if goal.endswith("%") and first:
             goal = f"{first * (1 + int(goal[:-1]) / 100):.0f}"

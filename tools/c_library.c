@@ -16,9 +16,15 @@ static const uint8_t *text(const char *words) { return (const uint8_t *)words; }
 static const uint8_t get_state[] = {0x3b, 0, 1, 0, 0, 0, 0x1a, 1, 0, 1, 0, 0, 0, 0x11, 0, 0, 0, 1, 0, 0, 0x10, 1, 0, 4, 0, 1, 0};
 static const uint8_t muted[] = {0x3b, 0, 1, 0, 0, 0, 0x14, 3, 0, 1, 0, 0, 0, 0x0b, 0, 0, 0, 1, 0, 1, 1};
 
+static const struct oca_name positions[] = {{3, "off"}, {3, "low"}, {4, "high"}};
+static const struct oca_name bad_name[] = {{1, {0xff}}}, long_name[] = {{65, "off"}};
+
 static void closed_device(struct oca_device *d) {
     uint8_t bytes[OCA_MOST_BYTES] = {0};
-    size_t size = 0;
+    uint32_t words[OCA_MOST_WRITTEN] = {0}, kind = 9, ip = 9;
+    uint16_t port = 9;
+    size_t size = 77;
+    struct oca_object o = {9, 9, 9, 9, {0}};
     struct oca_verdict v = {9, 9, 9, 9, 9, 9, 9};
     struct oca_setting s = {0, 0, 0};
     same("closed: block", oca_device_add_block(d, 100, 4096, text("a"), 1, true), OCA_CLOSED);
@@ -33,18 +39,27 @@ static void closed_device(struct oca_device *d) {
     same("closed: uint16", oca_device_add_uint16(d, 100, 4096, text("a"), 1, true, 0, 0, 0), OCA_CLOSED);
     same("closed: uint32", oca_device_add_uint32(d, 100, 4096, text("a"), 1, true, 0, 0, 0), OCA_CLOSED);
     same("closed: uint64", oca_device_add_uint64(d, 100, 4096, text("a"), 1, true, 0, 0, 0), OCA_CLOSED);
+    same("closed: switch", oca_device_add_switch(d, 100, 4096, text("a"), 1, true, positions, 3, 0), OCA_CLOSED);
     same("closed: start", oca_device_start(d, 32, 16), OCA_CLOSED);
     same("closed: datagram", oca_device_datagram(d, 1, 2, get_state, sizeof get_state, 0, &v), OCA_CLOSED);
     same("closed: the verdict is left alone", v.kind, 9);
     same("closed: packets", oca_device_packets(d, &size), OCA_CLOSED);
     same("closed: packet", oca_device_packet(d, 0, bytes, sizeof bytes, &size), OCA_CLOSED);
     same("closed: tick", oca_device_tick(d, 0), OCA_CLOSED);
+    uint64_t moment = 9;
+    same("closed: next lapse", oca_device_next_lapse(d, &moment), OCA_CLOSED);
     same("closed: state", oca_device_set_state(d, 4097, 1), OCA_CLOSED);
     same("closed: position", oca_device_set_position(d, 4097, 1), OCA_CLOSED);
     same("closed: truth", oca_device_set_truth(d, 4097, true), OCA_CLOSED);
     same("closed: signed", oca_device_set_signed(d, 4097, -1), OCA_CLOSED);
     same("closed: unsigned", oca_device_set_unsigned(d, 4097, 1), OCA_CLOSED);
     same("closed: setting", oca_device_setting(d, 4097, &s), OCA_CLOSED);
+    same("closed: written", oca_device_written(d, words, OCA_MOST_WRITTEN, &size), OCA_CLOSED);
+    same("closed: objects", oca_device_objects(d, &size), OCA_CLOSED);
+    same("closed: the count is left alone", (uint32_t)size, 77);
+    same("closed: object", oca_device_object(d, 0, &o), OCA_CLOSED);
+    same("closed: the object is left alone", o.ono, 9);
+    same("closed: lock", oca_device_lock(d, 4097, &kind, &ip, &port), OCA_CLOSED);
     oca_device_close(d);
 }
 
@@ -52,11 +67,160 @@ static void closed_link(struct oca_link *l) {
     uint8_t bytes[OCA_MOST_BYTES] = {0};
     size_t size = 0;
     uint32_t a = 0, b = 0;
+    uint64_t moment = 0;
     same("closed: submit", oca_link_submit(l, 1, 1, 1, 0, bytes, 0, 0, &a), OCA_CLOSED);
     same("closed: due", oca_link_due(l, 0, bytes, sizeof bytes, &size, &a, &b), OCA_CLOSED);
     same("closed: link datagram", oca_link_datagram(l, 1, 2, muted, sizeof muted, 0, &a, &b), OCA_CLOSED);
+    same("closed: next due", oca_link_next_due(l, &moment), OCA_CLOSED);
+    same("closed: answered", oca_link_answered(l, &a), OCA_CLOSED);
+    same("closed: last heard", oca_link_last_heard(l, &moment), OCA_CLOSED);
     same("closed: take", oca_link_take(l, 1, &a, &b, bytes, sizeof bytes, &size), OCA_CLOSED);
     oca_link_close(l);
+}
+
+/* Switches: their names, and what is refused of them. */
+static void adds_switches(struct oca_device *d) {
+    struct oca_name named[17];
+    for (int i = 0; i < 17; i++) named[i] = oca_name_of("position");
+    same("a name of 64 bytes", oca_name_of("0123456789012345678901234567890123456789012345678901234567890123").size, 64);
+    same("a name of 65 bytes", oca_name_of("01234567890123456789012345678901234567890123456789012345678901234").size, 65);
+    same("an empty name", oca_name_of("").size, 0);
+    same("a name that is no UTF-8", oca_device_add_switch(d, 4096, 4108, text("mode"), 4, true, bad_name, 1, 0), OCA_BAD_TEXT);
+    same("a name above 64 bytes", oca_device_add_switch(d, 4096, 4108, text("mode"), 4, true, long_name, 1, 0), OCA_BAD_TEXT);
+    same("17 positions", oca_device_add_switch(d, 4096, 4108, text("mode"), 4, true, named, 17, 0), OCA_BAD_RANGE);
+    same("no positions", oca_device_add_switch(d, 4096, 4108, text("mode"), 4, true, positions, 0, 0), OCA_BAD_RANGE);
+    same("a position that is none", oca_device_add_switch(d, 4096, 4108, text("mode"), 4, true, positions, 3, 3), OCA_BAD_RANGE);
+    same("a switch without a role", oca_device_add_switch(d, 4096, 4108, text("mode"), 0, true, positions, 3, 2), OCA_BAD_TEXT);
+    same("switch", oca_device_add_switch(d, 4096, 4108, text("mode"), 4, true, positions, 3, 2), OCA_DONE);
+    same("a switch of 16", oca_device_add_switch(d, 4096, 4109, text("wide"), 4, true, named, 16, 15), OCA_DONE);
+}
+
+/* A command in a PDU of its own. */
+static size_t command(uint8_t *out, uint32_t handle, uint16_t ono, uint8_t level, uint8_t index, uint8_t count, const uint8_t *params, uint8_t size) {
+    const uint8_t front[] = {0x3b, 0, 1, 0, 0, 0, (uint8_t)(26 + size), 1, 0, 1, 0, 0, 0, (uint8_t)(17 + size), 0, 0, (uint8_t)(handle >> 8), (uint8_t)handle,
+                             0, 0, (uint8_t)(ono >> 8), (uint8_t)ono, 0, level, 0, index, count};
+    memcpy(out, front, sizeof front);
+    memcpy(out + sizeof front, params, size);
+    return sizeof front + size;
+}
+
+/* The status of a datagram's only response. */
+static uint32_t status_of(struct oca_device *d) {
+    uint8_t bytes[OCA_MOST_BYTES] = {0};
+    size_t size = 0;
+    return oca_device_packet(d, 0, bytes, sizeof bytes, &size) == OCA_DONE ? bytes[18] : 99;
+}
+
+/* The objects by index. */
+static void reads_objects(struct oca_device *d) {
+    struct oca_object o = {9, 9, 9, 9, {0}};
+    struct oca_setting s = {0, 0, 0};
+    uint32_t word = 9;
+    uint8_t byte = 9, bytes[OCA_MOST_BYTES] = {0};
+    struct oca_verdict v = {9, 9, 9, 9, 9, 9, 9};
+    static const uint8_t one[] = {0, 1};
+    size_t size = 99;
+    same("objects", oca_device_objects(d, &size), OCA_DONE);
+    same("15 of them", (uint32_t)size, 15);
+    same("the root", oca_device_object(d, 0, &o), OCA_DONE);
+    same("its numbers", o.ono == 100 && o.container == 0 && o.class_number == OCA_CLASS_BLOCK && o.role_size == 4, 1);
+    same("its role", (uint32_t)memcmp(o.role, "root", 4), 0);
+    for (uint32_t i = 2; i < 15; i++) {
+        static const uint32_t classes[] = {2, 3, 5, 6, 7, 8, 9, 10, 11, 12, 13, 4, 4};
+        same("object", oca_device_object(d, i, &o), OCA_DONE);
+        same("its number", o.ono, 4095 + i);
+        same("its container", o.container, 4096);
+        same("its class", o.class_number, classes[i - 2]);
+    }
+    same("the last role", o.role_size == 4 && memcmp(o.role, "wide", 4) == 0, 1);
+    same("behind the last", oca_device_object(d, 15, &o), OCA_NOTHING);
+    same("left alone", o.ono, 4109);
+    same("far behind the last", oca_device_object(d, SIZE_MAX, &o), OCA_NOTHING);
+    same("one word, one byte", oca_device_object_words(d, 13, &word, 1, &byte, 1), OCA_DONE);
+    same("the word and the byte", word == 4108 && byte == 'm', 1);
+    same("no words, no bytes", oca_device_object_words(d, 14, &word, 0, &byte, 0), OCA_DONE);
+    same("no word, no byte", word == 4108 && byte == 'm', 1);
+    same("where the switch stands", oca_device_setting(d, 4108, &s), OCA_DONE);
+    same("at its last position", s.kind == 2 && s.magnitude == 2, 1);
+    same("set its position", oca_device_set_position(d, 4108, 1), OCA_DONE);
+    same("a position that is none", oca_device_set_position(d, 4108, 3), OCA_OUT_OF_RANGE);
+    size = command(bytes, 0x100, 4108, 4, 3, 1, one, 2);
+    same("GetPositionName", oca_device_datagram(d, 1, 2, bytes, size, 1000, &v), OCA_DONE);
+    same("an answer", oca_device_packet(d, 0, bytes, sizeof bytes, &size), OCA_DONE);
+    same("its text", size == 25 && memcmp(bytes + size - 5, "\0\3low", 5) == 0, 1);
+}
+
+/* What datagrams wrote to. */
+static void tells_written(struct oca_device *d) {
+    struct oca_verdict v = {9, 9, 9, 9, 9, 9, 9};
+    uint8_t bytes[OCA_MOST_BYTES] = {0};
+    uint32_t words[OCA_MOST_WRITTEN] = {9, 9};
+    static const uint8_t state[] = {1}, none[] = {3}, truth[] = {1};
+    size_t count = 99, size = command(bytes, 0x101, 4097, 4, 2, 1, state, 1);
+    size += command(bytes + size, 0x102, 4098, 4, 2, 1, none, 1);
+    size += command(bytes + size, 0x103, 4099, 5, 2, 1, truth, 1);
+    size += command(bytes + size, 0x104, 4099, 5, 1, 0, truth, 0);
+    same("four commands", oca_device_datagram(d, 1, 2, bytes, size, 1000, &v), OCA_DONE);
+    same("all executed", v.executed, 4);
+    same("written", oca_device_written(d, words, OCA_MOST_WRITTEN, &count), OCA_DONE);
+    same("two", (uint32_t)count, 2);
+    same("in order", words[0] == 4097 && words[1] == 4099 && words[2] == 0, 1);
+    words[1] = 9;
+    same("room for one", oca_device_written(d, words, 1, &count), OCA_TOO_SMALL);
+    same("two all the same", count == 2 && words[0] == 4097 && words[1] == 9, 1);
+    same("room for none", oca_device_written(d, words, 0, &count), OCA_TOO_SMALL);
+    same("room for both", oca_device_written(d, words, 2, &count), OCA_DONE);
+    same("a reading is left alone by a tick", oca_device_tick(d, 1001), OCA_DONE);
+    same("and by the front", oca_device_set_truth(d, 4099, false), OCA_DONE);
+    same("written still", oca_device_written(d, words, 2, &count), OCA_DONE);
+    same("two still", (uint32_t)count, 2);
+    same("a copy", oca_device_datagram(d, 1, 2, bytes, size, 1002, &v), OCA_DONE);
+    same("answered from the window", v.kept, 4);
+    same("written by it", oca_device_written(d, words, 2, &count), OCA_DONE);
+    same("nothing", (uint32_t)count, 0);
+    const uint8_t front[] = {0x3b, 0, 1, 0, 0, 5, 0xbb, 0, 0, 81};
+    memcpy(bytes, front, sizeof front);
+    size = sizeof front;
+    for (uint32_t i = 0; i < 81; i++) {
+        uint8_t one[64] = {0};
+        size_t whole = command(one, 0x200 + i, 4097, 4, 2, 1, state, 1);
+        memcpy(bytes + size, one + 10, whole - 10);
+        size += whole - 10;
+    }
+    same("81 commands", oca_device_datagram(d, 3, 2, bytes, size, 1002, &v), OCA_DONE);
+    same("81 executed", v.executed, 81);
+    same("room for all", oca_device_written(d, words, OCA_MOST_WRITTEN, &count), OCA_DONE);
+    same("81 written", count == 81 && words[80] == 4097 && words[81] == 0, 1);
+}
+
+/* Locks and their holders. */
+static void tells_locks(struct oca_device *d) {
+    struct oca_verdict v = {9, 9, 9, 9, 9, 9, 9};
+    uint8_t bytes[OCA_MOST_BYTES] = {0};
+    uint32_t kind = 9, ip = 9;
+    uint16_t port = 9;
+    size_t size = command(bytes, 0x105, 4097, 1, 3, 0, bytes, 0);
+    same("no lock", oca_device_lock(d, 4097, &kind, &ip, &port), OCA_NOTHING);
+    same("left alone", kind == 9 && ip == 9 && port == 9, 1);
+    same("LockTotal", oca_device_datagram(d, 0x7f000001, 5000, bytes, size, 1003, &v), OCA_DONE);
+    same("its status", status_of(d), 0);
+    same("a lock", oca_device_lock(d, 4097, &kind, &ip, &port), OCA_DONE);
+    same("total, and its holder", kind == 1 && ip == 0x7f000001 && port == 5000, 1);
+    size = command(bytes, 0x106, 4098, 1, 6, 0, bytes, 0);
+    same("LockReadonly", oca_device_datagram(d, 0x7f000002, 5001, bytes, size, 1003, &v), OCA_DONE);
+    same("a read-only lock", oca_device_lock(d, 4098, &kind, &ip, &port), OCA_DONE);
+    same("read-only, and its holder", kind == 2 && ip == 0x7f000002 && port == 5001, 1);
+    same("the lock of no object", oca_device_lock(d, 5000, &kind, &ip, &port), OCA_NOTHING);
+    same("the front is not bound", oca_device_set_state(d, 4097, 2), OCA_DONE);
+    uint64_t moment = 9;
+    same("when the holders fall silent", oca_device_next_lapse(d, &moment), OCA_DONE);
+    same("after three heartbeats of 5 seconds", moment == 16004, 1);
+    same("a moment earlier", oca_device_tick(d, 16003), OCA_DONE);
+    same("a lock still", oca_device_lock(d, 4097, &kind, &ip, &port), OCA_DONE);
+    same("the holders fall silent", oca_device_tick(d, 16004), OCA_DONE);
+    same("the lock lapsed", oca_device_lock(d, 4097, &kind, &ip, &port), OCA_NOTHING);
+    same("the sessions are forgotten", oca_device_tick(d, 1000000), OCA_DONE);
+    same("nothing is left to lapse", oca_device_next_lapse(d, &moment), OCA_NOTHING);
 }
 
 static void device(void) {
@@ -64,7 +228,9 @@ static void device(void) {
     struct oca_verdict v = {9, 9, 9, 9, 9, 9, 9};
     struct oca_setting s = {0, 0, 0};
     uint8_t bytes[OCA_MOST_BYTES] = {0};
-    uint32_t words[2] = {9, 9};
+    struct oca_object o = {9, 9, 9, 9, {0}};
+    uint32_t words[2] = {9, 9}, kind = 9, ip = 9;
+    uint16_t port = 9;
     size_t size = 99;
     memset(&d, 0, sizeof d);
     closed_device(&d);
@@ -74,8 +240,14 @@ static void device(void) {
     same("open again", oca_device_open(&d, 128), OCA_OPEN);
     same("datagram before the start", oca_device_datagram(&d, 1, 2, get_state, sizeof get_state, 0, &v), OCA_NOT_STARTED);
     same("tick before the start", oca_device_tick(&d, 0), OCA_NOT_STARTED);
+    uint64_t moment = 9;
+    same("next lapse before the start", oca_device_next_lapse(&d, &moment), OCA_NOT_STARTED);
     same("setting before the start", oca_device_setting(&d, 4097, &s), OCA_NOT_STARTED);
     same("state before the start", oca_device_set_state(&d, 4097, 1), OCA_NOT_STARTED);
+    same("written before the start", oca_device_written(&d, words, 2, &size), OCA_NOT_STARTED);
+    same("objects before the start", oca_device_objects(&d, &size), OCA_NOT_STARTED);
+    same("object before the start", oca_device_object(&d, 0, &o), OCA_NOT_STARTED);
+    same("lock before the start", oca_device_lock(&d, 4097, &kind, &ip, &port), OCA_NOT_STARTED);
     same("reserved", oca_device_add_block(&d, 100, 4095, text("a"), 1, true), OCA_RESERVED);
     same("block", oca_device_add_block(&d, 100, 4096, text("desk"), 4, true), OCA_DONE);
     same("taken", oca_device_add_block(&d, 100, 4096, text("desk"), 4, true), OCA_TAKEN);
@@ -94,6 +266,7 @@ static void device(void) {
     same("uint16", oca_device_add_uint16(&d, 4096, 4105, text("uint16"), 6, true, 1, 0, 2), OCA_DONE);
     same("uint32", oca_device_add_uint32(&d, 4096, 4106, text("uint32"), 6, true, 1, 0, 2), OCA_DONE);
     same("uint64", oca_device_add_uint64(&d, 4096, 4107, text("uint64"), 6, true, UINT64_MAX, 0, UINT64_MAX), OCA_DONE);
+    adds_switches(&d);
     same("a window of 0", oca_device_start(&d, 0, 16), OCA_BAD_SIZE);
     same("a window of 65", oca_device_start(&d, 65, 16), OCA_BAD_SIZE);
     same("no peers", oca_device_start(&d, 32, 0), OCA_BAD_SIZE);
@@ -101,6 +274,10 @@ static void device(void) {
     same("start", oca_device_start(&d, 32, 16), OCA_DONE);
     same("start again", oca_device_start(&d, 32, 16), OCA_STARTED);
     same("an addition after the start", oca_device_add_block(&d, 100, 5000, text("late"), 4, true), OCA_STARTED);
+    same("a switch after the start", oca_device_add_switch(&d, 100, 5000, text("late"), 4, true, positions, 3, 0), OCA_STARTED);
+    same("no session to lapse", oca_device_next_lapse(&d, &moment), OCA_NOTHING);
+    same("nothing is written yet", oca_device_written(&d, words, 2, &size), OCA_DONE);
+    same("none", (uint32_t)size, 0);
     same("the first packet of none", oca_device_packet(&d, 0, bytes, sizeof bytes, &size), OCA_NOTHING);
     same("datagram", oca_device_datagram(&d, 1, 2, get_state, sizeof get_state, 0, &v), OCA_DONE);
     same("served", v.kind, 0);
@@ -136,6 +313,9 @@ static void device(void) {
     same("minus one", s.negative == 1 && s.magnitude == 1, 1);
     same("unsigned", oca_device_set_unsigned(&d, 4107, UINT64_MAX - 1), OCA_DONE);
     same("beyond its limits", oca_device_set_unsigned(&d, 4105, 3), OCA_OUT_OF_RANGE);
+    reads_objects(&d);
+    tells_written(&d);
+    tells_locks(&d);
     oca_device_close(&d);
     closed_device(&d);
 }
@@ -145,15 +325,22 @@ static void link(void) {
     uint8_t bytes[OCA_MOST_BYTES] = {0};
     size_t size = 99;
     uint32_t a = 9, b = 9, handle = 0;
+    uint64_t moment = 99;
     memset(&l, 0, sizeof l);
     closed_link(&l);
     same("a span of 0", oca_link_open(&l, 1, 2, 1, 0, 0), OCA_BAD_SIZE);
     same("a span of 33", oca_link_open(&l, 1, 2, 1, 0, 33), OCA_BAD_SIZE);
     same("open", oca_link_open(&l, 1, 2, 1, 0, 1), OCA_DONE);
     same("open again", oca_link_open(&l, 1, 2, 1, 0, 1), OCA_OPEN);
+    same("next due", oca_link_next_due(&l, &moment), OCA_DONE);
+    same("a keep-alive", moment == 2500, 1);
+    same("answered", oca_link_answered(&l, &a), OCA_NOTHING);
+    same("last heard", oca_link_last_heard(&l, &moment), OCA_DONE);
+    same("at the opening", moment == 0, 1);
     same("above 1,445 bytes", oca_link_submit(&l, 4097, 4, 1, 0, bytes, 1446, 0, &handle), OCA_TOO_LONG);
     same("submit", oca_link_submit(&l, 4097, 4, 1, 0, bytes, 0, 0, &handle), OCA_DONE);
     same("its handle", handle, 1);
+    same("due at once", oca_link_next_due(&l, &moment) == OCA_DONE && moment == 0, 1);
     same("a full span", oca_link_submit(&l, 4097, 4, 1, 0, bytes, 0, 0, &handle), OCA_SPAN_FULL);
     same("no room", oca_link_due(&l, 0, bytes, sizeof bytes - 1, &size, &a, &b), OCA_TOO_SMALL);
     same("due", oca_link_due(&l, 0, bytes, sizeof bytes, &size, &a, &b), OCA_DONE);
@@ -162,18 +349,24 @@ static void link(void) {
     same("its bytes", (uint32_t)memcmp(bytes, get_state, sizeof get_state), 0);
     same("due again", oca_link_due(&l, 0, bytes, sizeof bytes, &size, &a, &b), OCA_DONE);
     same("nothing", a == OCA_DUE_NOTHING && size == 0, 1);
+    same("again in 250 ms", oca_link_next_due(&l, &moment) == OCA_DONE && moment == 250, 1);
     same("no answer yet", oca_link_take(&l, 1, &a, &b, bytes, sizeof bytes, &size), OCA_NOTHING);
     same("a stranger", oca_link_datagram(&l, 1, 3, muted, sizeof muted, 0, &a, &b), OCA_DONE);
     same("a stranger's", a, OCA_STRANGER);
     same("an empty datagram", oca_link_datagram(&l, 1, 2, muted, 0, 0, &a, &b), OCA_DONE);
     same("malformed", a, OCA_MALFORMED);
-    same("the answer", oca_link_datagram(&l, 1, 2, muted, sizeof muted, 0, &a, &b), OCA_DONE);
+    same("not heard by these", oca_link_last_heard(&l, &moment) == OCA_DONE && moment == 0, 1);
+    same("the answer", oca_link_datagram(&l, 1, 2, muted, sizeof muted, 7, &a, &b), OCA_DONE);
     same("one answered", a == OCA_ANSWERED && b == 1, 1);
+    same("heard by it", oca_link_last_heard(&l, &moment) == OCA_DONE && moment == 7, 1);
+    same("its handle is named", oca_link_answered(&l, &a) == OCA_DONE && a == 1, 1);
+    same("a keep-alive is next", oca_link_next_due(&l, &moment) == OCA_DONE && moment == 2500, 1);
     same("a copy", oca_link_datagram(&l, 1, 2, muted, sizeof muted, 0, &a, &b), OCA_DONE);
     same("nothing new", a, OCA_NOTHING_NEW);
     same("no room for it", oca_link_take(&l, 1, &a, &b, bytes, OCA_MOST_ANSWER - 1, &size), OCA_TOO_SMALL);
     same("take", oca_link_take(&l, 1, &a, &b, bytes, sizeof bytes, &size), OCA_DONE);
     same("status, count and parameters", a == 0 && b == 1 && size == 1 && bytes[0] == 1, 1);
+    same("none is named", oca_link_answered(&l, &a), OCA_NOTHING);
     same("take again", oca_link_take(&l, 1, &a, &b, bytes, sizeof bytes, &size), OCA_NOTHING);
     same("keep-alive", oca_link_due(&l, 2500, bytes, sizeof bytes, &size, &a, &b), OCA_DONE);
     same("it is one", a, OCA_DUE_KEEP_ALIVE);
@@ -181,6 +374,9 @@ static void link(void) {
     for (uint64_t k = 0; k <= 20; k++) oca_link_due(&l, 2500 + 250 * k, bytes, sizeof bytes, &size, &a, &b);
     same("lost after 20 sendings", a, OCA_DUE_LOST);
     same("submit when lost", oca_link_submit(&l, 4097, 4, 1, 0, bytes, 0, 9000, &handle), OCA_LOST);
+    oca_link_close(&l);
+    same("the last moments", oca_link_open(&l, 1, 2, 1, UINT64_MAX - 2000, 16), OCA_DONE);
+    same("never due", oca_link_next_due(&l, &moment), OCA_NOTHING);
     oca_link_close(&l);
     same("the last handle", oca_link_open(&l, 1, 2, UINT32_MAX, 0, 16), OCA_DONE);
     same("submit the last", oca_link_submit(&l, 4097, 4, 1, 0, bytes, 0, 0, &handle), OCA_DONE);

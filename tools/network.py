@@ -137,8 +137,10 @@ def refused_sends(checks):
         run, port = checks.serve(30, FAIL_SEND=1, ERRNO=number)
         with bound() as peer:
             checks.same(f"error {number}: the answer to a copy", answer(peer, get_command(5), ("127.0.0.1", port))[0], response(5))
-        counts = report(run)
+        out, told = run.communicate(timeout=60)
+        counts = dict(zip(out.split()[::2], map(int, out.split()[1::2])))
         checks.same(f"error {number}: counts", [counts[name] for name in ("executed", "kept", "failed-sends")], [1, 1, 1])
+        checks.expect(f"error {number}: a note", re.fullmatch(r"note: failed sends: 1, the last: .+\n", told), told)
 
 
 def a_stalled_neighbour(checks):

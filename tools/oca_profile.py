@@ -5,6 +5,7 @@ programs' code, to compare them with it.
 It favours plain lists over speed. Python 3, standard library only."""
 
 import copy
+import re
 
 U32, U64 = 2**32 - 1, 2**64 - 1
 LARGEST = 1472
@@ -154,6 +155,117 @@ def bench(channels=0):
             Object(first + 3, "int16", first, "trim", state=0, low=-600, high=600),
         ]
     return own
+
+
+WORDS = {"mute": {"muted": 1, "unmuted": 2}, "polarity": {"non-inverted": 1, "inverted": 2},
+         "boolean": {"on": True, "off": False}}
+
+
+class ObjectFault(Exception):
+    """A line of a tree's text: its number and the word for its fault."""
+
+
+def tree_of_text(text):
+    """The objects that a text lists, a line each; or an ObjectFault."""
+    tree = [Object(100, "block", 0, "root")]
+    for k, line in enumerate(text.split(b"\n"), 1):
+        if line and not line.startswith(b"#"):
+            try:
+                tree.append(listed(tree, line))
+            except ValueError as fault:
+                raise ObjectFault(k, str(fault)) from None
+    return tree
+
+
+def parts(line):
+    """The fields of a line, one at a time; one in quotes goes up to the next quote."""
+    while line is not None:
+        if line.startswith(b'"'):
+            part, quote, line = line[1:].partition(b'"')
+            if not quote or line[:1] not in (b"", b" "):
+                raise ValueError("form")
+            line = line[1:] if line else None
+        else:
+            part, space, line = line.partition(b" ")
+            line = line if space else None
+        yield part
+
+
+def next_of(fields):
+    """The next field, which must be there."""
+    return some(next(fields, None), "form")
+
+
+def some(value, fault):
+    if value is None:
+        raise ValueError(fault)
+    return value
+
+
+def utf8(data):
+    try:
+        return data.decode("utf-8")
+    except UnicodeDecodeError:
+        raise ValueError("text") from None
+
+
+def whole_number(data, low, high):
+    found = re.fullmatch(rb"-?[0-9]{1,20}", data)
+    return int(data) if found and low <= int(data) <= high and abs(int(data)) <= U64 else None
+
+
+def listed(tree, line):
+    """The object of a line; a ValueError has the word for its first fault from the left, or why it is not added."""
+    if any(b < 32 for b in line):
+        raise ValueError("form")
+    fields = parts(line)
+    ono, container = (some(digits(next_of(fields).decode("latin-1"), 10, U32), "number") for _ in range(2))
+    kind = next_of(fields).decode("latin-1")
+    state = names = low = high = None
+    if kind not in CLASSES:
+        raise ValueError("class")
+    if kind in WORDS:
+        state = some(WORDS[kind].get(next_of(fields).decode("latin-1")), "value")
+    elif kind == "switch":
+        names = []
+        for name in next_of(fields).split(b","):
+            names.append(utf8(name))
+            if len(names) > 16:
+                raise ValueError("range")
+        wanted = next_of(fields)
+        state = some(next((n for n, name in enumerate(names) if name.encode() == wanted), None), "value")
+    elif kind != "block":
+        size, signed = WIDTHS[kind]
+        span = (-2**(8 * size - 1), 2**(8 * size - 1) - 1) if signed else (0, 2**(8 * size) - 1)
+        low, high, state = (some(whole_number(next_of(fields), *span), "number") for _ in range(3))
+    lockable = some({b"lockable": True, b"no-lock": False}.get(next_of(fields)), "lockable")
+    last = next_of(fields)
+    if next(fields, None) is not None:
+        raise ValueError("form")
+    role = utf8(last)
+    new = Object(ono, kind, container, role, lockable, state, names, low, high)
+    refuse(tree, new)
+    return new
+
+
+def refuse(tree, new):
+    """Why an object is not added, in the order of the rules."""
+    block = next((o for o in tree if o.ono == new.container and o.kind == "block"), None)
+    deep, at = 1, block
+    while at is not None and at.ono != 100:
+        deep, at = deep + 1, next(o for o in tree if o.ono == at.container)
+    texts = [new.role] + (new.names or [])
+    for fault, holds in (
+            ("full", len(tree) >= 4096), ("reserved", new.ono < 4096), ("taken", any(o.ono == new.ono for o in tree)),
+            ("container", block is None), ("depth", deep >= 8), ("text", not new.role or any(len(t.encode()) > 64 for t in texts)),
+            ("range", new.low is not None and not new.low <= new.state <= new.high)):
+        if holds:
+            raise ValueError(fault)
+
+
+def show(tree):
+    """What `ocadev show` prints."""
+    return "".join(f"{o.ono} {'.'.join(map(str, CLASSES[o.kind]))} {o.container} {o.role}\n" for o in tree)
 
 
 class Bad(Exception):

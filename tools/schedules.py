@@ -189,6 +189,28 @@ def crowd(r, window, span):
     return schedule
 
 
+def lossy(r, window, span):
+    """Links that are asked at least every 250 ms until no command is left, over a network that loses most datagrams."""
+    schedule = Schedule(window, span, starts(r, r.choice([1, 1, 2])), r.choice(PEERS))
+    network, links, pace = schedule.network, range(len(schedule.starts)), r.choice([[1, 20, 100], [100, 200, 250], [249, 250]])
+    loss, came = r.choice([1, 2, 4, 30]), {"to-device": 0, "to-link": 0}
+    for _ in range(r.choice([8, 12, 24, 60])):
+        for i in links:
+            for _ in range(r.choice([0, 0, 1, 2])):
+                submit(r, schedule, i)
+            while schedule.timed("due", i).startswith("sent"):
+                pass
+        for way, sent in (("to-device", network.to_device), ("to-link", network.to_links)):
+            for k in range(came[way], len(sent)):
+                if r.randrange(loss + 1) == 0:
+                    schedule.timed(way, k)
+            came[way] = len(sent)
+        if r.randrange(3) == 0:
+            schedule.take_all()
+        schedule.now += r.choice(pace)
+    return schedule
+
+
 def directed(window, span, r=None):
     """The last command of a full span overtakes the others and stays untaken, while the others are answered and taken
     and as many more follow; then a copy of it comes. With r in another order, with noise, and several times."""

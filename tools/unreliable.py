@@ -105,7 +105,8 @@ class Runs:
 
 
 # the calls that take memory and can answer that there is none
-CALLS = ["tree-builder-new", "tree-builder-add", "bench", "sessions-new", "device-new", "outbox-new", "memory-end-new", "udp-end-bind", "run-pair"]
+CALLS = ["tree-builder-new", "tree-builder-with-room", "bench", "sessions-new", "device-new", "device-with-sizes", "outbox-new", "memory-end-new",
+         "udp-end-bind", "run-pair"]
 
 
 def main():
@@ -115,7 +116,8 @@ def main():
     with tempfile.TemporaryDirectory() as layer:
         subprocess.run(["gcc", "-O1", "-Wall", "-shared", "-fPIC", "-o", f"{layer}/unreliable.so", f"{here}/unreliable.c", "-ldl"], check=True)
         runs = Runs(folder, layer)
-        runs.memory(["ocadev", "show"], b"")
+        for words in (["ocadev", "show"], ["ocadev", "--help"], ["ocadev", "serve", "--help"], ["ocactl", "--help"], ["ocactl", "send", "--help"]):
+            runs.memory(words, b"")
         for words, scripts, expected in ((device, list(device_scripts()), oca.device_replay),
                                          (link, list(link_scripts()), lambda s: oca.link_replay(s, (127, 0, 0, 1, 65000), 1))):
             requests, _ = runs.memory(words, b"")
@@ -134,6 +136,7 @@ def main():
             requests, others = runs.memory(["trials", "call", name], b"")
             print(f"  {name}: {requests - start} requests for memory")
             runs.expect(len(others) == len(without), f"{name}: {len(others) - len(without)} requests are done without")
+        runs.expect(runs.refused > 300 and runs.ends > 2000, "too few refusals and failures were tried")
         print(f"unreliable: {runs.refused} requests for memory refused and answered, {runs.without} done without; "
               f"{runs.ends} failed reads and writes, {runs.pieces} runs in short pieces; {runs.wrong} wrong")
     return 1 if runs.wrong else 0

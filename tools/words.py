@@ -1,22 +1,28 @@
 #!/usr/bin/env python3
-"""What the words of the command lines make of a run: `ocadev serve`, `ocactl send` and `ocactl run` over real sockets.
+"""What the words of the command lines make of a run: `ocadev serve`, `ocactl send` and `ocactl run` over real sockets,
+and the objects that a file lists.
 
-Usage: words.py BIN     BIN is the folder with `ocadev` and `ocactl`
+Usage: words.py BIN [more]     BIN is the folder with `ocadev` and `ocactl`
+
+With `more`: `serve` until it is stopped, and trees that are read from files. That part is not in the gate yet.
 
 A device of this script hears what `ocactl` sends, byte for byte, and from which port; a controller of this script speaks to `ocadev
 serve` and compares the counts at the end, each of another number. The last line is 'N passed, M failed'."""
 import contextlib
+import random
 import re
+import select
 import socket
 import subprocess
 import sys
+import tempfile
 import time
 from pathlib import Path
 
 import oca_profile as oca
 
 TURNS = 80
-README = Path(__file__).resolve().parent.parent / "README.md"
+EXAMPLES = Path(__file__).resolve().parent.parent / "examples"
 
 
 def bound(port=0):
@@ -129,7 +135,8 @@ def faults(checks):
         send = ("--device", "127.0.0.1:65000", "--target", 1, "--level", 1, "--index", 1, "--count", 0)
         for words, fault, code in ((("ocactl", "send", "--port"), "bad words", 2), (("ocadev", "serve", "--prot", 1), "bad words", 2),
                                    (("ocactl", "send", *send, "--turns", "x"), "bad words", 2),
-                                   (("ocactl", "send", *send, "--port", port), "socket failed", 1)):
+                                   (("ocactl", "send", *send, "--port", port), "socket failed", 1),
+                                   (("ocadev", "serve", "--port", port), "socket failed", 1)):
             run = checks.start(*words)
             out, said = run.communicate(timeout=30)
             lines = said.splitlines()
@@ -176,20 +183,171 @@ def serves(checks):
     checks.same("serve: its answers", answered, 10)
 
 
-def helps(checks):
-    """The help of each command names the options that the table of README.md shows."""
-    for line in README.read_text().splitlines():
-        words = re.match(r"\| `(oca\w+) (\w+)([^`]*)`", line)
-        if words:
-            run = checks.start(words[1], words[2], "--help")
-            out, fault = run.communicate(timeout=30)
-            missing = [option for option in re.findall(r"--[a-z-]+", words[3]) if f" {option} <" not in out]
-            checks.same(f"help of {words[1]} {words[2]}", (missing, fault, run.returncode), ([], "", 0))
+def typed(checks):
+    """`run` gives the answer of a line before the next line comes, while its standard input stays open."""
+    with bound() as device:
+        run = checks.start("ocactl", "run", "--device", f"127.0.0.1:{device.getsockname()[1]}", "--first-handle", 1, "--port", free_port())
+        for handle in (1, 2, 3):
+            run.stdin.write("1 2 3 0 -\n")
+            run.stdin.flush()
+            data, sender = device.recvfrom(2000)
+            checks.same("run, typed: its bytes", data, oca.pdu(1, [oca.Command(handle, 1, 2, 3, 0, b"").body()]))
+            device.sendto(response(handle, handle, 0, b""), sender)
+            ready = select.select([run.stdout], [], [], 10)[0]
+            checks.same("run, typed: its answer", ready and run.stdout.readline(), f"answer {handle} 0 -\n")
+        out = run.communicate(timeout=30)
+        checks.same("run, typed: its end", (*out, run.returncode), ("", "", 0))
+
+
+def limits(checks):
+    """`send`: the greatest value of each option is sent, and one more is bad words and sends nothing."""
+    most = {"target": oca.U32, "level": 65535, "index": 65535, "count": 255, "params": "5a" * 1445, "turns": oca.U32, "port": 65535}
+    wanted = oca.pdu(1, [oca.Command(oca.U32, oca.U32, 65535, 65535, 255, b"\x5a" * 1445).body()])
+    with bound() as device:
+        to = ("--device", f"127.0.0.1:{device.getsockname()[1]}", "--first-handle", oca.U32)
+        words = [word for name, value in most.items() for word in (f"--{name}", value)]
+        run = checks.start("ocactl", "send", *to, *words)
+        data, sender = device.recvfrom(2000)
+        device.sendto(response(oca.U32, 0, 0, b""), sender)
+        out = run.communicate(timeout=30)
+        checks.same("send: the greatest of each option", (data, sender[1], *out, run.returncode), (wanted, 65535, "answer 0 0 -\n", "", 0))
+        device.setblocking(False)
+        for name, value in {**most, "first-handle": oca.U32}.items():
+            more = value + "5a" if name == "params" else value + 1
+            all_but = [word for other, that in most.items() if other != name for word in (f"--{other}", that)]
+            where = to[:2] if name == "first-handle" else to
+            run = checks.start("ocactl", "send", *where, *all_but, f"--{name}", more)
+            out, said = run.communicate(timeout=30)
+            checks.same(f"send: --{name} too great", (out, said.splitlines()[-1:], run.returncode), ("", ["bad words"], 2))
+        try:
+            checks.same("send: bad words send nothing", device.recv(2000), b"")
+        except BlockingIOError:
+            checks.passed += 1
+
+
+def defaults(checks):
+    """`send` without an answer: 20 sendings of one command, and with `--turns 0` one, for which it does not wait."""
+    for turns, sent, said in ((["--turns", 0], 1, "no answer\n"), ([], 20, "lost\n")):
+        with bound() as device:
+            run = checks.start("ocactl", "send", "--device", f"127.0.0.1:{device.getsockname()[1]}", "--first-handle", 1, "--target", 1,
+                               "--level", 1, "--index", 1, "--count", 0, *turns)
+            out = run.communicate(timeout=30)
+            checks.same(f"send {turns}: its end", (*out, run.returncode), (said, "", 3))
+            device.setblocking(False)
+            heard = []
+            with contextlib.suppress(BlockingIOError):
+                while True:
+                    heard.append(device.recv(2000))
+            checks.same(f"send {turns}: its sendings", (len(heard), len(set(heard))), (sent, 1))
+
+
+def unwritten(checks):
+    """What can't be written is a fault, of each command, and of help."""
+    with open("/dev/full", "w") as full, bound() as device:
+        to = f"127.0.0.1:{device.getsockname()[1]}"
+        send = ("--target", 1, "--level", 1, "--index", 1, "--count", 0)
+        for words, script in ((("ocadev", "serve", "--port", 0, "--turns", 0), ""), (("ocadev", "show"), ""), (("ocadev", "--help"), ""),
+                              (("ocadev", "replay"), "0 quiet\n"), (("ocactl", "send", "--device", to, "--first-handle", 1, *send), ""),
+                              (("ocactl", "run", "--device", to, "--first-handle", 1), "1 2 3 0 -\n"), (("ocactl", "send", "--help"), "")):
+            run = subprocess.Popen([f"{checks.folder}/{words[0]}", *map(str, words[1:])], stdin=subprocess.PIPE, stdout=full,
+                                   stderr=subprocess.PIPE, text=True)
+            checks.started.append(run)
+            run.stdin.write(script)
+            run.stdin.close()
+            run.stdin = None
+            if "--device" in words:
+                _, sender = device.recvfrom(2000)
+                device.sendto(response(1, 0, 0, b""), sender)
+            said = run.communicate(timeout=30)[1]
+            checks.same(f"{words}, which can't be written", (said.splitlines()[-1:], run.returncode), (["write failed"], 1))
+
+
+def serves_until_stopped(checks):
+    """`serve` without `--turns`, of one peer and two channel strips: what it tells of each datagram, and that a signal ends it without a
+    report."""
+    run = checks.start("ocadev", "serve", "--port", 0, "--ip", "0.0.0.0", "--peers", 1, "--channels", 2, "--verbose")
+    checks.same("serve at 0.0.0.0: a note", run.stderr.readline()[:14], "note: 0.0.0.0 ")
+    said = re.fullmatch(r"listening 0\.0\.0\.0:(\d+)\n", run.stderr.readline())
+    checks.same("serve at 0.0.0.0: where it listens", said is not None, True)
+    device = ("127.0.0.1", int(said[1]))
+    with bound() as first, bound() as second:
+        told = []
+        for sender, data in ((first, oca.pdu(1, [oca.Command(1, 4108, 4, 2, 1, b"\2").body(), oca.Command(2, 4110, 5, 2, 1, b"\0\5").body()])),
+                             (first, oca.pdu(1, [oca.Command(1, 4108, 4, 2, 1, b"\2").body()])),
+                             (first, oca.pdu(1, [oca.Command(1, 4108, 4, 1, 0, b"").body()])),
+                             (second, oca.pdu(1, [oca.Command(1, 4108, 4, 1, 0, b"").body()])), (second, b"\x3b"), (second, b"\0" * 1473)):
+            sender.sendto(data, device)
+            told.append(run.stderr.readline())
+        names = [f"127.0.0.1:{peer.getsockname()[1]}" for peer in (first, second)]
+        checks.same("serve --verbose: what it tells", told, [
+            f"{names[0]} served 2 0 0 wrote 4108 4110\n", f"{names[0]} served 0 1 0\n", f"{names[0]} served 0 0 0 reused 1\n",
+            f"{names[1]} no-room\n", f"{names[1]} malformed 9 at 1\n", "oversize\n"])
+    run.terminate()
+    out, fault = run.communicate(timeout=30)
+    checks.same("serve: stopped by a signal", (out, fault, run.returncode), ("", "", -15))
+    for turns in (0, 3):
+        out, fault = checks.start("ocadev", "serve", "--port", 0, "--turns", turns, "--verbose").communicate(timeout=30)
+        checks.same(f"serve --verbose --turns {turns}", (out.split()[:2], out.split()[16:18], len(fault.splitlines())),
+                    (["turns", str(turns)], ["quiet", str(turns)], 1))
+
+
+def listed_line(r, onos):
+    """A line of a tree's text, right or with a fault here and there."""
+    kind = r.choice(list(oca.CLASSES) + ["block"] * 15)
+    ono = r.choice([len(onos) + 4097] * 60 + [4096 + r.randrange(40), 4095, 2**32, 7])
+    value = []
+    if kind in oca.WORDS:
+        value = [r.choice(list(oca.WORDS[kind]) * 12 + ["up"])]
+    elif kind == "switch":
+        names = [r.choice(["a", "Line", "Stage left", "Off", "B\u00fchne", "", "n" * r.choice([64] * 30 + [65])]) for _ in range(r.choice([1, 2, 3, 5, 9, 12, 16, 17]))]
+        value = [",".join(names), r.choice(names * 9 + ["nowhere"])]
+    elif kind != "block":
+        size, signed = oca.WIDTHS[kind]
+        least, greatest = (-2**(8 * size - 1), 2**(8 * size - 1) - 1) if signed else (0, 2**(8 * size) - 1)
+        value = [str(n) for n in (r.choice([least, 0, 5] * 6 + [least - 1]), r.choice([greatest, 100, 6] * 6 + [greatest + 1]), r.choice([5, 6] * 9 + [50, least, greatest]))]
+    fields = [str(ono), str(r.choice([100] * 9 + [4096] * 6 + onos[-12:])), kind, *value, r.choice(["lockable", "no-lock"] * 15 + ["yes"]),
+              r.choice(["mute", "a role", "B\u00fchne 1", "x" * r.choice([64] * 30 + [65])] * 15 + [""])]
+    onos.append(ono)
+    line = " ".join(f'"{f}"' if " " in f or not f or r.randrange(9) == 0 else f for f in fields).encode()
+    damage = r.randrange(90)
+    return {0: line[:r.randrange(len(line))], 1: line + b" x", 2: line.replace(b" ", b"  ", 1), 3: line + b"\r", 4: line.replace(b"l", b"\xff"),
+            5: line.replace(b'"', b"", 1), 6: b"# " + line, 7: b""}.get(damage, line)
+
+
+def trees(checks):
+    """`show --tree` and `replay --tree` of the example and of random texts, right and wrong, against the second implementation."""
+    r = random.Random(1)
+    with tempfile.TemporaryDirectory() as folder:
+        path = f"{folder}/objects.tree"
+        texts = [(EXAMPLES / "stagebox.tree").read_bytes(), b""]
+        for _ in range(300):
+            onos = []
+            lines = [b"4096 100 block lockable desk"] * r.randrange(2) + [listed_line(r, onos) for _ in range(r.choice([1, 2, 5, 9, 12]))]
+            texts.append(b"\n".join(lines) + b"\n" * r.randrange(2))
+        for text in texts:
+            Path(path).write_bytes(text)
+            try:
+                expected = (oca.show(oca.tree_of_text(text)).encode(), b"", 0)
+            except oca.ObjectFault as fault:
+                expected = (b"", f"line {fault.args[0]}: {fault.args[1]}\n".encode(), 2)
+            done = subprocess.run([f"{checks.folder}/ocadev", "show", "--tree", path], capture_output=True, timeout=30)
+            checks.same(f"show --tree of {text!r}", (done.stdout, done.stderr, done.returncode), expected)
+        Path(path).write_bytes(texts[0])
+        get = oca.pdu(1, [oca.Command(1, 4101, 4, 5, 0, b"").body()])
+        done = subprocess.run([f"{checks.folder}/ocadev", "replay", "--tree", path], input=f"0 127.0.0.1:9001 {get.hex()}\n".encode(), capture_output=True,
+                              timeout=30)
+        said, packets = oca.Device(oca.tree_of_text(texts[0])).datagram((127, 0, 0, 1, 9001), get, 0)
+        checks.same("replay --tree", done.stdout.decode(), f"{said}\n> {packets[0].hex()}\n")
+        for words, fault, code in ((["--tree", path, "--channels", "1"], "bad words", 2), (["--tree", f"{folder}/none"], "read failed", 1)):
+            done = subprocess.run([f"{checks.folder}/ocadev", "show", *words], capture_output=True, text=True, timeout=30)
+            checks.same(f"show {words}", (done.stdout, done.stderr.splitlines()[-1:], done.stderr[:6], done.returncode), ("", [fault], "note: ", code))
 
 
 def main():
     checks = Checks(sys.argv[1])
-    for part in (sends, runs, runs_ahead, own_ports, faults, serves, helps):
+    more = (serves_until_stopped, trees)
+    parts = (sends, runs, runs_ahead, typed, own_ports, limits, defaults, faults, unwritten, serves)
+    for part in more if sys.argv[2:] == ["more"] else parts:
         try:
             part(checks)
         except (OSError, TypeError, subprocess.TimeoutExpired) as fault:  # nothing came, or other words than those that were waited for

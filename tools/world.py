@@ -16,6 +16,9 @@ made on a transcript alone. A peer keeps its session where its admitted datagram
              and no more peers came than have room
  round trip  where that datagram comes to the link, at any later step, the link has the command's answer; where the peer
              kept its session till then, the answer is the reply that the datagram carries
+ through     while a link is asked at least every ms milliseconds until no command is left (for each run the least ms that it
+             meets is taken), a command that is unanswered was submitted at most ms ago or given out, with its own
+             bytes, less than 250 + ms ago; and after ms + 20 * (250 + ms) it is answered, or its link is lost
  once        no command is executed twice where the peer kept its session
  second      the transcript is, byte for byte, that of the second implementation
  premises    there are schedules within the premises that lose, double and overtake datagrams
@@ -35,12 +38,21 @@ import subprocess
 import sys
 
 import oca_profile as oca
-from schedules import PAIRS, PEERS, Schedule, crowd, directed, wander
+from schedules import PAIRS, PEERS, Schedule, crowd, directed, lossy, wander
 
 BATCH = 40
 
 
 # ---- the laws, on a transcript
+
+
+class Waiting:
+    """A command that waits for its answer: when it was submitted, when last no command was left to give out, the longest
+    time without that, and when it was given out."""
+
+    def __init__(self, since):
+        self.since = self.asked = since
+        self.ms, self.given = 0, []
 
 
 class Break(Exception):
@@ -73,6 +85,7 @@ class Laws:
         self.within = False
         self.trips, self.answered, self.owed = {}, [set() for _ in self.peers], [{} for _ in self.peers]
         self.answers_sent = 0
+        self.clocks, self.waiting = [0 for _ in self.peers], [{} for _ in self.peers]
         self.heard = {"to-device": collections.Counter(), "to-link": collections.Counter()}
         self.latest = {}
 
@@ -131,9 +144,42 @@ class Laws:
             if handle in self.submitted[step[2]]:
                 raise Break("answers", 0, f"two commands have handle {handle}")
             self.submitted[step[2]][handle] = self.untaken[step[2]][handle] = oca.Command(handle, *step[3:])
+            self.go_on(step[2], step[1])
+            self.waiting[step[2]][handle] = Waiting(self.clocks[step[2]])
+            self.called(step[2])
 
     def due(self, step, said):
-        pass
+        _, now, link = step
+        self.go_on(link, now)
+        if said == "lost":
+            self.waiting[link].clear()
+        p, data = self.sent["to-device"][int(said.split(" ")[1])] if said.startswith("sent ") else (None, None)
+        message = oca.check(data)[0] if data else ("nothing",)
+        if message[0] != "command":
+            for command in self.waiting[link].values():
+                command.asked = self.clocks[link]
+        else:
+            handle = message[2].handle
+            if p != self.peers[link] or data != oca.pdu(1, [self.submitted[link][handle].body()]):
+                raise Break("through", 0, f"what is given out for handle {handle} is no copy of its command")
+            if handle in self.waiting[link]:
+                self.waiting[link][handle].given.append(self.clocks[link])
+        self.called(link)
+
+    def go_on(self, link, now):
+        self.clocks[link] = max(self.clocks[link], now)
+
+    def called(self, link):
+        """After a call of the link: what waits is given out in time."""
+        now = self.clocks[link]
+        for handle, command in self.waiting[link].items():
+            command.ms = max(command.ms, now - command.asked)
+            late = now >= command.given[-1] + 250 + command.ms if command.given else now > command.since + command.ms
+            if late or now > command.since + command.ms + 20 * (250 + command.ms):
+                raise Break("through", 0, f"handle {handle} waits, and was not given out in time")
+            self.count["waiting"] += 1
+            self.count["waiting, asked every 250 ms"] += command.ms <= 250
+            self.count["waiting, asked so, and given out again"] += command.ms <= 250 and len(command.given) > 1
 
     def tick(self, step, said):
         self.clock = max(self.clock, step[1])
@@ -149,9 +195,12 @@ class Laws:
         if step[2] in self.trips:
             self.came_back(said, *self.trips[step[2]])
         p, data = self.sent["to-link"][step[2]]
-        message = oca.check(data)[0]
+        message, link = oca.check(data)[0], self.peers.index(p)
+        self.go_on(link, step[1])
         if message[0] == "response" and said == "answered 1":
-            self.answered[self.peers.index(p)].add(message[1])
+            self.answered[link].add(message[1])
+            self.waiting[link].pop(message[1], None)
+        self.called(link)
 
     def came_back(self, said, link, handle, reply):
         """The datagram came that the device sent when a copy came of a command that this link held untaken."""
@@ -288,7 +337,7 @@ def made(seed, number):
         window, span = r.randrange(1, 65), r.randrange(1, 33)
     if r.randrange(3) == 0:
         return [directed(window, span, r).take_all()]
-    schedule = crowd(r, window, span) if r.randrange(12) == 0 else wander(r, window, span)
+    schedule = r.choice([crowd, lossy] + [wander] * 10)(r, window, span)
     if r.randrange(20) == 0:
         return [schedule.refused(r)]
     if len(schedule.steps) <= 24 and r.randrange(8) == 0:
@@ -343,6 +392,7 @@ def work(job):
 def wrong_rules():
     """Devices and links with one rule changed, each with the law that must refuse them and what is changed."""
     judge, submit_to, serve, hear = oca.Session.judge, oca.Link.submit, oca.Device.datagram, oca.Link.datagram
+    due = oca.Link.due
 
     def no_floor(session, window, command):
         kept = [reply for c, reply in session.accepted[-window:] if c.handle == command.handle]
@@ -380,6 +430,19 @@ def wrong_rules():
         link.untaken = sorted(link.untaken + again, key=lambda u: u[0].handle)
         return said
 
+    def twice_at_most(link, now):
+        again = [u for u in link.untaken if u[1] == 2]
+        link.untaken = [u for u in link.untaken if u[1] != 2]
+        said = due(link, now)
+        link.untaken = sorted(link.untaken + again, key=lambda u: u[0].handle)
+        return said
+
+    def lowest_alone(link, now):
+        later, link.untaken = link.untaken[1:], link.untaken[:1]
+        said = due(link, now)
+        link.untaken += later
+        return said
+
     def one_answer(link, sender, data, now):
         return "nothing new" if any(u[3] is not None for u in link.untaken) else hear(link, sender, data, now)
 
@@ -403,6 +466,8 @@ def wrong_rules():
         "no answer to what was given out twice": ("round trip", oca.Link, "datagram", hears_once),
         "one answer at a time": ("round trip", oca.Link, "datagram", one_answer),
         "an answer takes the others' place": ("round trip", oca.Link, "datagram", last_answer),
+        "what was given out twice is not given out again": ("through", oca.Link, "due", twice_at_most),
+        "the lowest command alone is given out": ("through", oca.Link, "due", lowest_alone),
     }
 
 
@@ -506,6 +571,9 @@ HELD = [("answers", "answers"), ("only", "answers of an only execution"),
         ("untaken, the oldest of a full window", "of these, of the oldest command of a full window"),
         ("round trips", "round trips"),
         ("round trips of a command that is still untaken", "of these, of a command that is still untaken"),
+        ("waiting", "times that a command waits after a call"),
+        ("waiting, asked every 250 ms", "of these, on a link that is asked every 250 ms"),
+        ("waiting, asked so, and given out again", "of these, given out more than once"),
         ("once", "executions of peers that kept their sessions")]
 MET = [("said too old", "old"), ("said no-room", "without room"), ("said refused", "refused submits"),
        ("said lost", "lost"), ("refused", "refused schedules"), ("front set", "changes at the front"),
@@ -571,6 +639,7 @@ def main():
         "answers": total["answers"], "only": total["only"] and total["only, of a peer that found no room before"],
         "untaken": total["untaken, the oldest of a full window"], "once": total["once"],
         "round trip": total["round trips of a command that is still untaken"],
+        "through": total["waiting, asked so, and given out again"],
         "second": total["schedules"] >= count and total["refused"],
         "premises": total["premises met, with loss, double and overtaking"], "sizes": good,
         "lines": lines == len(BAD_LINES) + 1, "wrong": all(found for found, _ in wrong),

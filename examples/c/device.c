@@ -33,16 +33,21 @@ static uint32_t build(struct oca_device *device) {
     return answer == OCA_DONE ? oca_device_start(device, 32, 16) : answer;
 }
 
-/* What the channels are to be, and whether that is new. */
+/* What the channels are to be. */
 struct channels { bool muted[2]; int gain[2]; };
 
+/* Brings what the last datagram wrote to into the channels; whether that is new. */
 static bool follow(struct oca_device *device, struct channels *channels) {
+    uint32_t written[OCA_MOST_WRITTEN] = {0};
     struct channels now = *channels;
-    for (uint32_t channel = 0; channel < 2; channel++) {
+    size_t count = 0;
+    oca_device_written(device, written, OCA_MOST_WRITTEN, &count);
+    for (size_t i = 0; i < count; i++) {
         struct oca_setting setting = {0, 0, 0};
-        uint32_t block = 4096 + 16 * channel;
-        if (oca_device_setting(device, block + 1, &setting) == OCA_DONE) now.muted[channel] = setting.magnitude == 1;
-        if (oca_device_setting(device, block + 2, &setting) == OCA_DONE) now.gain[channel] = (setting.negative ? -1 : 1) * (int)setting.magnitude;
+        uint32_t channel = (written[i] - 4096) / 16;
+        if (oca_device_setting(device, written[i], &setting) != OCA_DONE) continue;
+        if (written[i] % 16 == 1) now.muted[channel] = setting.magnitude == 1;
+        if (written[i] % 16 == 2) now.gain[channel] = (setting.negative ? -1 : 1) * (int)setting.magnitude;
     }
     bool changed = false;
     for (int channel = 0; channel < 2; channel++)
@@ -67,8 +72,8 @@ static int listen_at(uint16_t port) {
     return file;
 }
 
-/* Receives once, and answers what came. */
-static void turn(struct oca_device *device, int file) {
+/* Receives once, and answers what came; whether anything did. */
+static bool turn(struct oca_device *device, int file) {
     static uint8_t bytes[OCA_MOST_BYTES + 1];
     struct sockaddr_in from;
     socklen_t size = sizeof from;
@@ -77,13 +82,14 @@ static void turn(struct oca_device *device, int file) {
     ssize_t got = recvfrom(file, bytes, sizeof bytes, 0, (struct sockaddr *)&from, &size);
     if (got < 0 || got > OCA_MOST_BYTES) {
         oca_device_tick(device, now_ms());
-        return;
+        return false;
     }
     oca_device_datagram(device, ntohl(from.sin_addr.s_addr), ntohs(from.sin_port), bytes, (size_t)got, now_ms(), &verdict);
     oca_device_packets(device, &count);
     for (size_t i = 0; i < count; i++)
         if (oca_device_packet(device, i, bytes, sizeof bytes, &length) == OCA_DONE)
             sendto(file, bytes, length, 0, (struct sockaddr *)&from, size);
+    return true;
 }
 
 int main(int count, char **words) {
@@ -104,8 +110,7 @@ int main(int count, char **words) {
     }
     uint64_t end = now_ms() + 1000 * (uint64_t)(count > 2 ? atoi(words[2]) : 1);
     while (now_ms() < end) {
-        turn(&device, file);
-        if (follow(&device, &channels)) {
+        if (turn(&device, file) && follow(&device, &channels)) {
             printf("1: %s %d dB/10, 2: %s %d dB/10\n", channels.muted[0] ? "muted" : "open", channels.gain[0],
                    channels.muted[1] ? "muted" : "open", channels.gain[1]);
             fflush(stdout);

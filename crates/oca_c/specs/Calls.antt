@@ -1,46 +1,102 @@
 -- What the calls promise of what is behind a handle.
-use Rattle.std.specs.Prelude.{◌≡◌, ◌⊎◌, ℕ, ◌<◌, ◌^◌, Bool, List, [], ◌∷◌, ◌++◌, take, drop, length, min, Option, Some, None, Result, Ok, Err, IsSomeAnd, pos, nat_abs, int_lt, if◌then◌else◌}
+use Rattle.std.specs.Prelude.{◌≡◌, ◌⊎◌, ℕ, ◌<◌, ◌≤◌, Bool, List, [], ◌∷◌, take, map, length, Option, Some, None, Result, Ok, Err, IsSomeAnd, if◌then◌else◌}
+use Rattle.std.specs.List.{AllByRecursion}
 use Rattle.std.specs.Str.{IsUtf8}
 use Rattle.oca_types.specs.Sizes.{DeviceSizes}
 use Rattle.oca_tree.specs.declared.object.Object.{Object}
 use Rattle.oca_tree.specs.declared.builder.AddFault.{AddFault}
 use Rattle.oca_tree.specs.declared.builder.Spec.{Spec}
 use Rattle.oca_tree.specs.declared.builder.Kind.{Kind}
+use Rattle.oca_tree.specs.declared.builder.Kind.TheVariants as kinds
 use Rattle.oca_tree.specs.declared.setting.SetFault.{SetFault}
+use Rattle.oca_tree.specs.declared.setting.LocalValue.{LocalValue}
 use Rattle.oca_tree.specs.declared.object.MuteState.{MuteState}
 use Rattle.oca_tree.specs.declared.object.MuteState.TheVariants as mutes
 use Rattle.oca_tree.specs.declared.object.PolarityState.{PolarityState}
 use Rattle.oca_tree.specs.declared.object.PolarityState.TheVariants as polarities
-use Rattle.oca_tree.specs.Building.{Adds}
+use Rattle.oca_tree.specs.Building.{Adds, root}
 use Rattle.oca_tree.specs.Objects.{Store}
-use Rattle.oca_tree.specs.declared.tree.Setting.{Setting}
-use Rattle.oca_tree.specs.declared.tree.Setting.TheVariants as settings
-use Rattle.oca_pdu.specs.Faults.{fault_number}
-use Rattle.oca_device.specs.declared.verdict.Verdict.{Verdict}
-use Rattle.oca_device.specs.declared.verdict.Verdict.TheVariants.{Served, Malformed, NoRoom}
+use Rattle.oca_tree.specs.Settings.{set_fault}
 use Rattle.oca_device.specs.Devices.{Represents}
-use Rattle.oca_device.specs.Events.{Event}
+use Rattle.oca_device.specs.Events.{Event, Local}
+use Rattle.oca_device.specs.States.{state_after}
 use Rattle.oca_c.specs.declared.answer.Answer.{Answer}
 use Rattle.oca_c.specs.declared.answer.Answer.TheVariants as answers
 use Rattle.oca_c.specs.declared.device.DeviceBehind.{DeviceBehind}
-use Rattle.oca_c.specs.declared.reading.Reading.{Reading}
+use Rattle.oca_c.specs.declared.name.Name.{Name}
 use Rattle.oca_c.specs.Numbers.{add_answer, set_answer, answer_number}
+
+-- ---- where a device stands
+
+-- a tree is being built: so many objects have room, and these are there
+abbrev pub Builds : DeviceBehind → Store → Type 0
+Builds behind built = (behind.builder ≡ Some built) × (behind.device ≡ None)
 
 -- a device runs, and it represents the tree and the events
 abbrev pub Runs : DeviceSizes → DeviceBehind → List Object → List Event → Type 0
-Runs w behind tree events = IsSomeAnd behind.device (λ d. Represents w d tree events)
+Runs w behind tree events = (behind.builder ≡ None) × IsSomeAnd behind.device (λ d. Represents w d tree events)
 
--- behind an open handle a tree is being built: so many objects have room, and these are there
+-- the same behind an open handle
 abbrev pub HandleBuilds : Option DeviceBehind → Store → Type 0
-HandleBuilds behind built = IsSomeAnd behind (λ b. b.builder ≡ Some built)
+HandleBuilds behind built = IsSomeAnd behind (λ b. Builds b built)
 
--- behind an open handle a device runs
 abbrev pub HandleRuns : DeviceSizes → Option DeviceBehind → List Object → List Event → Type 0
 HandleRuns w behind tree events = IsSomeAnd behind (λ b. Runs w b tree events)
 
 -- behind an open handle these packets wait
 abbrev pub HasPackets : Option DeviceBehind → List (List ℕ) → Type 0
 HasPackets behind packets = IsSomeAnd behind (λ b. b.outbox ≡ packets)
+
+-- ---- refusals
+
+-- what is closed refuses, and stays closed
+abbrev pub RefusesClosed : {X : Type 0} → Option X → Option X → ℕ → Type 0
+RefusesClosed old new number = old ≡ None → (number ≡ 9) × (new ≡ None)
+
+-- before the start there is no device yet
+abbrev pub RefusesBuilding : Option DeviceBehind → Option DeviceBehind → ℕ → Type 0
+RefusesBuilding old new number = (built : Store) → HandleBuilds old built → (number ≡ 11) × (new ≡ old)
+
+-- after it the tree is fixed
+abbrev pub RefusesRunning : Option DeviceBehind → Option DeviceBehind → ℕ → Type 0
+RefusesRunning old new number =
+    (w : DeviceSizes) (tree : List Object) (events : List Event) → HandleRuns w old tree events → (number ≡ 12) × (new ≡ old)
+
+-- ---- opening and starting
+
+-- a room for objects
+abbrev pub IsRoom : ℕ → Type 0
+IsRoom room = (1 ≤ room) × (room ≤ 4096)
+
+-- a root alone, with this room
+abbrev pub root_alone : ℕ → Store
+root_alone room = record { room = room; list = root ∷ [] }
+
+-- A closed struct is opened: with room for so many objects; or not, where that is no room, or for want of memory.
+abbrev pub Opens : ℕ → Option DeviceBehind → ℕ → Type 0
+Opens number new room =
+    ((number ≡ 0) × IsRoom room × HandleBuilds new (root_alone room))
+    ⊎ (((number ≡ 8) × IsRoom room × (new ≡ None)) ⊎ ((number ≡ 15) × (IsRoom room → ⊥) × (new ≡ None)))
+
+-- a size of a window, or a number of peers
+abbrev pub IsSize : ℕ → Type 0
+IsSize size = (1 ≤ size) × (size ≤ 64)
+
+-- A device is started with the objects; or not, for want of memory, or where a size is none, which changes nothing.
+abbrev pub Starts : Answer → DeviceBehind → DeviceBehind → ℕ → ℕ → List Object → Type 0
+Starts answer old new window peers tree =
+    ((answer ≡ answers.Done) × IsSize window × IsSize peers × Runs (record { window = window; peers = peers }) new tree [])
+    ⊎ (((answer ≡ answers.NoMemory) × IsSize window × IsSize peers)
+    ⊎ ((answer ≡ answers.BadSize) × (IsSize window → IsSize peers → ⊥) × (new ≡ old)))
+
+-- the same behind an open handle
+abbrev pub HandleStarts : ℕ → Option DeviceBehind → Option DeviceBehind → ℕ → ℕ → List Object → Type 0
+HandleStarts number old new window peers tree =
+    ((number ≡ 0) × IsSize window × IsSize peers × HandleRuns (record { window = window; peers = peers }) new tree [])
+    ⊎ (((number ≡ 8) × IsSize window × IsSize peers)
+    ⊎ ((number ≡ 15) × (IsSize window → IsSize peers → ⊥) × (new ≡ old)))
+
+-- ---- additions
 
 -- The builder's own addition of an object that is so described gave this result.
 abbrev pub AddsSo : {X : Type 0} → Result X AddFault → Store → Store → ℕ → ℕ → List ℕ → Bool → Kind → Type 0
@@ -63,35 +119,42 @@ abbrev pub HandleAdds : ℕ → Option DeviceBehind → Store → ℕ → ℕ �
 HandleAdds number behind built container ono role lockable kind =
     (built' : Store) × HandleBuilds behind built' × (answer : Answer) × (number ≡ answer_number answer) × AddedBy answer built built' container ono role lockable kind
 
--- what a change at the front is answered with
-abbrev pub set_answers : Option SetFault → Answer
-set_answers None = answers.Done
-set_answers (Some fault) = set_answer fault
+-- the bytes of a name, and whether it is one
+abbrev pub name_bytes : Name → List ℕ
+name_bytes name = take name.size name.text
 
--- what is told of a verdict
-abbrev pub verdict_words : Verdict → List ℕ
-verdict_words (Served executed kept old reused) = 0 ∷ executed ∷ kept ∷ old ∷ reused ∷ 0 ∷ 0 ∷ []
-verdict_words (Malformed fault) = 1 ∷ 0 ∷ 0 ∷ 0 ∷ 0 ∷ fault_number fault.kind ∷ fault.at ∷ []
-verdict_words NoRoom = 2 ∷ 0 ∷ 0 ∷ 0 ∷ 0 ∷ 0 ∷ 0 ∷ []
+abbrev pub IsName : Name → Type 0
+IsName name = (name.size ≤ 64) × IsUtf8 (name_bytes name)
 
--- a place after words were put at its front, as many as it has room for
-abbrev pub put_words : List ℕ → List ℕ → List ℕ
-put_words words place =
-    let count = min (length words) (length place) in take count words ++ drop count place
+-- a switch with these names of positions, at this position
+abbrev pub IsSwitch : Kind → List (List ℕ) → ℕ → Type 0
+IsSwitch (kinds.Switch names at) texts position = (map (λ name. name.now) names.now ≡ texts) × (at ≡ position)
+IsSwitch kinds.Block texts position = ⊥
+IsSwitch (kinds.Mute _) texts position = ⊥
+IsSwitch (kinds.Polarity _) texts position = ⊥
+IsSwitch (kinds.Boolean _) texts position = ⊥
+IsSwitch (kinds.Int8 _ _ _) texts position = ⊥
+IsSwitch (kinds.Int16 _ _ _) texts position = ⊥
+IsSwitch (kinds.Int32 _ _ _) texts position = ⊥
+IsSwitch (kinds.Int64 _ _ _) texts position = ⊥
+IsSwitch (kinds.Uint8 _ _ _) texts position = ⊥
+IsSwitch (kinds.Uint16 _ _ _) texts position = ⊥
+IsSwitch (kinds.Uint32 _ _ _) texts position = ⊥
+IsSwitch (kinds.Uint64 _ _ _) texts position = ⊥
 
--- what is told of a setting
-abbrev pub reading_of : Setting → Reading
-reading_of (settings.State state) = record { kind = 1; negative = 0; magnitude = state }
-reading_of (settings.Position position) = record { kind = 2; negative = 0; magnitude = position }
-reading_of (settings.Truth truth) = record { kind = 3; negative = 0; magnitude = if truth then 1 else 0 }
-reading_of (settings.Number setting least greatest) = record { kind = 4; negative = if int_lt setting (pos 0) then 1 else 0; magnitude = nat_abs setting }
+-- An addition of a switch answered this: bad range, where it has more than 16 names; bad text, where one is no name; neither changes
+-- anything; else as the addition of a switch with the texts of these names.
+abbrev pub SwitchAddedBy : Answer → Store → Store → ℕ → ℕ → List ℕ → Bool → List Name → ℕ → Type 0
+SwitchAddedBy answer old new container ono role lockable names position =
+    ((16 < length names) × (answer ≡ answers.BadRange) × (new ≡ old))
+    ⊎ (((length names ≤ 16) × (AllByRecursion IsName names → ⊥) × (answer ≡ answers.BadText) × (new ≡ old))
+    ⊎ ((length names ≤ 16) × AllByRecursion IsName names
+    × (kind : Kind) × IsSwitch kind (map name_bytes names) position × AddedBy answer old new container ono role lockable kind))
 
--- a setting of at most 64 bits, as each object has
-abbrev pub FitsReading : Setting → Type 0
-FitsReading (settings.State state) = Unit {0}
-FitsReading (settings.Position position) = Unit {0}
-FitsReading (settings.Truth truth) = Unit {0}
-FitsReading (settings.Number setting least greatest) = nat_abs setting < 2 ^ 64
+-- the same behind an open handle
+abbrev pub HandleAddsSwitch : ℕ → Option DeviceBehind → Store → ℕ → ℕ → List ℕ → Bool → List Name → ℕ → Type 0
+HandleAddsSwitch number behind built container ono role lockable names position =
+    (built' : Store) × HandleBuilds behind built' × (answer : Answer) × (number ≡ answer_number answer) × SwitchAddedBy answer built built' container ono role lockable names position
 
 -- the states of a mute and of a polarity
 abbrev pub mute_state : Bool → MuteState
@@ -99,3 +162,16 @@ mute_state muted = if muted then mutes.Muted else mutes.Unmuted
 
 abbrev pub polarity_state : Bool → PolarityState
 polarity_state inverted = if inverted then polarities.Inverted else polarities.NonInverted
+
+-- ---- changes at the front
+
+-- what a change at the front is answered with
+abbrev pub set_answers : Option SetFault → Answer
+set_answers None = answers.Done
+set_answers (Some fault) = set_answer fault
+
+-- Behind an open handle a device ran; it was set, with this answer.
+abbrev pub HandleSets : ℕ → Option DeviceBehind → Option DeviceBehind → ℕ → LocalValue → Type 0
+HandleSets number old new ono value =
+    (w : DeviceSizes) (tree : List Object) (events : List Event) → HandleRuns w old tree events →
+    HandleRuns w new tree (Local ono value ∷ events) × (number ≡ answer_number (set_answers (set_fault (state_after w tree events).tree ono value)))

@@ -1,5 +1,6 @@
 pub mod DeviceSlots
 pub mod LinkSlots
 pub mod Numbers
+pub mod Told
 pub mod Calls
 pub mod LinkCalls

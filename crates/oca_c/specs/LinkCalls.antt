@@ -1,5 +1,5 @@
 -- What the calls of a link promise of what is behind a handle, and what they tell.
-use Rattle.std.specs.Prelude.{◌≡◌, ℕ, List, take, length, Option, Some, None, Result, Ok, Err, IsSomeAnd}
+use Rattle.std.specs.Prelude.{◌≡◌, ◌⊎◌, ℕ, ◌≤◌, List, take, length, Option, Some, None, Result, Ok, Err, IsSomeAnd}
 use Rattle.oca_types.specs.declared.words.Handle.{Handle}
 use Rattle.oca_control.specs.declared.fault.ControlFault.{ControlFault}
 use Rattle.oca_control.specs.declared.due.Due.{Due}
@@ -7,13 +7,23 @@ use Rattle.oca_control.specs.declared.due.Due.TheVariants as dues
 use Rattle.oca_control.specs.declared.reception.Reception.{Reception}
 use Rattle.oca_control.specs.declared.reception.Reception.TheVariants as receptions
 use Rattle.oca_control.specs.Answers.{AnswerFields}
-use Rattle.oca_control.specs.Links.{LinkState}
+use Rattle.oca_control.specs.Links.{LinkState, IsNextDue, NeverIsDue}
 use Rattle.oca_c.specs.declared.link.LinkBehind.{LinkBehind}
 use Rattle.oca_c.specs.Numbers.{answer_number, submission_answer}
 
 -- behind an open handle there is this link
 abbrev pub HoldsLink : Option LinkBehind → LinkState → Type 0
 HoldsLink behind l = IsSomeAnd behind (λ b. b.link ≡ l)
+
+-- a span
+abbrev pub IsSpan : ℕ → Type 0
+IsSpan span = (1 ≤ span) × (span ≤ 32)
+
+-- A closed struct is opened: with this link; or not, for want of memory, or where the span is none.
+abbrev pub OpensLink : ℕ → Option LinkBehind → ℕ → LinkState → Type 0
+OpensLink number new span l =
+    ((number ≡ 0) × IsSpan span × HoldsLink new l)
+    ⊎ (((number ≡ 8) × IsSpan span × (new ≡ None)) ⊎ ((number ≡ 15) × (IsSpan span → ⊥) × (new ≡ None)))
 
 -- these bytes lie at the front of a place, and this is their number
 pub record LiesIn (bytes place : List ℕ) (number : ℕ) : Type 0 where
@@ -55,3 +65,12 @@ answered_count receptions.Malformed = 0
 abbrev pub TellsAnswer : ℕ → ℕ → ℕ → List ℕ → ℕ → Option AnswerFields → Type 0
 TellsAnswer number status count place size None = number ≡ 13
 TellsAnswer number status count place size (Some a) = (number ≡ 0) × (status ≡ a.status) × (count ≡ a.count) × LiesIn a.params place size
+
+-- what is told of a number that may not be there
+abbrev pub TellsNumber : ℕ → ℕ → Option ℕ → Type 0
+TellsNumber number told None = number ≡ 13
+TellsNumber number told (Some n) = (number ≡ 0) × (told ≡ n)
+
+-- what is told of when something is due next: the moment; or that there is none within 64 bits
+abbrev pub TellsNextDue : ℕ → ℕ → LinkState → Type 0
+TellsNextDue number moment l = ((number ≡ 0) × IsNextDue l moment) ⊎ ((number ≡ 13) × NeverIsDue l)

@@ -1,21 +1,24 @@
 //! What is behind an open handle of a device.
-ghost use Rattle.std.specs.Prelude.{◌≡◌, ◌≤◌, ℕ, [], ◌∷◌, List, Some, None, IfSome, IfNone, IsSome, IsSomeAnd, length, take, slice_get};
+ghost use Rattle.std.specs.Prelude.{◌≡◌, ◌≤◌, ◌<◌, ◌∷◌, List, Some, None, IfSome, IfNone, length, take, slice_get};
 ghost use Rattle.oca_types.specs.Sizes.{DeviceSizes};
 ghost use Rattle.oca_tree.specs.Room.{room_size};
 ghost use Rattle.oca_tree.specs.declared.object.Object.{Object};
-ghost use Rattle.oca_tree.specs.Building.{root};
 ghost use Rattle.oca_tree.specs.Objects.{Store};
-ghost use Rattle.oca_tree.specs.Readers.{setting_at};
+ghost use Rattle.oca_tree.specs.Readers.{info_at, lock_at, setting_at};
 ghost use Rattle.oca_tree.specs.Settings.{set_fault};
 ghost use Rattle.oca_device.specs.States.{state_after};
 ghost use Rattle.oca_device.specs.Events.{Event, Datagram as DatagramEvent, Tick, Local};
 ghost use Rattle.oca_device.specs.Answers.{packets, verdict};
-ghost use Rattle.oca_c.specs.declared.answer.Answer.TheVariants.{Done, Nothing, TooSmall, BadSize};
-ghost use Rattle.oca_c.specs.Calls.{AddedBy, AddsSo, Runs, put_words, reading_of, set_answers, verdict_words};
+ghost use Rattle.oca_device.specs.Written.{written};
+ghost use Rattle.oca_c.specs.declared.answer.Answer.TheVariants.{Done, NotStarted, Nothing, Started, TooSmall, BadSize, NoMemory};
+ghost use Rattle.oca_c.specs.Numbers.{answer_number};
+ghost use Rattle.oca_c.specs.Calls.{AddedBy, AddsSo, Builds, Runs, Starts, SwitchAddedBy, IsSize, root_alone, set_answers};
+ghost use Rattle.oca_c.specs.Told.{TellsLock, TellsNextLapse, TellsObject, TellsSetting, TellsWords, put_words, verdict_words};
 
 use crate::answer::Answer;
+use crate::name::{MOST_POSITIONS, Name, texts_of};
 use crate::reading::Reading;
-use crate::words::{put_words, words_of};
+use crate::words::{lock_number, object_words, put_numbers, put_words, words_of};
 use oca_device::{Device, Outbox};
 use oca_tree::{AddFault, Kind, LocalValue, Room, Spec, TreeBuilder};
 use oca_types::{Ono, Peer, Peers, Sizes, Window};
@@ -33,7 +36,7 @@ pub struct DeviceBehind {
 impl DeviceBehind {
     /// A root alone, with room for so many objects; nothing where memory was refused.
     pub fn new(alloc: Global, room: Room) -> Option<DeviceBehind>
-        ensures { IfSome result (λ behind. behind.builder ≡ Some (record { room = room_size room; list = root ∷ [] })) }
+        ensures { IfSome result (λ behind. Builds behind (root_alone (room_size room))) }
     {
         let Ok(builder) = TreeBuilder::with_room(alloc, room) else {
             return None;
@@ -57,8 +60,9 @@ impl DeviceBehind {
         lockable: bool,
         kind: Kind<'_>,
     ) -> Answer
-        ensures { (B : Store) → self.old.builder ≡ Some B →
-            (B' : Store) × (self.new.builder ≡ Some B') × AddedBy result B B' container ono role.now lockable kind.entry }
+        ensures adds { (B : Store) → Builds self.old B →
+            (B' : Store) × Builds self.new B' × AddedBy result B B' container ono role.now lockable kind.entry }
+        ensures started { self.old.builder ≡ None → (result ≡ Started) × (self.new ≡ self.old) }
     {
         let Some(builder) = &mut self.builder else {
             return Answer::Started;
@@ -72,10 +76,40 @@ impl DeviceBehind {
         }
     }
 
+    /// Adds a switch with these names of its positions, before the start.
+    pub fn add_switch(
+        &mut self,
+        container: u32,
+        ono: u32,
+        role: &[u8],
+        lockable: bool,
+        names: &[Name],
+        position: u16,
+    ) -> Answer
+        ensures adds { (B : Store) → Builds self.old B →
+            (B' : Store) × Builds self.new B' × SwitchAddedBy result B B' container ono role.now lockable names.now position }
+        ensures started { self.old.builder ≡ None → (result ≡ Started) × (self.new ≡ self.old) }
+    {
+        if self.builder.is_none() {
+            return Answer::Started;
+        }
+        if names.len() > MOST_POSITIONS {
+            return Answer::BadRange;
+        }
+        let Some(texts) = texts_of(names) else {
+            return Answer::BadText;
+        };
+        let kind = Kind::Switch {
+            names: texts.as_slice(),
+            position,
+        };
+        self.add(container, ono, role, lockable, kind)
+    }
+
     /// Makes the device of the objects, with reply windows of this size and sessions of so many peers.
     pub fn start(&mut self, alloc: Global, window: u8, peers: u8) -> Answer
-        ensures { (B : Store) → self.old.builder ≡ Some B → result ≡ Done →
-            Runs (record { window = window; peers = peers }) self.new B.list [] }
+        ensures starts { (B : Store) → Builds self.old B → Starts result self.old self.new window peers B.list }
+        ensures started { IsSize window → IsSize peers → self.old.builder ≡ None → (result ≡ Started) × (self.new ≡ self.old) }
     {
         let Some(window) = Window::new(window) else {
             return Answer::BadSize;
@@ -97,11 +131,12 @@ impl DeviceBehind {
 
     /// Takes a datagram, and tells its verdict.
     pub fn datagram(&mut self, from: Peer, bytes: &[u8], now: u64, told: &mut [u32]) -> Answer
-        ensures { (w : DeviceSizes) (T : List Object) (E : List Event) → Runs w self.old T E →
+        ensures serves { (w : DeviceSizes) (T : List Object) (E : List Event) → Runs w self.old T E →
             Runs w self.new T (DatagramEvent from bytes.now now ∷ E)
             × (self.new.outbox ≡ packets w T E (DatagramEvent from bytes.now now))
             × (told.new ≡ put_words (verdict_words (verdict w T E from bytes.now now)) told.old)
             × (result ≡ Done) }
+        ensures building { self.old.device ≡ None → (result ≡ NotStarted) × (self.new ≡ self.old) }
     {
         let Some(device) = &mut self.device else {
             return Answer::NotStarted;
@@ -114,8 +149,9 @@ impl DeviceBehind {
 
     /// Takes a clock reading.
     pub fn tick(&mut self, now: u64) -> Answer
-        ensures { (w : DeviceSizes) (T : List Object) (E : List Event) → Runs w self.old T E →
+        ensures serves { (w : DeviceSizes) (T : List Object) (E : List Event) → Runs w self.old T E →
             Runs w self.new T (Tick now ∷ E) × (result ≡ Done) }
+        ensures building { self.old.device ≡ None → (result ≡ NotStarted) × (self.new ≡ self.old) }
     {
         let Some(device) = &mut self.device else {
             return Answer::NotStarted;
@@ -124,11 +160,30 @@ impl DeviceBehind {
         Answer::Done
     }
 
+    /// Tells when a clock reading next changes the objects or the sessions.
+    pub fn next_lapse(&self, moment: &mut u64) -> Answer
+        ensures told { (w : DeviceSizes) (T : List Object) (E : List Event) → Runs w self.now T E →
+            TellsNextLapse w (state_after w T E) moment.new (answer_number result) }
+        ensures building { self.now.device ≡ None → result ≡ NotStarted }
+    {
+        let Some(device) = &self.device else {
+            return Answer::NotStarted;
+        };
+        match device.next_lapse() {
+            Some(lapse) => {
+                *moment = lapse;
+                Answer::Done
+            }
+            None => Answer::Nothing,
+        }
+    }
+
     /// Sets an object at the device's own front.
     pub fn set(&mut self, ono: u32, value: LocalValue) -> Answer
-        ensures { (w : DeviceSizes) (T : List Object) (E : List Event) → Runs w self.old T E →
+        ensures sets { (w : DeviceSizes) (T : List Object) (E : List Event) → Runs w self.old T E →
             Runs w self.new T (Local ono value ∷ E)
             × (result ≡ set_answers (set_fault (state_after w T E).tree ono value)) }
+        ensures building { self.old.device ≡ None → (result ≡ NotStarted) × (self.new ≡ self.old) }
     {
         let Some(device) = &mut self.device else {
             return Answer::NotStarted;
@@ -151,6 +206,8 @@ impl DeviceBehind {
         ensures nothing { IfNone (slice_get self.now.outbox i) (result ≡ Nothing) }
         ensures packet { IfSome (slice_get self.now.outbox i) (λ p. length p ≤ length out.old →
             (result ≡ Done) × (len.new ≡ length p) × (take (length p) out.new ≡ p)) }
+        ensures small { IfSome (slice_get self.now.outbox i) (λ p. length out.old < length p →
+            (result ≡ TooSmall) × (len.new ≡ length p) × (out.new ≡ out.old)) }
     {
         let Some(packet) = self.outbox.get(i) else {
             return Answer::Nothing;
@@ -165,10 +222,78 @@ impl DeviceBehind {
         Answer::Done
     }
 
+    /// Puts the numbers of the objects that the last datagram wrote to at the front of `out`, and tells how many there are.
+    pub fn written(&self, out: &mut [u32], count: &mut usize) -> Answer
+        ensures told { (w : DeviceSizes) (T : List Object) (E : List Event) → Runs w self.now T E →
+            TellsWords (written w T E) out.old out.new count.new (answer_number result) }
+        ensures building { self.now.device ≡ None → result ≡ NotStarted }
+    {
+        let Some(device) = &self.device else {
+            return Answer::NotStarted;
+        };
+        let written = device.written();
+        put_numbers(written, out);
+        *count = written.len();
+        if written.len() <= out.len() {
+            Answer::Done
+        } else {
+            Answer::TooSmall
+        }
+    }
+
+    /// Tells how many objects there are.
+    pub fn objects(&self, count: &mut usize) -> Answer
+        ensures told { (w : DeviceSizes) (T : List Object) (E : List Event) → Runs w self.now T E →
+            (result ≡ Done) × (count.new ≡ length (state_after w T E).tree) }
+        ensures building { self.now.device ≡ None → result ≡ NotStarted }
+    {
+        let Some(device) = &self.device else {
+            return Answer::NotStarted;
+        };
+        *count = device.tree().len();
+        Answer::Done
+    }
+
+    /// Tells what the object at this index is, and its role.
+    pub fn object(&self, index: usize, told: &mut [u32], role: &mut [u8]) -> Answer
+        ensures told { (w : DeviceSizes) (T : List Object) (E : List Event) → Runs w self.now T E →
+            TellsObject (info_at (state_after w T E).tree index) told.old told.new role.old role.new (answer_number result) }
+        ensures building { self.now.device ≡ None → result ≡ NotStarted }
+    {
+        let Some(device) = &self.device else {
+            return Answer::NotStarted;
+        };
+        let Some(object) = device.tree().object_at(index) else {
+            return Answer::Nothing;
+        };
+        put_words(&object_words(&object), told);
+        put_words(object.role.as_str().as_bytes(), role);
+        Answer::Done
+    }
+
+    /// Tells of an object's lock what it keeps other peers from, and its holder.
+    pub fn lock(&self, ono: u32, kind: &mut u32, ip: &mut u32, port: &mut u16) -> Answer
+        ensures told { (w : DeviceSizes) (T : List Object) (E : List Event) → Runs w self.now T E →
+            TellsLock (lock_at (state_after w T E).tree ono) kind.new ip.new port.new (answer_number result) }
+        ensures building { self.now.device ≡ None → result ≡ NotStarted }
+    {
+        let Some(device) = &self.device else {
+            return Answer::NotStarted;
+        };
+        let Some(lock) = device.tree().lock_of(Ono(ono)) else {
+            return Answer::Nothing;
+        };
+        *kind = lock_number(lock.kind);
+        *ip = lock.holder.ip;
+        *port = lock.holder.port;
+        Answer::Done
+    }
+
     /// Reads how an object is set.
     pub fn reading(&self, ono: u32, reading: &mut Reading) -> Answer
-        ensures { (w : DeviceSizes) (T : List Object) (E : List Event) → Runs w self.now T E → result ≡ Done →
-            IsSomeAnd (setting_at (state_after w T E).tree ono) (λ s. reading.new ≡ reading_of s) }
+        ensures told { (w : DeviceSizes) (T : List Object) (E : List Event) → Runs w self.now T E →
+            TellsSetting (setting_at (state_after w T E).tree ono) reading.new (answer_number result) }
+        ensures building { self.now.device ≡ None → result ≡ NotStarted }
     {
         let Some(device) = &self.device else {
             return Answer::NotStarted;

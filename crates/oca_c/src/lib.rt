@@ -4,15 +4,19 @@
 //! calls that open and start; no other call takes memory. A call answers a number of [`answer::Answer`].
 #![tactic(auto)]
 
+mod adding_calls;
 mod answer;
 mod device;
 mod device_calls;
 mod device_handle;
 mod device_slot;
+mod front_calls;
 mod link;
 mod link_calls;
 mod link_handle;
 mod link_slot;
+mod name;
+mod object_calls;
 mod parts;
 mod reading;
 mod version;

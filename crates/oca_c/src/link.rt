@@ -6,8 +6,8 @@ ghost use Rattle.oca_pdu.specs.Messages.{Msg};
 ghost use Rattle.oca_control.specs.Answers.{answer_fields};
 ghost use Rattle.oca_control.specs.Contents.{IsContent};
 ghost use Rattle.oca_control.specs.Links.{decision, due_answer, due_bytes, gone_on, received, reception, submission, submitted, taken};
-ghost use Rattle.oca_control.specs.Untaken.{answer_under};
-ghost use Rattle.oca_c.specs.LinkCalls.{LiesIn, TellsAnswer, TellsSubmission, answered_count, due_handle, due_kind, reception_kind};
+ghost use Rattle.oca_control.specs.Untaken.{answer_under, first_answered};
+ghost use Rattle.oca_c.specs.LinkCalls.{LiesIn, TellsNextDue, TellsNumber, TellsAnswer, TellsSubmission, answered_count, due_handle, due_kind, reception_kind};
 
 use crate::answer::Answer;
 use oca_control::{Due, Link, Reception};
@@ -113,6 +113,40 @@ impl LinkBehind {
             }
             None => Answer::Nothing.number(),
         }
+    }
+
+    /// Tells when something is due next.
+    pub fn next_due(&self, moment: &mut u64) -> u32
+        ensures { TellsNextDue result moment.new self.now.link }
+    {
+        match self.link.next_due() {
+            Some(due) => {
+                *moment = due;
+                Answer::Done.number()
+            }
+            None => Answer::Nothing.number(),
+        }
+    }
+
+    /// Tells the lowest handle that has its answer.
+    pub fn answered(&self, handle: &mut u32) -> u32
+        ensures { TellsNumber result handle.new (first_answered self.now.link.untaken) }
+    {
+        match self.link.answered() {
+            Some(answered) => {
+                *handle = answered.0;
+                Answer::Done.number()
+            }
+            None => Answer::Nothing.number(),
+        }
+    }
+
+    /// Tells when the device was heard last.
+    pub fn last_heard(&self, moment: &mut u64) -> u32
+        ensures { (result ≡ 0) × (moment.new ≡ self.now.link.heard) }
+    {
+        *moment = self.link.last_heard();
+        Answer::Done.number()
     }
 }
 

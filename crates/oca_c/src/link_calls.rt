@@ -1,11 +1,12 @@
 //! What C calls of a link.
-ghost use Rattle.std.specs.Prelude.{◌≡◌, ◌≤◌, ◌<◌, List, Option, None, IfSome, length};
+ghost use Rattle.std.specs.Prelude.{◌≡◌, ◌≤◌, ◌<◌, List, Option, None, IfSome, IsSome, length};
 ghost use Rattle.oca_types.specs.Peers.{RequestFields};
 ghost use Rattle.oca_pdu.specs.Messages.{Msg};
 ghost use Rattle.oca_control.specs.Contents.{IsContent};
 ghost use Rattle.oca_control.specs.Links.{decision, due_answer, due_bytes, gone_on, new_link, received, reception, submission, submitted, taken};
-ghost use Rattle.oca_control.specs.Untaken.{answer_under};
-ghost use Rattle.oca_c.specs.LinkCalls.{HoldsLink, LiesIn, TellsAnswer, TellsSubmission, answered_count, due_handle, due_kind, reception_kind};
+ghost use Rattle.oca_control.specs.Untaken.{answer_under, first_answered};
+ghost use Rattle.oca_c.specs.Calls.{RefusesClosed};
+ghost use Rattle.oca_c.specs.LinkCalls.{HoldsLink, LiesIn, OpensLink, TellsNextDue, TellsNumber, TellsAnswer, TellsSubmission, answered_count, due_handle, due_kind, reception_kind};
 
 use crate::answer::Answer;
 use crate::link::LinkBehind;
@@ -25,7 +26,8 @@ pub extern "C" fn oca_link_open(
     now: u64,
     span: u8,
 ) -> u32
-    ensures { result ≡ 0 → HoldsLink handle.new.slot.inner (new_link (record { ip = ip; port = port }) first_handle now span) }
+    ensures open { IsSome handle.old.slot.inner → (result ≡ 10) × (handle.new.slot.inner ≡ handle.old.slot.inner) }
+    ensures opens { handle.old.slot.inner ≡ None → OpensLink result handle.new.slot.inner span (new_link (record { ip = ip; port = port }) first_handle now span) }
 {
     if handle.is_open {
         return Answer::Open.number();
@@ -64,7 +66,7 @@ pub extern "C" fn oca_link_submit(
     now: u64,
     command: &mut u32,
 ) -> u32
-    ensures closed { handle.old.slot.inner ≡ None → result ≡ 9 }
+    ensures closed { RefusesClosed handle.old.slot.inner handle.new.slot.inner result }
     ensures submits { let request : RequestFields = record { target = target; level = level; index = index; count = count; params = params.now } in
         IfSome handle.old.slot.inner (λ b. HoldsLink handle.new.slot.inner (submitted request now b.link)
         × TellsSubmission result command.new (submission request b.link)) }
@@ -89,7 +91,7 @@ pub extern "C" fn oca_link_due(
     kind: &mut u32,
     command: &mut u32,
 ) -> u32
-    ensures closed { handle.old.slot.inner ≡ None → result ≡ 9 }
+    ensures closed { RefusesClosed handle.old.slot.inner handle.new.slot.inner result }
     ensures small { IfSome handle.old.slot.inner (λ b. length out.old < 1472 → HoldsLink handle.new.slot.inner b.link × (result ≡ 14)) }
     ensures gives { IfSome handle.old.slot.inner (λ b. 1472 ≤ length out.old → HoldsLink handle.new.slot.inner (gone_on now b.link) × (result ≡ 0)
         × (kind.new ≡ due_kind (due_answer (decision now b.link))) × (command.new ≡ due_handle (due_answer (decision now b.link)))
@@ -115,7 +117,7 @@ pub extern "C" fn oca_link_datagram(
     kind: &mut u32,
     answered: &mut u32,
 ) -> u32
-    ensures closed { handle.old.slot.inner ≡ None → result ≡ 9 }
+    ensures closed { RefusesClosed handle.old.slot.inner handle.new.slot.inner result }
     ensures receives { IfSome handle.old.slot.inner (λ b. (content : Option (List Msg)) → IsContent content bytes.now →
         HoldsLink handle.new.slot.inner (received (record { ip = ip; port = port }) content now b.link) × (result ≡ 0)
         × (kind.new ≡ reception_kind (reception (record { ip = ip; port = port }) content b.link))
@@ -140,7 +142,7 @@ pub extern "C" fn oca_link_take(
     out: &mut [u8],
     len: &mut usize,
 ) -> u32
-    ensures closed { handle.old.slot.inner ≡ None → result ≡ 9 }
+    ensures closed { RefusesClosed handle.old.slot.inner handle.new.slot.inner result }
     ensures small { IfSome handle.old.slot.inner (λ b. length out.old < 1452 → HoldsLink handle.new.slot.inner b.link × (result ≡ 14)) }
     ensures takes { IfSome handle.old.slot.inner (λ b. 1452 ≤ length out.old → HoldsLink handle.new.slot.inner (taken command b.link)
         × TellsAnswer result status.new count.new out.new len.new (answer_under command b.link.untaken)) }
@@ -149,6 +151,59 @@ pub extern "C" fn oca_link_take(
         return Answer::Closed.number();
     };
     let number = behind.take(command, status, count, out, len);
+    handle.put(behind);
+    number
+}
+
+/// Tells the earliest moment, not before the link's own, at which something is due or the link is lost.
+#[unsafe(no_mangle)]
+pub extern "C" fn oca_link_next_due(alloc: Global, handle: &mut LinkHandle, moment: &mut u64) -> u32
+    ensures closed { RefusesClosed handle.old.slot.inner handle.new.slot.inner result }
+    ensures kept { handle.new.slot.inner ≡ handle.old.slot.inner }
+    ensures told { IfSome handle.old.slot.inner (λ b. TellsNextDue result moment.new b.link) }
+{
+    let Some(behind) = handle.take(alloc) else {
+        return Answer::Closed.number();
+    };
+    let number = behind.next_due(moment);
+    handle.put(behind);
+    number
+}
+
+/// Tells the lowest handle that has its answer.
+#[unsafe(no_mangle)]
+pub extern "C" fn oca_link_answered(
+    alloc: Global,
+    handle: &mut LinkHandle,
+    command: &mut u32,
+) -> u32
+    ensures closed { RefusesClosed handle.old.slot.inner handle.new.slot.inner result }
+    ensures kept { handle.new.slot.inner ≡ handle.old.slot.inner }
+    ensures told { IfSome handle.old.slot.inner (λ b. TellsNumber result command.new (first_answered b.link.untaken)) }
+{
+    let Some(behind) = handle.take(alloc) else {
+        return Answer::Closed.number();
+    };
+    let number = behind.answered(command);
+    handle.put(behind);
+    number
+}
+
+/// Tells when the last well-formed datagram came from the device.
+#[unsafe(no_mangle)]
+pub extern "C" fn oca_link_last_heard(
+    alloc: Global,
+    handle: &mut LinkHandle,
+    moment: &mut u64,
+) -> u32
+    ensures closed { RefusesClosed handle.old.slot.inner handle.new.slot.inner result }
+    ensures kept { handle.new.slot.inner ≡ handle.old.slot.inner }
+    ensures told { IfSome handle.old.slot.inner (λ b. (result ≡ 0) × (moment.new ≡ b.link.heard)) }
+{
+    let Some(behind) = handle.take(alloc) else {
+        return Answer::Closed.number();
+    };
+    let number = behind.last_heard(moment);
     handle.put(behind);
     number
 }

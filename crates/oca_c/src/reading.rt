@@ -1,6 +1,6 @@
 //! What C reads of a setting.
 ghost use Rattle.std.specs.Prelude.{◌≡◌, IfSome, IsSome};
-ghost use Rattle.oca_c.specs.Calls.{FitsReading, reading_of};
+ghost use Rattle.oca_c.specs.Told.{FitsReading, reading_of};
 
 use oca_tree::Setting;
 

@@ -1,22 +1,21 @@
 -- What was answered stays so, and what is due is given out.
-use Rattle.std.proofs.Common.{◌≡◌, ◌⊎◌, ℕ, zero, suc, ◌+◌, ◌-◌, ◌<◌, ◌≤◌, Bool, true, false, cond, not, ◌&&◌, ◌||◌, max, List, [], ◌∷◌, ◌++◌, length, Option, Some, None, Result, Ok, Err, is_none, is_some, refl, sym, ap, ◌∙◌, arith, subst, inl, inr}
+use Rattle.std.proofs.Common.{◌≡◌, ◌⊎◌, ℕ, suc, ◌+◌, ◌-◌, ◌<◌, ◌≤◌, Bool, true, false, cond, not, ◌&&◌, ◌||◌, max, List, [], ◌∷◌, ◌++◌, length, Some, None, Ok, Err, is_none, is_some, refl, sym, ap, ◌∙◌, arith, subst, inl, inr}
 use Rattle.std.specs.Prelude.{nat_eq, nat_le, filter}
 use Rattle.std.specs.List.{AllByRecursion, list_any}
 use Rattle.std.proofs.Math.Dec.{eqb}
 use Rattle.std.proofs.lemmas.Bool.Decides.{nat_tests}
 use Rattle.oca_types.specs.declared.words.Peer.{Peer}
-use Rattle.oca_types.specs.declared.words.Handle.{Handle}
-use Rattle.oca_types.specs.Peers.{CommandFields, same_peer}
+use Rattle.oca_types.specs.Peers.{same_peer}
 use Rattle.oca_pdu.specs.Messages.{Msg}
 use Rattle.oca_control.specs.declared.due.Due.{Due}
 use Rattle.oca_control.specs.declared.due.Due.TheVariants as dues
 use Rattle.oca_control.specs.declared.reception.Reception.{Reception}
 use Rattle.oca_control.specs.Answers.{AnswerFields}
-use Rattle.oca_control.specs.Untaken.{answer_under, holds}
+use Rattle.oca_control.specs.Untaken.{answer_under}
 use Rattle.oca_control.specs.Links.{LinkState}
-use Rattle.oca_control.specs.Histories.{Call, Submits, GivesOut, Receives, TakesAnswer, IsHistory, clock, commands, Sending, sending_of, sendings, answers_in, answers_of, answers_to, first_of, is_untaken, is_answered, has_rested, is_due_at, says_lost, is_lost, IsDueAnswer, GivesWhatIsDue}
+use Rattle.oca_control.specs.Histories.{Call, Submits, GivesOut, Receives, TakesAnswer, IsHistory, clock, commands, Sending, sendings, answers_in, answers_of, answers_to, first_of, is_untaken, is_answered, has_rested, is_due_at, says_lost, is_lost, IsDueAnswer, GivesWhatIsDue}
 use Rattle.oca_control.specs.Answering.{has_response, TakesNothingOf, IsDueAt, is_given_in, is_among}
-use Rattle.oca_control.proofs.Following.{equal_is, equal_self, both_true, each_map}
+use Rattle.oca_control.proofs.Following.{equal_is, both_true, each_map}
 use Rattle.oca_control.proofs.Calls.{answer_is}
 use Rattle.oca_control.proofs.Dues.{each_held}
 use Rattle.oca_control.proofs.Histories.{stands}

@@ -1,5 +1,5 @@
 -- How many commands a datagram answers.
-use Rattle.std.proofs.Common.{◌≡◌, ℕ, zero, suc, ◌+◌, ◌<◌, Bool, true, false, cond, ◌&&◌, ◌||◌, List, [], ◌∷◌, length, map, Option, Some, None, is_none, is_some, refl, sym, ap, ◌∙◌, arith, subst}
+use Rattle.std.proofs.Common.{◌≡◌, ℕ, suc, ◌+◌, ◌<◌, Bool, true, false, cond, ◌&&◌, ◌||◌, List, [], ◌∷◌, length, map, Option, Some, None, is_none, is_some, refl, sym, ap, ◌∙◌, arith, subst}
 use Rattle.std.specs.Prelude.{nat_eq, filter}
 use Rattle.std.specs.List.{AllByRecursion, list_any}
 use Rattle.std.proofs.Math.Dec.{eqb}
@@ -13,7 +13,7 @@ use Rattle.oca_control.specs.Answers.{AnswerFields, answer_in}
 use Rattle.oca_control.specs.Untaken.{Untaken, waits, answered, answers_by_all, holds}
 use Rattle.oca_control.specs.Links.{LinkState, reception, reception_of, reception_counted}
 use Rattle.oca_control.specs.Histories.{Call, Submits, GivesOut, Receives, TakesAnswer, IsHistory, answers_in, answers_to, first_of, is_untaken}
-use Rattle.oca_control.specs.Receptions.{is_answered_first, AreRising, AnswersSoMany, AnswersOfDevice, IsReception, AnswersDatagrams}
+use Rattle.oca_control.specs.Receptions.{AreRising, AnswersSoMany, AnswersOfDevice, IsReception, AnswersDatagrams}
 use Rattle.oca_control.proofs.Following.{equal_is, each_map, AreAnswered}
 use Rattle.oca_control.proofs.Dues.{Rises, rises_answered}
 use Rattle.oca_control.proofs.Histories.{stands}

@@ -1,6 +1,6 @@
 -- From which moment on something is due, and which answer is there first.
-use Rattle.std.proofs.Common.{◌≡◌, ℕ, ◌+◌, ◌-◌, ◌^◌, ◌<◌, ◌≤◌, Bool, true, false, cond, ◌&&◌, ◌||◌, min, max, List, [], ◌∷◌, ◌++◌, Option, Some, None, refl, sym, ap, ◌∙◌, subst, arith, append-nil}
-use Rattle.std.specs.Prelude.{nat_lt, nat_eq, nat_le, is_some, is_none}
+use Rattle.std.proofs.Common.{◌≡◌, ℕ, ◌+◌, ◌-◌, ◌^◌, ◌<◌, ◌≤◌, Bool, true, false, cond, ◌||◌, min, max, List, [], ◌∷◌, ◌++◌, Option, Some, None, refl, sym, ap, ◌∙◌, subst, arith, append-nil}
+use Rattle.std.specs.Prelude.{nat_lt, nat_le, is_some}
 use Rattle.std.proofs.lemmas.Bool.Decides.{nat_tests}
 use Rattle.oca_control.specs.Untaken.{Untaken, is_due, first_due, first_answered}
 use Rattle.oca_control.specs.Links.{LinkState, command_under, GivesCommand, GivesKeepAlive, GivesNothing, IsLost, decision_among, decision, IsNextDue, NeverIsDue}

@@ -15,7 +15,7 @@ use Rattle.oca_control.specs.declared.fault.ControlFault.TheVariants as faults
 use Rattle.oca_control.specs.Answers.{AnswerFields}
 use Rattle.oca_control.specs.Contents.{IsContent}
 use Rattle.oca_control.specs.Untaken.{Untaken, new_untaken, has_room, is_due, first_due, answer_under, without_handle, holds}
-use Rattle.oca_control.specs.Links.{LinkState, Request, present, command_under, submission, submission_under, after_submission, handle_after, Decision, GivesCommand, GivesKeepAlive, GivesNothing, IsLost, decision, decision_among, due_answer, due_bytes, after_due, taken}
+use Rattle.oca_control.specs.Links.{LinkState, Request, new_link, present, command_under, submission, submission_under, submitted, after_submission, handle_after, Decision, GivesCommand, GivesKeepAlive, GivesNothing, IsLost, decision, decision_among, due_answer, due_bytes, after_due, gone_on, received, taken}
 use Rattle.oca_control.specs.Histories.{Call, Submits, GivesOut, Receives, TakesAnswer, IsCall, IsHistory, clock, commands, Sending, sendings, answers_to, first_of, is_untaken, last_given, is_lost, TakesTheFirst, IsLowestDue, NoneIsDue, HasRoom, IsFull, IsSubmitAnswer, AnswersSubmits, IsDueAnswer, GivesWhatIsDue, IsLawful}
 use Rattle.oca_control.proofs.Following.{equal_is, equal_self, is_below, is_at_most, both_true, each_map, each_both, end_of, IsSent, AreSent, Follows, opens}
 use Rattle.oca_control.proofs.Calls.{room_each, is_accepted, submits, is_given, each_first, gives, passes, receives, answer_is, takes}
@@ -178,7 +178,29 @@ due_stands device first opened s before l now g = record {
     now_is : present now l ≡ max (clock opened before) now
     now_is = ap (λ m. max m now) g.now.moment_is
 
-step : (device : Peer) (first opened s : ℕ) (before : List Call) (l after : LinkState) (call : Call) → 0 < s → Stands device first opened s before l → IsCall l call after →
+-- A call makes another of a link, as `IsCall` says, whatever the content of a datagram is.
+abbrev pub IsMade : LinkState → Call → LinkState → Type 0
+IsMade l (Submits request now answer) after = (answer ≡ submission request l) × (after ≡ submitted request now l)
+IsMade l (GivesOut now answer bytes) after = (answer ≡ due_answer (decision now l)) × (bytes ≡ due_bytes (decision now l)) × (after ≡ gone_on now l)
+IsMade l (Receives from bytes content now answer) after = after ≡ received from content now l
+IsMade l (TakesAnswer h answer) after = (answer ≡ answer_under h l.untaken) × (after ≡ taken h l)
+
+-- a new link becomes this one by these calls
+abbrev pub IsMadeBy : Peer → ℕ → ℕ → ℕ → List Call → LinkState → Type 0
+IsMadeBy device first opened span [] after = after ≡ new_link device first opened span
+IsMadeBy device first opened span (call ∷ before) after = (l : LinkState) × IsMadeBy device first opened span before l × IsMade l call after
+
+is_made : (l : LinkState) (call : Call) (after : LinkState) → IsCall l call after → IsMade l call after
+is_made l (Submits request now answer) after c = c
+is_made l (GivesOut now answer bytes) after c = c
+is_made l (Receives from bytes content now answer) after c = c.2
+is_made l (TakesAnswer h answer) after c = c
+
+pub is_made_by : (device : Peer) (first opened s : ℕ) (calls : List Call) (after : LinkState) → IsHistory device first opened s calls after → IsMadeBy device first opened s calls after
+is_made_by device first opened s [] after h = h
+is_made_by device first opened s (call ∷ before) after h = (h.0, is_made_by device first opened s before h.0 h.1, is_made h.0 call after h.2)
+
+step : (device : Peer) (first opened s : ℕ) (before : List Call) (l after : LinkState) (call : Call) → 0 < s → Stands device first opened s before l → IsMade l call after →
     Stands device first opened s (call ∷ before) after
 step device first opened s before l after (Submits r now a) some g c = record {
   now = submit_step device first opened s before l after r now a some c.0 c.1 g.now;
@@ -188,9 +210,9 @@ step device first opened s before l after (Submits r now a) some g c = record {
 }
 step device first opened s before l after (GivesOut now a bytes) some g c = rw (c.0, c.1, c.2) (due_stands device first opened s before l now g)
 step device first opened s before l after (Receives from bytes content now a) some g c = record {
-  now = subst (λ m. Now device first opened s (Receives from bytes content now a ∷ before) m) (sym c.2)
+  now = subst (λ m. Now device first opened s (Receives from bytes content now a ∷ before) m) (sym c)
       (receives device first s (clock opened before) now (commands before) (λ x. sendings opened x before) (λ x. answers_to device x before) (λ x. is_untaken x before) l from content g.now);
-  rests = subst (λ m. Rests (last_given opened before) (is_lost before) m) (sym c.2)
+  rests = subst (λ m. Rests (last_given opened before) (is_lost before) m) (sym c)
       (record { lost_is = g.rests.lost_is; sent_is = g.rests.sent_is; rises = rises_received (same_peer from l.device) content l.untaken g.rests.rises });
   dues_are = g.dues_are;
   takes_are = g.takes_are;
@@ -205,14 +227,18 @@ step device first opened s before l after (TakesAnswer h a) some g c = record {
   );
 }
 
-pub stands : (device : Peer) (first opened s : ℕ) (calls : List Call) (after : LinkState) → 0 < s → IsHistory device first opened s calls after → Stands device first opened s calls after
-stands device first opened s [] after some h = subst (λ m. Stands device first opened s [] m) (sym h) (record {
+pub stands_made : (device : Peer) (first opened s : ℕ) (calls : List Call) (after : LinkState) → 0 < s → IsMadeBy device first opened s calls after → Stands device first opened s calls after
+stands_made device first opened s [] after some h = subst (λ m. Stands device first opened s [] m) (sym h) (record {
   now = opens device first opened s;
   rests = record { lost_is = refl; sent_is = refl; rises = tt };
   dues_are = tt;
   takes_are = tt;
 })
-stands device first opened s (call ∷ before) after some h = step device first opened s before h.0 after call some (stands device first opened s before h.0 some h.1) h.2
+stands_made device first opened s (call ∷ before) after some h =
+    step device first opened s before h.0 after call some (stands_made device first opened s before h.0 some h.1) h.2
+
+pub stands : (device : Peer) (first opened s : ℕ) (calls : List Call) (after : LinkState) → 0 < s → IsHistory device first opened s calls after → Stands device first opened s calls after
+stands device first opened s calls after some h = stands_made device first opened s calls after some (is_made_by device first opened s calls after h)
 
 -- ---- what a submit answers
 

@@ -4,6 +4,7 @@ pub mod Dues
 pub mod Histories
 pub mod Telling
 pub mod Answering
+pub mod InTime
 pub mod Counting
 pub mod Places
 pub mod Tables

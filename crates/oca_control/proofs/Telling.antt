@@ -1,6 +1,5 @@
 -- What a link tells of itself, by its calls.
 use Rattle.std.proofs.Common.{◌≡◌, ℕ, ◌<◌, ◌≤◌, Bool, true, false, cond, ◌&&◌, ◌||◌, max, List, [], ◌∷◌, Option, Some, None, Result, Ok, Err, is_some, refl, sym, ap, ◌∙◌, arith, subst}
-use Rattle.std.specs.Prelude.{nat_eq}
 use Rattle.std.specs.List.{AllByRecursion}
 use Rattle.std.proofs.Math.Dec.{eqb}
 use Rattle.oca_types.specs.declared.words.Peer.{Peer}
@@ -10,7 +9,7 @@ use Rattle.oca_control.specs.declared.fault.ControlFault.{ControlFault}
 use Rattle.oca_control.specs.Answers.{AnswerFields}
 use Rattle.oca_control.specs.Untaken.{Untaken, first_answered, holds}
 use Rattle.oca_control.specs.Links.{LinkState, submission, after_submission, Decision, GivesCommand, GivesKeepAlive, GivesNothing, IsLost, decision, present, after_due}
-use Rattle.oca_control.specs.Histories.{Call, Submits, GivesOut, Receives, TakesAnswer, IsHistory, clock, answers_to, first_of, is_untaken, last_heard, is_answered, IsFirstAnswered, TellsOfItself}
+use Rattle.oca_control.specs.Histories.{Call, Submits, GivesOut, Receives, TakesAnswer, IsHistory, clock, answers_to, first_of, is_untaken, last_heard, IsFirstAnswered, TellsOfItself}
 use Rattle.oca_control.proofs.Following.{equal_self, both_true, each_map, each_both, AreAnswered}
 use Rattle.oca_control.proofs.Dues.{Rises, each_held}
 use Rattle.oca_control.proofs.Histories.{stands}

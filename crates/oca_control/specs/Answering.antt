@@ -1,16 +1,17 @@
--- WHAT COMES OF A COMMAND over histories of calls (*profile*): each that is due is given out, and what was answered stays so. As in
--- Histories the latest call stands first.
-use Rattle.std.specs.Prelude.{◌≡◌, ◌⊎◌, ℕ, ◌==◌, ◌<◌, ◌≤◌, max, Bool, true, false, ⊤, List, [], ◌∷◌, ◌++◌, length, Option, Some, is_some}
+-- WHAT COMES OF A COMMAND over histories of calls (*profile*): each that is due is given out, again and again where the
+-- link is asked often enough, and what was answered stays so. As in Histories the latest call stands first.
+use Rattle.std.specs.Prelude.{◌≡◌, ◌⊎◌, ℕ, ◌+◌, ◌*◌, ◌==◌, ◌<◌, ◌≤◌, max, Bool, true, false, ⊤, if◌then◌else◌, List, [], ◌∷◌, ◌++◌, length, Some, None, is_some, Ok}
 use Rattle.std.specs.List.{AllByRecursion, list_any}
 use Rattle.oca_types.specs.declared.words.Peer.{Peer}
+use Rattle.oca_types.specs.declared.words.Handle.{Handle}
 use Rattle.oca_types.specs.Peers.{same_peer}
 use Rattle.oca_pdu.specs.Messages.{Msg}
 use Rattle.oca_control.specs.declared.due.Due.{Due}
 use Rattle.oca_control.specs.declared.due.Due.TheVariants as dues
 use Rattle.oca_control.specs.declared.reception.Reception.{Reception}
 use Rattle.oca_control.specs.Untaken.{answer_under}
-use Rattle.oca_control.specs.Links.{LinkState}
-use Rattle.oca_control.specs.Histories.{Call, Submits, GivesOut, Receives, TakesAnswer, IsHistory, clock, answers_in, first_of, is_untaken, is_due_at, is_lost}
+use Rattle.oca_control.specs.Links.{LinkState, Request}
+use Rattle.oca_control.specs.Histories.{Call, Submits, GivesOut, Receives, TakesAnswer, IsHistory, clock, Sending, sendings, answers_in, answers_to, first_of, is_untaken, is_due_at, is_lost}
 
 -- a response among the messages is to this handle
 abbrev pub has_response : ℕ → List Msg → Bool
@@ -23,13 +24,15 @@ TakesNothingOf h (Submits request now answer) = ⊤
 TakesNothingOf h (GivesOut now answer bytes) = ⊤
 TakesNothingOf h (Receives from bytes content now answer) = ⊤
 
--- A well-formed datagram came from the device, with a response to an untaken command, whatever else it has. Then whatever is called, but
--- for a take of this handle, the link holds an answer to it, which a take gives.
+-- A well-formed datagram came from the device, with a response to an untaken command, whatever else it has. Then
+-- whatever is called, but for a take of this handle, the link holds an answer to it, which a take gives.
 abbrev pub EveryAnswerIsKept : Type 0
 EveryAnswerIsKept =
-    (device : Peer) (first opened span : ℕ) (before later : List Call) (after : LinkState) (h : ℕ) (from : Peer) (bytes : List ℕ) (messages : List Msg) (now : ℕ) (answer : Reception) →
+    (device : Peer) (first opened span : ℕ) (before later : List Call) (after : LinkState) (h : ℕ) (from : Peer)
+    (bytes : List ℕ) (messages : List Msg) (now : ℕ) (answer : Reception) →
     0 < span → IsHistory device first opened span (later ++ Receives from bytes (Some messages) now answer ∷ before) after →
-    same_peer from device ≡ true → is_untaken h before ≡ true → has_response h messages ≡ true → AllByRecursion (TakesNothingOf h) later →
+    same_peer from device ≡ true → is_untaken h before ≡ true → has_response h messages ≡ true →
+    AllByRecursion (TakesNothingOf h) later →
     is_some (answer_under h after.untaken) ≡ true
 
 -- a call of `due` at this moment
@@ -56,8 +59,8 @@ is_given_in h (TakesAnswer x answer) = false
 abbrev pub is_among : ℕ → List ℕ → Bool
 is_among h hs = list_any (λ x. x == h) hs
 
--- Where no others than these k handles are due at a moment, each that is due is given out within k calls of `due` at that moment, or the
--- link is lost.
+-- Where no others than these k handles are due at a moment, each that is due is given out within k calls of `due` at that
+-- moment, or the link is lost.
 abbrev pub EveryDueCommandIsGivenOut : Type 0
 EveryDueCommandIsGivenOut =
     (device : Peer) (first opened span : ℕ) (before calls : List Call) (after : LinkState) (now h : ℕ) (due : List ℕ) →
@@ -66,3 +69,56 @@ EveryDueCommandIsGivenOut =
     ((x : ℕ) → is_due_at device opened (max (clock opened before) now) x before ≡ true → is_among x due ≡ true) →
     length due ≤ length calls →
     (is_lost (calls ++ before) ≡ true) ⊎ (list_any (is_given_in h) calls ≡ true)
+
+-- ---- a link that is asked often enough
+
+-- `due` answered that no command is left to give out: with a keep-alive, with nothing, or that the link is lost
+abbrev pub says_none_left : Due → Bool
+says_none_left (dues.Send h) = false
+says_none_left dues.KeepAlive = true
+says_none_left dues.Nothing = true
+says_none_left dues.Lost = true
+
+-- THE LAST TIME that it did, by the clock, and at first the moment since when the calls are looked at.
+abbrev pub last_asked : ℕ → List Call → ℕ
+last_asked since [] = since
+last_asked since (GivesOut now answer bytes ∷ before) =
+    if says_none_left answer then max (clock since before) now else last_asked since before
+last_asked since (Submits request now answer ∷ before) = last_asked since before
+last_asked since (Receives from bytes content now answer ∷ before) = last_asked since before
+last_asked since (TakesAnswer h answer ∷ before) = last_asked since before
+
+-- A link IS ASKED EVERY so many ms: after each of the calls, that was at most so long ago by the clock. So its `due` is
+-- called until no command is left, and again before that time is over.
+abbrev pub IsAskedEvery : ℕ → ℕ → List Call → Type 0
+IsAskedEvery ms since [] = ⊤
+IsAskedEvery ms since (call ∷ before) =
+    (clock since (call ∷ before) ≤ last_asked since (call ∷ before) + ms) × IsAskedEvery ms since before
+
+-- A command WAITS while it is untaken, no answer came to it, and the link is not lost.
+pub record Waits (device : Peer) (h : ℕ) (calls : List Call) : Type 0 where
+  pub untaken : is_untaken h calls ≡ true
+  pub unanswered : first_of (answers_to device h calls) ≡ None
+  pub not_lost : is_lost calls ≡ false
+
+-- Of a command that was submitted at a moment and waits at t: it was given out less than 250 ms and so many ago; or it was
+-- never given out, and submitted at most so many ms ago.
+abbrev pub IsRecent : ℕ → ℕ → ℕ → List Sending → Type 0
+IsRecent ms since t [] = t ≤ since + ms
+IsRecent ms since t (s ∷ before) = t < s.at + (250 + ms)
+
+-- And it does not wait for ever, since it is given out at most 20 times.
+pub record IsGivenOutInTime (ms since t : ℕ) (given : List Sending) : Type 0 where
+  pub recent : IsRecent ms since t given
+  pub ends : t ≤ since + ms + 20 * (250 + ms)
+
+-- Where a link is asked every so many ms from the submit of a command on, the command is given out in time as long as it
+-- waits.
+abbrev pub EveryCommandIsGivenOutInTime : Type 0
+EveryCommandIsGivenOutInTime =
+    (device : Peer) (first opened span : ℕ) (before later : List Call) (after : LinkState)
+    (request : Request) (now ms : ℕ) (h : Handle) →
+    let since : ℕ = max (clock opened before) now in
+    let calls : List Call = later ++ Submits request now (Ok h) ∷ before in
+    0 < span → IsHistory device first opened span calls after → IsAskedEvery ms since later → Waits device h.0 calls →
+    IsGivenOutInTime ms since (clock opened calls) (sendings opened h.0 calls)

@@ -1,5 +1,5 @@
 //! The law of a link, over whole histories. Nothing here runs: the contracts are the law.
-ghost use Rattle.oca_control.specs.Answering.{EveryAnswerIsKept, EveryDueCommandIsGivenOut};
+ghost use Rattle.oca_control.specs.Answering.{EveryAnswerIsKept, EveryDueCommandIsGivenOut, EveryCommandIsGivenOutInTime};
 ghost use Rattle.oca_control.specs.Receptions.{EveryDatagramIsCounted};
 ghost use Rattle.oca_control.specs.Histories.{EveryHistoryIsLawful, EveryLinkTellsOfItself, BytesHaveOneContent};
 
@@ -40,8 +40,13 @@ pub fn law_of_answering()
 
 /// Giving out goes on. A command is due while it is untaken and no answer came to it, and was never given out or last 250 ms ago or
 /// earlier. Where k commands are due at a moment, each of them is given out within k calls of `due` at that moment, or the
-/// link is lost. So a link that is asked at least every 250 ms until it answers `Nothing` gives each command out again
-/// and again, until its answer came or the link is lost.
+/// link is lost.
+///
+/// Where a link is asked at least every `ms` milliseconds, from the submit of a command on, each time until it answers anything but
+/// `Send`, the command is given out within `ms` of its submit, and again less than `250 + ms` after each giving out, until an answer
+/// came, it was taken, or the link is lost. One of these comes within `ms + 20 * (250 + ms)` of the submit: asked every 250 ms, the link
+/// gives a command out again in less than half a second, and has its answer or is lost after 10,250 ms at most.
 pub fn law_of_giving_out()
-    ensures { EveryDueCommandIsGivenOut }
+    ensures due { EveryDueCommandIsGivenOut }
+    ensures in_time { EveryCommandIsGivenOutInTime }
 {}

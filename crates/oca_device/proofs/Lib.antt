@@ -15,3 +15,4 @@ pub mod Standing
 pub mod GroupLaws
 pub mod Fitting
 pub mod Summaries
+pub mod Lapses

@@ -5,6 +5,7 @@ pub mod Groups
 pub mod Answers
 pub mod Written
 pub mod Devices
+pub mod Lapses
 pub mod Outboxes
 pub mod Reports
 pub mod Replies
@@ -12,3 +13,4 @@ pub mod Following
 pub mod LawByEvents
 pub mod PrivateServing
 pub mod PrivateTotals
+pub mod PrivateLapses

@@ -1,12 +1,15 @@
 //! How the commands of a datagram were served.
 
-/// Numbers of executed commands, of duplicates whose reply is retained, of old commands, and of commands that reuse a
-/// retained handle.
+/// How many commands were served in which way.
 #[derive(Clone, Copy, Debug, PartialEq, Eq)]
 pub struct Counts {
+    /// Commands that were executed.
     pub executed: u32,
+    /// Duplicates whose reply is retained.
     pub kept: u32,
+    /// Commands that are too old.
     pub old: u32,
+    /// Commands that ask something else under the handle of a retained one.
     pub reused: u32,
 }
 

@@ -1,5 +1,5 @@
 //! The device: it takes events, and puts its answers into an outbox.
-ghost use Rattle.std.specs.Prelude.{◌≡◌, ℕ, ◌+◌, ◌<◌, ◌≤◌, List, [], ◌∷◌, ◌++◌, length, max, IfOk, OnErr, IsTrue, IsSome, if◌then◌else◌, Ok, Err};
+ghost use Rattle.std.specs.Prelude.{◌≡◌, ℕ, ◌+◌, ◌<◌, ◌≤◌, List, [], ◌∷◌, ◌++◌, length, max, IfOk, OnErr, MatchOption, IsTrue, IsSome, if◌then◌else◌, Ok, Err};
 ghost use Rattle.oca_types.specs.Peers.{fields_of};
 ghost use Rattle.oca_types.specs.Sizes.{window_size, sizes_of, DeviceSizes};
 ghost use Rattle.std.specs.List.{AllByRecursion};
@@ -17,11 +17,12 @@ ghost use Rattle.oca_device.specs.Answers.{packets, verdict};
 ghost use Rattle.oca_device.specs.Written.{numbers_of, written, written_by_execution};
 
 use crate::counts::{Counts, NONE};
+use crate::lapse::released_from;
 use crate::outbox::Outbox;
 use crate::verdict::Verdict;
 use arrayvec::ArrayVec;
 use oca_pdu::{Form, Message, Messages, check};
-use oca_session::{Admission, Judged, Sessions};
+use oca_session::{Admission, Judged, Sessions, sooner};
 use oca_tree::{LocalValue, SetFault, Tree};
 use oca_types::{Command, NoMemory, Ono, Params, Peer, Peers, Reply, Sizes, Status, Window};
 use std::alloc::Global;
@@ -57,6 +58,7 @@ impl Model for Device {
 
 impl Device {
     ghost use Rattle.oca_device.specs.Devices.{Represents, IsIn};
+    ghost use Rattle.oca_device.specs.Lapses.{IsNextLapse, NeverLapses};
     ghost use Rattle.oca_device.specs.PrivateServing.{Serves, ServesAll, Receives, AreGrouped, IsShort, may_answer, most_answers, commands_in, commands_of, all_commands};
 
     /// A device of these objects, with reply windows of this size and sessions of at most 16 peers, before any event. Takes
@@ -96,12 +98,14 @@ impl Device {
     /// Takes a datagram that came from a peer, and returns what became of it. The outbox then holds its answers, all for that
     /// peer, and nothing else: what it held before is taken out first.
     ///
-    /// First the clock moves: locks of peers that are silent for more than three heartbeats are released, and sessions
-    /// that are silent for more than 120,000 ms forgotten. A malformed datagram, and one that finds no room for its
-    /// sender's session, change nothing else and get no answer. The messages of any other are served in order: a fresh
-    /// command is executed, a duplicate gets the retained reply, a command that asks something else under the handle of a
-    /// retained one is ignored, as is an old one, and a keep-alive sets the heartbeat and is returned. Neighbouring responses
-    /// leave in one PDU while it has at most 1,472 bytes. (AES70-3; sessions, windows and grouping are the profile's.)
+    /// First the clock moves: locks of peers that are silent for more than three heartbeats are released, and
+    /// sessions that are silent for more than 120,000 ms forgotten. A malformed datagram, and one that finds no
+    /// room for its sender's session, change no object and no session and get no answer; the list of what was
+    /// written is empty then. The messages of any other are served in order: a fresh command is executed, a
+    /// duplicate gets the retained reply, a command that asks something else under the handle of a retained one
+    /// is ignored, as is an old one, and a keep-alive sets the heartbeat and is returned. Neighbouring
+    /// responses leave in one PDU while it has at most 1,472 bytes. (AES70-3; sessions, windows and grouping
+    /// are the profile's.)
     pub fn datagram(&mut self, from: Peer, bytes: &[u8], now: u64, outbox: &mut Outbox) -> Verdict
         ensures represents { (w : DeviceSizes) (T : List Object) (E : List Event) → Represents w self.old T E →
             Represents w self.new T (DatagramEvent from bytes.now now ∷ E) }
@@ -156,16 +160,34 @@ impl Device {
         self.sessions.len()
     }
 
-    /// The objects that the last datagram wrote to: of each of its commands that it executed with status OK and whose method
-    /// writes, the target, in order, each as often as it was. A command that reads, locks or unlocks, one that was refused, a
-    /// duplicate, an old one and one that reuses a handle write none, and so does a malformed datagram or one that finds no room.
-    /// Clock readings and changes at the front leave the list; before the first datagram it is empty.
+    /// The objects that the last datagram wrote to: of each of its commands that it executed with status OK and
+    /// whose method writes, the target, in order, each as often as it was. A command that reads, locks or
+    /// unlocks, one that was refused, a duplicate, an old one and one that reuses a handle write none, and
+    /// neither does a malformed datagram or one that finds no room: the list is empty after it, so read it
+    /// after each datagram. Clock readings and changes at the front leave the list; before the first datagram
+    /// it is empty.
     pub fn written(&self) -> &[Ono]
         ensures written { numbers_of result.now ≡ self.now.written }
         ensures represented { (w : DeviceSizes) (T : List Object) (E : List Event) → Represents w self.now T E →
             numbers_of result.now ≡ written w T E }
     {
         self.written.as_slice()
+    }
+
+    /// The earliest moment, not before the present one, at which a clock reading would change the objects or
+    /// the sessions: take off a lock of a silent peer, or forget a session. An event loop may wait until then.
+    /// `None` where there is none within 64 bits, as where there is no session.
+    pub fn next_lapse(&self) -> Option<u64>
+        ensures { (w : DeviceSizes) (T : List Object) (E : List Event) → Represents w self.now T E →
+            let s = state_after w T E in MatchOption result (NeverLapses w s) (λ t. IsNextLapse w s t) }
+    {
+        match sooner(
+            self.sessions.forgotten_from(),
+            released_from(&self.tree, &self.sessions),
+        ) {
+            Some(first) => Some(first.max(self.sessions.moment())),
+            None => None,
+        }
     }
 
     /// Forgets what the last datagram wrote to.
@@ -186,7 +208,8 @@ impl Device {
         release_all(&mut self.tree, self.lapsed.as_slice());
     }
 
-    /// Takes the datagram, at the present moment.
+    /// Takes the datagram, once the clock has moved on to its moment: `now` is not after the present moment, so
+    /// it moves nothing here.
     fn receive(&mut self, from: Peer, bytes: &[u8], now: u64, outbox: &mut Outbox) -> Verdict
         requires moment { now ≤ self.old.sessions.moment }
         requires empty { outbox.old ≡ [] }
@@ -211,7 +234,7 @@ impl Device {
         }
     }
 
-    /// Lets a peer in, where it is known or there is room for its session.
+    /// Lets a peer in, where it is known or there is room for its session. `now` is not after the present moment.
     fn admit(&mut self, from: Peer, now: u64) -> bool
         requires { now ≤ self.old.sessions.moment }
         ensures admits { (w : DeviceSizes) (s : State) → IsIn w self.old s → result ≡ admits w s from }

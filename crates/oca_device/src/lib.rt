@@ -11,6 +11,7 @@
 mod counts;
 mod device;
 mod electronics;
+mod lapse;
 mod law;
 mod outbox;
 mod report;

@@ -33,8 +33,10 @@ pub fn serve<E: End>(device: &mut Device, end: &mut E, outbox: &mut Outbox, turn
     serve_with(device, end, outbox, &mut none, turns)
 }
 
-/// Serves an end as [`serve`] does, and hands the electronics what each datagram did: once its answers are sent, the objects and which of
-/// them it wrote to, be it none.
+/// Serves an end as [`serve`] does, and hands the electronics what each datagram did: once its answers are
+/// sent, the objects and which of them it wrote to, be it none. All sends come first: where they fail, each
+/// takes as long as the end lets it, so what electronics do may come late by that (at a `UdpEnd` by up to a
+/// millisecond a packet, of which there are at most 122).
 pub fn serve_with<E: End, L: Electronics>(
     device: &mut Device,
     end: &mut E,

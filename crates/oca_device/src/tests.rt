@@ -1,13 +1,15 @@
 //! Examples over the bench device. Expected bytes are those of AES70-3's layouts, written out or put together here, and never
 //! the device's own.
+mod blocks;
 mod commands;
 mod grouping;
+mod lapses;
 mod serving;
 mod sessions;
 
 use crate::{Device, Outbox, Verdict};
 use oca_tree::bench;
-use oca_types::{Packet, Peer, Peers, Sizes, Window};
+use oca_types::{Ono, Packet, Peer, Peers, Sizes, Window};
 use std::alloc::Global;
 use std::process::Abort;
 use std::test::Fail;

@@ -5,16 +5,21 @@ use oca_pdu::PduFault;
 /// heartbeats are released, and sessions that are silent for more than 120,000 ms forgotten.
 #[derive(Clone, Copy, Debug, PartialEq, Eq)]
 pub enum Verdict {
-    /// The datagram was admitted. Of its commands, with and without response, so many were executed, were duplicates
-    /// whose reply was retained, were too old, and had the handle of a retained command but asked something else.
+    /// The datagram was admitted: how many of its commands, with and without response, were served in which way.
     Served {
+        /// Commands that were executed.
         executed: u32,
+        /// Duplicates whose reply was retained.
         kept: u32,
+        /// Commands that were too old.
         old: u32,
+        /// Commands that asked something else under the handle of a retained one.
         reused: u32,
     },
-    /// The bytes are no well-formed datagram, and this is their first fault. Nothing else changed.
+    /// The bytes are no well-formed datagram, and this is their first fault. No object and no session changed;
+    /// nothing was written.
     Malformed(PduFault),
-    /// The sender has no session, and as many other peers as were chosen have one. Nothing else changed.
+    /// The sender has no session, and as many other peers as were chosen have one. No object and no session
+    /// changed; nothing was written.
     NoRoom,
 }

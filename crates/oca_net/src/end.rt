@@ -20,7 +20,7 @@ pub enum Heard {
     Closed,
 }
 
-/// An end of a link: it receives and sends datagrams.
+/// An end of a network: it receives and sends datagrams.
 ///
 /// Where an end tells, `delivered` and `taken` of its state are all that it delivered and took. Of an end that does not
 /// tell, these two say nothing; whether it has answered Closed, and its counts, are said of every end.

@@ -1,4 +1,4 @@
-//! Ends of a link: where datagrams come from and go to.
+//! Ends of a network: where datagrams come from and go to.
 //!
 //! The device and the controller receive and send through the trait [`End`] alone. An end may tell what
 //! it delivered and what it took; then a proof about a loop over it can say what that loop did.

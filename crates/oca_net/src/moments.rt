@@ -27,7 +27,7 @@ impl<'a, C: Clock> Moments<'a, C> {
         })
     }
 
-    /// The present moment.
+    /// The present moment, which is not noted: no earlier one than was told.
     pub(crate) fn now(&self) -> u64
         ensures { self.now.latest ≤ result }
     {
@@ -37,7 +37,7 @@ impl<'a, C: Clock> Moments<'a, C> {
         }
     }
 
-    /// Tells the present moment.
+    /// The present moment, and notes it, so that no later call gives an earlier one.
     pub(crate) fn tell(&mut self) -> u64
         ensures told { result ≡ self.new.latest }
         ensures later { self.old.latest ≤ self.new.latest }

@@ -105,8 +105,9 @@ impl<'a, C: Clock> Model for UdpEnd<'a, C> {
 }
 
 impl<'a, C: Clock> UdpEnd<'a, C> {
-    /// An end at this address and port; at port 0 the system chooses one. Takes the receive buffer first, then binds the
-    /// socket. Refusals: `NoMemory` where the buffer's memory was refused, `Io` where the system refused the socket.
+    /// An end at this address (an IPv4 address as a number, the first byte highest; 0 is every address of the machine, and
+    /// answers may then leave from another one than was asked) and port; at port 0 the system chooses one. Takes the
+    /// receive buffer first, then binds the socket. Refusals: `NoMemory` where the buffer's memory was refused, `Io` where the system refused the socket.
     pub fn bind(alloc: Global, rt: &'a C, ip: u32, port: u16) -> Result<UdpEnd<'a, C>, BindFault>
     where
         C: Net,

@@ -15,5 +15,6 @@ pub mod Room
 pub mod Networks
 pub mod Lawful
 pub mod RoundTrip
+pub mod GettingThrough
 pub mod Example
 pub mod Runs

@@ -102,7 +102,7 @@ grown_on n m o a b = record {
   submitted = b.submitted ∙ ap (λ xs. xs ++ b.more) a.submitted ∙ append_assoc n.submitted a.more b.more;
 }
 
-grown_steps : (es : List Step) (n : Network) → Grown n (after_steps es n)
+pub grown_steps : (es : List Step) (n : Network) → Grown n (after_steps es n)
 grown_steps [] n = grown_not n
 grown_steps (e ∷ es) n = grown_on n (after_step e n) (after_steps es (after_step e n)) (grown_step e n) (grown_steps es (after_step e n))
 
@@ -337,7 +337,7 @@ stands_step i h p step n g = one step
     one (steps.Local ono value) = record { link = g.link; there = g.there; peer = g.peer; kept = g.kept }
     one (Take k j) = by_take k j (slice_get n.links k) refl
 
-stands_steps : (i h : ℕ) (p : Peer) (es : List Step) (n : Network) → Stands i p h n.links n.taken → Stands i p h (after_steps es n).links (after_steps es n).taken
+pub stands_steps : (i h : ℕ) (p : Peer) (es : List Step) (n : Network) → Stands i p h n.links n.taken → Stands i p h (after_steps es n).links (after_steps es n).taken
 stands_steps i h p [] n g = g
 stands_steps i h p (e ∷ es) n g = stands_steps i h p es (after_step e n) (stands_step i h p e n g)
 

@@ -4,5 +4,6 @@ pub mod Happenings
 pub mod Premises
 pub mod Laws
 pub mod RoundTrip
+pub mod GettingThrough
 pub mod Transcripts
 pub mod PrivateRunning

@@ -1,7 +1,7 @@
 //! Schedules over the bench device. What is expected is that of the profile's worked examples, and never the program's own output.
 use crate::{
-    Outcome, PairFault, Start, Step, Transcript, law_answers, law_never_old, law_round_trip,
-    run_pair, run_pair_with_sizes,
+    Outcome, PairFault, Start, Step, Transcript, law_answers, law_getting_through, law_never_old,
+    law_round_trip, run_pair, run_pair_with_sizes,
 };
 use oca_control::{ControlFault, Reception};
 use oca_device::Verdict;
@@ -185,6 +185,53 @@ fn a_duplicate_is_answered_once(rt: HostRuntime) -> Result<(), Fail> {
     law_answers();
     law_never_old();
     law_round_trip();
+    Ok(())
+}
+
+/// What is due of the link.
+fn due(now: u64) -> Step<'static> {
+    Step::Due { link: 0, now }
+}
+
+/// A link that is asked every 250 ms until nothing is left; the first copy and the first response are lost.
+fn with_losses() -> [Step<'static>; 11] {
+    [
+        unmute(0),
+        due(0),
+        due(0),
+        due(250),
+        due(250),
+        Step::ToDevice { k: 1, now: 300 },
+        due(500),
+        due(500),
+        Step::ToDevice { k: 2, now: 510 },
+        Step::ToLink { k: 1, now: 520 },
+        Step::Take {
+            link: 0,
+            handle: Handle(1),
+        },
+    ]
+}
+
+/// What is lost is given out again, and one copy that arrives and one response that comes back are enough.
+#[test]
+fn what_is_lost_is_given_out_again(rt: HostRuntime) -> Result<(), Fail> {
+    let transcript = run(rt.alloc(), 32, 16, &[start(A, 1)], &with_losses())?;
+    let expected = [
+        Seen::Submitted(1),
+        Seen::Sent(0),
+        Seen::Nothing,
+        Seen::Sent(1),
+        Seen::Nothing,
+        served(1, 0, 0),
+        Seen::Sent(2),
+        Seen::Nothing,
+        served(0, 1, 0),
+        Seen::Link(Reception::Answered(1)),
+        Seen::Answer(0, 0, 0),
+    ];
+    expect_log(&rt, &transcript, &expected);
+    law_getting_through();
     Ok(())
 }
 

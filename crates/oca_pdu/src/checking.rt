@@ -117,7 +117,8 @@ fn check_pdu(pdu: u16, bytes: &[u8]) -> Result<&[u8], PduFault>
     Ok(rest)
 }
 
-/// Checks the PDUs that are all of the bytes, from left to right.
+/// Checks the PDUs that are all of the bytes, from left to right. Each has a byte at least, so that they end before the
+/// loop does.
 fn check_pdus(bytes: &[u8]) -> Result<(), PduFault>
     requires { length bytes.now ≤ 1472 }
     ensures { Agrees result (pdus_at (length bytes.now) 0 bytes.now) }

@@ -14,9 +14,10 @@ use crate::fields;
 use crate::message::{COMMAND_BYTES, Form, HEADER_BYTES, RESPONSE_BYTES, SYNC};
 use oca_types::{Command, Handle, MOST_BYTES, Packet, Reply};
 
-/// Where a PDU has its PduType, and the type of a PDU of responses (AES70-3).
+/// Where a PDU has its PduType (AES70-3).
 const PDU_TYPE_AT: usize = 7;
 
+/// The PduType of a PDU of responses (AES70-3).
 const RESPONSES: u8 = 3;
 
 /// Appends bytes for which there is room. A single one is written without a call.

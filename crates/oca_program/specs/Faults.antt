@@ -6,15 +6,19 @@ use Rattle.oca_net.specs.declared.udp.BindFault.TheVariants as binds
 use Rattle.oca_script.specs.declared.fault.ReplayFault.{ReplayFault}
 use Rattle.oca_script.specs.declared.fault.ReplayFault.TheVariants as replays
 use Rattle.oca_script.specs.Faults.{fault_word}
+use Rattle.oca_textree.specs.declared.fault.TreeFault.{TreeFault}
+use Rattle.oca_textree.specs.declared.fault.TreeFault.TheVariants as trees
+use Rattle.oca_textree.specs.Faults.{fault_word as object_word}
 use Rattle.oca_script.specs.Fields.{split_at}
 use Rattle.oca_program.specs.declared.fault.RunFault.{RunFault}
-use Rattle.oca_program.specs.declared.fault.RunFault.TheVariants.{BadWords, Line, NoMemory, Read, Write, TooMuch, Socket}
+use Rattle.oca_program.specs.declared.fault.RunFault.TheVariants.{BadWords, Line, Object, NoMemory, Read, Write, TooMuch, Socket}
 use Rattle.oca_program.specs.declared.fault.Failure.{Failure}
 
 -- 2 for what was asked wrongly, 1 for what could not be done
 abbrev pub fault_status : RunFault → ℕ
 fault_status BadWords = 2
 fault_status (Line number fault) = 2
+fault_status (Object number fault) = 2
 fault_status NoMemory = 1
 fault_status Read = 1
 fault_status Write = 1
@@ -33,10 +37,20 @@ abbrev pub bind_fault : BindFault → RunFault
 bind_fault binds.Io = Socket
 bind_fault binds.NoMemory = NoMemory
 
+-- the fault of the run, where the objects were not listed
+abbrev pub tree_fault : TreeFault → RunFault
+tree_fault (trees.Line number fault) = Object number fault
+tree_fault trees.NoMemory = NoMemory
+
+-- the line of a line's fault
+abbrev pub line_text : ℕ → List ℕ → List ℕ
+line_text number word = codes "line " ++ decimal number ++ codes ": " ++ word ++ codes "\n"
+
 -- the line that is printed
 abbrev pub fault_text : RunFault → List ℕ
 fault_text BadWords = codes "bad words\n"
-fault_text (Line number fault) = codes "line " ++ decimal number ++ codes ": " ++ fault_word fault ++ codes "\n"
+fault_text (Line number fault) = line_text number (fault_word fault)
+fault_text (Object number fault) = line_text number (object_word fault)
 fault_text NoMemory = codes "no memory\n"
 fault_text Read = codes "read failed\n"
 fault_text Write = codes "write failed\n"

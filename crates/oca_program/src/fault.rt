@@ -3,11 +3,12 @@ ghost use Rattle.std.specs.Prelude.{◌≡◌, ◌+◌, ◌++◌, ◌≤◌, Res
 ghost use Rattle.oca_script.specs.Ends.{output};
 ghost use Rattle.oca_script.specs.declared.fault.WriteFailed.{WriteFailed as Failed};
 ghost use Rattle.oca_script.specs.Printing.{WritesOut};
-ghost use Rattle.oca_program.specs.Faults.{fault_status, fault_text, failure_text, first_line as first_line_of, note_text};
+ghost use Rattle.oca_program.specs.Faults.{fault_status, fault_text, line_text, failure_text, first_line as first_line_of, note_text};
 
 use oca_net::BindFault;
 use oca_script::field::split_at_byte;
 use oca_script::{LineFault, Printer, ReplayFault, Sink, WriteFailed};
+use oca_textree::{ObjectFault, TreeFault};
 use std::alloc::Global;
 use thiserror::Error;
 
@@ -20,6 +21,9 @@ pub enum RunFault {
     /// The line of this number has this fault.
     #[error("line {0}: {1}")]
     Line(u64, LineFault),
+    /// The line of this number of the text that lists the objects has this fault.
+    #[error("line {0}: {1}")]
+    Object(u64, ObjectFault),
     /// Memory was refused.
     #[error("no memory")]
     NoMemory,
@@ -43,7 +47,7 @@ impl RunFault {
         ensures { result ≡ fault_status self }
     {
         match self {
-            RunFault::BadWords | RunFault::Line(_, _) => 2,
+            RunFault::BadWords | RunFault::Line(_, _) | RunFault::Object(_, _) => 2,
             RunFault::NoMemory
             | RunFault::Read
             | RunFault::Write
@@ -83,8 +87,8 @@ impl Failure {
     }
 }
 
-/// Prints why a run fails, and hands it on: a line that begins with `note: ` where more is known, and then the fault's own, which is
-/// the last. Returns the exit status, also where that can't be written.
+/// Prints why a run fails, and hands it on: a line that begins with `note: ` where more is known (one of more than 1,000 bytes is left
+/// out), and then the fault's own, which is the last. Returns the exit status, also where that can't be written.
 pub fn report<F: Sink>(failure: &Failure, faults: &mut Printer<F>) -> u8
     ensures status { result ≡ fault_status failure.now.fault }
     ensures lines { (written : Result Unit Failed) × WritesOut written faults.old faults.new (failure_text failure.now) }
@@ -93,7 +97,8 @@ pub fn report<F: Sink>(failure: &Failure, faults: &mut Printer<F>) -> u8
     failure.fault.status()
 }
 
-/// Prints a line that begins with `note: `, the first of the text, and hands it on, as far as the writes go.
+/// Prints a line that begins with `note: `, the first of the text, and hands it on, as far as the writes go. One of more than 1,000
+/// bytes is left out.
 pub fn print_note<F: Sink>(note: &str, faults: &mut Printer<F>)
     ensures { (written : Result Unit Failed) × WritesOut written faults.old faults.new (note_text note.now) }
 {
@@ -163,7 +168,8 @@ fn put_fault<F: Sink>(fault: RunFault, faults: &mut Printer<F>)
 {
     match fault {
         RunFault::BadWords => faults.put(b"bad words\n"),
-        RunFault::Line(number, fault) => put_line_fault(number, fault, faults),
+        RunFault::Line(number, fault) => put_line_fault(number, fault.word(), faults),
+        RunFault::Object(number, fault) => put_line_fault(number, fault.word(), faults),
         RunFault::NoMemory => faults.put(b"no memory\n"),
         RunFault::Read => faults.put(b"read failed\n"),
         RunFault::Write => faults.put(b"write failed\n"),
@@ -173,14 +179,15 @@ fn put_fault<F: Sink>(fault: RunFault, faults: &mut Printer<F>)
 }
 
 /// Holds the line of a line's fault.
-fn put_line_fault<F: Sink>(number: u64, fault: LineFault, faults: &mut Printer<F>)
-    requires { length faults.old.held + 100 ≤ 8192 }
-    ensures { faults.new ≡ output faults.old.contents (faults.old.held ++ fault_text (RunFault.Line number fault)) faults.old.failed }
+fn put_line_fault<F: Sink>(number: u64, word: &str, faults: &mut Printer<F>)
+    requires short { length word.now ≤ 20 }
+    requires room { length faults.old.held + 100 ≤ 8192 }
+    ensures { faults.new ≡ output faults.old.contents (faults.old.held ++ line_text number word.now) faults.old.failed }
 {
     faults.put(b"line ");
     faults.put_number(number);
     faults.put(b": ");
-    faults.put(fault.word().as_bytes());
+    faults.put(word.as_bytes());
     faults.put(b"\n");
 }
 
@@ -212,6 +219,21 @@ impl From<BindFault> for RunFault {
         match fault {
             BindFault::Io => RunFault::Socket,
             BindFault::NoMemory => RunFault::NoMemory,
+        }
+    }
+}
+
+impl From<TreeFault> for RunFault {
+    ghost use Rattle.std.specs.Prelude.{◌≡◌};
+    ghost use Rattle.oca_program.specs.Faults.{tree_fault};
+
+    ghost from_gives = { λ fault r. r ≡ tree_fault fault };
+
+    /// Why a run fails whose objects were not listed.
+    fn from(fault: TreeFault) -> RunFault {
+        match fault {
+            TreeFault::Line(number, fault) => RunFault::Object(number, fault),
+            TreeFault::NoMemory => RunFault::NoMemory,
         }
     }
 }

@@ -2,12 +2,13 @@
 //! words of a command line; the fields of a line, with their faults.
 //!
 //! A program's `main` takes its words by [`words_of`], and prints a [`Failure`] by [`report`]. [`options`] reads the values of
-//! the options that `clap` has found.
+//! the options that `clap` has found; [`socket`] binds an end.
 #![tactic(auto)]
 
 pub mod fault;
 pub mod field;
 pub mod options;
+pub mod socket;
 pub mod start;
 
 pub use fault::{Failure, RunFault, print_note, report};

@@ -3,6 +3,7 @@ use super::fault::{Failure, RunFault, report};
 use oca_fakes::ShortWriter;
 use oca_net::BindFault;
 use oca_script::{LineFault, Printer, ReplayFault};
+use oca_textree::ObjectFault;
 use std::process::Abort;
 use std::test::Fail;
 
@@ -24,6 +25,11 @@ fn statuses_and_texts(rt: HostRuntime) -> Result<(), Fail> {
             "line 18446744073709551615: too long\n",
         ),
         (RunFault::Line(7, LineFault::Number), 2, "line 7: number\n"),
+        (
+            RunFault::Object(7, ObjectFault::Class),
+            2,
+            "line 7: class\n",
+        ),
         (RunFault::NoMemory, 1, "no memory\n"),
         (RunFault::Read, 1, "read failed\n"),
         (RunFault::Write, 1, "write failed\n"),

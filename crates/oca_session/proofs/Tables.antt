@@ -73,16 +73,16 @@ found_at p ss i d h =
 
 -- ---- one session for a peer
 
-other_peer : (p q r : Peer) → same_peer p r ≡ true → same_peer p q ≡ false → same_peer q r ≡ false
+pub other_peer : (p q r : Peer) → same_peer p r ≡ true → same_peer p q ≡ false → same_peer q r ≡ false
 other_peer p q r same other = grind (arith, nat_tests)
 
-other_peer' : (p q r : Peer) → same_peer q r ≡ true → same_peer p q ≡ false → same_peer p r ≡ false
+pub other_peer' : (p q r : Peer) → same_peer q r ≡ true → same_peer p q ≡ false → same_peer p r ≡ false
 other_peer' p q r same other = grind (arith, nat_tests)
 
-IsOnePerPeer-tail : (s : Session) (ss : List Session) → IsOnePerPeer (s ∷ ss) → IsOnePerPeer ss
+pub IsOnePerPeer-tail : (s : Session) (ss : List Session) → IsOnePerPeer (s ∷ ss) → IsOnePerPeer ss
 IsOnePerPeer-tail s ss one = λ i j d before within. one (suc i) (suc j) d (omega arith) (omega arith)
 
-IsOnePerPeer-head : (s : Session) (ss : List Session) → IsOnePerPeer (s ∷ ss) → All (λ t. same_peer s.peer t.peer ≡ false) ss
+pub IsOnePerPeer-head : (s : Session) (ss : List Session) → IsOnePerPeer (s ∷ ss) → All (λ t. same_peer s.peer t.peer ≡ false) ss
 IsOnePerPeer-head s ss one = λ k d within. one 0 (suc k) d (omega arith) (omega arith)
 
 IsOnePerPeer-cons : (s : Session) (ss : List Session) → All (λ t. same_peer s.peer t.peer ≡ false) ss → IsOnePerPeer ss → IsOnePerPeer (s ∷ ss)
@@ -155,7 +155,7 @@ All-cons : {X : Type 0} (P : X → Type 0) (x : X) (xs : List X) → P x → All
 All-cons P x xs here rest zero d within = here
 All-cons P x xs here rest (suc k) d within = rest k d (omega arith)
 
-All-tail : {X : Type 0} (P : X → Type 0) (x : X) (xs : List X) → All P (x ∷ xs) → All P xs
+pub All-tail : {X : Type 0} (P : X → Type 0) (x : X) (xs : List X) → All P (x ∷ xs) → All P xs
 All-tail P x xs all = λ k d within. all (suc k) d (omega arith)
 
 pub All-push : {X : Type 0} (P : X → Type 0) (xs : List X) (y : X) → All P xs → P y → All P (xs ++ y ∷ [])
@@ -190,7 +190,7 @@ IsOnePerPeer-changed p f same (s ∷ ss) one =
     by_test false h = h
 
 -- where the peer has no session, none is of the peer
-all_others : (p : Peer) (ss : List Session) → session_of p ss ≡ None → All (λ s. is_of p s ≡ false) ss
+pub all_others : (p : Peer) (ss : List Session) → session_of p ss ≡ None → All (λ s. is_of p s ≡ false) ss
 all_others p [] h = λ k d within. absurd (omega arith)
 all_others p (s ∷ ss) h =
     let parts = by_test (is_of p s) h in

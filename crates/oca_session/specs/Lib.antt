@@ -2,6 +2,8 @@ pub mod Accepted
 pub mod Judging
 pub mod Limits
 pub mod Table
+pub mod Lapses
 pub mod Sound
 pub mod PrivateCells
 pub mod PrivateQuiet
+pub mod PrivateKeys

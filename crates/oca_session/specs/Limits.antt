@@ -1,10 +1,6 @@
 -- The limits of sessions (profile). Times are in milliseconds.
 use Rattle.std.specs.Prelude.{ℕ, max, min}
 
--- there are at most so many sessions
-abbrev pub most_sessions : ℕ
-most_sessions = 16
-
 -- a session is forgotten once its silence passes this
 abbrev pub longest_silence : ℕ
 longest_silence = 120000

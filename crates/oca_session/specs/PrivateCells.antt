@@ -1,23 +1,10 @@
--- What a window keeps (private contracts alone cite it): handles and cells, in places that are used in turn (profile).
-use Rattle.std.specs.Prelude.{◌≡◌, ℕ, zero, suc, ◌<◌, ◌≤◌, ◌==◌, Bool, false, List, [], ◌∷◌, ◌++◌, take, drop, Option, Some, None, All, AllPairs}
+-- What a window keeps (private contracts alone cite it): of each command a handle and a cell (profile).
+use Rattle.std.specs.Prelude.{◌≡◌, ℕ, zero, suc, ◌<◌, ◌==◌, Bool, false, List, [], ◌∷◌, ◌++◌, length, slice_get, filter_map, option_map, Option, Some, None, All, AllPairs}
 use Rattle.oca_types.specs.declared.words.Handle.{Handle}
-use Rattle.oca_session.specs.declared.cell.Cell.{Cell}
 use Rattle.oca_types.specs.Peers.{CommandFields}
+use Rattle.oca_session.specs.declared.cell.Cell.{Cell}
+use Rattle.oca_session.specs.declared.window.Held.{Held}
 use Rattle.oca_session.specs.Accepted.{Entry, Judgement, duplicate_or_reused}
-
--- the handle is this one (profile)
-abbrev pub is_handle : ℕ → Handle → Bool
-is_handle h x = x.0 == h
-
--- places that are used in turn, in order: those from o on, and then those before it (profile)
-abbrev pub turned : {X : Type 0} → ℕ → List X → List X
-turned o xs = drop o xs ++ take o xs
-
--- what two lists hold at the same index, put together (profile)
-abbrev pub paired : {X Y Z : Type 0} → (X → Y → Z) → List X → List Y → List Z
-paired f [] ys = []
-paired f (x ∷ xs) [] = []
-paired f (x ∷ xs) (y ∷ ys) = f x y ∷ paired f xs ys
 
 -- the accepted command of a handle, from what its cell holds (profile)
 abbrev pub entry_in : Handle → Cell → Entry
@@ -27,28 +14,44 @@ entry_in x a =
       reply = a.reply;
     }
 
--- the accepted commands whose handles and cells stand in the same places: those from place o on, and then those before it (profile)
-abbrev pub entries_of : List Handle → ℕ → List Cell → List Entry
-entries_of xs o cs = paired entry_in (turned o xs) (turned o cs)
+-- the accepted commands of what is held, in its order: the handle of each with what its cell holds (profile)
+abbrev pub entries_of : List Held → List Cell → List Entry
+entries_of hs cs = filter_map (λ g. option_map (entry_in g.handle) (slice_get cs g.cell)) hs
+
+-- what is held has this handle (profile)
+abbrev pub is_under : ℕ → Held → Bool
+is_under h g = g.handle.0 == h
+
+-- the one has another handle than the other, and another cell (profile)
+abbrev pub AreApart : Held → Held → Type 0
+AreApart g h = (is_under h.handle.0 g ≡ false) × ((g.cell == h.cell) ≡ false)
+
+-- There are as many cells as commands are held, each has a cell of its own, and its handle is another's nowhere and below this number (profile).
+abbrev pub AreHeld : List Held → List Cell → ℕ → Type 0
+AreHeld hs cs above =
+    (length cs ≡ length hs) × All (λ g. g.cell < length cs) hs × AllPairs AreApart hs × All (λ g. g.handle.0 < above) hs
 
 -- the floor that this number is one above; 0 is above none (profile)
 abbrev pub floor_before : ℕ → Option ℕ
 floor_before zero = None
 floor_before (suc floor) = Some floor
 
+-- this handle with the cell of this number (profile)
+abbrev pub held_in : Handle → ℕ → Held
+held_in x cell = record { handle = x; cell = cell }
+
+-- the cell is that of the oldest, and as many are held as there may be (profile)
+pub record IsCellOfOldest (hs : List Held) (size cell : ℕ) : Type 0 where
+  pub oldest : Held
+  pub first : slice_get hs 0 ≡ Some oldest
+  pub same : cell ≡ oldest.cell
+  pub full : length hs ≡ size
+
 -- a cell of this handle, with this accepted command, was added after the others (profile)
 pub record AddsCell (x : Handle) (e : Entry) (old new : List Cell) : Type 0 where
   pub cell : Cell
   pub holds : entry_in x cell ≡ e
   pub added : new ≡ old ++ cell ∷ []
-
--- no two handles are the same (profile)
-abbrev pub AreDistinct : List Handle → Type 0
-AreDistinct xs = AllPairs (λ x y. is_handle x.0 y ≡ false) xs
-
--- each handle is below this number, and the number after the floor is at most this one (profile)
-abbrev pub AreBelow : ℕ → List Handle → ℕ → Type 0
-AreBelow above xs end = All (λ x. x.0 < above) xs × (end ≤ above)
 
 -- what a cell says of a command under its handle (profile)
 abbrev pub judge_cell : Cell → CommandFields → Judgement

@@ -6,9 +6,11 @@ ghost use Rattle.oca_types.specs.Sizes.{window_size, sizes_of};
 ghost use Rattle.oca_session.specs.Accepted.{Entry, judgement, Fresh};
 ghost use Rattle.oca_session.specs.Judging.{as_judgement, judgement_by_window};
 ghost use Rattle.oca_session.specs.Table.{is_of, session_of, peers_of, lapsed, staying, forgotten};
+ghost use Rattle.oca_session.specs.Lapses.{HoldsFrom, forgets, lapses};
 ghost use Rattle.oca_session.specs.Sound.{IsSession, IsOnePerPeer};
 ghost use Rattle.oca_session.specs.PrivateQuiet.{IsQuietUntil};
 
+use crate::moments::sooner;
 use crate::slot::Slot;
 use crate::window::Judged;
 use arrayvec::ArrayVec;
@@ -29,8 +31,8 @@ pub enum Admission {
 
 /// The sessions of peers, at most as many as were chosen, in order of opening (profile).
 ///
-/// A peer is *known* while it has a session. The present moment is the latest that `advance` and `hear`
-/// were given, in milliseconds, and 0 at first. The *silence* of a session is the present moment less the
+/// A peer is *known* while it has a session. The present moment is the latest that `advance`, `advance_into` and
+/// `hear` were given, in milliseconds, and 0 at first. The *silence* of a session is the present moment less the
 /// moment when its peer was last heard.
 #[derive(Drop)]
 pub struct Sessions {
@@ -136,7 +138,7 @@ impl Sessions {
         ensures staying { self.new ≡ with_moment_and_sessions self.old (present self.old now) (staying (present self.old now) self.old.sessions) }
         ensures forgotten { self.old.sizes.peers ≤ 16 → All (Contains result.items) (peers_of (forgotten (present self.old now) self.old.sessions)) }
     {
-        // At most as many sessions as were chosen.
+        // Read so that the proof knows how many sessions were chosen.
         let _ = &self.sizes;
         let mut all = ArrayVec::new();
         self.advance_into(now, &mut all);
@@ -213,6 +215,32 @@ impl Sessions {
         let slot = &mut self.slots[at];
         slot.set_heartbeat(ms);
         self.quiet_until = self.quiet_until.min(slot.quiet_until());
+    }
+
+    /// The present moment, in milliseconds.
+    pub fn moment(&self) -> u64
+        ensures { result ≡ self.now.moment }
+    {
+        self.moment
+    }
+
+    /// From which moment on a session is forgotten, where no peer is heard; nothing where there is no session,
+    /// or where that lies beyond 64 bits.
+    pub fn forgotten_from(&self) -> Option<u64>
+        ensures { HoldsFrom (forgets self.now.sessions) result }
+    {
+        forgotten_from(&self.slots[..self.count])
+    }
+
+    /// From which moment on the silence of a peer passes three of its heartbeats, where it is not heard;
+    /// nothing where it has no session, or where that lies beyond 64 bits.
+    pub fn lapsed_from(&self, peer: Peer) -> Option<u64>
+        ensures { HoldsFrom (lapses peer self.now.sessions) result }
+    {
+        match index_of(&self.slots[..self.count], self.recent, peer) {
+            Some(at) => self.slots[at].lapsed_from(),
+            None => None,
+        }
     }
 
     /// What the reply window of a known peer says of a command: it answers by the accepted commands of the
@@ -338,6 +366,17 @@ fn quiet_until(slots: &[Slot]) -> u64
     until
 }
 
+/// From which moment on one of the sessions is forgotten.
+fn forgotten_from(slots: &[Slot]) -> Option<u64>
+    ensures { HoldsFrom (forgets slots.now) result }
+{
+    let mut first = None;
+    for slot in slots {
+        first = sooner(first, slot.forgotten_from());
+    }
+    first
+}
+
 /// Moves the sessions that stay to the front, in their order, and answers how many they are. The slots of
 /// the others come behind them.
 fn forget(slots: &mut Vec<Slot>, count: usize, moment: u64) -> usize
@@ -359,7 +398,7 @@ fn forget(slots: &mut Vec<Slot>, count: usize, moment: u64) -> usize
 
 /// So many slots for sessions with windows of this size.
 fn spare_slots(alloc: Global, window: usize, count: usize) -> Result<Vec<Slot>, AllocError>
-    requires { 0 < window }
+    requires { (0 < window) × (window ≤ 64) }
     ensures { IfOk result (λ v. (length v.items ≡ count) × All (IsSession window) v.items) }
 {
     let mut slots = Vec::with_capacity(alloc, count)?;

@@ -1,10 +1,13 @@
 //! One session.
-ghost use Rattle.std.specs.Prelude.{◌≡◌, ℕ, ◌+◌, ◌*◌, ◌<◌, ◌≤◌, List, length, IfOk};
+ghost use Rattle.std.specs.Prelude.{◌≡◌, ℕ, ◌+◌, ◌*◌, ◌<◌, ◌≤◌, not, List, length, IfOk};
 ghost use Rattle.oca_types.specs.Peers.{fields_of};
 ghost use Rattle.oca_session.specs.Accepted.{Entry, Agrees, judgement, Fresh};
 ghost use Rattle.oca_session.specs.Judging.{as_judgement, judgement_by_window};
+ghost use Rattle.oca_session.specs.PrivateKeys.{key_of as number_of};
 ghost use Rattle.oca_session.specs.Table.{is_of, is_lapsed, stays, heard_at, with_heartbeat, opened_session, with_entry};
+ghost use Rattle.oca_session.specs.Lapses.{HoldsFrom};
 
+use crate::moments::passes_from;
 use crate::window::{Judged, ReplyWindow};
 use oca_types::{Command, Peer, Reply};
 use std::alloc::{AllocError, Global};
@@ -17,28 +20,35 @@ const FIRST_HEARTBEAT: u32 = 5_000;
 #[derive(Drop)]
 pub struct Slot {
     peer: Peer,
+    /// The key of the peer.
+    key: u64,
     heard: u64,
     heartbeat: u32,
     window: ReplyWindow,
 }
 
 impl Model for Slot {
+    ghost use Rattle.std.specs.Prelude.{◌≡◌, ◌<◌};
+    ghost use Rattle.oca_session.specs.PrivateKeys.{key_of};
     ghost use Rattle.oca_session.specs.Table.{Session};
 
     ghost Value = { Session };
 
     ghost view = { λ a. record { peer = a.peer; heard = a.heard; heartbeat = a.heartbeat; retained = a.window } };
+
+    ghost invariant = { λ a. (a.key ≡ key_of a.peer) × (a.peer.port < 65536) };
 }
 
 impl Slot {
     /// A slot that no session has had yet.
     pub fn spare(alloc: Global, size: usize) -> Result<Slot, AllocError>
-        requires { 0 < size }
+        requires { (0 < size) × (size ≤ 64) }
         ensures { IfOk result (λ s. s ≡ opened_session size (record { ip = 0; port = 0 }) 0) }
     {
         let window = ReplyWindow::new(alloc, size)?;
         Ok(Slot {
             peer: Peer { ip: 0, port: 0 },
+            key: 0,
             heard: 0,
             heartbeat: FIRST_HEARTBEAT,
             window,
@@ -50,6 +60,7 @@ impl Slot {
         ensures { self.new ≡ opened_session self.old.retained.size peer moment }
     {
         self.peer = peer;
+        self.key = key_of(peer);
         self.heard = moment;
         self.heartbeat = FIRST_HEARTBEAT;
         self.window.clear();
@@ -66,7 +77,7 @@ impl Slot {
     pub fn is_of(&self, peer: Peer) -> bool
         ensures { result ≡ is_of peer self.now }
     {
-        self.peer == peer
+        self.key == key_of(peer)
     }
 
     /// Whether the silence passes three heartbeats.
@@ -88,6 +99,20 @@ impl Slot {
         ensures { result ≡ stays moment self.now }
     {
         moment.saturating_sub(self.heard) <= 120_000
+    }
+
+    /// From which moment on the silence passes three heartbeats; nothing where that lies beyond 64 bits.
+    pub fn lapsed_from(&self) -> Option<u64>
+        ensures { HoldsFrom (λ t. is_lapsed t self.now) result }
+    {
+        passes_from(self.heard, 3 * u64::from(self.heartbeat))
+    }
+
+    /// From which moment on the silence passes 120,000 ms; nothing where that lies beyond 64 bits.
+    pub fn forgotten_from(&self) -> Option<u64>
+        ensures { HoldsFrom (λ t. not (stays t self.now)) result }
+    {
+        passes_from(self.heard, 120_000)
     }
 
     /// Ends the silence.
@@ -121,4 +146,11 @@ impl Slot {
     {
         self.window.keep(command, reply);
     }
+}
+
+/// A number that the peer alone has, so that two peers are compared in one step.
+fn key_of(peer: Peer) -> u64
+    ensures { result ≡ number_of peer }
+{
+    u64::from(peer.ip) * 65_536 + u64::from(peer.port)
 }

@@ -1,18 +1,16 @@
 //! The reply window of one session.
-ghost use Rattle.std.specs.Prelude.{◌≡◌, ℕ, ◌<◌, ◌≤◌, vec_len, vec_capacity, List, [], ◌∷◌, ◌++◌, length, slice_get, slice_set, slice_index_or, option_map, IfOk, IfSome, IfNone, MatchOption, All, Some, true, false};
+ghost use Rattle.std.specs.Prelude.{◌≡◌, ℕ, ◌+◌, ◌<◌, ◌≤◌, max, vec_len, vec_capacity, List, [], ◌∷◌, ◌++◌, length, option_map, option_copied, IfOk, MatchOption, AllPairs, find};
 ghost use Rattle.circular_buffer.specs.Buffer.{buffer};
-ghost use Rattle.oca_types.specs.declared.words.Handle.{Handle};
 ghost use Rattle.oca_types.specs.Peers.{CommandFields, fields_of};
 ghost use Rattle.oca_session.specs.Accepted.{Entry, retained_of, Agrees, judgement, Fresh, entry_under, duplicate_or_reused};
 ghost use Rattle.oca_session.specs.Judging.{as_judgement, judgement_by_window, retained_after};
-ghost use Rattle.oca_session.specs.PrivateCells.{is_handle, judge_cell, AddsCell};
+ghost use Rattle.oca_session.specs.PrivateCells.{is_under, held_in, judge_cell, AreApart, IsCellOfOldest, AddsCell};
 
 use crate::cell::Cell;
 use circular_buffer::HeapCircularBuffer;
 use oca_types::{Command, Handle, Reply};
 use std::alloc::{AllocError, Global};
 use std::marker::Model;
-use std::mem::replace;
 
 /// What the reply window of a session says of a command.
 #[derive(Clone, Copy)]
@@ -27,17 +25,30 @@ pub enum Judged<'a> {
     Old,
 }
 
+/// A command in a window: its handle, and which cell has the rest of it and its reply.
+#[derive(Clone, Copy)]
+pub struct Held {
+    handle: Handle,
+    cell: u32,
+}
+
+impl Held {
+    /// Whether this is its handle.
+    fn is_under(&self, handle: Handle) -> bool
+        ensures { result ≡ is_under handle.0 self.now }
+    {
+        self.handle == handle
+    }
+}
+
 /// The last accepted commands of a session with their replies, and the floor, the greatest handle that was
 /// pushed out of the window.
 #[derive(Drop)]
 pub struct ReplyWindow {
-    /// The handles, in places that are used in turn once all are taken: the oldest is at `next`, or at 0 while
-    /// there is room, and the others follow it round.
-    handles: HeapCircularBuffer<Handle>,
-    /// The rest of each command and its reply, in the place of its handle.
+    /// The commands, oldest first. A command that is pushed to it when it is full pushes the oldest out.
+    held: HeapCircularBuffer<Held>,
+    /// The rest of each command and its reply. The cell of a command that is pushed out is that of the next.
     cells: Vec<Cell>,
-    /// The place of the next command: behind all others, or that of the oldest.
-    next: usize,
     /// The number after the floor; 0 where there is no floor.
     floor_end: u64,
     /// Above each handle that was accepted.
@@ -45,33 +56,30 @@ pub struct ReplyWindow {
 }
 
 impl Model for ReplyWindow {
-    ghost use Rattle.std.specs.Prelude.{◌≡◌, ◌<◌, ◌≤◌, length, vec_capacity};
+    ghost use Rattle.std.specs.Prelude.{◌<◌, ◌≤◌, length, vec_capacity};
     ghost use Rattle.oca_session.specs.Accepted.{Retained};
-    ghost use Rattle.oca_session.specs.PrivateCells.{AreBelow, AreDistinct, entries_of, floor_before, turned};
+    ghost use Rattle.oca_session.specs.PrivateCells.{AreHeld, entries_of, floor_before};
 
     ghost Value = { Retained };
 
-    ghost view = { λ a. record { size = a.handles.capacity; entries = entries_of a.handles.items a.next a.cells.items; floor = floor_before a.floor_end } };
+    ghost view = { λ a. record { size = a.held.capacity; entries = entries_of a.held.items a.cells.items; floor = floor_before a.floor_end } };
 
-    ghost invariant = { λ a. (length a.cells.items ≡ length a.handles.items) × (length a.handles.items ≤ a.handles.capacity)
-        × (a.next < a.handles.capacity) × (a.handles.capacity ≤ vec_capacity a.cells)
-        × (length a.handles.items < a.handles.capacity → a.next ≡ length a.handles.items)
-        × AreBelow a.above (turned a.next a.handles.items) a.floor_end
-        × AreDistinct (turned a.next a.handles.items) };
+    ghost invariant = { λ a. AreHeld a.held.items a.cells.items a.above × (a.floor_end ≤ a.above)
+        × (length a.held.items ≤ a.held.capacity) × (0 < a.held.capacity) × (a.held.capacity ≤ 64)
+        × (a.held.capacity ≤ vec_capacity a.cells) };
 }
 
 impl ReplyWindow {
     /// An empty window of this size, with room for all that it will retain.
     pub fn new(alloc: Global, size: usize) -> Result<ReplyWindow, AllocError>
-        requires { 0 < size }
+        requires { (0 < size) × (size ≤ 64) }
         ensures { IfOk result (λ k. k ≡ retained_of size []) }
     {
-        let handles = HeapCircularBuffer::with_capacity(alloc, size)?;
+        let held = HeapCircularBuffer::with_capacity(alloc, size)?;
         let cells = Vec::with_capacity(alloc, size)?;
         Ok(ReplyWindow {
-            handles,
+            held,
             cells,
-            next: 0,
             floor_end: 0,
             above: 0,
         })
@@ -81,9 +89,8 @@ impl ReplyWindow {
     pub fn clear(&mut self)
         ensures { self.new ≡ retained_of self.old.size [] }
     {
-        self.handles.clear();
+        self.held.clear();
         self.cells.clear();
-        self.next = 0;
         self.floor_end = 0;
         self.above = 0;
     }
@@ -96,29 +103,31 @@ impl ReplyWindow {
         self.judge_retained(command)
     }
 
-    /// The cell of the command that is retained under a handle. The place before the next is looked at first, since
-    /// duplicates are mostly of the latest command, which stands there (but where the next place is 0 again).
+    /// The cell of the command that is retained under a handle.
     fn find(&self, handle: Handle) -> Option<&Cell>
         ensures { (c : CommandFields) → option_map (λ e. duplicate_or_reused e c) (entry_under handle.0 self.now.entries)
             ≡ option_map (λ a. judge_cell a.now c) result }
     {
-        let before = self.next.saturating_sub(1);
-        if let Some(found) = self.handles.get(before)
-            && *found == handle
-        {
-            return Some(&self.cells[before]);
-        }
-        let at = place_of(&self.handles, self.next, handle)?;
-        Some(&self.cells[at])
+        let held = held_under(&self.held, handle)?;
+        Some(&self.cells[held.cell as usize])
     }
 
-    /// What the retained commands say of a command.
+    /// What the retained commands say of a command. `judge` says beside it what the accepted ones do.
     fn judge_retained(&self, command: &Command<'_>) -> Judged<'_>
         ensures { as_judgement result ≡ judgement_by_window self.now (fields_of command.now) }
     {
         if u64::from(command.handle.0) >= self.above {
             return Judged::Fresh;
         }
+        self.judge_accepted(command)
+    }
+
+    /// What the retained commands say of a command, by the one under its handle and by the floor. It stands apart, since
+    /// most commands are above each handle that was accepted.
+    #[inline(never)]
+    fn judge_accepted(&self, command: &Command<'_>) -> Judged<'_>
+        ensures { as_judgement result ≡ judgement_by_window self.now (fields_of command.now) }
+    {
         if let Some(cell) = self.find(command.handle) {
             return judge_by_cell(cell, command);
         }
@@ -139,66 +148,94 @@ impl ReplyWindow {
         self.put(command, reply);
     }
 
-    /// Retains a fresh command with its reply.
+    /// Retains a fresh command with its reply. `keep` says beside it of which accepted commands the window is then.
     fn put(&mut self, command: &Command<'_>, reply: &Reply)
         requires fresh { judgement_by_window self.old (fields_of command.now) ≡ Fresh }
         requires room { length command.now.params.now ≤ 1445 }
         ensures { self.new ≡ retained_after self.old (record { command = fields_of command.now; reply = reply.now }) }
     {
-        self.above = self.above.max(u64::from(command.handle.0) + 1);
-        let at = self.next;
-        self.next = if at + 1 == self.handles.capacity() {
-            0
-        } else {
-            at + 1
-        };
-        let Some(pushed_out) = replace_at(&mut self.handles, at, command.handle) else {
-            let _ = self.handles.push_back(command.handle);
-            push_cell(&mut self.cells, command, reply);
+        raise(&mut self.above, command.handle);
+        let Some(cell) = cell_of_oldest(&self.held) else {
+            add(&mut self.held, &mut self.cells, command, reply);
             return;
         };
-        self.floor_end = self.floor_end.max(u64::from(pushed_out.0) + 1);
-        self.cells[at].set(command, reply);
+        let held = Held {
+            handle: command.handle,
+            cell,
+        };
+        let Some(oldest) = self.held.push_back(held) else {
+            unreachable!()
+        };
+        raise(&mut self.floor_end, oldest.handle);
+        self.cells[cell as usize].set(command, reply);
     }
 }
 
-/// Puts a handle in the place of another, and answers that one; nothing where there is no such place.
-fn replace_at(handles: &mut HeapCircularBuffer<Handle>, at: usize, handle: Handle) -> Option<Handle>
-    ensures taken { result ≡ slice_get handles.old.items at }
-    ensures put { IfSome result (λ pushed_out. handles.new ≡ buffer (slice_set handles.old.items at handle) handles.old.capacity) }
-    ensures none { IfNone result (handles.new ≡ handles.old) }
+/// Raises a number above a handle, where it is not.
+fn raise(end: &mut u64, handle: Handle)
+    ensures { end.new ≡ max end.old (handle.0 + 1) }
 {
-    let place = handles.get_mut(at)?;
-    Some(replace(place, handle))
+    if u64::from(handle.0) >= *end {
+        *end = u64::from(handle.0) + 1;
+    }
 }
 
-/// Adds a cell with a command and its reply. It stands apart from `put`, since a local of a cell's size would be cleared at
-/// each call there.
+/// The cell of the oldest command, where the window is full: that of the next, which pushes it out.
+fn cell_of_oldest(held: &HeapCircularBuffer<Held>) -> Option<u32>
+    requires { (0 < held.now.capacity) × (length held.now.items ≤ held.now.capacity) }
+    ensures { MatchOption result (length held.now.items < held.now.capacity) (IsCellOfOldest held.now.items held.now.capacity) }
+{
+    if !held.is_full() {
+        return None;
+    }
+    Some(held.front()?.cell)
+}
+
+/// Adds a command and its reply while there is room, with a cell of its own. It stands apart from `put`, since a local of a
+/// cell's size would be cleared at each call there.
 #[inline(never)]
-fn push_cell(cells: &mut Vec<Cell>, command: &Command<'_>, reply: &Reply)
+fn add(
+    held: &mut HeapCircularBuffer<Held>,
+    cells: &mut Vec<Cell>,
+    command: &Command<'_>,
+    reply: &Reply,
+)
     requires params { length command.now.params.now ≤ 1445 }
-    requires room { vec_len cells.old < vec_capacity cells.old }
+    requires room { (length held.old.items < held.old.capacity) × (held.old.capacity ≤ 64) × (vec_len cells.old < vec_capacity cells.old) }
     ensures capacity { vec_capacity cells.new ≡ vec_capacity cells.old }
+    ensures held { held.new ≡ buffer (held.old.items ++ held_in command.now.handle (length held.old.items) ∷ []) held.old.capacity }
     ensures items { AddsCell command.now.handle (record { command = fields_of command.now; reply = reply.now }) cells.old.items cells.new.items }
 {
+    let cell = held.len() as u32;
+    held.push_back(Held {
+        handle: command.handle,
+        cell,
+    });
     cells.push_reserved(Cell::new(command, reply));
 }
 
-/// The place of a handle, or none. It is looked for from `next` downwards, and then from the end, so that the latest come first.
-fn place_of(handles: &HeapCircularBuffer<Handle>, next: usize, handle: Handle) -> Option<usize>
-    ensures { MatchOption result (All (λ x. is_handle handle.0 x ≡ false) handles.now.items)
-        (λ i. (i < length handles.now.items) × ((d : Handle) → is_handle handle.0 (slice_index_or handles.now.items i d) ≡ true)) }
+/// What is held under a handle, or none. The latest is looked at first, since duplicates are mostly of it.
+fn held_under(held: &HeapCircularBuffer<Held>, handle: Handle) -> Option<Held>
+    requires { AllPairs AreApart held.now.items }
+    ensures { result ≡ find (is_under handle.0) held.now.items }
 {
-    let (front, back) = handles.as_slices();
-    let (latest, older) = front.split_at(next.min(front.len()));
-    if let Some(at) = last_index_of(latest, handle) {
-        return Some(at);
+    if let Some(latest) = held.back()
+        && latest.handle == handle
+    {
+        return Some(*latest);
     }
-    if let Some(at) = last_index_of(older, handle) {
-        return Some(latest.len() + at);
+    let (front, back) = held.as_slices();
+    match first_under(front, handle) {
+        Some(found) => Some(*found),
+        None => first_under(back, handle).copied(),
     }
-    let at = last_index_of(back, handle)?;
-    Some(front.len() + at)
+}
+
+/// The first of these under a handle, or none.
+fn first_under(all: &[Held], handle: Handle) -> Option<&Held>
+    ensures { option_copied result ≡ find (is_under handle.0) all.now }
+{
+    all.iter().find(|held| held.is_under(handle))
 }
 
 /// What the command in a cell says of another under its handle.
@@ -210,19 +247,4 @@ fn judge_by_cell<'a>(cell: &'a Cell, command: &Command<'_>) -> Judged<'a>
     } else {
         Judged::Reused
     }
-}
-
-/// A place of a handle among these, looked for from the last, or none.
-fn last_index_of(handles: &[Handle], handle: Handle) -> Option<usize>
-    ensures { MatchOption result (All (λ x. is_handle handle.0 x ≡ false) handles.now)
-        (λ i. (i < length handles.now) × ((d : Handle) → is_handle handle.0 (slice_index_or handles.now i d) ≡ true)) }
-{
-    let mut at = handles.len();
-    while at > 0 {
-        at -= 1;
-        if handles[at] == handle {
-            return Some(at);
-        }
-    }
-    None
 }

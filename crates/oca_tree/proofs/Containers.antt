@@ -148,7 +148,7 @@ module _ (tree : List Object) (sound : IsTree tree) (i : ℕ) (d : Object) (with
   place : get_or ps i (place_of d) ≡ place_of (get_or tree i d)
   place = get_or-map place_of tree i d (place_of d) within
 
-  own : place_at ps (get_or tree i d).ono.0 ≡ Some (place_of (get_or tree i d))
+  pub own : place_at ps (get_or tree i d).ono.0 ≡ Some (place_of (get_or tree i d))
   own = rw place at (itself ps sound.built i (place_of d) long)
 
   -- the index of an object is where its number stands first
@@ -166,7 +166,7 @@ module _ (tree : List Object) (sound : IsTree tree) (i : ℕ) (d : Object) (with
       let that : get_or ps j (place_of d) ≡ place_of (get_or tree j d) = get_or-map place_of tree j d (place_of d) (omega arith) in
       rw (place, that) at (there ps sound.built i (place_of d) long j e).1
 
-  container_number : (j : ℕ) → Some j ≡ get_or (containers ps) i None → (get_or tree i d).container.0 ≡ (get_or tree j d).ono.0
+  pub container_number : (j : ℕ) → Some j ≡ get_or (containers ps) i None → (get_or tree i d).container.0 ≡ (get_or tree j d).ono.0
   container_number j e =
       let n = (get_or tree i d).container.0 in
       sym (eqb-true (get_or tree j d).ono.0 n (find_passes (λ (p : Place). p.number == n) ps (place_of (get_or tree j d)) (container_there j e)))

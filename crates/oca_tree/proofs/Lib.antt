@@ -6,6 +6,7 @@ pub mod Writes
 pub mod Asked
 pub mod Sound
 pub mod Adding
+pub mod Starting
 pub mod Plain
 pub mod Executing
 pub mod Endings

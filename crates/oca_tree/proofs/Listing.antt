@@ -1,27 +1,124 @@
 -- Objects that are listed, and their number before them.
-use Rattle.std.proofs.Common.{◌≡◌, ℕ, ◌+◌, ◌<◌, Bool, true, false, List, [], ◌∷◌, ◌++◌, length, get_or, take, drop, refl, sym, ap, ◌∙◌, arith, append_assoc, length-append}
-use Rattle.std.specs.Prelude.{Some, None, ◌==◌, ◌||◌}
+use Rattle.std.proofs.Common.{◌≡◌, ℕ, zero, suc, ◌+◌, ◌<◌, ◌≤◌, Bool, true, false, List, [], ◌∷◌, ◌++◌, length, get_or, take, drop, refl, sym, ap, ◌∙◌, arith, append_assoc, length-append, eqb-true, eq-eqb}
+use Rattle.std.specs.Prelude.{Option, Some, None, ◌==◌, ◌||◌}
+use Rattle.std.specs.List.{filter, position}
 use Rattle.oca_tree.specs.declared.object.Object.{Object}
-use Rattle.oca_tree.specs.Places.{places, reaches}
+use Rattle.oca_tree.specs.Objects.{has_number}
+use Rattle.oca_tree.specs.Places.{places, place_at}
 use Rattle.oca_tree.specs.Trees.{IsTree}
 use Rattle.oca_tree.specs.PrivateObjects.{containers}
 use Rattle.oca_tree.specs.PrivateSteps.{is_listed}
 use Rattle.oca_tree.proofs.Positions.{same_element}
-use Rattle.oca_tree.proofs.Containers.{lies_above}
+use Rattle.oca_tree.proofs.Containers.{container_below, container_number, container_absent, own, index_itself, lies_above, lies_nowhere}
 
-module _ (tree : List Object) (sound : IsTree tree) (block i : ℕ) (within : i < length tree) (j : ℕ) (container : Some j ≡ get_or (containers (places tree)) i None)
-    (o : Object) (here : o ≡ get_or tree i o) where
-  -- an object is listed if its container is the block, and else as its container is
-  step : (d : Object) → is_listed tree block true (get_or tree i d) ≡ (o.container.0 == block) || is_listed tree block true (get_or tree j d)
-  step d =
-      lies_above tree sound i d within block j container
-      ∙ ap (λ (x : Object). (x.container.0 == block) || is_listed tree block true (get_or tree j d)) (sym (here ∙ same_element tree i o d within))
+or_false : (t : Bool) → (t || false) ≡ t
+or_false true = refl
+or_false false = refl
 
-  pub reached : true ≡ (o.container.0 == block) → (d : Object) → true ≡ is_listed tree block true (get_or tree i d)
-  reached e d = sym (step d ∙ ap (λ b. b || is_listed tree block true (get_or tree j d)) (sym e))
+-- what is listed of a block is told by indices
+module _ (tree : List Object) (sound : IsTree tree) (b : ℕ) (inside : b < length tree) where
+  abbrev number : Object → ℕ
+  number d = (get_or tree b d).ono.0
 
-  pub passed_on : false ≡ (o.container.0 == block) → (d : Object) → is_listed tree block true (get_or tree i d) ≡ is_listed tree block true (get_or tree j d)
-  passed_on e d = step d ∙ ap (λ b. b || is_listed tree block true (get_or tree j d)) (sym e)
+  -- numbers are the same where indices are
+  same_number : (j : ℕ) (d : Object) → j < length tree → ((get_or tree j d).ono.0 == number d) ≡ (j == b)
+  same_number j d within = by ((get_or tree j d).ono.0 == number d) refl
+    where
+      there : (t : Bool) → (j == b) ≡ t → ((get_or tree j d).ono.0 == number d) ≡ false → false ≡ t
+      there false h e = refl
+      there true h e =
+          let numbers : (get_or tree j d).ono.0 ≡ number d = ap (λ k. (get_or tree k d).ono.0) (eqb-true j b h) in
+          let same : ((get_or tree j d).ono.0 == number d) ≡ true = eq-eqb _ _ numbers in cc
+
+      by : (t : Bool) → ((get_or tree j d).ono.0 == number d) ≡ t → t ≡ (j == b)
+      by true e =
+          let numbers = eqb-true _ _ e in
+          let found : Some j ≡ Some b = index_itself tree sound j d within ∙ ap (λ n. position (has_number n) tree) numbers ∙ sym (index_itself tree sound b d inside) in
+          let is : j ≡ b = cc in sym (eq-eqb j b is)
+      by false e = there (j == b) refl e
+
+  -- a member has the block for its container
+  pub member_there : (i : ℕ) (d : Object) → i < length tree → (j : ℕ) → Some j ≡ get_or (containers (places tree)) i None → is_listed tree (number d) false (get_or tree i d) ≡ (j == b)
+  member_there i d within j e =
+      let below = container_below tree sound i within j e in
+      ap (λ n. n == number d) (container_number tree sound i d within j e) ∙ same_number j d (omega (arith, below, within))
+
+  pub member_absent : (i : ℕ) (d : Object) → i < length tree → None ≡ get_or (containers (places tree)) i None → is_listed tree (number d) false (get_or tree i d) ≡ false
+  member_absent i d within e = by ((get_or tree i d).container.0 == number d) refl
+    where
+      by : (t : Bool) → ((get_or tree i d).container.0 == number d) ≡ t → t ≡ false
+      by false h = refl
+      by true h =
+          let none = container_absent tree sound i d within e in
+          let here = own tree sound b d inside in
+          let same = eqb-true _ _ h in
+          let gone : place_at (places tree) (number d) ≡ None = ap (place_at (places tree)) (sym same) ∙ none in cc
+
+  -- nothing up to the block lies in it
+  before : (k i : ℕ) (d : Object) → i < k → i ≤ b → i < length tree → is_listed tree (number d) true (get_or tree i d) ≡ false
+  before zero i d lt le within = absurd (omega arith)
+  before (suc k) i d lt le within = by (get_or (containers (places tree)) i None) refl (before k)
+    where
+      by : (o : Option ℕ) → get_or (containers (places tree)) i None ≡ o
+          → ((j : ℕ) (d : Object) → j < k → j ≤ b → j < length tree → is_listed tree (number d) true (get_or tree j d) ≡ false) → is_listed tree (number d) true (get_or tree i d) ≡ false
+      by None e earlier = lies_nowhere tree sound i d within (number d) (sym e)
+      by (Some j) e earlier =
+          let below = container_below tree sound i within j (sym e) in
+          let other : (j == b) ≡ false = grind (arith, below, le) in
+          lies_above tree sound i d within (number d) j (sym e)
+          ∙ ap (λ t. t || is_listed tree (number d) true (get_or tree j d)) (member_there i d within j (sym e) ∙ other)
+          ∙ earlier j d (omega (arith, below, lt)) (omega (arith, below, le)) (omega (arith, below, within))
+
+  -- at a container that stands not behind the block it is decided
+  pub decided : (i : ℕ) (d : Object) → i < length tree → (j : ℕ) → Some j ≡ get_or (containers (places tree)) i None → j ≤ b → is_listed tree (number d) true (get_or tree i d) ≡ (j == b)
+  decided i d within j e le =
+      let below = container_below tree sound i within j e in
+      lies_above tree sound i d within (number d) j e
+      ∙ ap (λ t. ((get_or tree i d).container.0 == number d) || t) (before (suc j) j d (omega arith) le (omega (arith, below, within)))
+      ∙ or_false ((get_or tree i d).container.0 == number d) ∙ member_there i d within j e
+
+  -- and at one behind it, that container decides
+  pub passed_on : (i : ℕ) (d : Object) → i < length tree → (j : ℕ) → Some j ≡ get_or (containers (places tree)) i None → b < j
+      → is_listed tree (number d) true (get_or tree i d) ≡ is_listed tree (number d) true (get_or tree j d)
+  passed_on i d within j e behind =
+      let other : (j == b) ≡ false = grind (arith, behind) in
+      lies_above tree sound i d within (number d) j e ∙ ap (λ t. t || is_listed tree (number d) true (get_or tree j d)) (member_there i d within j e ∙ other)
+
+  -- what is listed stands behind the block
+  pub none_before : (deep : Bool) (i : ℕ) (d : Object) → i < b + 1 → is_listed tree (number d) deep (get_or tree i d) ≡ false
+  none_before true i d le = before (suc i) i d (omega arith) (omega (arith, le)) (omega (arith, le, inside))
+  none_before false i d le = by (get_or (containers (places tree)) i None) refl
+    where
+      within : i < length tree
+      within = omega (arith, le, inside)
+
+      by : (o : Option ℕ) → get_or (containers (places tree)) i None ≡ o → is_listed tree (number d) false (get_or tree i d) ≡ false
+      by None e = member_absent i d within (sym e)
+      by (Some j) e =
+          let below = container_below tree sound i within j (sym e) in
+          let other : (j == b) ≡ false = grind (arith, below, le) in
+          member_there i d within j (sym e) ∙ other
+
+-- what does not pass at the front is left out
+pub begins : {X : Type 0} (p : X → Bool) (xs : List X) (k : ℕ) → ((i : ℕ) (d : X) → i < k → p (get_or xs i d) ≡ false) → filter p xs ≡ filter p (drop k xs)
+begins p [] zero h = refl
+begins p [] (suc k) h = refl
+begins p (x ∷ xs) zero h = refl
+begins p (x ∷ xs) (suc k) h = let first : p x ≡ false = h zero x (omega arith) in rw first (begins p xs k (λ i d lt. h (suc i) d (omega (arith, lt))))
+
+-- the same of the block itself
+module _ (tree : List Object) (b : ℕ) (inside : b < length tree) (block : Object) (here : block ≡ get_or tree b block) (deep : Bool) where
+  block_number : (d : Object) → (get_or tree b d).ono.0 ≡ block.ono.0
+  block_number d = ap (λ (o : Object). o.ono.0) (same_element tree b d block inside ∙ sym here)
+
+  -- an object is listed as was answered
+  pub here_listed : (i : ℕ) (o : Object) → o ≡ get_or tree i o → (r : Bool) → ((d : Object) → r ≡ is_listed tree (get_or tree b d).ono.0 deep (get_or tree i d)) → is_listed tree block.ono.0 deep o ≡ r
+  here_listed i o at r answered = ap (is_listed tree block.ono.0 deep) at ∙ ap (λ n. is_listed tree n deep (get_or tree i o)) (sym (block_number o)) ∙ sym (answered o)
+
+pub all_behind : (tree : List Object) → IsTree tree → (b : ℕ) → b < length tree → (block : Object) → block ≡ get_or tree b block → (deep : Bool)
+    → filter (is_listed tree block.ono.0 deep) tree ≡ filter (is_listed tree block.ono.0 deep) (drop (b + 1) tree)
+all_behind tree sound b inside block here deep =
+    begins (is_listed tree block.ono.0 deep) tree (b + 1) (λ i d lt. ap (λ n. is_listed tree n deep (get_or tree i d)) (sym (block_number tree b inside block here deep d)) ∙ none_before tree sound b inside deep i d lt)
 
 -- ---- a count that is written over two bytes
 

@@ -1,5 +1,5 @@
 -- A request that stands for a value is asked only of objects that are set by such a value.
-use Rattle.std.proofs.Common.{◌≡◌, ℕ, Bool, true, false, cond, List, [], ◌∷◌, length, refl, sym, ap, ◌∙◌}
+use Rattle.std.proofs.Common.{◌≡◌, ℕ, Bool, true, false, cond, List, length, refl, sym, ap, ◌∙◌}
 use Rattle.std.specs.Prelude.{Option, Some, None, ◌==◌, ◌&&◌, ℤ}
 use Rattle.std.specs.Option.{option_map}
 use Rattle.std.specs.Int.{w8, w16}

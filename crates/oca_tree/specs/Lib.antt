@@ -9,6 +9,7 @@ pub mod Written
 pub mod Trees
 pub mod Room
 pub mod Building
+pub mod Starts
 pub mod Bench
 pub mod Readers
 pub mod Settings

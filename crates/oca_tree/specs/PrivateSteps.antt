@@ -16,6 +16,9 @@ use Rattle.oca_tree.specs.declared.object.Value.TheVariants as values
 use Rattle.oca_tree.specs.declared.request.Request.{Request}
 use Rattle.oca_tree.specs.declared.builder.AddFault.{AddFault}
 use Rattle.oca_tree.specs.declared.builder.Spec.{Spec}
+use Rattle.oca_tree.specs.declared.start.Start.{Start}
+use Rattle.oca_tree.specs.declared.start.StartFault.{StartFault}
+use Rattle.oca_tree.specs.declared.start.StartFault.TheVariants.{BadFlags}
 use Rattle.oca_tree.specs.declared.setting.LocalValue.{LocalValue}
 use Rattle.oca_tree.specs.declared.setting.SetFault.{SetFault}
 use Rattle.oca_tree.specs.Places.{places, reaches}
@@ -26,6 +29,7 @@ use Rattle.oca_tree.specs.Execution.{identification_encoding, block_member_encod
 use Rattle.oca_tree.specs.Written.{is_ok}
 use Rattle.oca_tree.specs.Trees.{IsTree, IsSoundValue}
 use Rattle.oca_tree.specs.Building.{add_fault, object_of_spec, is_bad_value}
+use Rattle.oca_tree.specs.Starts.{with_flags, has_other_flags, restored, start_fault}
 use Rattle.oca_tree.specs.Settings.{request_for, fault_at}
 
 -- members and descendants in one: whether an object is listed, and how
@@ -89,8 +93,18 @@ MakesValue (Some v) value = (v ≡ value) × (is_bad_value value ≡ false) × I
 -- An object was made for a place that is free, or the first line that applies refuses it.
 abbrev pub Makes : Result Object AddFault → Store → ℕ → ℕ → Spec → Type 0
 Makes (Ok o) old container ono spec =
-    (add_fault old.room old.list container ono spec ≡ None) × (o ≡ object_of_spec container ono spec) × IsTree (old.list ++ o ∷ [])
+    (add_fault old.room old.list container ono spec ≡ None) × (o ≡ object_of_spec container ono spec) × IsTree (old.list ++ o ∷ []) × IsSoundValue o.value
 Makes (Err e) old container ono spec = add_fault old.room old.list container ono spec ≡ Some e
+
+-- Flags of positions were put into a value, or are not as many as it has.
+abbrev pub RestoresFlags : {X : Type 0} → Result X StartFault → Value → Value → List Bool → Type 0
+RestoresFlags (Ok _) old new flags = (has_other_flags (Some flags) old ≡ false) × (new ≡ with_flags (Some flags) old) × IsSoundValue new
+RestoresFlags (Err e) old new flags = (e ≡ BadFlags) × (has_other_flags (Some flags) old ≡ true)
+
+-- What was stored was put into an object, or does not fit it.
+abbrev pub Restores : {X : Type 0} → Result X StartFault → Object → Object → Start → Type 0
+Restores (Ok _) old new start = (start_fault old.value start ≡ None) × (new ≡ restored start old) × IsSoundValue new.value
+Restores (Err e) old new start = start_fault old.value start ≡ Some e
 
 -- The request that a value stands for can be carried out at an object that holds this, or the first fault refuses it.
 abbrev pub ChecksSetting : Result Request SetFault → Value → LocalValue → Type 0

@@ -21,8 +21,8 @@ use crate::objects::Objects;
 use crate::put::put_number;
 use crate::request::{Request, SwitchRequest};
 use oca_types::{
-    Ono, Params, PutFault, Status, Text, put_bool, put_class_identification, put_text, put_u8,
-    put_u16, put_u32,
+    Params, PutFault, Status, Text, put_bool, put_class_identification, put_text, put_u8, put_u16,
+    put_u32,
 };
 
 /// An object's number and class, and where all descendants are listed its container too.
@@ -37,49 +37,74 @@ fn put_item(out: &mut Params, object: &Object, deep: bool) -> Result<(), PutFaul
     Ok(())
 }
 
-/// Whether the object at this index lies in the block, however deep: the block is among the containers above it.
-fn lies_in(objects: &Objects, at: usize, block: Ono) -> bool
+/// Whether the object at index `at` is a member of the block at index `block`.
+fn is_member(objects: &Objects, at: usize, block: usize) -> bool
     requires tree { IsTree objects.now.list }
     requires within { at < length objects.now.list }
-    ensures { (d : AnObject) → result ≡ is_listed objects.now.list block.0 true (slice_index_or objects.now.list at d) }
+    requires block { block < length objects.now.list }
+    ensures { (d : AnObject) → result ≡ is_listed objects.now.list (slice_index_or objects.now.list block d).ono.0 false (slice_index_or objects.now.list at d) }
+{
+    match objects.container_at(at) {
+        Some(container) => container == block,
+        None => false,
+    }
+}
+
+/// Whether the object at index `at` lies in the block at index `block`, however deep: the block is among the containers
+/// above it. Since a container stands before what it contains, none above the first that stands before the block is it.
+fn lies_in(objects: &Objects, at: usize, block: usize) -> bool
+    requires tree { IsTree objects.now.list }
+    requires within { at < length objects.now.list }
+    requires block { block < length objects.now.list }
+    ensures { (d : AnObject) → result ≡ is_listed objects.now.list (slice_index_or objects.now.list block d).ono.0 true (slice_index_or objects.now.list at d) }
 {
     let mut current = at;
     for _ in 0..objects.len() {
         let Some(container) = objects.container_at(current) else {
             return false;
         };
-        if objects.object_at(current).container == block {
-            return true;
+        if container <= block {
+            return container == block;
         }
         current = container;
     }
     false
 }
 
-/// Whether the object at this index is listed for the block: as a member of it, or where all are listed as one that
-/// lies in it.
-fn is_listed(objects: &Objects, at: usize, block: Ono, deep: bool) -> bool
+/// Whether the object at index `at` is listed for the block at index `block`: as a member of it, or where all are listed
+/// as one that lies in it.
+fn is_listed(objects: &Objects, at: usize, block: usize, deep: bool) -> bool
     requires tree { IsTree objects.now.list }
     requires within { at < length objects.now.list }
-    ensures { (d : AnObject) → result ≡ is_listed objects.now.list block.0 deep (slice_index_or objects.now.list at d) }
+    requires block { block < length objects.now.list }
+    ensures { (d : AnObject) → result ≡ is_listed objects.now.list (slice_index_or objects.now.list block d).ono.0 deep (slice_index_or objects.now.list at d) }
 {
     if deep {
         lies_in(objects, at, block)
     } else {
-        objects.object_at(at).container == block
+        is_member(objects, at, block)
     }
 }
 
-/// What is listed of each object that is, and how many there are. It stops at the first that does not fit.
-fn put_items(out: &mut Params, objects: &Objects, block: Ono, deep: bool) -> Result<u16, PutFault>
-    requires { IsTree objects.now.list }
-    ensures puts { Puts result out.old.items out.new.items (flat_map (item_encoding deep) (filter (is_listed objects.now.list block.0 deep) objects.now.list)) }
-    ensures count { IfOk result (λ n. n ≡ length (filter (is_listed objects.now.list block.0 deep) objects.now.list)) }
+/// What is listed of each object that is, and how many there are; the block is the object at index `place`. All that is
+/// listed stands behind it, and is found by the indices of containers. It stops at the first that does not fit.
+fn put_items(
+    out: &mut Params,
+    objects: &Objects,
+    block: &Object,
+    place: usize,
+    deep: bool,
+) -> Result<u16, PutFault>
+    requires tree { IsTree objects.now.list }
+    requires within { place < length objects.now.list }
+    requires here { block.now ≡ slice_index_or objects.now.list place block.now }
+    ensures puts { Puts result out.old.items out.new.items (flat_map (item_encoding deep) (filter (is_listed objects.now.list block.now.ono.0 deep) objects.now.list)) }
+    ensures count { IfOk result (λ n. n ≡ length (filter (is_listed objects.now.list block.now.ono.0 deep) objects.now.list)) }
 {
     let mut count = 0u16;
-    for at in 0..objects.len() {
+    for at in place + 1..objects.len() {
         let object = objects.object_at(at);
-        if is_listed(objects, at, block, deep) {
+        if is_listed(objects, at, place, deep) {
             put_item(out, object, deep)?;
             count += 1;
         }
@@ -97,13 +122,21 @@ fn write_u16(bytes: &mut [u8], at: usize, value: u16)
 
 /// The members of a block, or all that lie in it however deep. Their number is written once they are put.
 #[inline(never)]
-fn put_members(out: &mut Params, objects: &Objects, block: Ono, deep: bool) -> Result<(), PutFault>
-    requires { IsTree objects.now.list }
-    ensures { Puts result out.old.items out.new.items (list_encoding (item_encoding deep) (filter (is_listed objects.now.list block.0 deep) objects.now.list)) }
+fn put_members(
+    out: &mut Params,
+    objects: &Objects,
+    block: &Object,
+    place: usize,
+    deep: bool,
+) -> Result<(), PutFault>
+    requires tree { IsTree objects.now.list }
+    requires within { place < length objects.now.list }
+    requires here { block.now ≡ slice_index_or objects.now.list place block.now }
+    ensures { Puts result out.old.items out.new.items (list_encoding (item_encoding deep) (filter (is_listed objects.now.list block.now.ono.0 deep) objects.now.list)) }
 {
     let start = out.len();
     put_u16(out, 0)?;
-    let count = put_items(out, objects, block, deep)?;
+    let count = put_items(out, objects, block, place, deep)?;
     write_u16(out.as_mut_slice(), start, count);
     Ok(())
 }
@@ -267,7 +300,8 @@ fn put_setting(out: &mut Params, value: &Value) -> Result<u8, Status>
     }
 }
 
-/// Appends the parameters of the answer, and says how many they are, unless it is too long. Inlined, it is one jump
+/// Appends the parameters of the answer of the object, which stands at index `place`, and says how many they are, unless it is
+/// too long. Inlined, it is one jump
 /// table with the one that made the request.
 #[inline(always)]
 #[tactic(auto, unfolding(crate::specs::Execution::parameters))]
@@ -275,8 +309,11 @@ pub(crate) fn put_answer(
     out: &mut Params,
     objects: &Objects,
     object: &Object,
+    place: usize,
     request: &Request<'_>,
 ) -> Result<u8, Status>
+    requires within { place < length objects.now.list }
+    requires here { object.now ≡ slice_index_or objects.now.list place object.now }
     requires sound { IsSoundValue object.now.value }
     requires range { is_out_of_range object.now.value request.now ≡ false }
     requires tree { IsTree objects.now.list }
@@ -291,8 +328,8 @@ pub(crate) fn put_answer(
         Request::GetEnabled => counted(1, put_bool(out, object.enabled)),
         Request::GetLabel => counted(1, put_text(out, &object.label)),
         Request::GetOwner => counted(1, put_u32(out, object.container.0)),
-        Request::GetMembers => counted(1, put_members(out, objects, object.ono, false)),
-        Request::GetMembersRecursive => counted(1, put_members(out, objects, object.ono, true)),
+        Request::GetMembers => counted(1, put_members(out, objects, object, place, false)),
+        Request::GetMembersRecursive => counted(1, put_members(out, objects, object, place, true)),
         Request::GetState => counted(1, put_state(out, &object.value)),
         Request::Switch(request) => put_position_answer(out, &object.value, request),
         Request::GetSetting => put_setting(out, &object.value),

@@ -5,7 +5,9 @@ ghost use Rattle.oca_tree.specs.Kinds.{IsOfType};
 ghost use Rattle.oca_tree.specs.Building.{Adds, value_of, switch, number, has_bad_name, is_long, root};
 ghost use Rattle.oca_tree.specs.Objects.{object_of};
 ghost use Rattle.oca_tree.specs.Room.{room_size};
-ghost use Rattle.oca_tree.specs.Trees.{IsTree, IsSoundValue};
+ghost use Rattle.oca_tree.specs.Starts.{AddsWith, BeginsWith};
+ghost use Rattle.oca_tree.specs.Places.{place_of};
+ghost use Rattle.oca_tree.specs.Trees.{IsTree, IsSound, IsSoundValue};
 ghost use Rattle.oca_tree.specs.PrivateSteps.{Makes, MakesValue};
 ghost use Rattle.oca_tree.specs.declared.builder.AddFault.TheVariants.{NoMemory};
 
@@ -13,6 +15,7 @@ use crate::object::{MuteState, NumberKind, Object, PolarityState, Range, Switch,
 use crate::objects::Objects;
 use crate::place::{block_depth, contains};
 use crate::room::Room;
+use crate::start::{Start, StartFault, restore};
 use crate::tree::Tree;
 use arrayvec::ArrayVec;
 use oca_types::{Ono, Text};
@@ -394,6 +397,25 @@ fn object_for(
     })
 }
 
+/// The root: a block of the number 100 with the role `root`, lockable.
+fn root_object() -> Object
+    ensures { result ≡ root }
+{
+    let Some(role) = Text::new("root") else {
+        unreachable!()
+    };
+    Object {
+        ono: Ono(100),
+        container: Ono(0),
+        lockable: true,
+        role,
+        label: Text::default(),
+        enabled: true,
+        value: Value::Block,
+        lock: None,
+    }
+}
+
 /// A tree to which objects are added. Contracts see the list of them in order of adding, and for how many there is
 /// room.
 #[derive(Drop)]
@@ -429,23 +451,34 @@ impl TreeBuilder {
         ensures ok { IfOk result (λ builder. builder ≡ record { room = room_size room; list = root ∷ [] }) }
         ensures err { IfErr result (λ e. e ≡ NoMemory) }
     {
+        TreeBuilder::holding(alloc, room, root_object())
+    }
+
+    /// As [`with_room`](TreeBuilder::with_room), with what was stored of the root. Refusals: `BadLabel` and `BadFlags`,
+    /// and then `Add(NoMemory)`.
+    pub fn with_root(
+        alloc: Global,
+        room: Room,
+        start: &Start<'_>,
+    ) -> Result<TreeBuilder, StartFault>
+        ensures { BeginsWith result (room_size room) start.now }
+    {
+        let mut restored = root_object();
+        restore(&mut restored, start)?;
+        Ok(TreeBuilder::holding(alloc, room, restored)?)
+    }
+
+    /// A builder that holds this root alone.
+    fn holding(alloc: Global, room: Room, object: Object) -> Result<TreeBuilder, AddFault>
+        requires place { place_of object ≡ place_of root }
+        requires sound { IsSound object }
+        ensures ok { IfOk result (λ builder. builder ≡ record { room = room_size room; list = object ∷ [] }) }
+        ensures err { IfErr result (λ e. e ≡ NoMemory) }
+    {
         let Ok(mut objects) = Objects::new(alloc, usize::from(room.get())) else {
             return Err(AddFault::NoMemory);
         };
-        let Some(role) = Text::new("root") else {
-            unreachable!()
-        };
-        let root = Object {
-            ono: Ono(100),
-            container: Ono(0),
-            lockable: true,
-            role,
-            label: Text::default(),
-            enabled: true,
-            value: Value::Block,
-            lock: None,
-        };
-        objects.push(root);
+        objects.push(object);
         Ok(TreeBuilder { objects })
     }
 
@@ -457,6 +490,24 @@ impl TreeBuilder {
     {
         let object = object_for(&self.objects, container, ono, spec)?;
         self.objects.push(object);
+        Ok(())
+    }
+
+    /// Adds an object as [`add`](TreeBuilder::add) does, with what was stored of it: its label, whether it is enabled, and
+    /// which of its positions are. It is refused as there, by `StartFault::Add`, and where nothing refuses it there, by
+    /// the first of `BadLabel` and `BadFlags` that applies; it is then unchanged. It asks for no memory.
+    pub fn add_with(
+        &mut self,
+        container: Ono,
+        ono: Ono,
+        spec: &Spec<'_>,
+        start: &Start<'_>,
+    ) -> Result<(), StartFault>
+        ensures { AddsWith result self.old self.new container.0 ono.0 spec.now start.now }
+    {
+        let mut restored = object_for(&self.objects, container, ono, spec)?;
+        restore(&mut restored, start)?;
+        self.objects.push(restored);
         Ok(())
     }
 

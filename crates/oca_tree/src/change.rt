@@ -6,6 +6,7 @@ ghost use Rattle.oca_tree.specs.Execution.{changed, changed_value, changed_switc
 ghost use Rattle.oca_tree.specs.Requests.{is_bad_position};
 ghost use Rattle.oca_tree.specs.Trees.{IsSoundValue, IsSoundSwitch};
 
+use crate::marks::Marks;
 use crate::object::{LockKind, MuteState, Object, PolarityState, Switch, Value};
 use crate::request::{Request, SwitchRequest};
 use oca_types::Peer;
@@ -53,6 +54,7 @@ fn change_switch(switch: &mut Switch, request: SwitchRequest<'_>)
 }
 
 /// Sets what a request sets of a value; any other leaves it.
+#[inline(always)]
 #[tactic(auto, unfolding(crate::specs::Execution::changed_value, crate::specs::Requests::is_out_of_range, crate::specs::Trees::IsSoundValue))]
 fn change_value(value: &mut Value, request: Request<'_>)
     requires sound { IsSoundValue value.old }
@@ -89,20 +91,21 @@ fn change_value(value: &mut Value, request: Request<'_>)
     }
 }
 
-/// Carries out what a request changes. `locks` counts the locks of the tree that are held.
+/// Carries out what a request changes. `marks` count the locks of the tree that are held.
+#[inline(always)]
 #[tactic(auto, unfolding(crate::specs::Execution::changed))]
-pub(crate) fn change(object: &mut Object, locks: &mut usize, peer: Peer, request: Request<'_>)
+pub(crate) fn change(object: &mut Object, marks: &mut Marks, peer: Peer, request: Request<'_>)
     requires sound { IsSoundValue object.old.value }
     requires range { is_out_of_range object.old.value request ≡ false }
-    requires room { locks.old ≤ 4096 }
-    requires counted { lock_of_one object.old ≤ locks.old }
+    requires room { marks.old.locks ≤ 4096 }
+    requires counted { lock_of_one object.old ≤ marks.old.locks }
     ensures object { object.new ≡ changed object.old peer request.entry }
-    ensures count { locks.new + lock_of_one object.old ≡ locks.old + lock_of_one object.new }
+    ensures count { marks.new.locks + lock_of_one object.old ≡ marks.old.locks + lock_of_one object.new }
 {
     match request {
-        Request::LockTotal => object.lock(locks, LockKind::Total, peer),
-        Request::LockReadonly => object.lock(locks, LockKind::Readonly, peer),
-        Request::Unlock => object.unlock(locks),
+        Request::LockTotal => object.lock(marks, LockKind::Total, peer),
+        Request::LockReadonly => object.lock(marks, LockKind::Readonly, peer),
+        Request::Unlock => object.unlock(marks),
         Request::SetEnabled(enabled) => object.enabled = enabled,
         Request::SetLabel(label) => object.label = label.text(),
         other => change_value(&mut object.value, other),

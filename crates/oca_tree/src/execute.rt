@@ -12,6 +12,7 @@ ghost use Rattle.oca_tree.specs.Written.{is_write, calls_a_write};
 ghost use Rattle.oca_tree.specs.declared.object.Object.{Object as AnObject};
 
 use crate::answer::put_answer;
+use crate::marks::Marks;
 use crate::object::Object;
 use crate::objects::Objects;
 use crate::place::index_from;
@@ -62,7 +63,7 @@ fn carry_out_at(
     objects: &mut Objects,
     at: usize,
     method: Method,
-    locks: &mut usize,
+    marks: &mut Marks,
     peer: Peer,
     command: &Command<'_>,
     out: &mut Params,
@@ -71,16 +72,16 @@ fn carry_out_at(
     requires method { (d : AnObject) → MayCall method (slice_index_or objects.old.list at d) peer (fields_of command.now) }
     requires empty { out.old.items ≡ [] }
     requires tree { IsTree objects.old.list }
-    requires count { locks.old ≡ lock_count objects.old.list }
+    requires count { marks.old.locks ≡ lock_count objects.old.list }
     ensures done { Executes result objects.old.list objects.new.list out.new.items peer (fields_of command.now) }
     ensures tree { IsTree objects.new.list }
-    ensures count { locks.new ≡ lock_count objects.new.list }
+    ensures count { marks.new.locks ≡ lock_count objects.new.list }
 {
     let object = objects.object_at(at);
     let request = check_request(object, command, method)?;
-    let count = put_answer(out, objects, object, &request)?;
+    let count = put_answer(out, objects, object, at, &request)?;
     prove!(out.len() <= 1452);
-    objects.change_at(at, locks, peer, request);
+    objects.change_at(at, marks, peer, request);
     Ok(count)
 }
 
@@ -91,13 +92,12 @@ fn is_write(method: Method) -> bool
     matches!(access_of(method), Access::Write)
 }
 
-/// Carries out a command, if it is not refused, and puts the answer into empty parameters. `locks` counts the locks that are
-/// held, `recent` is where an object was found last, and `writes` is then whether the method of a command that was not refused
+/// Carries out a command, if it is not refused, and puts the answer into empty parameters. `marks` count the locks that
+/// are held and say where an object was found last, and `writes` is then whether the method of a command that was not refused
 /// writes. What only reads and has no parameters is answered at once.
 pub(crate) fn carry_out(
     objects: &mut Objects,
-    locks: &mut usize,
-    recent: &mut usize,
+    marks: &mut Marks,
     peer: Peer,
     command: &Command<'_>,
     out: &mut Params,
@@ -105,13 +105,13 @@ pub(crate) fn carry_out(
 ) -> Result<u8, Status>
     requires empty { out.old.items ≡ [] }
     requires tree { IsTree objects.old.list }
-    requires count { locks.old ≡ lock_count objects.old.list }
+    requires count { marks.old.locks ≡ lock_count objects.old.list }
     ensures done { Executes result objects.old.list objects.new.list out.new.items peer (fields_of command.now) }
     ensures writes { OnOk result (writes.new ≡ calls_a_write objects.old.list (fields_of command.now)) }
     ensures tree { IsTree objects.new.list }
-    ensures count { locks.new ≡ lock_count objects.new.list }
+    ensures count { marks.new.locks ≡ lock_count objects.new.list }
 {
-    let Some(at) = index_from(objects, recent, command.target) else {
+    let Some(at) = index_from(objects, marks, command.target) else {
         return Err(Status::BadOno);
     };
     let object = objects.object_at(at);
@@ -120,11 +120,11 @@ pub(crate) fn carry_out(
         && command.params.is_empty()
         && let Some(request) = Request::plain(method)
     {
-        let answered = put_answer(out, objects, object, &request);
+        let answered = put_answer(out, objects, object, at, &request);
         prove!(out.len() <= 1452);
         *writes = false;
         return answered;
     }
     *writes = is_write(method);
-    carry_out_at(objects, at, method, locks, peer, command, out)
+    carry_out_at(objects, at, method, marks, peer, command, out)
 }

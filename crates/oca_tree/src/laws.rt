@@ -1,5 +1,6 @@
 //! What the definitions of a tree say of one another.
 ghost use Rattle.oca_tree.specs.Settings.{AnyPeerSetsTheSame, FrontSetsAsPeersDo};
+ghost use Rattle.oca_tree.specs.Starts.{PlainAddsTheSame};
 ghost use Rattle.oca_tree.specs.Trees.{DescendantsFollowChains};
 
 use crate::tree::Tree;
@@ -17,4 +18,10 @@ pub fn law_of_descendants(tree: &Tree)
 pub fn law_of_settings()
     ensures any_peer { AnyPeerSetsTheSame }
     ensures as_peers { FrontSetsAsPeersDo }
+{}
+
+/// Law: with the default of [`Start`](crate::Start) an object is added as without it: it is the same object, and the faults are
+/// the same.
+pub fn law_of_starts()
+    ensures { PlainAddsTheSame }
 {}

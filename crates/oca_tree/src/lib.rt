@@ -13,6 +13,7 @@ mod execute;
 mod held;
 mod infos;
 mod laws;
+mod marks;
 mod object;
 mod objects;
 mod place;
@@ -20,16 +21,18 @@ mod put;
 mod request;
 mod room;
 mod setting;
+mod start;
 mod take;
 mod tree;
 
 pub use bench_tree::{bench, bench_with_channels};
 pub use builder::{AddFault, Kind, Spec, TreeBuilder};
 pub use infos::ObjectInfos;
-pub use laws::{law_of_descendants, law_of_settings};
+pub use laws::{law_of_descendants, law_of_settings, law_of_starts};
 pub use object::{Lock, LockKind, MuteState, PolarityState};
 pub use room::Room;
 pub use setting::{LocalValue, SetFault};
+pub use start::{Start, StartFault};
 pub use tree::{Done, ObjectInfo, Setting, Tree};
 
 #[cfg(test)]

@@ -5,6 +5,7 @@ ghost use Rattle.oca_tree.specs.Objects.{class_of};
 ghost use Rattle.oca_tree.specs.Locks.{lock_refuses, without_lock_of, lock_of_one};
 ghost use Rattle.oca_tree.specs.Places.{is_block_value};
 
+use crate::marks::Marks;
 use arrayvec::ArrayVec;
 use oca_types::{Access, Class, Ono, Peer, Text};
 
@@ -156,39 +157,39 @@ impl Object {
     }
 
     /// Locks the object for the peer, and counts the lock where there was none.
-    pub(crate) fn lock(&mut self, locks: &mut usize, kind: LockKind, peer: Peer)
-        requires { locks.old ≤ 4096 }
+    pub(crate) fn lock(&mut self, marks: &mut Marks, kind: LockKind, peer: Peer)
+        requires { marks.old.locks ≤ 4096 }
         ensures object { self.new ≡ record self.old { lock = Some (record { kind = kind; holder = peer }) } }
-        ensures count { locks.new + lock_of_one self.old ≡ locks.old + 1 }
+        ensures count { marks.new.locks + lock_of_one self.old ≡ marks.old.locks + 1 }
     {
         if self.lock.is_none() {
-            *locks += 1;
+            marks.locks += 1;
         }
         self.lock = Some(Lock { kind, holder: peer });
     }
 
     /// Takes the lock off, and counts it no longer.
-    pub(crate) fn unlock(&mut self, locks: &mut usize)
-        requires { lock_of_one self.old ≤ locks.old }
+    pub(crate) fn unlock(&mut self, marks: &mut Marks)
+        requires { lock_of_one self.old ≤ marks.old.locks }
         ensures object { self.new ≡ record self.old { lock = None } }
-        ensures count { locks.new + lock_of_one self.old ≡ locks.old }
+        ensures count { marks.new.locks + lock_of_one self.old ≡ marks.old.locks }
     {
         if self.lock.is_some() {
-            *locks -= 1;
+            marks.locks -= 1;
         }
         self.lock = None;
     }
 
     /// Takes the lock off, if the peer holds it.
-    pub(crate) fn release(&mut self, locks: &mut usize, peer: Peer)
-        requires { lock_of_one self.old ≤ locks.old }
+    pub(crate) fn release(&mut self, marks: &mut Marks, peer: Peer)
+        requires { lock_of_one self.old ≤ marks.old.locks }
         ensures object { self.new ≡ without_lock_of peer self.old }
-        ensures count { locks.new + lock_of_one self.old ≡ locks.old + lock_of_one self.new }
+        ensures count { marks.new.locks + lock_of_one self.old ≡ marks.old.locks + lock_of_one self.new }
     {
         if let Some(lock) = self.lock
             && lock.holder == peer
         {
-            self.unlock(locks);
+            self.unlock(marks);
         }
     }
 }

@@ -12,6 +12,7 @@ ghost use Rattle.oca_tree.specs.PrivateObjects.{IsKeyed, IsMap, containers};
 ghost use Rattle.oca_tree.specs.declared.object.Object.{Object as Item};
 
 use crate::change::change;
+use crate::marks::Marks;
 use crate::object::Object;
 use crate::request::Request;
 use indexmap::IndexMap;
@@ -126,31 +127,32 @@ impl Objects {
         }
     }
 
-    /// Carries out what a request changes in the object at this index. `locks` counts the locks that are held.
+    /// Carries out what a request changes in the object at this index. `marks` count the locks that are held.
+    #[inline(always)]
     pub(crate) fn change_at(
         &mut self,
         at: usize,
-        locks: &mut usize,
+        marks: &mut Marks,
         peer: Peer,
         request: Request<'_>,
     )
         requires within { at < length self.old.list }
         requires tree { IsTree self.old.list }
         requires range { (d : Item) → is_out_of_range (slice_index_or self.old.list at d).value request ≡ false }
-        requires count { locks.old ≡ lock_count self.old.list }
+        requires count { marks.old.locks ≡ lock_count self.old.list }
         ensures objects { (d : Item) → self.new.list ≡ slice_set self.old.list at (changed (slice_index_or self.old.list at d) peer request.entry) }
-        ensures count { locks.new ≡ lock_count self.new.list }
+        ensures count { marks.new.locks ≡ lock_count self.new.list }
     {
-        change(&mut self.map[at], locks, peer, request);
+        change(&mut self.map[at], marks, peer, request);
     }
 
     /// Takes every lock of the peer off, and counts them no longer.
-    pub(crate) fn release(&mut self, locks: &mut usize, peer: Peer)
-        requires { locks.old ≡ lock_count self.old.list }
+    pub(crate) fn release(&mut self, marks: &mut Marks, peer: Peer)
+        requires { marks.old.locks ≡ lock_count self.old.list }
         ensures objects { self.new.list ≡ released self.old.list peer }
-        ensures count { locks.new ≡ lock_count self.new.list }
+        ensures count { marks.new.locks ≡ lock_count self.new.list }
     {
-        release_all(&mut self.map, locks, peer);
+        release_all(&mut self.map, marks, peer);
     }
 }
 
@@ -168,16 +170,16 @@ fn push_index(containers: &mut Vec<Option<usize>>, container: Option<usize>)
 }
 
 /// Takes every lock of the peer off, and counts them no longer.
-fn release_all(map: &mut IndexMap<Ono, Object>, locks: &mut usize, peer: Peer)
+fn release_all(map: &mut IndexMap<Ono, Object>, marks: &mut Marks, peer: Peer)
     requires map { IsMap map.old }
-    requires count { locks.old ≡ lock_count (values map.old) }
+    requires count { marks.old.locks ≡ lock_count (values map.old) }
     ensures map { IsMap map.new }
     ensures spare { spare map.new ≡ spare map.old }
     ensures len { index_map_len map.new ≡ index_map_len map.old }
     ensures objects { values map.new ≡ released (values map.old) peer }
-    ensures count { locks.new ≡ lock_count (values map.new) }
+    ensures count { marks.new.locks ≡ lock_count (values map.new) }
 {
     for at in 0..map.len() {
-        map[at].release(locks, peer);
+        map[at].release(marks, peer);
     }
 }

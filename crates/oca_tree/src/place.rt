@@ -6,6 +6,7 @@ ghost use Rattle.oca_tree.specs.declared.object.Object.{Object};
 ghost use Rattle.oca_tree.specs.Places.{places, is_block, depth};
 ghost use Rattle.oca_tree.specs.Trees.{IsTree};
 
+use crate::marks::Marks;
 use crate::objects::Objects;
 use oca_types::Ono;
 
@@ -19,28 +20,30 @@ pub(crate) fn index_of(objects: &Objects, ono: Ono) -> Option<usize>
     objects.index_of(ono)
 }
 
-/// As `index_of`. The object at `recent` is looked at first, since commands often come in runs for one object; the
-/// index that is found is the next `recent`.
-pub(crate) fn index_from(objects: &Objects, recent: &mut usize, ono: Ono) -> Option<usize>
+/// As `index_of`. The object that was found last is looked at first, since commands often come in runs for one object;
+/// the index that is found is marked.
+pub(crate) fn index_from(objects: &Objects, marks: &mut Marks, ono: Ono) -> Option<usize>
     requires { IsTree objects.now.list }
     ensures index { result ≡ position (has_number ono.0) objects.now.list }
     ensures within { IfSome result (λ at. at < length objects.now.list) }
     ensures absent { IfNone result (object_of objects.now.list ono.0 ≡ None) }
     ensures found { IfSome result (λ at. (d : Object) → object_of objects.now.list ono.0 ≡ Some (slice_index_or objects.now.list at d)) }
+    ensures locks { marks.new.locks ≡ marks.old.locks }
 {
-    search_from(objects, recent, ono)
+    search_from(objects, marks, ono)
 }
 
-/// Looks for the number at `recent`, and then among all, and leaves there where it was found: an index that is read
+/// Looks for the number where one was found last, and then among all, and marks where it was found: an index that is read
 /// in one place is not tested again.
-fn search_from(objects: &Objects, recent: &mut usize, ono: Ono) -> Option<usize>
+fn search_from(objects: &Objects, marks: &mut Marks, ono: Ono) -> Option<usize>
     requires { IsTree objects.now.list }
-    ensures { result ≡ position (has_number ono.0) objects.now.list }
+    ensures index { result ≡ position (has_number ono.0) objects.now.list }
+    ensures locks { marks.new.locks ≡ marks.old.locks }
 {
-    if !is_at(objects, *recent, ono) {
-        *recent = objects.index_of(ono)?;
+    if !is_at(objects, marks.recent, ono) {
+        marks.recent = objects.index_of(ono)?;
     }
-    Some(*recent)
+    Some(marks.recent)
 }
 
 /// Whether the object at this index has the number. If so, it is the first that has it.

@@ -74,7 +74,7 @@ fn setting_request<'a>(value: &Value, count: u8, params: &[u8]) -> Option<Reques
 }
 
 /// How many positions there are.
-fn positions(value: &Value) -> usize
+pub(crate) fn positions(value: &Value) -> usize
     ensures positions { result ≡ positions value.now }
     ensures few { result ≤ 16 }
 {

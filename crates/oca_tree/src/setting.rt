@@ -6,6 +6,7 @@ ghost use Rattle.oca_tree.specs.Trees.{IsTree, IsSoundValue};
 ghost use Rattle.oca_tree.specs.Settings.{request_for, is_set_by, set_fault, after_set, front};
 ghost use Rattle.oca_tree.specs.PrivateSteps.{ChecksSetting};
 
+use crate::marks::Marks;
 use crate::object::Value;
 use crate::objects::Objects;
 use crate::place::index_from;
@@ -98,27 +99,25 @@ fn check_setting(held: &Value, value: LocalValue) -> Result<Request<'static>, Se
     Ok(request)
 }
 
-/// Sets the object with this number. `locks` counts the locks that are held, and `recent` is where an object was
-/// found last.
+/// Sets the object with this number. `marks` count the locks that are held, and say where an object was found last.
 pub(crate) fn set(
     objects: &mut Objects,
-    locks: &mut usize,
-    recent: &mut usize,
+    marks: &mut Marks,
     ono: Ono,
     value: LocalValue,
 ) -> Result<(), SetFault>
     requires tree { IsTree objects.old.list }
-    requires count { locks.old ≡ lock_count objects.old.list }
+    requires count { marks.old.locks ≡ lock_count objects.old.list }
     ensures objects { objects.new.list ≡ after_set objects.old.list ono.0 value }
     ensures refused { OnErr result (objects.new.list ≡ objects.old.list) }
     ensures told { result_err result ≡ set_fault objects.old.list ono.0 value }
     ensures tree { IsTree objects.new.list }
-    ensures count { locks.new ≡ lock_count objects.new.list }
+    ensures count { marks.new.locks ≡ lock_count objects.new.list }
 {
-    let Some(at) = index_from(objects, recent, ono) else {
+    let Some(at) = index_from(objects, marks, ono) else {
         return Err(SetFault::NoObject);
     };
     let request = check_setting(&objects.object_at(at).value, value)?;
-    objects.change_at(at, locks, FRONT, request);
+    objects.change_at(at, marks, FRONT, request);
     Ok(())
 }

@@ -6,6 +6,7 @@ mod lists;
 mod locks;
 mod methods;
 mod setting;
+mod starts;
 
 use super::*;
 use oca_types::{Class, Command, Handle, MethodId, Ono, Params, Peer, Status, class_fields};

@@ -1,5 +1,6 @@
 //! The tree: executing commands, taking locks off, and reading its objects.
-ghost use Rattle.std.specs.Prelude.{◌≡◌, [], length, OnErr, map};
+ghost use Rattle.std.specs.Prelude.{◌≡◌, [], length, OnErr, map, slice_get};
+ghost use Rattle.std.specs.Option.{option_and_then};
 ghost use Rattle.oca_types.specs.Peers.{fields_of};
 ghost use Rattle.std.specs.Result.{result_err};
 ghost use Rattle.oca_tree.specs.Locks.{released, lock_count};
@@ -12,6 +13,7 @@ ghost use Rattle.oca_tree.specs.Readers.{info_of, info_at, infos_left, lock_at, 
 use crate::answer::{mute_number, polarity_number};
 use crate::execute::carry_out;
 use crate::infos::ObjectInfos;
+use crate::marks::Marks;
 use crate::object::{Lock, Object, Value};
 use crate::objects::Objects;
 use crate::setting::{LocalValue, SetFault, set};
@@ -67,10 +69,8 @@ pub enum Setting {
 #[derive(Drop)]
 pub struct Tree {
     objects: Objects,
-    /// How many of the objects are locked.
-    locks: usize,
-    /// Where the object of a command was found last: it is looked at first.
-    recent: usize,
+    /// How many of them are locked, and where one was found last.
+    marks: Marks,
 }
 
 impl Model for Tree {
@@ -83,7 +83,7 @@ impl Model for Tree {
 
     ghost view = { λ t. t.objects.list };
 
-    ghost invariant = { λ t. IsTree t.objects.list × (t.locks ≡ lock_count t.objects.list) };
+    ghost invariant = { λ t. IsTree t.objects.list × (t.marks.locks ≡ lock_count t.objects.list) };
 }
 
 impl Tree {
@@ -95,8 +95,7 @@ impl Tree {
         let locks = count_locks(objects.as_slice());
         Tree {
             objects,
-            locks,
-            recent: 0,
+            marks: Marks { locks, recent: 0 },
         }
     }
 
@@ -115,8 +114,7 @@ impl Tree {
         let mut writes = false;
         match carry_out(
             &mut self.objects,
-            &mut self.locks,
-            &mut self.recent,
+            &mut self.marks,
             peer,
             command,
             out,
@@ -145,21 +143,15 @@ impl Tree {
         ensures refused { OnErr result (self.new ≡ self.old) }
         ensures told { result_err result ≡ set_fault self.old ono.0 value }
     {
-        set(
-            &mut self.objects,
-            &mut self.locks,
-            &mut self.recent,
-            ono,
-            value,
-        )
+        set(&mut self.objects, &mut self.marks, ono, value)
     }
 
     /// Takes every lock of the peer off. Where no lock is held it looks at no object.
     pub fn release(&mut self, peer: Peer)
         ensures { self.new ≡ released self.old peer }
     {
-        if self.locks > 0 {
-            self.objects.release(&mut self.locks, peer);
+        if self.marks.locks > 0 {
+            self.objects.release(&mut self.marks, peer);
         }
     }
 
@@ -194,6 +186,24 @@ impl Tree {
         ensures { result ≡ lock_at self.now ono.0 }
     {
         lock_in(&self.objects, ono)
+    }
+
+    /// The lock of the object at this index, counted from 0 at the root in order of adding, where it is there
+    /// and locked.
+    pub fn lock_at(&self, index: usize) -> Option<Lock>
+        ensures { result ≡ option_and_then (λ o. o.lock) (slice_get self.now index) }
+    {
+        let Some(object) = self.objects.as_slice().get(index) else {
+            return None;
+        };
+        object.lock
+    }
+
+    /// How many objects are locked. It looks at none.
+    pub fn lock_count(&self) -> usize
+        ensures { result ≡ lock_count self.now }
+    {
+        self.marks.locks
     }
 
     /// How the object with this number is set; nothing for a block and where it is not there.

@@ -88,7 +88,14 @@ pub struct Reply {
     pub params: Params,
 }
 
-/// Memory was refused. Where this is a call's only fault, its number is 1.
+/// Memory was refused. Where this is a call's only fault, its number is [`NoMemory::NUMBER`].
 #[derive(Clone, Copy, Debug, PartialEq, Eq, Error)]
 #[error("no memory")]
 pub struct NoMemory;
+
+impl NoMemory {
+    /// The number of this fault, 1, which is promised (*profile*).
+    pub const NUMBER: u8 = 1;
+}
+
+const _: () = prove!(NoMemory::NUMBER == 1);

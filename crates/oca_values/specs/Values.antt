@@ -9,6 +9,7 @@ use Rattle.oca_types.specs.declared.class.Method.TheVariants.{SetState, SetPosit
 use Rattle.oca_types.specs.declared.class.MethodKind.TheVariants.{Known}
 use Rattle.oca_types.specs.Methods.{method_kind, access}
 use Rattle.oca_types.specs.Numbers.{unsigned_encoding, signed_encoding, bool_encoding}
+use Rattle.oca_types.specs.Peers.{RequestFields}
 use Rattle.oca_types.specs.Reading.{unsigned_at, signed_at, bool_at}
 use Rattle.oca_tree.specs.declared.object.MuteState.TheVariants.{Muted, Unmuted}
 use Rattle.oca_tree.specs.declared.object.PolarityState.TheVariants.{NonInverted, Inverted}
@@ -64,6 +65,10 @@ get_method class.Mute = Some GetState
 get_method class.Polarity = Some GetState
 get_method class.Switch = Some GetPosition
 get_method _ = Some GetSetting
+
+-- what is asked of the object with this number, without where the parameters lie in memory
+abbrev pub request_to : ℕ → Request → RequestFields
+request_to target r = record { target = target; level = r.method.level; index = r.method.index; count = r.count; params = r.params.items }
 
 -- The request calls this method of the class, with so many parameters in these bytes.
 pub record Asks (of : Class) (called : Method) (request : Request) (number : ℕ) (bytes : List ℕ) : Type 0 where

@@ -4,7 +4,7 @@ ghost use Rattle.oca_values.specs.Values.{class_of_value, set_method, get_method
 
 use crate::value::Value;
 use arrayvec::ArrayVec;
-use oca_types::{Class, Method, MethodId, method_id};
+use oca_types::{Class, Method, MethodId, Ono, method_id};
 
 /// What is asked of an object: a command without its handle and its target.
 #[derive(Debug, Drop)]
@@ -15,6 +15,24 @@ pub struct Request {
     pub count: u8,
     /// The bytes of the parameters.
     pub params: ArrayVec<u8, 8>,
+}
+
+impl Request {
+    ghost use Rattle.std.specs.Prelude.{◌≡◌};
+    ghost use Rattle.oca_types.specs.Peers.{request_of};
+    ghost use Rattle.oca_values.specs.Values.{request_to};
+
+    /// What is asked of the object with this number, as `ask` of `oca_control` takes it.
+    pub fn of(&self, target: Ono) -> oca_types::Request<'_>
+        ensures { request_of result ≡ request_to target.0 self.now }
+    {
+        oca_types::Request {
+            target,
+            method: self.method,
+            count: self.count,
+            params: self.params.as_slice(),
+        }
+    }
 }
 
 /// The method that sets such a value.

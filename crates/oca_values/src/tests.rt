@@ -123,3 +123,38 @@ fn words(rt: HostRuntime) -> Result<(), Fail> {
     assert_eq!(rt; value_from_word(Class::Block, "1"), None);
     Ok(())
 }
+
+#[test]
+fn answers_of_any_object(rt: HostRuntime) -> Result<(), Fail> {
+    assert_eq!(rt;
+        read_class(&[0, 4, 0, 1, 0, 1, 0, 1, 0, 2, 0, 2]),
+        Some(Class::Mute)
+    );
+    assert_eq!(rt;
+        read_class(&[0, 3, 0, 1, 0, 1, 0, 3, 0, 9]),
+        Some(Class::Block)
+    );
+    assert_eq!(rt; read_class(&[0, 3, 0, 1, 0, 1, 0, 3]), None);
+    assert_eq!(rt; read_class(&[0, 1, 0, 1, 0, 2]), None);
+    let text = read_text(&[0, 3, 77, 105, 99]).ok_or("no text")?;
+    assert_eq!(rt; text.as_str(), "Mic");
+    assert!(rt; read_text(&[0, 3, 77, 105]).is_none());
+    assert_eq!(rt; status_name(3), Some("Locked"));
+    assert_eq!(rt; status_name(14), Some("BufferOverflow"));
+    assert_eq!(rt; status_name(15), None);
+    Ok(())
+}
+
+#[test]
+fn members_and_names(rt: HostRuntime) -> Result<(), Fail> {
+    let two = [
+        0, 2, 0, 0, 16, 1, 0, 1, 0, 1, 0, 2, 0, 0, 16, 2, 0, 2, 0, 1, 0, 9, 0, 1,
+    ];
+    let members = read_members(&two).ok_or("no members")?;
+    assert_eq!(rt; members.as_slice(), [4097, 4098].as_slice());
+    assert!(rt; read_members(&two[..23]).is_none());
+    let names = read_names(&[0, 2, 0, 1, 65, 0, 0]).ok_or("no names")?;
+    assert_eq!(rt; names.len(), 2);
+    assert!(rt; read_names(&[0, 1, 0, 1, 65, 0]).is_none());
+    Ok(())
+}

@@ -1,3 +1,4 @@
 pub mod FieldLemmas
 pub mod ServeLemmas
 pub mod ExchangeLemmas
+mod HandLemmas

@@ -2,7 +2,9 @@ pub mod Requests
 pub mod Printing
 pub mod Replaying
 pub mod Exchanges
+pub mod Hands
 pub mod PrivateRequests
 pub mod PrivateLines
 pub mod PrivateExchanges
+pub mod PrivateHands
 pub mod Words

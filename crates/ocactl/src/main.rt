@@ -1,14 +1,21 @@
-//! The controller as a program: `ocactl replay` runs a link over the script on standard input, `ocactl send` sends a command
-//! to a device over UDP and prints its answer, and `ocactl run` sends the commands on standard input.
+//! The controller as a program: `ocactl tree`, `get`, `set`, `lock` and `unlock` speak of a device's objects in words, `ocactl send`
+//! sends a command to a device over UDP and prints its answer, `ocactl run` sends the commands on standard input, and `ocactl replay`
+//! runs a link over the script there.
 #![tactic(auto)]
 
 mod commands;
 mod exchange;
+mod hands;
 mod line;
+mod objects;
 mod replay;
 mod request;
 mod run;
 mod session;
+mod talk;
+mod tasks;
+mod told;
+mod walk;
 mod words;
 
 use oca_net::fill_standard_descriptors;

@@ -1,8 +1,12 @@
 //! A run of the program.
 use super::commands::send_all;
 use super::exchange::ask_once;
+use super::hands::{get_all, lock_all, set_all};
 use super::replay::replay;
 use super::session::Session;
+use super::talk::Talk;
+use super::tasks::Task;
+use super::walk::walk;
 use super::words::{Asked, Reach, Sending, asked_for};
 use oca_net::{BindError, End, UdpEnd};
 use oca_program::{Failure, RunFault, print_note, report};
@@ -68,11 +72,34 @@ fn served<N: Net + Clock, S: AsStr, R: Source, W: Sink, F: Sink>(
             note_sends(alloc, session.end(), status, faults);
             Ok(status)
         }
+        Asked::Do(reach, turns, task) => {
+            let end = bind_own(alloc, system, reach)?;
+            let mut talk = Talk::new(reach.link(handle_now(system)), end, turns);
+            let status = do_task(alloc, &mut talk, &task, printer)?;
+            note_sends(alloc, talk.end(), status, faults);
+            Ok(status)
+        }
         Asked::Help(text) => {
             printer.print(text.as_bytes())?;
             printer.flush()?;
             Ok(0)
         }
+    }
+}
+
+/// Does something with the objects of a device, and prints it. Returns the exit status.
+fn do_task<E: End, W: Sink>(
+    alloc: Global,
+    talk: &mut Talk<E>,
+    task: &Task,
+    printer: &mut Printer<W>,
+) -> Result<u8, Failure> {
+    match task {
+        Task::Get(onos) => Ok(get_all(talk, onos.as_slice(), printer)?),
+        Task::Set(pairs) => set_all(alloc, talk, pairs.as_slice(), printer),
+        Task::Lock(onos) => Ok(lock_all(talk, onos.as_slice(), true, printer)?),
+        Task::Unlock(onos) => Ok(lock_all(talk, onos.as_slice(), false, printer)?),
+        Task::Tree => walk(alloc, talk, printer),
     }
 }
 

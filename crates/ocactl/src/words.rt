@@ -6,6 +6,7 @@ ghost use Rattle.oca_control.specs.Links.{new_link};
 ghost use Rattle.oca_types.specs.Peers.{request_of};
 ghost use Rattle.ocactl.specs.Words.{array_items, span_of as span_said, span_in as span_given, linking_fields, first_handle_in, linking_in, host_in, own_address, port_in, handle_in, reach_fields, reach_in, ahead_in, sending_fields, sending_in, params_of as params_said, params_in as params_given};
 
+use super::tasks::{Task, is_task, task_of, turns_of, with_tasks};
 use arrayvec::ArrayVec;
 use clap::{Arg, ArgMatches, Command, Error};
 use oca_control::Link;
@@ -98,6 +99,8 @@ pub enum Asked {
     Send(Reach, Sending),
     /// To send the commands of the input to a device, so many of them at once.
     Run(Reach, Span),
+    /// To do something with objects of a device, where each command waits so many turns for its answer.
+    Do(Reach, u32, Task),
     /// To print a help text.
     Help(String),
 }
@@ -110,12 +113,12 @@ fn linked<'a>(command: Command<'a>, alloc: Global) -> Result<Command<'a>, AllocE
             alloc,
             "span",
             "S",
-            "How many commands may be untaken at once, 1 to 32 [16 unless given]",
+            "How far above the lowest untaken command the next handle may lie, 1 to 32 [16 unless given]",
         ))
 }
 
 /// The options of a link over a network: the first handle and the local address.
-fn networked<'a>(command: Command<'a>, alloc: Global) -> Result<Command<'a>, AllocError> {
+pub fn networked<'a>(command: Command<'a>, alloc: Global) -> Result<Command<'a>, AllocError> {
     linked(command, alloc)?
         .arg(option(
             alloc,
@@ -141,7 +144,9 @@ const RUN_EXAMPLE: &str =
 
 Status: 0 where each command was answered, 3 where one was not.
 
-Example: echo '4097 4 1 0 -' | ocactl run --device 127.0.0.1:65000 --first-handle 1";
+Example: echo '4097 4 1 0 -' | ocactl run --device 127.0.0.1:65000";
+
+const PROGRAM_EXAMPLE: &str = "Example: ocactl set --device 127.0.0.1:65000 4097 unmuted";
 
 const SEND_EXAMPLE: &str =
     "Status of send: 0 for an answer with status 0, 4 for another, 3 where none came.
@@ -222,10 +227,11 @@ fn run_command<'a>(alloc: Global) -> Result<Command<'a>, AllocError> {
 
 /// The whole program.
 fn command<'a>(alloc: Global) -> Result<Command<'a>, AllocError> {
-    Command::new(alloc, "ocactl")
+    let program = Command::new(alloc, "ocactl")
         .about("A controller of OCA (AES70) devices over UDP")
-        .after_help(SEND_EXAMPLE)
-        .subcommand_required(true)
+        .after_help(PROGRAM_EXAMPLE)
+        .subcommand_required(true);
+    with_tasks(program, alloc)?
         .subcommand(replay_command(alloc)?)?
         .subcommand(send_command(alloc)?)?
         .subcommand(run_command(alloc)?)
@@ -241,11 +247,7 @@ pub fn asked_for<S: AsStr>(alloc: Global, words: &[S]) -> Result<Asked, Failure>
     match matches_of(alloc, words) {
         Ok(matches) => match asked_in(&matches) {
             Some(asked) => Ok(asked),
-            None => Err(Failure::told(
-                alloc,
-                RunFault::BadWords,
-                "an option has a value that is not of its form: see --help",
-            )),
+            None => done_by(alloc, &matches),
         },
         Err(error) => Ok(Asked::Help(help_or_failure(alloc, &error)?)),
     }
@@ -263,6 +265,25 @@ fn asked_in(matches: &ArgMatches<'_>) -> Option<Asked> {
         }
         _ => None,
     }
+}
+
+/// What the options and the words of a command for hands say.
+fn done_by(alloc: Global, matches: &ArgMatches<'_>) -> Result<Asked, Failure> {
+    let bad = Failure::told(
+        alloc,
+        RunFault::BadWords,
+        "an option has a value that is not of its form: see --help",
+    );
+    let Some((name, words)) = matches.subcommand() else {
+        return Err(bad);
+    };
+    if !is_task(name) {
+        return Err(bad);
+    }
+    let (Some(reach), Some(turns)) = (reach_of(words), turns_of(words)) else {
+        return Err(bad);
+    };
+    Ok(Asked::Do(reach, turns, task_of(alloc, name, words)?))
 }
 
 /// The span that a text says: 1 to 3 digits, 1 to 32.

@@ -1,3 +1,4 @@
 pub mod RequestLemmas
 pub mod PacketLemmas
 pub mod ServeLemmas
+pub mod TotalLemmas

@@ -3,3 +3,5 @@ pub mod Printing
 pub mod Replaying
 pub mod PrivateRequests
 pub mod Words
+pub mod Totals
+pub mod Makings

@@ -3,11 +3,14 @@
 #![tactic(auto)]
 
 mod answer;
+mod making;
 mod replay;
 mod report;
 mod request;
 mod run;
+mod serving;
 mod show;
+mod trace;
 mod words;
 
 use oca_net::fill_standard_descriptors;

@@ -26,18 +26,27 @@ pub fn print_report<W: Sink>(report: &Report, printer: &mut Printer<W>) -> Resul
 
 /// Prints where the device listens as one line.
 pub fn print_listening<W: Sink>(local: Peer, printer: &mut Printer<W>) -> Result<(), WriteFailed> {
-    let mut before = b"listening ".as_slice();
-    for byte in local.ip.to_be_bytes() {
-        print_count(before, u64::from(byte), printer)?;
-        before = b".";
-    }
-    print_count(b":", u64::from(local.port), printer)?;
+    print_peer(b"listening ", local, printer)?;
     printer.print(b"\n")?;
     printer.flush()
 }
 
+/// Prints a word and a peer.
+pub fn print_peer<W: Sink>(
+    word: &[u8],
+    peer: Peer,
+    printer: &mut Printer<W>,
+) -> Result<(), WriteFailed> {
+    let mut before = word;
+    for byte in peer.ip.to_be_bytes() {
+        print_count(before, u64::from(byte), printer)?;
+        before = b".";
+    }
+    print_count(b":", u64::from(peer.port), printer)
+}
+
 /// Prints a word and a number.
-fn print_count<W: Sink>(
+pub fn print_count<W: Sink>(
     word: &[u8],
     count: u64,
     printer: &mut Printer<W>,

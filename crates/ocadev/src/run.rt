@@ -1,23 +1,28 @@
 //! A run of the program.
+use super::making::{make, objects};
 use super::replay::replay;
 use super::report::{print_listening, print_report};
+use super::serving::{serve_on, serve_traced};
 use super::show::show;
+use super::trace::Watched;
 use super::words::{Asked, Serving, asked_for};
-use oca_device::{Device, Outbox, serve};
-use oca_net::UdpEnd;
-use oca_program::{Failure, RunFault, report};
+use oca_device::serve;
+use oca_program::socket::{bind, note_failed_sends};
+use oca_program::{Failure, print_note, report};
 use oca_script::{Printer, Sink, Source};
-use oca_tree::{Tree, bench};
-use oca_types::Window;
 use std::alloc::Global;
 use std::convert::AsStr;
 use std::net::Net;
-use std::rt::Clock;
+use std::rt::{Clock, Files};
+
+/// What is told where a device is bound to every address of the machine.
+const EVERY_ADDRESS: &str =
+    "0.0.0.0 is every address of this machine: answers may leave from another one than was asked, and links drop those";
 
 /// Runs the program on the words of its command line, its name first, and returns its exit status: 0, 2 where the words or
 /// a line are bad, and 1 where something could not be done. A fault is printed on `faults` as one line, behind one that begins with
 /// `note: ` where more is known; and so is where the device listens.
-pub fn run<N: Net + Clock, S: AsStr, R: Source, W: Sink, F: Sink>(
+pub fn run<N: Net + Clock + Files, S: AsStr, R: Source, W: Sink, F: Sink>(
     alloc: Global,
     system: &N,
     words: &[S],
@@ -32,7 +37,7 @@ pub fn run<N: Net + Clock, S: AsStr, R: Source, W: Sink, F: Sink>(
 }
 
 /// Does what the words ask for.
-fn served<N: Net + Clock, S: AsStr, R: Source, W: Sink, F: Sink>(
+fn served<N: Net + Clock + Files, S: AsStr, R: Source, W: Sink, F: Sink>(
     alloc: Global,
     system: &N,
     words: &[S],
@@ -41,12 +46,12 @@ fn served<N: Net + Clock, S: AsStr, R: Source, W: Sink, F: Sink>(
     faults: &mut Printer<F>,
 ) -> Result<(), Failure> {
     match asked_for(alloc, words)? {
-        Asked::Replay(window) => {
-            let (mut device, mut outbox) = start(alloc, window)?;
+        Asked::Replay(making) => {
+            let (mut device, mut outbox) = make(alloc, system, making)?;
             replay(&mut device, &mut outbox, reader, printer)?;
         }
         Asked::Serve(serving) => serve_socket(alloc, system, serving, printer, faults)?,
-        Asked::Show => show(&bench_tree(alloc)?, printer)?,
+        Asked::Show(listed) => show(&objects(alloc, system, listed)?, printer)?,
         Asked::Help(text) => {
             printer.print(text.as_bytes())?;
             printer.flush()?;
@@ -57,34 +62,32 @@ fn served<N: Net + Clock, S: AsStr, R: Source, W: Sink, F: Sink>(
 
 /// Serves the bench device at a socket, and prints what was done. Where it listens is printed on `faults` at first; that
 /// this can't be written is no fault.
-fn serve_socket<N: Net + Clock, W: Sink, F: Sink>(
+fn serve_socket<N: Net + Clock + Files, W: Sink, F: Sink>(
     alloc: Global,
     system: &N,
-    serving: Serving,
+    serving: Serving<'_>,
     printer: &mut Printer<W>,
     faults: &mut Printer<F>,
 ) -> Result<(), Failure> {
-    let (mut device, mut outbox) = start(alloc, serving.window)?;
-    let mut end = UdpEnd::bind(alloc, system, serving.ip, serving.port)?;
+    let (mut device, mut outbox) = make(alloc, system, serving.making)?;
+    let mut end = bind(alloc, system, serving.ip, serving.port)?;
+    if serving.ip == 0 {
+        print_note(EVERY_ADDRESS, faults);
+    }
     let _ = print_listening(end.local(), faults);
-    let report = serve(&mut device, &mut end, &mut outbox, serving.turns);
+    let (report, reason) = if serving.verbose {
+        let turns = serving.turns.map_or(u64::MAX, u64::from);
+        let mut watched = Watched::new(end);
+        let report = serve_traced(&mut device, &mut watched, &mut outbox, turns, faults);
+        (report, watched.end.last_failed_send())
+    } else {
+        let report = match serving.turns {
+            Some(turns) => serve(&mut device, &mut end, &mut outbox, turns),
+            None => serve_on(&mut device, &mut end, &mut outbox),
+        };
+        (report, end.last_failed_send())
+    };
+    note_failed_sends(alloc, report.failed_sends, reason, faults);
     print_report(&report, printer)?;
     Ok(())
-}
-
-/// The bench device, and an outbox.
-fn start(alloc: Global, window: Window) -> Result<(Device, Outbox), RunFault> {
-    let tree = bench_tree(alloc)?;
-    let Ok(device) = Device::new(alloc, tree, window) else {
-        return Err(RunFault::NoMemory);
-    };
-    let Ok(outbox) = Outbox::new(alloc) else {
-        return Err(RunFault::NoMemory);
-    };
-    Ok((device, outbox))
-}
-
-/// The objects of the bench device.
-fn bench_tree(alloc: Global) -> Result<Tree, RunFault> {
-    bench(alloc).map_err(|_| RunFault::NoMemory)
 }

@@ -7,12 +7,13 @@ use oca_tree::bench;
 use oca_types::Window;
 use std::net::Net;
 use std::process::Abort;
-use std::rt::Clock;
+use std::rt::{Clock, Files};
 
 mod ends;
 mod lines;
 mod replay;
 mod sockets;
+mod traces;
 mod words;
 
 /// GetState of 4097 under handle 1.
@@ -41,7 +42,7 @@ fn bench_device(rt: &(impl Abort + AllocGlobal)) -> Device {
 
 /// The words, run on the input, give the status, and print just that, the fault behind notes.
 fn runs_as(
-    rt: &(impl Abort + AllocGlobal + Net + Clock),
+    rt: &(impl Abort + AllocGlobal + Net + Clock + Files),
     words: &[&str],
     input: &[u8],
     status: u8,
@@ -62,7 +63,7 @@ fn runs_as(
 
 /// The script, replayed, gives the status, and prints just that.
 fn replays_as(
-    rt: &(impl Abort + AllocGlobal + Net + Clock),
+    rt: &(impl Abort + AllocGlobal + Net + Clock + Files),
     script: &[u8],
     status: u8,
     output: &[u8],

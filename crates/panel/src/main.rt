@@ -7,8 +7,8 @@
 use oca_control::{Answer, Link, Outcome, ask};
 use oca_net::UdpEnd;
 use oca_tree::MuteState;
-use oca_types::{Class, Handle, Ono, Peer, Request, Span};
-use oca_values::{Value, get_request, read_value, set_request, word_of};
+use oca_types::{Class, Handle, Ono, Peer, Span};
+use oca_values::{Request, Value, get_request, read_value, set_request, word_of};
 use std::env;
 use std::net::Net;
 use std::process::ExitCode;
@@ -80,15 +80,9 @@ fn answer<R: Runtime>(
     link: &mut Link,
     end: &mut UdpEnd<'_, R>,
     target: Ono,
-    request: &oca_values::Request,
+    request: &Request,
 ) -> Result<Answer, &'static str> {
-    let request = Request {
-        target,
-        method: request.method,
-        count: request.count,
-        params: request.params.as_slice(),
-    };
-    match ask(link, end, request, TURNS) {
+    match ask(link, end, request.of(target), TURNS) {
         Outcome::Answered(answer) => Ok(answer),
         Outcome::Refused(_) => Err("not submitted"),
         Outcome::Lost => Err("lost"),

@@ -3,19 +3,20 @@ use oca_device::{Device, Outbox};
 use oca_net::{BindFault, MemoryEnd, Scripted, UdpEnd};
 use oca_pair::{PairFault, Start, Step, run_pair};
 use oca_session::Sessions;
-use oca_tree::{AddFault, Kind, MuteState, Spec, TreeBuilder, bench};
-use oca_types::{Handle, MethodId, Ono, Peer, Span, Window};
+use oca_tree::{Room, TreeBuilder, bench};
+use oca_types::{Handle, MethodId, Ono, Peer, Peers, Sizes, Span, Window};
 use std::alloc::Global;
 use std::net::Net;
 use std::rt::Clock;
 
 /// The names of the calls.
-pub const NAMES: [&str; 9] = [
+pub const NAMES: [&str; 10] = [
     "tree-builder-new",
-    "tree-builder-add",
+    "tree-builder-with-room",
     "bench",
     "sessions-new",
     "device-new",
+    "device-with-sizes",
     "outbox-new",
     "memory-end-new",
     "udp-end-bind",
@@ -38,10 +39,11 @@ pub fn call<R: Net + Clock>(alloc: Global, rt: &R, name: &str) -> Answered {
     match name {
         "nothing" => Answered::Done,
         "tree-builder-new" => said(TreeBuilder::new(alloc).is_ok()),
-        "tree-builder-add" => add(alloc),
+        "tree-builder-with-room" => with_room(alloc),
         "bench" => said(bench(alloc).is_ok()),
         "sessions-new" => said(Sessions::new(alloc, Window::default()).is_ok()),
         "device-new" => device_new(alloc),
+        "device-with-sizes" => device_with_sizes(alloc),
         "outbox-new" => said(Outbox::new(alloc).is_ok()),
         "memory-end-new" => memory_end_new(alloc),
         "udp-end-bind" => udp_end_bind(alloc, rt),
@@ -59,23 +61,11 @@ fn said(done: bool) -> Answered {
     }
 }
 
-/// Adds a mute; where that is refused for want of memory, the builder is as before and the same call succeeds.
-fn add(alloc: Global) -> Answered {
-    let Ok(mut builder) = TreeBuilder::new(alloc) else {
-        return Answered::NoMemory;
-    };
-    let spec = Spec {
-        role: "mute",
-        lockable: true,
-        kind: Kind::Mute(MuteState::Muted),
-    };
-    let first = builder.add(Ono(100), Ono(4096), &spec);
-    let second = builder.add(Ono(100), Ono(4096), &spec);
-    let tree = builder.finish();
-    match (first, second) {
-        (Ok(()), Err(AddFault::Taken)) if tree.len() == 2 => Answered::Done,
-        (Err(AddFault::NoMemory), Ok(())) if tree.len() == 2 => Answered::NoMemory,
-        _ => Answered::Wrong,
+/// Room for as many objects as there can be.
+fn with_room(alloc: Global) -> Answered {
+    match Room::new(4096) {
+        Some(room) => said(TreeBuilder::with_room(alloc, room).is_ok()),
+        None => Answered::Wrong,
     }
 }
 
@@ -85,6 +75,18 @@ fn device_new(alloc: Global) -> Answered {
         return Answered::NoMemory;
     };
     said(Device::new(alloc, tree, Window::default()).is_ok())
+}
+
+/// A device over the bench objects, for 64 peers.
+fn device_with_sizes(alloc: Global) -> Answered {
+    let Ok(tree) = bench(alloc) else {
+        return Answered::NoMemory;
+    };
+    let Some(peers) = Peers::new(64) else {
+        return Answered::Wrong;
+    };
+    let window = Window::default();
+    said(Device::with_sizes(alloc, tree, Sizes { window, peers }).is_ok())
 }
 
 /// An end with one scripted datagram.

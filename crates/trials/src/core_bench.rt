@@ -2,8 +2,8 @@
 use crate::vectors::vector;
 use oca_device::{Device, Outbox};
 use oca_pdu::write_command;
-use oca_tree::{Kind as ObjectKind, MuteState, Spec, Tree, TreeBuilder, bench};
-use oca_types::{Command, Handle, MethodId, NoMemory, Ono, Packet, Peer, Window};
+use oca_tree::{Kind as ObjectKind, MuteState, Room, Spec, Tree, TreeBuilder, bench};
+use oca_types::{Command, Handle, MethodId, NoMemory, Ono, Packet, Peer, Peers, Sizes, Window};
 use std::alloc::Global;
 
 /// Who sends.
@@ -90,8 +90,8 @@ fn set_handle(packet: &mut Packet, number: u32, handle: u32) {
 }
 
 /// Gives the one command in the packet another target: the mutes from 4097 on, in turn.
-fn set_target(packet: &mut Packet, objects: u32, turn: u32) {
-    let mutes = objects.saturating_sub(1).max(1);
+fn set_target(packet: &mut Packet, objects: u16, turn: u32) {
+    let mutes = u32::from(objects).saturating_sub(1).max(1);
     let target = 4097u32.saturating_add(turn % mutes);
     for (k, byte) in target.to_be_bytes().iter().enumerate() {
         set(packet, 18usize.saturating_add(k), *byte);
@@ -101,18 +101,47 @@ fn set_target(packet: &mut Packet, objects: u32, turn: u32) {
 /// The device that is measured: of how many objects, and with how many sessions.
 #[derive(Clone, Copy, Debug, PartialEq, Eq)]
 pub struct Size {
-    /// 8 for the bench device; any other number up to 128 for so many objects, mutes but for the root.
-    pub objects: u32,
-    /// The sessions, from 1 to 16.
-    pub sessions: u16,
+    /// 8 for the bench device; any other number from 1 to 4,096 for so many objects, mutes but for the root.
+    pub objects: u16,
+    /// The sessions, from 1 to 64.
+    pub sessions: u8,
+}
+
+impl Size {
+    /// A device of so many objects with so many sessions, where there can be one.
+    pub fn new(objects: u16, sessions: u8) -> Option<Size> {
+        Room::new(objects)?;
+        Peers::new(sessions)?;
+        Some(Size { objects, sessions })
+    }
+
+    /// The room of the tree: for 128 objects, or for as many as there are where they are more.
+    fn room(self) -> Room {
+        match Room::new(self.objects) {
+            Some(room) if self.objects > 128 => room,
+            _ => Room::default(),
+        }
+    }
+
+    /// The sizes of the device: for 16 peers, or for as many sessions as there are where they are more.
+    fn sizes(self) -> Sizes {
+        let peers = match Peers::new(self.sessions) {
+            Some(peers) if self.sessions > 16 => peers,
+            _ => Peers::default(),
+        };
+        Sizes {
+            window: Window::default(),
+            peers,
+        }
+    }
 }
 
 /// The tree of that many objects.
-fn tree_of(alloc: Global, objects: u32) -> Result<Tree, NoMemory> {
-    if objects == 8 {
+fn tree_of(alloc: Global, size: Size) -> Result<Tree, NoMemory> {
+    if size.objects == 8 {
         return bench(alloc).map_err(|_| NoMemory);
     }
-    let Ok(mut builder) = TreeBuilder::new(alloc) else {
+    let Ok(mut builder) = TreeBuilder::with_room(alloc, size.room()) else {
         return Err(NoMemory);
     };
     let spec = Spec {
@@ -120,19 +149,23 @@ fn tree_of(alloc: Global, objects: u32) -> Result<Tree, NoMemory> {
         lockable: true,
         kind: ObjectKind::Mute(MuteState::Muted),
     };
-    for number in 1..objects {
-        let _ = builder.add(Ono(100), Ono(4096u32.saturating_add(number)), &spec);
+    for number in 1..size.objects {
+        let _ = builder.add(
+            Ono(100),
+            Ono(4096u32.saturating_add(u32::from(number))),
+            &spec,
+        );
     }
     Ok(builder.finish())
 }
 
 /// Other peers say a keep-alive each, so that there are that many sessions with the one that is measured.
-fn open_sessions(device: &mut Device, outbox: &mut Outbox, sessions: u16) {
+fn open_sessions(device: &mut Device, outbox: &mut Outbox, sessions: u8) {
     for number in 1..sessions {
         outbox.clear();
         let other = Peer {
             ip: SENDER.ip,
-            port: 9001u16.saturating_add(number),
+            port: 9001u16.saturating_add(u16::from(number)),
         };
         let _ = device.datagram(other, vector(12), 0, outbox);
     }
@@ -147,8 +180,8 @@ pub fn run(
     datagrams: u32,
     served: bool,
 ) -> Result<u64, NoMemory> {
-    let tree = tree_of(alloc, size.objects)?;
-    let mut device = Device::new(alloc, tree, Window::default())?;
+    let tree = tree_of(alloc, size)?;
+    let mut device = Device::with_sizes(alloc, tree, size.sizes())?;
     let mut outbox = Outbox::new(alloc)?;
     open_sessions(&mut device, &mut outbox, size.sessions);
     let mut packet = datagram(kind);

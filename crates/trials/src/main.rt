@@ -156,8 +156,8 @@ fn one_call<R: Runtime + AllocGlobal + Net>(rt: &R, name: &str) -> ExitCode {
 
 /// The size that two words name.
 fn size_of(objects: &str, sessions: &str) -> Option<Size> {
-    match (objects.parse::<u32>(), sessions.parse::<u16>()) {
-        (Ok(objects), Ok(sessions)) => Some(Size { objects, sessions }),
+    match (objects.parse::<u16>(), sessions.parse::<u8>()) {
+        (Ok(objects), Ok(sessions)) => Size::new(objects, sessions),
         _ => None,
     }
 }

@@ -128,6 +128,21 @@ fn other_commands_end_no_group(rt: HostRuntime) -> Result<(), Fail> {
     Ok(())
 }
 
+/// The same command twice in one datagram is executed once, and its response leaves twice in one PDU.
+#[test]
+fn a_duplicate_beside_its_command(rt: HostRuntime) -> Result<(), Fail> {
+    let mut bench = Bench::new(rt.alloc())?;
+    let mut datagram = pack(&GET);
+    put(&mut datagram, &GET);
+    assert_eq!(rt; bench.answers(&rt, datagram.as_slice(), served(1, 1)), 1);
+    let mut twice = pack(&[0x3b, 0, 1, 0, 0, 0, 0x1f, 3, 0, 2]);
+    put(&mut twice, &MUTED[10..]);
+    put(&mut twice, &MUTED[10..]);
+    assert_eq!(rt; twice.len(), 32);
+    bench.holds(&rt, 0, &twice);
+    Ok(())
+}
+
 /// One command of a PDU.
 fn put_command(packet: &mut Packet, handle: u32, target: u32, method: (u8, u8), params: &[u8]) {
     put(packet, &[0, 0, 0, 17 + params.len().min(1) as u8]);

@@ -103,6 +103,39 @@ fn goes_on_after_a_failed_send(rt: HostRuntime) -> Result<(), Fail> {
     Ok(())
 }
 
+/// GetState from A at 0 and again at 1, where the first send fails: the second gets the reply that the first got.
+#[test]
+fn a_duplicate_gets_the_reply_that_was_lost(rt: HostRuntime) -> Result<(), Fail> {
+    let mut bench = Bench::new(rt.alloc())?;
+    let mut script = Vec::new(rt.alloc());
+    for now in 0..2u64 {
+        script.push(Scripted::Datagram {
+            from: peer(A),
+            bytes: GET.to_vec(rt.alloc())?,
+            now,
+        })?;
+    }
+    let mut end = MemoryEnd::new(rt.alloc(), script, 4, Some(0)).map_err(|_| "no memory")?;
+    assert_eq!(rt;
+        serve(&mut bench.device, &mut end, &mut bench.outbox, 5),
+        Report {
+            turns: 2,
+            executed: 1,
+            kept: 1,
+            quiet: 0,
+            failed_receives: 0,
+            failed_sends: 1,
+            ..THREE_TURNS
+        }
+    );
+    assert_eq!(rt; end.taken().len(), 1);
+    if let Some((to, packet)) = end.taken().first() {
+        assert_eq!(rt; *to, peer(A));
+        assert_eq!(rt; packet.as_slice(), MUTED.as_slice());
+    }
+    Ok(())
+}
+
 /// A datagram of a peer at 0.
 fn from(alloc: Global, port: u16, bytes: &[u8]) -> Result<Scripted, Fail> {
     Ok(Scripted::Datagram {

@@ -211,3 +211,16 @@ fn retains_replies_that_were_not_sent(rt: HostRuntime) -> Result<(), Fail> {
     bench.takes(&rt, A, 0, get_state(2), EXECUTED, Some(state(2, 2)));
     Ok(())
 }
+
+/// A copy that is marked 100 after a datagram at 500 counts as 500: so late its peer was heard.
+#[test]
+fn an_earlier_moment_counts_as_the_one_seen(rt: HostRuntime) -> Result<(), Fail> {
+    let mut bench = Bench::new(rt.alloc())?;
+    bench.takes(&rt, A, 500, pack(&GET), EXECUTED, Some(pack(&MUTED)));
+    bench.takes(&rt, A, 100, pack(&GET), KEPT, Some(pack(&MUTED)));
+    bench.device.tick(120_500);
+    assert_eq!(rt; bench.device.sessions(), 1);
+    bench.device.tick(120_501);
+    assert_eq!(rt; bench.device.sessions(), 0);
+    Ok(())
+}

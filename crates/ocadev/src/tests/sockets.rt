@@ -69,14 +69,14 @@ fn a_report_of_different_counts(rt: HostRuntime) {
         malformed: 6,
         no_room: 7,
         oversize: 8,
-        quiet: 9,
+        quiet: 12_345_678_909,
         failed_receives: 10,
         failed_sends: 11,
     };
     let mut to = Printer::new(ShortWriter::new(1000, usize::MAX));
     assert_eq!(rt; print_report(&report, &mut to), Ok(()));
     let text =
-        b"turns 18446744073709551615 executed 2 kept 3 old 4 reused 5 malformed 6 no-room 7 oversize 8 quiet 9 failed-receives 10 failed-sends 11\n";
+        b"turns 18446744073709551615 executed 2 kept 3 old 4 reused 5 malformed 6 no-room 7 oversize 8 quiet 12345678909 failed-receives 10 failed-sends 11\n";
     assert!(rt; to.sink().taken.as_slice() == text.as_slice());
 }
 

@@ -1,16 +1,17 @@
-use Rattle.std.proofs.Common.{sym, ◌∙◌, arith}
+use Rattle.std.proofs.Common.{get_or, sym, ◌∙◌, arith}
 use Rattle.oca_tree.proofs.Containers.{container_below, lies_nowhere}
-use Rattle.oca_tree.proofs.Listing.{reached, passed_on}
+use Rattle.oca_tree.proofs.Listing.{decided, passed_on}
 use Rattle.oca_tree.proofs.answer.lies_in.Goals as goal
 
 pub returns-in_default : goal.returns-in_default
 returns-in_default c = λ d.
-    sym (lies_nowhere c.args.objects.now.list c.requires.tree c.loop.current d c.loop.invariant.within c.args.block.0 c.in_default.ensures) ∙ c.loop.invariant.same d
+    let tree = c.args.objects.now.list in
+    sym (lies_nowhere tree c.requires.tree c.loop.current d c.loop.invariant.within (get_or tree c.args.block d).ono.0 c.in_default.ensures) ∙ c.loop.invariant.same d
 
-pub returns-then-eq : goal.returns-then-eq
-returns-then-eq c = λ d.
-    reached c.args.objects.now.list c.requires.tree c.args.block.0 c.loop.current c.loop.invariant.within c.in-Some.container c.in-Some.ensures
-    c.object_at.result.now c.object_at.ensures c.if-eq.ensures d ∙ c.loop.invariant.same d
+pub returns-then-container-block : goal.returns-then-container-block
+returns-then-container-block c = λ d.
+    sym (decided c.args.objects.now.list c.requires.tree c.args.block c.requires.block c.loop.current d c.loop.invariant.within c.in-Some.container c.in-Some.ensures (omega arith))
+    ∙ c.loop.invariant.same d
 
 pub loop-preserved : goal.loop-preserved
 loop-preserved c =
@@ -18,7 +19,7 @@ loop-preserved c =
     record {
       within = omega (arith, below);
       same = λ d.
-          sym (passed_on c.args.objects.now.list c.requires.tree c.args.block.0 c.loop.current c.loop.invariant.within c.in-Some.container c.in-Some.ensures
-          c.object_at.result.now c.object_at.ensures c.if-eq.ensures d) ∙ c.loop.invariant.same d;
+          sym (passed_on c.args.objects.now.list c.requires.tree c.args.block c.requires.block c.loop.current d c.loop.invariant.within c.in-Some.container c.in-Some.ensures (omega arith))
+          ∙ c.loop.invariant.same d;
       earlier = omega (arith, below, c.loop.invariant.earlier);
     }

@@ -1,4 +1,4 @@
-use Rattle.std.proofs.Common.{◌≡◌, ◌+◌, ◌++◌, take, drop, ap, ◌∙◌, refl}
+use Rattle.std.proofs.Common.{◌+◌, ◌++◌, take, drop, ap, ◌∙◌, refl}
 use Rattle.std.specs.List.{filter, flat_map}
 use Rattle.std.specs.Int.{w16}
 use Rattle.oca_types.specs.Numbers.{unsigned_encoding}
@@ -9,7 +9,7 @@ use Rattle.oca_tree.proofs.answer.put_members.Goals as goal
 pub returns : goal.returns
 returns c =
     let old = c.args.out.now.items in
-    let items = flat_map (item_encoding c.args.deep) (filter (is_listed c.args.objects.now.list c.args.block.0 c.args.deep) c.args.objects.now.list) in
+    let items = flat_map (item_encoding c.args.deep) (filter (is_listed c.args.objects.now.list c.args.block.now.ono.0 c.args.deep) c.args.objects.now.list) in
     let count = unsigned_encoding w16 c.in_ok-count.count in
     let start = c.len-start.result in
     let put = c.in_ok-count.ensures.puts ∙ ap (λ ys. ys ++ items) c.in_ok-put_u16.ensures.puts in

@@ -24,4 +24,5 @@ returns-clause-makes c =
       no_fault c.args.objects.now.room c.args.objects.now.list c.args.container.0 c.args.ono.0 c.args.spec.now room number free block shallow full names short range,
       first_object c.args.container.0 c.args.ono.0 c.args.spec.now c.in-Some-new.role c.default.result c.in-Some-value_of.value c.in-Some-new.ensures.value c.default.ensures c.in-Some-value_of.ensures.0,
       added_tree c.args.objects.now.list o few number free block shallow sound c.requires.tree,
+      c.in-Some-value_of.ensures.2,
     )

@@ -24,7 +24,7 @@ loop-at-preserved c =
       size = length-set_value c.loop-at.map.entries c.loop-at.at c.release.new.self ∙ c.loop-at.invariant.size;
       long = length-set_value c.loop-at.map.entries c.loop-at.at c.release.new.self ∙ c.loop-at.invariant.long;
       released = release_step c.loop-at.map.entries (values c.args.map.now) c.loop-at.at c.index_mut.result.now c.release.new.self c.args.peer c.index_mut.ensures.value c.release.ensures.object within c.loop-at.invariant.released;
-      count = lock_written_get c.loop-at.map.entries c.loop-at.at c.index_mut.result.now c.index_mut.ensures.value c.release.new.self c.loop-at.locks c.release.new.locks c.loop-at.invariant.count c.release.ensures.count;
+      count = lock_written_get c.loop-at.map.entries c.loop-at.at c.index_mut.result.now c.index_mut.ensures.value c.release.new.self c.loop-at.marks.locks c.release.new.marks.locks c.loop-at.invariant.count c.release.ensures.count;
     }
 
 pub returns-clause-objects : goal.returns-clause-objects

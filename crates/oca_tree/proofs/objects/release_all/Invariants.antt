@@ -12,5 +12,5 @@ invariant-loop-at l = record {
   free : spare l.map ≡ spare l.fn.map;
   size : index_map_len l.map ≡ index_map_len l.fn.map;
   released : values l.map ≡ map (without_lock_of l.peer) (take l.at (values l.fn.map)) ++ drop l.at (values l.fn.map);
-  count : l.locks ≡ lock_count (values l.map);
+  count : l.marks.locks ≡ lock_count (values l.map);
 }

@@ -1,28 +1,28 @@
-use Rattle.std.proofs.Common.{length, option_copied, sym, ap, ◌∙◌, refl, Some}
-use Rattle.oca_session.specs.declared.cell.Cell.{Cell}
-use Rattle.oca_session.specs.PrivateCells.{is_handle, judge_cell}
-use Rattle.oca_session.proofs.Rings.{found_there, found_nowhere, next_within, some_there}
+use Rattle.std.proofs.Common.{length, ◌<◌, arith, sym, ap, refl}
+use Rattle.std.specs.Prelude.{option_map}
+use Rattle.std.proofs.lemmas.Option.{slice_get_read}
+use Rattle.oca_session.specs.declared.window.Held.{Held}
+use Rattle.oca_session.specs.Accepted.{Entry, duplicate_or_reused}
+use Rattle.oca_session.proofs.HeldCells.{found_holds, under_none, under_some}
 use Rattle.oca_session.proofs.window.ReplyWindow.find.Goals as goal
 
-pub returns-in_err-at : goal.returns-in_err-at
-returns-in_err-at c =
+pub returns-in_err-held : goal.returns-in_err-held
+returns-in_err-held c =
     let a = c.self.inside in
-    let none = found_nowhere a.next a.handles.items a.cells.items c.self.invariant.0 c.args.handle.0 c.in_err-at.ensures in
+    let none = under_none c.args.handle.0 a.held.items a.cells.items c.self.invariant.0.1 (sym c.in_err-held.ensures) in
     rw (← c.self.view_is, c.from_residual.ensures, none) (λ q. refl)
 
-pub returns-2 : goal.returns-2
-returns-2 c =
+pub index-requires : goal.index-requires
+index-requires c =
     let a = c.self.inside in
-    let is = c.in_ok-at.ensures in
-    let small = next_within a.next (length a.handles.items) a.handles.capacity c.self.invariant.2 c.self.invariant.4 in
-    rw (← c.self.view_is) (λ q. found_there a.next a.handles.items a.cells.items c.self.invariant.0 c.args.handle.0 c.in_ok-at.at c.args.handle c.index-2.result.now small c.self.invariant.6 is.0 (is.1 c.args.handle) q
-    ∙ ap (λ (r : Cell). Some (judge_cell r q)) (sym c.index-2.ensures))
+    let within = found_holds c.args.handle.0 (λ (g : Held). g.cell < length a.cells.items) a.held.items c.in_ok-held.held (sym c.in_ok-held.ensures) c.self.invariant.0.1 in
+    omega (arith, within)
 
 pub returns : goal.returns
 returns c =
     let a = c.self.inside in
-    let there = some_there a.handles.items c.saturating_sub-before.result c.in-Some.found.now (sym c.get.ensures ∙ ap option_copied c.in-Some.is) in
-    let here = ap (is_handle c.args.handle.0) there.1 ∙ sym c.if-eq.ensures in
-    let small = next_within a.next (length a.handles.items) a.handles.capacity c.self.invariant.2 c.self.invariant.4 in
-    rw (← c.self.view_is) (λ q. found_there a.next a.handles.items a.cells.items c.self.invariant.0 c.args.handle.0 c.saturating_sub-before.result c.in-Some.found.now c.index.result.now small c.self.invariant.6 there.0 here q
-    ∙ ap (λ (r : Cell). Some (judge_cell r q)) (sym c.index.ensures))
+    let found = sym c.in_ok-held.ensures in
+    let within = found_holds c.args.handle.0 (λ (g : Held). g.cell < length a.cells.items) a.held.items c.in_ok-held.held found c.self.invariant.0.1 in
+    let there = slice_get_read a.cells.items (length a.cells.items) c.in_ok-held.held.cell c.index.result.now refl within c.index.ensures in
+    let is = under_some c.args.handle.0 a.held.items a.cells.items c.in_ok-held.held c.index.result.now c.self.invariant.0.1 found there in
+    rw (← c.self.view_is) (λ q. ap (option_map (λ (e : Entry). duplicate_or_reused e q)) is)

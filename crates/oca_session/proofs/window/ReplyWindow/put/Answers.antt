@@ -1,133 +1,93 @@
-use Rattle.std.proofs.Common.{◌≡◌, ◌⊎◌, inl, inr, ◌+◌, ◌≤◌, ◌<◌, ◌∷◌, [], ◌++◌, length, length-append, slice_set, sym, ap, ◌∙◌, arith, refl}
-use Rattle.std.proofs.lemmas.List.{length-set}
-use Rattle.std.specs.Prelude.{All, false, max}
+use Rattle.std.proofs.Common.{◌≡◌, ◌+◌, ◌≤◌, ◌<◌, ◌∷◌, [], ◌++◌, List, length, length-append, sym, subst, ap, ◌∙◌, arith, refl}
+use Rattle.std.specs.Prelude.{All, false}
 use Rattle.circular_buffer.specs.Buffer.{buffer}
 use Rattle.oca_types.specs.declared.words.Command.{Command}
 use Rattle.oca_types.specs.Peers.{fields_of}
+use Rattle.oca_session.specs.declared.window.Held.{Held}
 use Rattle.oca_session.specs.declared.window.ReplyWindow.TheInside.{Inside}
 use Rattle.oca_session.specs.Accepted.{Retained, Fresh, entry_under}
-use Rattle.oca_session.specs.PrivateCells.{is_handle, entries_of, floor_before, turned}
+use Rattle.oca_session.specs.PrivateCells.{AreHeld, entry_in, entries_of, floor_before, held_in, is_under}
 use Rattle.oca_session.specs.Judging.{retained_after, judgement_by_window}
-use Rattle.oca_session.proofs.Rings.{distinct_more, distinct_next, not_retained, fresh_not_retained, kept_more, kept_full, below_more, below_raised, none_there, some_there, all_taken, keep_all}
+use Rattle.oca_session.proofs.HeldCells.{Within, cell_is, first_out, fresh_not_retained, held_full, held_more, kept_full, kept_more, not_retained}
 use Rattle.oca_session.proofs.window.ReplyWindow.put.Goals as goal
-use Rattle.oca_session.proofs.window.ReplyWindow.put.Goals.{then-at-capacity, else-at-capacity}
 
--- no handle of the window is that of the fresh command
-none : (a : Inside) (k : Retained) → record { size = a.handles.capacity; entries = entries_of a.handles.items a.next a.cells.items; floor = floor_before a.floor_end } ≡ k → (q : Command)
-    → length a.cells.items ≡ length a.handles.items → judgement_by_window k (fields_of q) ≡ Fresh → All (λ x. is_handle q.handle.0 x ≡ false) (turned a.next a.handles.items)
-none a k is q same fresh =
-    not_retained a.next a.handles.items a.cells.items same q.handle.0
+-- nothing is held under the handle of the fresh command
+none : (a : Inside) (k : Retained) → record { size = a.held.capacity; entries = entries_of a.held.items a.cells.items; floor = floor_before a.floor_end } ≡ k → (q : Command)
+    → Within a.cells.items a.held.items → judgement_by_window k (fields_of q) ≡ Fresh → All (λ g. is_under q.handle.0 g ≡ false) a.held.items
+none a k is q within fresh =
+    not_retained q.handle.0 a.held.items a.cells.items within
     (ap (λ (r : Retained). entry_under q.handle.0 r.entries) is ∙ fresh_not_retained k (fields_of q) fresh)
 
 pub invariant_of-self : goal.invariant_of-self
 invariant_of-self c =
     let a = c.self.inside in
-    let hs = a.handles.items in
+    let hs = a.held.items in
     let x = c.args.command.now.handle in
-    let n = c.if-at-capacity.self in
-    let past = none_there hs a.next (sym c.in_default.ensures.taken) in
-    let room : length hs < a.handles.capacity = omega (arith, past, c.self.invariant.2) in
-    let all = c.self.invariant.4 room in
-    let pushed = (rw c.in_default.ensures.none at c.push_back.ensures.items) ∙ ap (λ ys. buffer ys a.handles.capacity) (keep_all hs x a.handles.capacity room) in
-    let long : length (hs ++ x ∷ []) ≡ length hs + 1 = length-append hs (x ∷ []) in
-    let more : length c.push_cell.new.cells.items ≡ length a.cells.items + 1 = rw (c.push_cell.ensures.items.added, length-append) refl in
-    let le : a.above ≤ c.max-self-inside.result = omega arith in
-    let lt : x.0 < c.max-self-inside.result = omega arith in
-    let next : (n ≡ 0) ⊎ (n ≡ length hs + 1) =
-    elim c.if-at-capacity.branch [
-      | then-at-capacity w ↦ inl w.self-is
-      | else-at-capacity w ↦ inr (omega (arith, w.self-is, all))
-    ] in
-    let within : n < a.handles.capacity =
-    elim c.if-at-capacity.branch [
-      | then-at-capacity w ↦ omega (arith, w.self-is, c.self.invariant.2)
-      | else-at-capacity w ↦ omega (arith, w.self-is, w.if-at-capacity.false, c.capacity.ensures.capacity, c.self.invariant.2)
-    ] in
-    let behind : length hs + 1 < a.handles.capacity → n ≡ length hs + 1 = λ few.
-    elim c.if-at-capacity.branch [
-      | then-at-capacity w ↦ absurd (omega (arith, few, all, w.if-at-capacity.true, c.capacity.ensures.capacity))
-      | else-at-capacity w ↦ omega (arith, w.self-is, all)
-    ] in
-    rw pushed (
-      omega (arith, more, long, c.self.invariant.0),
-      omega (arith, long, room),
-      within,
-      omega (arith, c.self.invariant.3, c.push_cell.ensures.capacity),
-      λ few. behind (omega (arith, few, long)) ∙ sym long,
-      below_more a.above c.max-self-inside.result a.next n hs a.floor_end x c.self.invariant.5 le lt all next,
-      distinct_more a.next n hs x c.self.invariant.6 (none c.self.inside c.args.self.now c.self.view_is c.args.command.now c.self.invariant.0 c.requires.fresh) all next,
+    let n = held_in x (length hs) in
+    let le : a.above ≤ c.raise.new.end = omega (arith, c.raise.ensures) in
+    let lt : x.0 < c.raise.new.end = omega (arith, c.raise.ensures) in
+    let long : length (hs ++ n ∷ []) ≡ length hs + 1 = length-append hs (n ∷ []) in
+    let fresh = none c.self.inside c.args.self.now c.self.view_is c.args.command.now c.self.invariant.0.1 c.requires.fresh in
+    rw (c.add.ensures.held, c.add.ensures.items.added) (
+      held_more hs a.cells.items a.above c.raise.new.end n c.add.ensures.items.cell c.self.invariant.0 fresh le lt refl,
+      omega (arith, c.self.invariant.1, le),
+      omega (arith, long, c.in_default.ensures),
+      c.self.invariant.3,
+      c.self.invariant.4,
+      omega (arith, c.self.invariant.5, c.add.ensures.capacity),
     )
 
 pub returns-in_default : goal.returns-in_default
 returns-in_default c =
     let a = c.self.inside in
-    let hs = a.handles.items in
-    let x = c.args.command.now.handle in
-    let n = c.if-at-capacity.self in
-    let past = none_there hs a.next (sym c.in_default.ensures.taken) in
-    let room : length hs < a.handles.capacity = omega (arith, past, c.self.invariant.2) in
-    let all = c.self.invariant.4 room in
-    let pushed = (rw c.in_default.ensures.none at c.push_back.ensures.items) ∙ ap (λ ys. buffer ys a.handles.capacity) (keep_all hs x a.handles.capacity room) in
-    let next : (n ≡ 0) ⊎ (n ≡ length hs + 1) =
-    elim c.if-at-capacity.branch [
-      | then-at-capacity w ↦ inl w.self-is
-      | else-at-capacity w ↦ inr (omega (arith, w.self-is, all))
-    ] in
-    rw (← c.self.view_is, pushed, c.push_cell.ensures.items.added)
-    (kept_more hs a.next n a.cells.items c.self.invariant.0 a.handles.capacity (floor_before a.floor_end) x c.push_cell.ensures.items.cell room all next ∙ ap (retained_after _) c.push_cell.ensures.items.holds)
-
-pub index_mut-requires : goal.index_mut-requires
-index_mut-requires c =
-    let there = some_there c.self.inside.handles.items c.self.inside.next c.in-Some.pushed_out (sym c.in-Some.ensures.taken) in
-    omega (arith, there.0, c.self.invariant.0)
+    let hs = a.held.items in
+    let n = held_in c.args.command.now.handle (length hs) in
+    rw (← c.self.view_is, c.add.ensures.held, c.add.ensures.items.added)
+    (kept_more hs a.cells.items a.above a.held.capacity (floor_before a.floor_end) n c.add.ensures.items.cell c.self.invariant.0 c.in_default.ensures refl
+    ∙ ap (retained_after _) c.add.ensures.items.holds)
 
 pub invariant_of-self-2 : goal.invariant_of-self-2
 invariant_of-self-2 c =
     let a = c.self.inside in
-    let hs = a.handles.items in
+    let hs = a.held.items in
+    let cs = a.cells.items in
     let x = c.args.command.now.handle in
-    let y = c.in-Some.pushed_out in
-    let n = c.if-at-capacity.self in
-    let there = some_there hs a.next y (sym c.in-Some.ensures.taken) in
-    let full = all_taken a.next (length hs) a.handles.capacity there.0 c.self.invariant.1 c.self.invariant.4 in
-    let long : length (slice_set hs a.next x) ≡ length hs = length-set hs a.next x in
-    let le : a.above ≤ c.max-self-inside.result = omega arith in
-    let lt : x.0 < c.max-self-inside.result = omega arith in
-    let next : ((a.next + 1 ≡ length hs) × (n ≡ 0)) ⊎ (n ≡ a.next + 1) =
-    elim c.if-at-capacity.branch [
-      | then-at-capacity w ↦ inl (omega (arith, w.if-at-capacity.true, c.capacity.ensures.capacity, full), w.self-is)
-      | else-at-capacity w ↦ inr w.self-is
-    ] in
-    let within : n < a.handles.capacity =
-    elim c.if-at-capacity.branch [
-      | then-at-capacity w ↦ omega (arith, w.self-is, c.self.invariant.2)
-      | else-at-capacity w ↦ omega (arith, w.self-is, w.if-at-capacity.false, c.capacity.ensures.capacity, c.self.invariant.2)
-    ] in
-    let raised : c.max-self-inside-2.result ≡ max a.floor_end (y.0 + 1) = omega arith in
-    rw (c.in-Some.ensures.put, raised) (
-      length-set a.cells.items a.next c.set.new.self ∙ c.self.invariant.0 ∙ sym long,
-      omega (arith, long, c.self.invariant.1),
-      within,
+    let o = c.in-Some-push_back.oldest in
+    let n = held_in x c.in-Some.cell in
+    let out = first_out hs n o a.held.capacity c.self.invariant.3 c.self.invariant.2 (sym c.in-Some-push_back.ensures.value) in
+    let rest = out.0 in
+    let pushed = c.in-Some-push_back.ensures.items ∙ ap (λ (ys : List Held). buffer ys a.held.capacity) out.3 in
+    let held = subst (λ (ys : List Held). AreHeld ys cs a.above) out.1 c.self.invariant.0 in
+    let fresh = subst (λ (ys : List Held). All (λ g. is_under x.0 g ≡ false) ys) out.1
+    (none c.self.inside c.args.self.now c.self.view_is c.args.command.now c.self.invariant.0.1 c.requires.fresh) in
+    let le : a.above ≤ c.raise.new.end = omega (arith, c.raise.ensures) in
+    let lt : x.0 < c.raise.new.end = omega (arith, c.raise.ensures) in
+    let low : o.handle.0 < a.above = held.3 0 o (omega arith) in
+    let long : length (rest ++ n ∷ []) ≡ length rest + 1 = length-append rest (n ∷ []) in
+    let one_more : length hs ≡ length rest + 1 = ap (λ (ys : List Held). length ys) out.1 ∙ omega arith in
+    rw pushed (
+      held_full o rest cs a.above c.raise.new.end n c.set.new.self held fresh le lt (cell_is hs rest o a.held.capacity c.in-Some.cell c.in-Some.ensures out.1),
+      omega (arith, c.self.invariant.1, le, low, c.raise-2.ensures),
+      omega (arith, long, one_more, c.self.invariant.2),
       c.self.invariant.3,
-      λ few. absurd (omega (arith, few, long, full)),
-      below_raised a.above c.max-self-inside.result a.next n hs a.floor_end x y c.self.invariant.5 le lt there.0 next there.1,
-      distinct_next a.next n hs x c.self.invariant.6 (none c.self.inside c.args.self.now c.self.view_is c.args.command.now c.self.invariant.0 c.requires.fresh) there.0 next,
+      c.self.invariant.4,
+      c.self.invariant.5,
     )
 
 pub returns : goal.returns
 returns c =
     let a = c.self.inside in
-    let hs = a.handles.items in
-    let x = c.args.command.now.handle in
-    let y = c.in-Some.pushed_out in
-    let n = c.if-at-capacity.self in
-    let there = some_there hs a.next y (sym c.in-Some.ensures.taken) in
-    let full = all_taken a.next (length hs) a.handles.capacity there.0 c.self.invariant.1 c.self.invariant.4 in
-    let next : ((a.next + 1 ≡ length hs) × (n ≡ 0)) ⊎ (n ≡ a.next + 1) =
-    elim c.if-at-capacity.branch [
-      | then-at-capacity w ↦ inl (omega (arith, w.if-at-capacity.true, c.capacity.ensures.capacity, full), w.self-is)
-      | else-at-capacity w ↦ inr w.self-is
-    ] in
-    let raised : c.max-self-inside-2.result ≡ max a.floor_end (y.0 + 1) = omega arith in
-    rw (← c.self.view_is, c.in-Some.ensures.put, raised)
-    (kept_full hs a.next n a.cells.items c.self.invariant.0 a.handles.capacity a.floor_end x y c.set.new.self full there.0 next there.1 ∙ ap (retained_after _) c.set.ensures)
+    let hs = a.held.items in
+    let cs = a.cells.items in
+    let o = c.in-Some-push_back.oldest in
+    let n = held_in c.args.command.now.handle c.in-Some.cell in
+    let out = first_out hs n o a.held.capacity c.self.invariant.3 c.self.invariant.2 (sym c.in-Some-push_back.ensures.value) in
+    let rest = out.0 in
+    let pushed = c.in-Some-push_back.ensures.items ∙ ap (λ (ys : List Held). buffer ys a.held.capacity) out.3 in
+    let held = subst (λ (ys : List Held). AreHeld ys cs a.above) out.1 c.self.invariant.0 in
+    let full = sym (ap (λ (ys : List Held). length ys) out.1) ∙ out.2 in
+    let at = cell_is hs rest o a.held.capacity c.in-Some.cell c.in-Some.ensures out.1 in
+    rw (← c.self.view_is, pushed, c.raise-2.ensures)
+    (kept_full o rest cs a.above a.held.capacity a.floor_end n c.set.new.self held full at
+    ∙ ap (λ (ys : List Held). retained_after (record { size = a.held.capacity; entries = entries_of ys cs; floor = floor_before a.floor_end }) (entry_in n.handle c.set.new.self)) (sym out.1)
+    ∙ ap (retained_after _) c.set.ensures)

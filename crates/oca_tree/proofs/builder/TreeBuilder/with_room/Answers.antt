@@ -1,13 +1,6 @@
-use Rattle.std.proofs.Common.{◌≡◌, ◌≤◌, ◌∙◌, [], ap, refl, arith}
-use Rattle.oca_tree.specs.Objects.{Store}
 use Rattle.oca_tree.specs.Trees.{IsSoundValue}
-use Rattle.oca_tree.proofs.Adding.{alone_tree}
 use Rattle.oca_tree.proofs.builder.TreeBuilder.with_room.Goals as goal
 
-pub invariant_of-result : goal.invariant_of-result
+pub holding-requires-clause-sound : goal.holding-requires-clause-sound
 unfolding IsSoundValue
-invariant_of-result c =
-    let none = ap (λ (h : Store). h.list) c.in-Ok.ensures in
-    let more = ap (λ (h : Store). h.list) c.push.ensures in
-    let room = ap (λ (h : Store). h.room) c.push.ensures ∙ ap (λ (h : Store). h.room) c.in-Ok.ensures in
-    (alone_tree c.in-Ok.objects.list c.push.new.self.list _ none more refl (record { value = tt; lock = tt }), omega (arith, room, c.get.ensures.most))
+holding-requires-clause-sound c = rw c.root_object.ensures (record { value = tt; lock = tt })

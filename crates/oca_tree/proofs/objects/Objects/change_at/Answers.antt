@@ -40,5 +40,5 @@ returns-clause-objects c = λ d. rw (← c.self.view_is)
 
 pub returns-clause-count : goal.returns-clause-count
 returns-clause-count c =
-    lock_written_get c.self.inside.map.entries c.args.at c.index_mut.result.now c.index_mut.ensures.value c.change.new.object c.args.locks.now c.change.new.locks
+    lock_written_get c.self.inside.map.entries c.args.at c.index_mut.result.now c.index_mut.ensures.value c.change.new.object c.args.marks.now.locks c.change.new.marks.locks
     (c.requires.count ∙ ap (λ (h : Store). lock_count h.list) (sym c.self.view_is)) c.change.ensures.count

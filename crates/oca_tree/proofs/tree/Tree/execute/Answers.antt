@@ -1,4 +1,4 @@
-use Rattle.std.proofs.Common.{◌≡◌, Bool, ap, ◌∙◌, sym}
+use Rattle.std.proofs.Common.{Bool, ap, ◌∙◌, sym}
 use Rattle.std.specs.Prelude.{◌&&◌}
 use Rattle.oca_types.specs.Peers.{fields_of}
 use Rattle.oca_tree.specs.declared.tree.Done.{Done}

@@ -1,0 +1,38 @@
+-- What a call makes of what is behind a handle holds of the handle.
+use Rattle.std.proofs.Common.{◌≡◌, ℕ, ◌≤◌, Bool, List, length, map, Option, Some, inl, inr, refl}
+use Rattle.std.specs.List.{AllByRecursion}
+use Rattle.oca_tree.specs.declared.builder.Kind.{Kind}
+use Rattle.oca_tree.specs.Objects.{Store}
+use Rattle.oca_c.specs.declared.answer.Answer.{Answer}
+use Rattle.oca_c.specs.declared.device.DeviceBehind.{DeviceBehind}
+use Rattle.oca_c.specs.declared.name.Name.{Name}
+use Rattle.oca_c.specs.Numbers.{answer_number}
+use Rattle.oca_c.specs.Calls.{AddedBy, Builds, HandleBuilds, HandleStarts, IsName, IsSwitch, Starts, SwitchAddedBy, name_bytes}
+
+-- an addition
+pub adds_behind : (old new : Option DeviceBehind) (u u' : DeviceBehind) (number : ℕ) (answer : Answer) (By : Answer → Store → Store → Type 0)
+    → old ≡ Some u → new ≡ Some u' → number ≡ answer_number answer
+    → ((B : Store) → Builds u B → (B' : Store) × Builds u' B' × By answer B B')
+    → (B : Store) → HandleBuilds old B → (B' : Store) × HandleBuilds new B' × (a : Answer) × (number ≡ answer_number a) × By a B B'
+adds_behind old new u u' number answer By o n e k B h =
+    let r = k B (rw o at h) in (r.0, rw n r.1, answer, e, r.2)
+
+-- a start
+pub starts_behind : (old new : Option DeviceBehind) (u u' : DeviceBehind) (number : ℕ) (answer : Answer) (window peers : ℕ)
+    → old ≡ Some u → new ≡ Some u' → number ≡ answer_number answer
+    → ((B : Store) → Builds u B → Starts answer u u' window peers B.list)
+    → (B : Store) → HandleBuilds old B → HandleStarts number old new window peers B.list
+starts_behind old new u u' number answer window peers o n e k B h = rw (o, n, e) (told (k B (rw o at h)))
+  where
+    told : Starts answer u u' window peers B.list → HandleStarts (answer_number answer) (Some u) (Some u') window peers B.list
+    told (inl (is, w, p, runs)) = inl (rw is refl, w, p, runs)
+    told (inr (inl (is, w, p))) = inr (inl (rw is refl, w, p))
+    told (inr (inr (is, bad, same))) = inr (inr (rw is refl, bad, rw same refl))
+
+-- an addition of a switch, once its names were read
+pub added_switch : (u : DeviceBehind) (answer : Answer) (B : Store) (container ono : ℕ) (role : List ℕ) (lockable : Bool) (names : List Name) (position : ℕ) (kind : Kind)
+    → length names ≤ 16 → AllByRecursion IsName names → IsSwitch kind (map name_bytes names) position
+    → (B' : Store) × Builds u B' × AddedBy answer B B' container ono role lockable kind
+    → (B' : Store) × Builds u B' × SwitchAddedBy answer B B' container ono role lockable names position
+added_switch u answer B container ono role lockable names position kind few all is r =
+    (r.0, r.1, inr (inr (few, all, kind, is, r.2)))

@@ -1,0 +1,375 @@
+//! What C calls to add the objects of a device.
+ghost use Rattle.oca_tree.specs.declared.builder.Kind.TheVariants as kinds;
+ghost use Rattle.oca_tree.specs.Objects.{Store};
+ghost use Rattle.oca_c.specs.Calls.{HandleAdds, HandleAddsSwitch, HandleBuilds, RefusesClosed, RefusesRunning, mute_state, polarity_state};
+
+use crate::answer::Answer;
+use crate::device_handle::DeviceHandle;
+use crate::name::Name;
+use oca_tree::{Kind, MuteState, PolarityState};
+use std::alloc::Global;
+
+/// Adds an object.
+fn add(
+    alloc: Global,
+    handle: &mut DeviceHandle,
+    container: u32,
+    ono: u32,
+    role: &[u8],
+    lockable: bool,
+    kind: Kind<'_>,
+) -> u32
+    ensures closed { RefusesClosed handle.old.slot.inner handle.new.slot.inner result }
+    ensures started { RefusesRunning handle.old.slot.inner handle.new.slot.inner result }
+    ensures adds { (B : Store) → HandleBuilds handle.old.slot.inner B →
+        HandleAdds result handle.new.slot.inner B container ono role.now lockable kind.entry }
+{
+    let Some(mut behind) = handle.take(alloc) else {
+        return Answer::Closed.number();
+    };
+    let answer = behind.add(container, ono, role, lockable, kind);
+    handle.put(behind);
+    answer.number()
+}
+
+/// Adds an OcaBlock.
+#[unsafe(no_mangle)]
+pub extern "C" fn oca_device_add_block(
+    alloc: Global,
+    handle: &mut DeviceHandle,
+    container: u32,
+    ono: u32,
+    role: &[u8],
+    lockable: bool,
+) -> u32
+    ensures closed { RefusesClosed handle.old.slot.inner handle.new.slot.inner result }
+    ensures started { RefusesRunning handle.old.slot.inner handle.new.slot.inner result }
+    ensures adds { (B : Store) → HandleBuilds handle.old.slot.inner B →
+        HandleAdds result handle.new.slot.inner B container ono role.now lockable kinds.Block }
+{
+    add(alloc, handle, container, ono, role, lockable, Kind::Block)
+}
+
+/// Adds an OcaMute.
+#[unsafe(no_mangle)]
+pub extern "C" fn oca_device_add_mute(
+    alloc: Global,
+    handle: &mut DeviceHandle,
+    container: u32,
+    ono: u32,
+    role: &[u8],
+    lockable: bool,
+    muted: bool,
+) -> u32
+    ensures closed { RefusesClosed handle.old.slot.inner handle.new.slot.inner result }
+    ensures started { RefusesRunning handle.old.slot.inner handle.new.slot.inner result }
+    ensures adds { (B : Store) → HandleBuilds handle.old.slot.inner B →
+        HandleAdds result handle.new.slot.inner B container ono role.now lockable (kinds.Mute (mute_state muted)) }
+{
+    let state = if muted {
+        MuteState::Muted
+    } else {
+        MuteState::Unmuted
+    };
+    add(
+        alloc,
+        handle,
+        container,
+        ono,
+        role,
+        lockable,
+        Kind::Mute(state),
+    )
+}
+
+/// Adds an OcaPolarity.
+#[unsafe(no_mangle)]
+pub extern "C" fn oca_device_add_polarity(
+    alloc: Global,
+    handle: &mut DeviceHandle,
+    container: u32,
+    ono: u32,
+    role: &[u8],
+    lockable: bool,
+    inverted: bool,
+) -> u32
+    ensures closed { RefusesClosed handle.old.slot.inner handle.new.slot.inner result }
+    ensures started { RefusesRunning handle.old.slot.inner handle.new.slot.inner result }
+    ensures adds { (B : Store) → HandleBuilds handle.old.slot.inner B →
+        HandleAdds result handle.new.slot.inner B container ono role.now lockable (kinds.Polarity (polarity_state inverted)) }
+{
+    let state = if inverted {
+        PolarityState::Inverted
+    } else {
+        PolarityState::NonInverted
+    };
+    add(
+        alloc,
+        handle,
+        container,
+        ono,
+        role,
+        lockable,
+        Kind::Polarity(state),
+    )
+}
+
+/// Adds an OcaSwitch with these names of its positions, all of them enabled.
+#[unsafe(no_mangle)]
+pub extern "C" fn oca_device_add_switch(
+    alloc: Global,
+    handle: &mut DeviceHandle,
+    container: u32,
+    ono: u32,
+    role: &[u8],
+    lockable: bool,
+    names: &[Name],
+    position: u16,
+) -> u32
+    ensures closed { RefusesClosed handle.old.slot.inner handle.new.slot.inner result }
+    ensures started { RefusesRunning handle.old.slot.inner handle.new.slot.inner result }
+    ensures adds { (B : Store) → HandleBuilds handle.old.slot.inner B →
+        HandleAddsSwitch result handle.new.slot.inner B container ono role.now lockable names.now position }
+{
+    let Some(mut behind) = handle.take(alloc) else {
+        return Answer::Closed.number();
+    };
+    let answer = behind.add_switch(container, ono, role, lockable, names, position);
+    handle.put(behind);
+    answer.number()
+}
+
+/// Adds an OcaBooleanActuator.
+#[unsafe(no_mangle)]
+pub extern "C" fn oca_device_add_boolean(
+    alloc: Global,
+    handle: &mut DeviceHandle,
+    container: u32,
+    ono: u32,
+    role: &[u8],
+    lockable: bool,
+    setting: bool,
+) -> u32
+    ensures closed { RefusesClosed handle.old.slot.inner handle.new.slot.inner result }
+    ensures started { RefusesRunning handle.old.slot.inner handle.new.slot.inner result }
+    ensures adds { (B : Store) → HandleBuilds handle.old.slot.inner B →
+        HandleAdds result handle.new.slot.inner B container ono role.now lockable (kinds.Boolean setting) }
+{
+    add(
+        alloc,
+        handle,
+        container,
+        ono,
+        role,
+        lockable,
+        Kind::Boolean(setting),
+    )
+}
+
+/// Adds an OcaInt8Actuator.
+#[unsafe(no_mangle)]
+pub extern "C" fn oca_device_add_int8(
+    alloc: Global,
+    handle: &mut DeviceHandle,
+    container: u32,
+    ono: u32,
+    role: &[u8],
+    lockable: bool,
+    setting: i8,
+    least: i8,
+    greatest: i8,
+) -> u32
+    ensures closed { RefusesClosed handle.old.slot.inner handle.new.slot.inner result }
+    ensures started { RefusesRunning handle.old.slot.inner handle.new.slot.inner result }
+    ensures adds { (B : Store) → HandleBuilds handle.old.slot.inner B →
+        HandleAdds result handle.new.slot.inner B container ono role.now lockable (kinds.Int8 setting least greatest) }
+{
+    let kind = Kind::Int8 {
+        setting,
+        least,
+        greatest,
+    };
+    add(alloc, handle, container, ono, role, lockable, kind)
+}
+
+/// Adds an OcaInt16Actuator.
+#[unsafe(no_mangle)]
+pub extern "C" fn oca_device_add_int16(
+    alloc: Global,
+    handle: &mut DeviceHandle,
+    container: u32,
+    ono: u32,
+    role: &[u8],
+    lockable: bool,
+    setting: i16,
+    least: i16,
+    greatest: i16,
+) -> u32
+    ensures closed { RefusesClosed handle.old.slot.inner handle.new.slot.inner result }
+    ensures started { RefusesRunning handle.old.slot.inner handle.new.slot.inner result }
+    ensures adds { (B : Store) → HandleBuilds handle.old.slot.inner B →
+        HandleAdds result handle.new.slot.inner B container ono role.now lockable (kinds.Int16 setting least greatest) }
+{
+    let kind = Kind::Int16 {
+        setting,
+        least,
+        greatest,
+    };
+    add(alloc, handle, container, ono, role, lockable, kind)
+}
+
+/// Adds an OcaInt32Actuator.
+#[unsafe(no_mangle)]
+pub extern "C" fn oca_device_add_int32(
+    alloc: Global,
+    handle: &mut DeviceHandle,
+    container: u32,
+    ono: u32,
+    role: &[u8],
+    lockable: bool,
+    setting: i32,
+    least: i32,
+    greatest: i32,
+) -> u32
+    ensures closed { RefusesClosed handle.old.slot.inner handle.new.slot.inner result }
+    ensures started { RefusesRunning handle.old.slot.inner handle.new.slot.inner result }
+    ensures adds { (B : Store) → HandleBuilds handle.old.slot.inner B →
+        HandleAdds result handle.new.slot.inner B container ono role.now lockable (kinds.Int32 setting least greatest) }
+{
+    let kind = Kind::Int32 {
+        setting,
+        least,
+        greatest,
+    };
+    add(alloc, handle, container, ono, role, lockable, kind)
+}
+
+/// Adds an OcaInt64Actuator.
+#[unsafe(no_mangle)]
+pub extern "C" fn oca_device_add_int64(
+    alloc: Global,
+    handle: &mut DeviceHandle,
+    container: u32,
+    ono: u32,
+    role: &[u8],
+    lockable: bool,
+    setting: i64,
+    least: i64,
+    greatest: i64,
+) -> u32
+    ensures closed { RefusesClosed handle.old.slot.inner handle.new.slot.inner result }
+    ensures started { RefusesRunning handle.old.slot.inner handle.new.slot.inner result }
+    ensures adds { (B : Store) → HandleBuilds handle.old.slot.inner B →
+        HandleAdds result handle.new.slot.inner B container ono role.now lockable (kinds.Int64 setting least greatest) }
+{
+    let kind = Kind::Int64 {
+        setting,
+        least,
+        greatest,
+    };
+    add(alloc, handle, container, ono, role, lockable, kind)
+}
+
+/// Adds an OcaUint8Actuator.
+#[unsafe(no_mangle)]
+pub extern "C" fn oca_device_add_uint8(
+    alloc: Global,
+    handle: &mut DeviceHandle,
+    container: u32,
+    ono: u32,
+    role: &[u8],
+    lockable: bool,
+    setting: u8,
+    least: u8,
+    greatest: u8,
+) -> u32
+    ensures closed { RefusesClosed handle.old.slot.inner handle.new.slot.inner result }
+    ensures started { RefusesRunning handle.old.slot.inner handle.new.slot.inner result }
+    ensures adds { (B : Store) → HandleBuilds handle.old.slot.inner B →
+        HandleAdds result handle.new.slot.inner B container ono role.now lockable (kinds.Uint8 setting least greatest) }
+{
+    let kind = Kind::Uint8 {
+        setting,
+        least,
+        greatest,
+    };
+    add(alloc, handle, container, ono, role, lockable, kind)
+}
+
+/// Adds an OcaUint16Actuator.
+#[unsafe(no_mangle)]
+pub extern "C" fn oca_device_add_uint16(
+    alloc: Global,
+    handle: &mut DeviceHandle,
+    container: u32,
+    ono: u32,
+    role: &[u8],
+    lockable: bool,
+    setting: u16,
+    least: u16,
+    greatest: u16,
+) -> u32
+    ensures closed { RefusesClosed handle.old.slot.inner handle.new.slot.inner result }
+    ensures started { RefusesRunning handle.old.slot.inner handle.new.slot.inner result }
+    ensures adds { (B : Store) → HandleBuilds handle.old.slot.inner B →
+        HandleAdds result handle.new.slot.inner B container ono role.now lockable (kinds.Uint16 setting least greatest) }
+{
+    let kind = Kind::Uint16 {
+        setting,
+        least,
+        greatest,
+    };
+    add(alloc, handle, container, ono, role, lockable, kind)
+}
+
+/// Adds an OcaUint32Actuator.
+#[unsafe(no_mangle)]
+pub extern "C" fn oca_device_add_uint32(
+    alloc: Global,
+    handle: &mut DeviceHandle,
+    container: u32,
+    ono: u32,
+    role: &[u8],
+    lockable: bool,
+    setting: u32,
+    least: u32,
+    greatest: u32,
+) -> u32
+    ensures closed { RefusesClosed handle.old.slot.inner handle.new.slot.inner result }
+    ensures started { RefusesRunning handle.old.slot.inner handle.new.slot.inner result }
+    ensures adds { (B : Store) → HandleBuilds handle.old.slot.inner B →
+        HandleAdds result handle.new.slot.inner B container ono role.now lockable (kinds.Uint32 setting least greatest) }
+{
+    let kind = Kind::Uint32 {
+        setting,
+        least,
+        greatest,
+    };
+    add(alloc, handle, container, ono, role, lockable, kind)
+}
+
+/// Adds an OcaUint64Actuator.
+#[unsafe(no_mangle)]
+pub extern "C" fn oca_device_add_uint64(
+    alloc: Global,
+    handle: &mut DeviceHandle,
+    container: u32,
+    ono: u32,
+    role: &[u8],
+    lockable: bool,
+    setting: u64,
+    least: u64,
+    greatest: u64,
+) -> u32
+    ensures closed { RefusesClosed handle.old.slot.inner handle.new.slot.inner result }
+    ensures started { RefusesRunning handle.old.slot.inner handle.new.slot.inner result }
+    ensures adds { (B : Store) → HandleBuilds handle.old.slot.inner B →
+        HandleAdds result handle.new.slot.inner B container ono role.now lockable (kinds.Uint64 setting least greatest) }
+{
+    let kind = Kind::Uint64 {
+        setting,
+        least,
+        greatest,
+    };
+    add(alloc, handle, container, ono, role, lockable, kind)
+}

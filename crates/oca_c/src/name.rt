@@ -1,0 +1,42 @@
+//! The names of a switch's positions, as C hands them over.
+ghost use Rattle.std.specs.Prelude.{◌≡◌, ◌≤◌, length, map, IfNone, IfSome};
+ghost use Rattle.std.specs.List.{AllByRecursion};
+ghost use Rattle.oca_c.specs.Calls.{IsName, name_bytes};
+
+use arrayvec::ArrayVec;
+use std::str;
+
+/// How many positions a switch has at most.
+pub const MOST_POSITIONS: usize = 16;
+
+/// A name: how many bytes it has, at most 64, and they at the front of `text`.
+#[repr(C)]
+#[derive(Clone, Copy)]
+pub struct Name {
+    pub size: u8,
+    pub text: [u8; 64],
+}
+
+const _: () = prove!(std::mem::size_of::<Name>() == 65);
+
+/// The text of a name; nothing where it is longer than its room or no UTF-8.
+fn text_of(name: &Name) -> Option<&str>
+    ensures text { IfSome result (λ text. IsName name.now × (text.now ≡ name_bytes name.now)) }
+    ensures none { IfNone result (IsName name.now → ⊥) }
+{
+    let bytes = name.text.get(..usize::from(name.size))?;
+    str::from_utf8(bytes).ok()
+}
+
+/// The texts of these names; nothing where one is longer than its room or no UTF-8.
+pub fn texts_of(names: &[Name]) -> Option<ArrayVec<&str, MOST_POSITIONS>>
+    requires { length names.now ≤ 16 }
+    ensures texts { IfSome result (λ texts. AllByRecursion IsName names.now × (map (λ text. text.now) texts.items ≡ map name_bytes names.now)) }
+    ensures none { IfNone result (AllByRecursion IsName names.now → ⊥) }
+{
+    let mut texts = ArrayVec::new();
+    for name in names {
+        texts.push(text_of(name)?);
+    }
+    Some(texts)
+}

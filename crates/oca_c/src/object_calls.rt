@@ -1,0 +1,104 @@
+//! What C calls to read the objects of a device.
+ghost use Rattle.std.specs.Prelude.{◌≡◌, List, length};
+ghost use Rattle.oca_types.specs.Sizes.{DeviceSizes};
+ghost use Rattle.oca_tree.specs.declared.object.Object.{Object};
+ghost use Rattle.oca_tree.specs.Readers.{info_at, lock_at, setting_at};
+ghost use Rattle.oca_device.specs.States.{state_after};
+ghost use Rattle.oca_device.specs.Events.{Event};
+ghost use Rattle.oca_c.specs.Calls.{HandleRuns, RefusesBuilding, RefusesClosed};
+ghost use Rattle.oca_c.specs.Told.{TellsLock, TellsObject, TellsSetting};
+
+use crate::answer::Answer;
+use crate::device_handle::DeviceHandle;
+use crate::reading::Reading;
+use std::alloc::Global;
+
+/// Tells how many objects there are, the root counted.
+#[unsafe(no_mangle)]
+pub extern "C" fn oca_device_objects(
+    alloc: Global,
+    handle: &mut DeviceHandle,
+    count: &mut usize,
+) -> u32
+    ensures closed { RefusesClosed handle.old.slot.inner handle.new.slot.inner result }
+    ensures building { RefusesBuilding handle.old.slot.inner handle.new.slot.inner result }
+    ensures kept { handle.new.slot.inner ≡ handle.old.slot.inner }
+    ensures told { (w : DeviceSizes) (T : List Object) (E : List Event) → HandleRuns w handle.old.slot.inner T E →
+        (result ≡ 0) × (count.new ≡ length (state_after w T E).tree) }
+{
+    let Some(behind) = handle.take(alloc) else {
+        return Answer::Closed.number();
+    };
+    let answer = behind.objects(count);
+    handle.put(behind);
+    answer.number()
+}
+
+/// Tells what the object at an index is, in as many words as there is room for, and its role.
+#[unsafe(no_mangle)]
+pub extern "C" fn oca_device_object_words(
+    alloc: Global,
+    handle: &mut DeviceHandle,
+    index: usize,
+    told: &mut [u32],
+    role: &mut [u8],
+) -> u32
+    ensures closed { RefusesClosed handle.old.slot.inner handle.new.slot.inner result }
+    ensures building { RefusesBuilding handle.old.slot.inner handle.new.slot.inner result }
+    ensures kept { handle.new.slot.inner ≡ handle.old.slot.inner }
+    ensures told { (w : DeviceSizes) (T : List Object) (E : List Event) → HandleRuns w handle.old.slot.inner T E →
+        TellsObject (info_at (state_after w T E).tree index) told.old told.new role.old role.new result }
+{
+    let Some(behind) = handle.take(alloc) else {
+        return Answer::Closed.number();
+    };
+    let answer = behind.object(index, told, role);
+    handle.put(behind);
+    answer.number()
+}
+
+/// Tells of an object's lock what it keeps other peers from, and its holder.
+#[unsafe(no_mangle)]
+pub extern "C" fn oca_device_lock(
+    alloc: Global,
+    handle: &mut DeviceHandle,
+    ono: u32,
+    kind: &mut u32,
+    ip: &mut u32,
+    port: &mut u16,
+) -> u32
+    ensures closed { RefusesClosed handle.old.slot.inner handle.new.slot.inner result }
+    ensures building { RefusesBuilding handle.old.slot.inner handle.new.slot.inner result }
+    ensures kept { handle.new.slot.inner ≡ handle.old.slot.inner }
+    ensures told { (w : DeviceSizes) (T : List Object) (E : List Event) → HandleRuns w handle.old.slot.inner T E →
+        TellsLock (lock_at (state_after w T E).tree ono) kind.new ip.new port.new result }
+{
+    let Some(behind) = handle.take(alloc) else {
+        return Answer::Closed.number();
+    };
+    let answer = behind.lock(ono, kind, ip, port);
+    handle.put(behind);
+    answer.number()
+}
+
+/// Reads how an object is set.
+#[unsafe(no_mangle)]
+pub extern "C" fn oca_device_setting(
+    alloc: Global,
+    handle: &mut DeviceHandle,
+    ono: u32,
+    reading: &mut Reading,
+) -> u32
+    ensures closed { RefusesClosed handle.old.slot.inner handle.new.slot.inner result }
+    ensures building { RefusesBuilding handle.old.slot.inner handle.new.slot.inner result }
+    ensures kept { handle.new.slot.inner ≡ handle.old.slot.inner }
+    ensures told { (w : DeviceSizes) (T : List Object) (E : List Event) → HandleRuns w handle.old.slot.inner T E →
+        TellsSetting (setting_at (state_after w T E).tree ono) reading.new result }
+{
+    let Some(behind) = handle.take(alloc) else {
+        return Answer::Closed.number();
+    };
+    let answer = behind.reading(ono, reading);
+    handle.put(behind);
+    answer.number()
+}

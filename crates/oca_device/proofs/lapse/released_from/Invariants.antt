@@ -1,0 +1,8 @@
+use Rattle.std.proofs.Common.{take}
+use Rattle.oca_session.specs.Lapses.{HoldsFrom}
+use Rattle.oca_device.specs.PrivateLapses.{releases}
+use Rattle.oca_device.proofs.lapse.released_from.Given as goal
+
+-- of the objects so far
+abbrev pub invariant-loop-at : goal.invariant-loop-at
+invariant-loop-at l = HoldsFrom (releases (take l.at l.tree) l.sessions.sessions) l.first

@@ -1,0 +1,110 @@
+-- THE LAW OF GETTING THROUGH (profile), over every schedule: a link that is asked often enough gives each command out to
+-- the device until it has the command's answer or is lost; and one copy that arrives, and the one response that comes
+-- back, are enough.
+use Rattle.std.specs.Prelude.{◌≡◌, ◌⊎◌, ℕ, ◌+◌, ◌*◌, ◌==◌, ◌<◌, ◌≤◌, max, Bool, true, if◌then◌else◌, List, [], ◌∷◌, ◌++◌, length, Option, Some, None}
+use Rattle.std.specs.List.{slice_get, AllByRecursion, Contains}
+use Rattle.oca_types.specs.declared.words.Peer.{Peer}
+use Rattle.oca_types.specs.declared.words.Handle.{Handle}
+use Rattle.oca_types.specs.Peers.{CommandFields, same_peer}
+use Rattle.oca_types.specs.Sizes.{DeviceSizes}
+use Rattle.oca_pdu.specs.Messages.{Msg, Commands}
+use Rattle.oca_pdu.specs.Encoding.{pdu_encoding}
+use Rattle.oca_tree.specs.declared.object.Object.{Object}
+use Rattle.oca_control.specs.Untaken.{answer_under}
+use Rattle.oca_control.specs.Links.{LinkState, Request, command_under, submission, decision, due_answer, due_bytes, reception}
+use Rattle.oca_control.specs.Histories.{Call, Submits, GivesOut, Receives, TakesAnswer, clock, Sending, sendings}
+use Rattle.oca_control.specs.Answering.{IsAskedEvery, IsGivenOutInTime}
+use Rattle.oca_pair.specs.declared.outcome.Outcome.TheVariants as outcomes
+use Rattle.oca_pair.specs.declared.start.Start.{Start}
+use Rattle.oca_pair.specs.Networks.{Network, PeerLink, SentDatagram, device_address, opening}
+use Rattle.oca_pair.specs.Steps.{Step, Submit, Due, ToDevice, ToLink, Other, Tick, Local, Take, content_of, after_step, after_steps, outcome_of}
+use Rattle.oca_pair.specs.Premises.{are_apart, StepFits, Fit, KeepsItsSession, ComeFrom}
+use Rattle.oca_pair.specs.RoundTrip.{GotItsAnswer, asked, ComesBack}
+
+-- ---- THE CALLS OF A LINK in a schedule: what its steps make of the link of a number. As in a history the latest stands
+-- first.
+
+-- the call of the link, where there is one
+abbrev pub called : (LinkState → Call) → Option PeerLink → List Call
+called call (Some l) = call l.link ∷ []
+called call None = []
+
+-- the link receives a datagram that is for its peer
+abbrev pub received_from : ℕ → SentDatagram → PeerLink → List Call
+received_from now d l =
+    let content : Option (List Msg) = content_of d.bytes in
+    if same_peer l.peer d.peer
+    then Receives device_address d.bytes content now (reception device_address content l.link) ∷ []
+    else []
+
+abbrev pub receiving : ℕ → Option SentDatagram → Option PeerLink → List Call
+receiving now (Some d) (Some l) = received_from now d l
+receiving now (Some d) None = []
+receiving now None l = []
+
+-- the call that a step makes of it, or none
+abbrev pub call_in : ℕ → Step → Network → List Call
+call_in i (Submit link request now) n =
+    if link == i then called (λ l. Submits request now (submission request l)) (slice_get n.links i) else []
+call_in i (Due link now) n =
+    if link == i
+    then called (λ l. GivesOut now (due_answer (decision now l)) (due_bytes (decision now l))) (slice_get n.links i)
+    else []
+call_in i (ToLink k now) n = receiving now (slice_get n.to_links k) (slice_get n.links i)
+call_in i (Take link handle) n =
+    if link == i then called (λ l. TakesAnswer handle (answer_under handle l.untaken)) (slice_get n.links i) else []
+call_in i (ToDevice k now) n = []
+call_in i (Other from bytes now) n = []
+call_in i (Tick now) n = []
+call_in i (Local ono value) n = []
+
+abbrev pub calls_in : ℕ → List Step → Network → List Call
+calls_in i [] n = []
+calls_in i (step ∷ steps) n = calls_in i steps (after_step step n) ++ call_in i step n
+
+-- ---- what becomes of a command
+
+-- the link of this number is lost
+pub record IsLost (i : ℕ) (n : Network) : Type 0 where
+  pub link : PeerLink
+  pub there : slice_get n.links i ≡ Some link
+  pub lost : link.link.lost ≡ true
+
+-- A COPY: the datagram of a peer that holds the command alone.
+abbrev pub copy_of : Peer → CommandFields → SentDatagram
+copy_of p c = record { peer = p; bytes = pdu_encoding (Commands true (c ∷ [])) }
+
+-- what was given out was a copy, and was sent to the device
+pub record WasSent (p : Peer) (c : CommandFields) (bytes : List ℕ) (n : Network) : Type 0 where
+  pub bytes_are : bytes ≡ (copy_of p c).bytes
+  pub sent : Contains n.to_device (copy_of p c)
+
+-- The command waits for its answer. By the calls since its submit it was given out in time, each time as a copy.
+pub record IsUnderWay (ms since i : ℕ) (c : CommandFields) (p : Peer) (calls : List Call) (n : Network) : Type 0 where
+  pub in_time : IsGivenOutInTime ms since (clock since calls) (sendings since c.handle calls)
+  pub copies : AllByRecursion (λ x. WasSent p c x.bytes n) (sendings since c.handle calls)
+  -- One copy that is delivered now, under the premises of the law of untaken commands, and the one datagram that the
+  -- device then sends, whenever that is delivered, are enough: the round trip of `ComesBack`.
+  pub enough : (k now : ℕ) (peers : List Peer) (between : List Step) (later : ℕ) →
+      slice_get n.to_device k ≡ Some (copy_of p c) → KeepsItsSession p (asked k now n) →
+      length peers ≤ n.sizes.peers → ComeFrom peers (asked k now n).events → AllByRecursion StepFits between →
+      ComesBack k now between later i c p n
+
+-- The link got the command's answer, or is lost, or the command is under way.
+abbrev pub GetsThrough : ℕ → ℕ → ℕ → CommandFields → Peer → List Call → Network → Type 0
+GetsThrough ms since i c p calls n = GotItsAnswer i c p n ⊎ (IsLost i n ⊎ IsUnderWay ms since i c p calls n)
+
+-- Over every schedule, for all sizes where the window is at least twice the span less one: so it is of each command that
+-- the link of a start submitted in a step, where from this step on the link is asked every so many ms.
+abbrev pub EveryCommandGetsThrough : Type 0
+EveryCommandGetsThrough =
+    (w : DeviceSizes) (s : ℕ) (tree : List Object) (starts : List Start) (before later : List Step) (i : ℕ) (x : Start)
+    (request : Request) (now ms : ℕ) (h : Handle) →
+    let start : Network = opening w s tree starts in
+    let old : Network = after_steps before start in
+    let new : Network = after_step (Submit i request now) old in
+    let since : ℕ = max (clock 0 (calls_in i before start)) now in
+    0 < s → 2 * s ≤ w.window + 1 → are_apart starts ≡ true → Fit starts (before ++ Submit i request now ∷ later) →
+    slice_get starts i ≡ Some x → outcome_of (Submit i request now) old ≡ outcomes.Submitted h ∷ [] →
+    IsAskedEvery ms since (calls_in i later new) →
+    GetsThrough ms since i (command_under h.0 request) x.peer (calls_in i later new) (after_steps later new)

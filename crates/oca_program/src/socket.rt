@@ -1,0 +1,58 @@
+//! The socket of a program, and what is told of sends that failed.
+ghost use Rattle.std.specs.Prelude.{◌≡◌, ◌⊎◌, IfOk, IfErr};
+ghost use Rattle.oca_net.specs.Sockets.{IsBoundAt, new_socket};
+ghost use Rattle.oca_program.specs.declared.fault.RunFault.TheVariants.{Socket, NoMemory};
+
+use super::fault::{Failure, RunFault, print_note};
+use oca_net::{BindError, UdpEnd};
+use oca_script::{Printer, Sink};
+use std::alloc::Global;
+use std::io;
+use std::net::Net;
+use std::rt::Clock;
+
+/// An end at this address and port; at port 0 the system chooses one. A refusal is `Socket`, with the system's reason as its
+/// note where there is memory for that, or `NoMemory`.
+pub fn bind<N: Net + Clock>(
+    alloc: Global,
+    system: &N,
+    ip: u32,
+    port: u16,
+) -> Result<UdpEnd<'_, N>, Failure>
+    ensures new { IfOk result (λ e. e ≡ new_socket e.local) }
+    ensures bound { IfOk result (λ e. IsBoundAt ip port e.local) }
+    ensures fault { IfErr result (λ f. (f.fault ≡ Socket) ⊎ (f.fault ≡ NoMemory)) }
+{
+    match UdpEnd::bind_with_reason(alloc, system, ip, port) {
+        Ok(end) => Ok(end),
+        Err(error) => Err(refused(alloc, &error)),
+    }
+}
+
+/// Why a run fails that got no socket.
+fn refused(alloc: Global, error: &BindError) -> Failure
+    ensures { (result.fault ≡ Socket) ⊎ (result.fault ≡ NoMemory) }
+{
+    match error {
+        BindError::NoMemory => Failure::from(RunFault::NoMemory),
+        BindError::Io(reason) => match format!(in alloc; "{reason}") {
+            Ok(note) => Failure::noted(RunFault::Socket, note),
+            Err(_) => Failure::from(RunFault::Socket),
+        },
+    }
+}
+
+/// Prints how many sends failed and why the last of them did, where one has and there is memory for the line.
+pub fn note_failed_sends<F: Sink>(
+    alloc: Global,
+    failed: u64,
+    last: Option<io::Error>,
+    faults: &mut Printer<F>,
+) {
+    let Some(reason) = last else {
+        return;
+    };
+    if let Ok(note) = format!(in alloc; "failed sends: {failed}, the last: {reason}") {
+        print_note(note.as_str(), faults);
+    }
+}

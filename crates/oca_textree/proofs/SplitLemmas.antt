@@ -1,0 +1,150 @@
+-- What stands between separators, by where the first of them stands; and names, one after another.
+use Rattle.std.proofs.Common.{◌≡◌, ℕ, suc, ◌+◌, Bool, ◌==◌, true, false, cond, ◌||◌, inl, inr, arith, map, List, [], ◌∷◌, ◌++◌, length, not, Option, Some, None, Result, Ok, Err, refl, sym, ap, ◌∙◌, subst}
+use Rattle.std.specs.Prelude.{nat_le, nat_lt}
+use Rattle.std.proofs.lemmas.Bool.{cases_lt}
+use Rattle.std.proofs.lemmas.Bool.Decides.{nat_tests}
+use Rattle.std.proofs.lemmas.Str.{IsUtf8-from_is_utf8}
+use Rattle.std.specs.List.{position, prefix_len, list_any}
+use denote.Ref.{Bor}
+use Rattle.std.specs.Option.{option_map}
+use Rattle.std.specs.Str.{is_utf8, IsUtf8, bytes_eq}
+use Rattle.oca_script.specs.Fields.{split_at, split_on, onto_first}
+use Rattle.oca_textree.specs.declared.fault.ObjectFault.{ObjectFault}
+use Rattle.oca_textree.specs.declared.fault.ObjectFault.TheVariants as fault
+use Rattle.oca_tree.specs.declared.object.Object.{Object}
+use Rattle.oca_tree.specs.Objects.{Store}
+use Rattle.oca_textree.specs.declared.fault.TreeFault.{TreeFault}
+use Rattle.oca_textree.specs.declared.fault.TreeFault.TheVariants.{Line, NoMemory}
+use Rattle.oca_textree.specs.Lines.{names_after, place_of, after_line}
+use Rattle.oca_textree.specs.Texts.{after_lines, go_on}
+use Rattle.oca_textree.specs.PrivateLines.{IsRead, IsReadSoFar, names_view}
+
+abbrev pub cut : ℕ → List ℕ → Option (List ℕ × List ℕ) → List (List ℕ)
+cut sep s None = s ∷ []
+cut sep s (Some p) = p.0 ∷ split_on sep p.1
+
+split_on-by : (sep : ℕ) (s : List ℕ) → split_on sep s ≡ cut sep s (split_at sep s)
+split_on-by sep [] = refl
+split_on-by sep (b ∷ bs) =
+    elim (b == sep) as (λ v. cond v ([] ∷ split_on sep bs) (onto_first b (split_on sep bs))
+    ≡ cut sep (b ∷ bs) (cond v (Some ([], bs)) (option_map (λ p. (b ∷ p.0, p.1)) (split_at sep bs)))) [
+      | true ↦ refl
+      | false ↦ ap (onto_first b) (split_on-by sep bs) ∙ joined (split_at sep bs)
+    ]
+  where
+    joined : (r : Option (List ℕ × List ℕ)) → onto_first b (cut sep bs r) ≡ cut sep (b ∷ bs) (option_map (λ p. (b ∷ p.0, p.1)) r)
+    joined None = refl
+    joined (Some p) = refl
+
+pub split-one : (sep : ℕ) (s : List ℕ) → split_at sep s ≡ None → split_on sep s ≡ s ∷ []
+split-one sep s e = split_on-by sep s ∙ ap (cut sep s) e
+
+pub split-more : (sep : ℕ) (s front rest : List ℕ) → split_at sep s ≡ Some (front, rest) → split_on sep s ≡ front ∷ split_on sep rest
+split-more sep s front rest e = split_on-by sep s ∙ ap (cut sep s) e
+
+-- one name, and then further ones
+abbrev pub go_on_with : Result (List (List ℕ)) ObjectFault → List (List ℕ) → Result (List (List ℕ)) ObjectFault
+go_on_with (Ok names) more = names_after names more
+go_on_with (Err f) more = Err f
+
+pub names-more : (names : List (List ℕ)) (n : List ℕ) (more : List (List ℕ)) → names_after names (n ∷ more) ≡ go_on_with (names_after names (n ∷ [])) more
+names-more names n more = by_tests (not (is_utf8 n)) (nat_le 16 (length names))
+  where
+    by_tests : (a b : Bool) → cond a (Err fault.Text) (cond b (Err fault.Range) (names_after (names ++ n ∷ []) more))
+        ≡ go_on_with (cond a (Err fault.Text) (cond b (Err fault.Range) (Ok (names ++ n ∷ [])))) more
+    by_tests true b = refl
+    by_tests false true = refl
+    by_tests false false = refl
+
+-- bytes that are not UTF-8 do not pass the test
+pub not-utf8 : (bs : List ℕ) → (IsUtf8 bs → ⊥) → is_utf8 bs ≡ false
+not-utf8 bs refused = by_test (is_utf8 bs) refl
+  where
+    by_test : (b : Bool) → is_utf8 bs ≡ b → b ≡ false
+    by_test true h = absurd (refused (IsUtf8-from_is_utf8 bs h))
+    by_test false h = refl
+
+-- where a name stands first
+step : (p l : ℕ) → cond (nat_lt (1 + p) (suc l)) (Some (1 + p)) None ≡ option_map (λ n. 1 + n) (cond (nat_lt p l) (Some p) None)
+step p l = elim (cases_lt p l) [
+  | inl h ↦ let a : nat_lt p l ≡ true = grind (arith, nat_tests) in let b : nat_lt (1 + p) (suc l) ≡ true = grind (arith, nat_tests) in rw (a, b) refl
+  | inr h ↦ let a : nat_lt p l ≡ false = grind (arith, nat_tests) in let b : nat_lt (1 + p) (suc l) ≡ false = grind (arith, nat_tests) in rw (a, b) refl
+]
+
+pub place-position : (name : List ℕ) (xs : List (Bor (List ℕ))) → position (λ x. bytes_eq x.now name) xs ≡ place_of name (map (λ x. x.now) xs)
+place-position name [] = refl
+place-position name (x ∷ xs) = by_test (bytes_eq x.now name) ∙ ap (λ (r : Option ℕ). cond (bytes_eq x.now name) (Some 0) (option_map (λ n. 1 + n) r)) (place-position name xs)
+  where
+    by_test : (t : Bool) → cond (nat_lt (cond (not t) (1 + prefix_len (λ x. not (bytes_eq x.now name)) xs) 0) (suc (length xs)))
+        (Some (cond (not t) (1 + prefix_len (λ x. not (bytes_eq x.now name)) xs) 0)) None
+        ≡ cond t (Some 0) (option_map (λ n. 1 + n) (position (λ x. bytes_eq x.now name) xs))
+    by_test true = let a : nat_lt 0 (suc (length xs)) ≡ true = grind (arith, nat_tests) in rw a refl
+    by_test false = step (prefix_len (λ x. not (bytes_eq x.now name)) xs) (length xs)
+
+-- ---- names, one after another
+
+pub names-failed : (old ns : List (List ℕ)) (all rest front after : List ℕ) (f : ObjectFault)
+    → names_after old (split_on 44 all) ≡ names_after ns (split_on 44 rest) → Some (front, after) ≡ split_at 44 rest
+    → Err f ≡ names_after ns (front ∷ []) → Err f ≡ names_after old (split_on 44 all)
+names-failed old ns all rest front after f so found e =
+    sym (so ∙ ap (names_after ns) (split-more 44 rest front after (sym found)) ∙ names-more ns front (split_on 44 after)
+    ∙ ap (λ (r : Result (List (List ℕ)) ObjectFault). go_on_with r (split_on 44 after)) (sym e))
+
+pub names-err : (r : Result Unit ObjectFault) (f : ObjectFault) (names : List (Bor (List ℕ))) (x : Result (List (List ℕ)) ObjectFault)
+    → r ≡ Err f → Err f ≡ x → names_view r names ≡ x
+names-err r f names x is e = ap (λ (q : Result Unit ObjectFault). names_view q names) is ∙ e
+
+pub names-on : (old ns more : List (List ℕ)) (all rest front after : List ℕ)
+    → names_after old (split_on 44 all) ≡ names_after ns (split_on 44 rest) → Some (front, after) ≡ split_at 44 rest
+    → Ok more ≡ names_after ns (front ∷ []) → names_after old (split_on 44 all) ≡ names_after more (split_on 44 after)
+names-on old ns more all rest front after so found e =
+    so ∙ ap (names_after ns) (split-more 44 rest front after (sym found)) ∙ names-more ns front (split_on 44 after)
+    ∙ ap (λ (r : Result (List (List ℕ)) ObjectFault). go_on_with r (split_on 44 after)) (sym e)
+
+pub names-last : (old ns : List (List ℕ)) (all rest : List ℕ) (r : Result (List (List ℕ)) ObjectFault)
+    → names_after old (split_on 44 all) ≡ names_after ns (split_on 44 rest) → split_at 44 rest ≡ None
+    → r ≡ names_after ns (rest ∷ []) → r ≡ names_after old (split_on 44 all)
+names-last old ns all rest r so none e = e ∙ sym (so ∙ ap (names_after ns) (split-one 44 rest none))
+
+-- ---- lines, one after another
+
+pub lines-failed : (all rest front after : List ℕ) (first tree : List Object) (n : ℕ) (f : ObjectFault)
+    → after_lines 1 first (split_on 10 all) ≡ after_lines n tree (split_on 10 rest) → Some (front, after) ≡ split_at 10 rest
+    → after_line tree front ≡ Err f → after_lines 1 first (split_on 10 all) ≡ Err (Line n f)
+lines-failed all rest front after first tree n f so found e =
+    so ∙ ap (after_lines n tree) (split-more 10 rest front after (sym found))
+    ∙ ap (λ (r : Result (List Object) ObjectFault). go_on r n (λ t. after_lines (n + 1) t (split_on 10 after))) e
+
+pub lines-on : (all rest front after : List ℕ) (first tree next : List Object) (n : ℕ)
+    → after_lines 1 first (split_on 10 all) ≡ after_lines n tree (split_on 10 rest) → Some (front, after) ≡ split_at 10 rest
+    → after_line tree front ≡ Ok next → after_lines 1 first (split_on 10 all) ≡ after_lines (n + 1) next (split_on 10 after)
+lines-on all rest front after first tree next n so found e =
+    so ∙ ap (after_lines n tree) (split-more 10 rest front after (sym found))
+    ∙ ap (λ (r : Result (List Object) ObjectFault). go_on r n (λ t. after_lines (n + 1) t (split_on 10 after))) e
+
+-- the last line gives a tree, or its fault
+pub last-read : (all rest : List ℕ) (first : List Object) (old new : Store) (n : ℕ) (r : Result Unit TreeFault)
+    → after_lines 1 first (split_on 10 all) ≡ after_lines n old.list (split_on 10 rest) → split_at 10 rest ≡ None
+    → IsReadSoFar r old new n (after_line old.list rest) → IsRead r new.list (after_lines 1 first (split_on 10 all))
+last-read all rest first old new n (Ok u) so none h =
+    so ∙ ap (after_lines n old.list) (split-one 10 rest none)
+    ∙ ap (λ (r : Result (List Object) ObjectFault). go_on r n (λ t. after_lines (n + 1) t [])) h.0
+last-read all rest first old new n (Err (Line m f)) so none h =
+    so ∙ ap (after_lines n old.list) (split-one 10 rest none)
+    ∙ ap (λ (r : Result (List Object) ObjectFault). go_on r n (λ t. after_lines (n + 1) t [])) h.0
+    ∙ ap (λ (k : ℕ). Err (Line k f)) (sym h.1)
+last-read all rest first old new n (Err NoMemory) so none h = absurd h
+
+-- an earlier line has a fault
+pub first-fault : (all rest front after : List ℕ) (first : List Object) (old new : Store) (n : ℕ) (r : Result Unit TreeFault) (e : TreeFault)
+    → r ≡ Err e → after_lines 1 first (split_on 10 all) ≡ after_lines n old.list (split_on 10 rest) → Some (front, after) ≡ split_at 10 rest
+    → IsReadSoFar (Err e) old new n (after_line old.list front) → IsRead r new.list (after_lines 1 first (split_on 10 all))
+first-fault all rest front after first old new n r (Line m f) is so found h =
+    subst (λ (x : Result Unit TreeFault). IsRead x new.list (after_lines 1 first (split_on 10 all))) (sym is)
+    (lines-failed all rest front after first old.list n f so found h.0 ∙ ap (λ (k : ℕ). Err (Line k f)) (sym h.1))
+first-fault all rest front after first old new n r NoMemory is so found h = absurd h
+
+-- whether one of the names passes a test
+pub any-map : (p : List ℕ → Bool) (xs : List (Bor (List ℕ))) → list_any p (map (λ x. x.now) xs) ≡ list_any (λ x. p x.now) xs
+any-map p [] = refl
+any-map p (x ∷ xs) = ap (λ (b : Bool). p x.now || b) (any-map p xs)

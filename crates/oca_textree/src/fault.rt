@@ -1,0 +1,106 @@
+//! Why a line lists no object.
+ghost use Rattle.std.specs.Prelude.{◌≡◌};
+ghost use Rattle.oca_textree.specs.Faults.{fault_word, fault_of};
+
+use oca_tree::AddFault;
+use thiserror::Error;
+
+/// What is wrong with a line: what is found first from its left, and where all its fields can be read why its object is not
+/// added.
+#[derive(Clone, Copy, PartialEq, Eq, Debug, Error)]
+pub enum ObjectFault {
+    /// A field is missing or too many, a quote is left open, or there is a control character.
+    #[error("form")]
+    Form,
+    /// The object's number, its container's, or an integer is not of its form, or not of its type.
+    #[error("number")]
+    Number,
+    /// No such class.
+    #[error("class")]
+    Class,
+    /// No value of the class, or no position of the switch.
+    #[error("value")]
+    Value,
+    /// Neither `lockable` nor `no-lock`.
+    #[error("lockable")]
+    Lockable,
+    /// The role is empty, or the role or a position's name has more than 64 bytes or is not UTF-8.
+    #[error("text")]
+    Text,
+    /// 4,096 objects are there, the root counted.
+    #[error("full")]
+    Full,
+    /// The number is below 4096.
+    #[error("reserved")]
+    Reserved,
+    /// The number is there.
+    #[error("taken")]
+    Taken,
+    /// The container is no block that stands before.
+    #[error("container")]
+    Container,
+    /// The object would stand at depth 9; the root is at depth 1.
+    #[error("depth")]
+    Depth,
+    /// The least is above the greatest, the setting is outside them, or there are more than 16 positions.
+    #[error("range")]
+    Range,
+    /// Memory was refused.
+    #[error("no memory")]
+    NoMemory,
+}
+
+impl ObjectFault {
+    /// The word that is printed for the fault.
+    pub fn word(self) -> &'static str
+        ensures { result.now ≡ fault_word self }
+    {
+        match self {
+            ObjectFault::Form => "form",
+            ObjectFault::Number => "number",
+            ObjectFault::Class => "class",
+            ObjectFault::Value => "value",
+            ObjectFault::Lockable => "lockable",
+            ObjectFault::Text => "text",
+            ObjectFault::Full => "full",
+            ObjectFault::Reserved => "reserved",
+            ObjectFault::Taken => "taken",
+            ObjectFault::Container => "container",
+            ObjectFault::Depth => "depth",
+            ObjectFault::Range => "range",
+            ObjectFault::NoMemory => "no memory",
+        }
+    }
+}
+
+impl From<AddFault> for ObjectFault {
+    ghost use Rattle.std.specs.Prelude.{◌≡◌};
+    ghost use Rattle.oca_textree.specs.Faults.{fault_of};
+
+    ghost from_gives = { λ fault r. r ≡ fault_of fault };
+
+    /// Why the tree refuses the object of a line.
+    fn from(fault: AddFault) -> ObjectFault {
+        match fault {
+            AddFault::Full => ObjectFault::Full,
+            AddFault::Reserved => ObjectFault::Reserved,
+            AddFault::Taken => ObjectFault::Taken,
+            AddFault::NoSuchBlock => ObjectFault::Container,
+            AddFault::TooDeep => ObjectFault::Depth,
+            AddFault::BadText => ObjectFault::Text,
+            AddFault::BadRange => ObjectFault::Range,
+            AddFault::NoMemory => ObjectFault::NoMemory,
+        }
+    }
+}
+
+/// Why a text gives no tree.
+#[derive(Clone, Copy, PartialEq, Eq, Debug, Error)]
+pub enum TreeFault {
+    /// The line of this number, counted from 1 with the skipped ones, is the first with a fault.
+    #[error("line {0}: {1}")]
+    Line(u64, ObjectFault),
+    /// Memory was refused.
+    #[error("no memory")]
+    NoMemory,
+}

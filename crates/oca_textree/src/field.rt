@@ -1,0 +1,136 @@
+//! The fields of a line, one after another.
+ghost use Rattle.std.specs.Prelude.{◌≡◌, true, false, MatchOption};
+ghost use Rattle.std.specs.Str.{is_utf8};
+ghost use Rattle.std.specs.Option.{option_copied};
+ghost use Rattle.oca_script.specs.Fields.{split_at};
+ghost use Rattle.oca_textree.specs.Lines.{field_at, plain as plain_field, quoted as quoted_field, ono_of, class_of_word, has_control as has_control_byte};
+ghost use Rattle.oca_textree.specs.PrivateLines.{field_view};
+
+use super::fault::ObjectFault;
+use oca_script::field::{number, split_at_byte};
+use oca_types::Class;
+use std::str::from_utf8;
+
+/// The next field of what is left of a line, and what is left behind it. A field that begins with a quote goes up to the next
+/// quote, and any other up to the next space.
+#[tactic(auto, unfolding(crate::specs::Lines::field_at))]
+pub fn field<'a>(rest: Option<&'a [u8]>) -> Result<(&'a [u8], Option<&'a [u8]>), ObjectFault>
+    ensures { field_view result ≡ field_at (option_copied rest.entry) }
+{
+    let Some(text) = rest else {
+        return Err(ObjectFault::Form);
+    };
+    match text {
+        [] => Ok((text, None)),
+        [first, inside @ ..] => {
+            if *first == b'"' {
+                quoted(inside)
+            } else {
+                Ok(plain(text))
+            }
+        }
+    }
+}
+
+/// A field up to the next space.
+fn plain(text: &[u8]) -> (&[u8], Option<&[u8]>)
+    ensures { (result.0.now, option_copied result.1) ≡ plain_field (split_at 32 text.now) text.now }
+{
+    match split_at_byte(text, b' ') {
+        Some((field, rest)) => (field, Some(rest)),
+        None => (text, None),
+    }
+}
+
+/// A field up to the next quote, behind which a space stands or the line ends.
+fn quoted(inside: &[u8]) -> Result<(&[u8], Option<&[u8]>), ObjectFault>
+    ensures { field_view result ≡ quoted_field (split_at 34 inside.now) }
+{
+    let Some((field, after)) = split_at_byte(inside, b'"') else {
+        return Err(ObjectFault::Form);
+    };
+    match after {
+        [] => Ok((field, None)),
+        [next, rest @ ..] => {
+            if *next == b' ' {
+                Ok((field, Some(rest)))
+            } else {
+                Err(ObjectFault::Form)
+            }
+        }
+    }
+}
+
+/// A text, where the bytes are UTF-8.
+pub fn utf8(bytes: &[u8]) -> Option<&str>
+    ensures { MatchOption result (is_utf8 bytes.now ≡ false) (λ t. (t.now ≡ bytes.now) × (is_utf8 bytes.now ≡ true)) }
+{
+    match from_utf8(bytes) {
+        Ok(text) => Some(text),
+        Err(_) => None,
+    }
+}
+
+/// An object's number: 1 to 10 digits, in 32 bits.
+pub fn ono(text: &[u8]) -> Option<u32>
+    ensures { result ≡ ono_of text.now }
+{
+    match number(text, 10, 4294967295) {
+        Some(ono) => Some(ono as u32),
+        None => None,
+    }
+}
+
+/// A class by its word.
+#[tactic(auto, unfolding(crate::specs::Lines::class_of_word))]
+pub fn class(word: &[u8]) -> Option<Class>
+    ensures { result ≡ class_of_word word.now }
+{
+    if word == b"block".as_slice() {
+        return Some(Class::Block);
+    }
+    if word == b"mute".as_slice() {
+        return Some(Class::Mute);
+    }
+    if word == b"polarity".as_slice() {
+        return Some(Class::Polarity);
+    }
+    if word == b"switch".as_slice() {
+        return Some(Class::Switch);
+    }
+    if word == b"boolean".as_slice() {
+        return Some(Class::Boolean);
+    }
+    if word == b"int8".as_slice() {
+        return Some(Class::Int8);
+    }
+    if word == b"int16".as_slice() {
+        return Some(Class::Int16);
+    }
+    if word == b"int32".as_slice() {
+        return Some(Class::Int32);
+    }
+    if word == b"int64".as_slice() {
+        return Some(Class::Int64);
+    }
+    if word == b"uint8".as_slice() {
+        return Some(Class::Uint8);
+    }
+    if word == b"uint16".as_slice() {
+        return Some(Class::Uint16);
+    }
+    if word == b"uint32".as_slice() {
+        return Some(Class::Uint32);
+    }
+    if word == b"uint64".as_slice() {
+        return Some(Class::Uint64);
+    }
+    None
+}
+
+/// Whether there is a control character.
+pub fn has_control(line: &[u8]) -> bool
+    ensures { result ≡ has_control_byte line.now }
+{
+    line.iter().any(|byte| *byte < 32)
+}

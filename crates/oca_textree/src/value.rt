@@ -1,0 +1,369 @@
+//! What the object of a line is set to.
+ghost use Rattle.std.specs.Prelude.{◌≡◌, ◌≤◌, ◌<◌, ◌≤ℤ◌, [], ◌∷◌, IfOk, IfSome, map, length, codes, true, false};
+ghost use Rattle.std.specs.Option.{option_copied};
+ghost use Rattle.std.specs.List.{position};
+ghost use Rattle.std.specs.Str.{bytes_eq};
+ghost use Rattle.oca_script.specs.Fields.{split_on};
+ghost use Rattle.oca_types.specs.declared.class.Class as classes;
+ghost use Rattle.oca_tree.specs.declared.object.MuteState.TheVariants.{Muted, Unmuted};
+ghost use Rattle.oca_tree.specs.declared.object.PolarityState.TheVariants.{NonInverted, Inverted};
+ghost use Rattle.oca_textree.specs.Lines.{one_of, signed_of, integer_of, limits_of, names_after, place_of, positions_of, value_at};
+ghost use Rattle.oca_textree.specs.PrivateLines.{limits_view, IsWithin, names_view, positions_view, kind_view};
+
+use super::fault::ObjectFault;
+use super::field::{field, utf8};
+use arrayvec::ArrayVec;
+use oca_script::field::{number, split_at_byte};
+use oca_tree::{Kind, MuteState, PolarityState};
+use oca_types::Class;
+
+/// The names of a switch's positions.
+pub type Names<'a> = ArrayVec<&'a str, 16>;
+
+/// The limits and the setting of an integer, and what is left of the line.
+#[derive(Clone, Copy)]
+pub struct Limits<'a> {
+    least: i128,
+    greatest: i128,
+    setting: i128,
+    rest: Option<&'a [u8]>,
+}
+
+/// A mute's state by its word.
+#[tactic(auto, unfolding(crate::specs::Lines::one_of))]
+fn mute(word: &[u8]) -> Option<MuteState>
+    ensures { result ≡ one_of (codes "muted") Muted (codes "unmuted") Unmuted word.now }
+{
+    if word == b"muted".as_slice() {
+        Some(MuteState::Muted)
+    } else if word == b"unmuted".as_slice() {
+        Some(MuteState::Unmuted)
+    } else {
+        None
+    }
+}
+
+/// A polarity's state by its word.
+#[tactic(auto, unfolding(crate::specs::Lines::one_of))]
+fn polarity(word: &[u8]) -> Option<PolarityState>
+    ensures { result ≡ one_of (codes "non-inverted") NonInverted (codes "inverted") Inverted word.now }
+{
+    if word == b"non-inverted".as_slice() {
+        Some(PolarityState::NonInverted)
+    } else if word == b"inverted".as_slice() {
+        Some(PolarityState::Inverted)
+    } else {
+        None
+    }
+}
+
+/// A Boolean by its word.
+#[tactic(auto, unfolding(crate::specs::Lines::one_of))]
+fn truth(word: &[u8]) -> Option<bool>
+    ensures { result ≡ one_of (codes "on") true (codes "off") false word.now }
+{
+    if word == b"on".as_slice() {
+        Some(true)
+    } else if word == b"off".as_slice() {
+        Some(false)
+    } else {
+        None
+    }
+}
+
+/// Whether an object can be locked, by the word that says so.
+#[tactic(auto, unfolding(crate::specs::Lines::one_of))]
+pub fn lockable(word: &[u8]) -> Option<bool>
+    ensures { result ≡ one_of (codes "lockable") true (codes "no-lock") false word.now }
+{
+    if word == b"lockable".as_slice() {
+        Some(true)
+    } else if word == b"no-lock".as_slice() {
+        Some(false)
+    } else {
+        None
+    }
+}
+
+/// An integer of at most 20 digits, behind a minus where it is negative.
+fn signed(text: &[u8]) -> Option<i128>
+    ensures { result ≡ signed_of text.now }
+{
+    match text {
+        [] => None,
+        [first, digits @ ..] => {
+            if *first == b'-' {
+                Some(-i128::from(number(digits, 20, u64::MAX)?))
+            } else {
+                Some(i128::from(number(text, 20, u64::MAX)?))
+            }
+        }
+    }
+}
+
+/// An integer from the one to the other.
+#[tactic(auto, unfolding(crate::specs::Lines::integer_of))]
+fn integer(text: &[u8], low: i128, high: i128) -> Option<i128>
+    ensures value { result ≡ integer_of low high text.now }
+    ensures within { IfSome result (λ z. (low ≤ℤ z) × (z ≤ℤ high)) }
+{
+    let value = signed(text)?;
+    if low <= value && value <= high {
+        Some(value)
+    } else {
+        None
+    }
+}
+
+/// The least, the greatest and the setting of an integer, each from the one to the other.
+#[tactic(auto, unfolding(crate::specs::Lines::limits_of))]
+fn read_limits<'a>(rest: Option<&'a [u8]>, low: i128, high: i128) -> Result<Limits<'a>, ObjectFault>
+    ensures value { limits_view result ≡ limits_of low high (option_copied rest.entry) }
+    ensures within { IfOk result (IsWithin low high) }
+{
+    let (least, rest) = field(rest)?;
+    let least = integer(least, low, high).ok_or(ObjectFault::Number)?;
+    let (greatest, rest) = field(rest)?;
+    let greatest = integer(greatest, low, high).ok_or(ObjectFault::Number)?;
+    let (setting, rest) = field(rest)?;
+    let setting = integer(setting, low, high).ok_or(ObjectFault::Number)?;
+    Ok(Limits {
+        least,
+        greatest,
+        setting,
+        rest,
+    })
+}
+
+/// Adds a position's name.
+fn add_name<'a>(name: &'a [u8], names: &mut Names<'a>) -> Result<(), ObjectFault>
+    ensures { names_view result names.new.items ≡ names_after (map (λ n. n.now) names.old.items) (name.entry.now ∷ []) }
+{
+    let Some(name) = utf8(name) else {
+        return Err(ObjectFault::Text);
+    };
+    match names.try_push(name) {
+        Ok(()) => Ok(()),
+        Err(_) => Err(ObjectFault::Range),
+    }
+}
+
+/// Adds the names of positions that stand between commas.
+fn add_names<'a>(text: &'a [u8], names: &mut Names<'a>) -> Result<(), ObjectFault>
+    ensures { names_view result names.new.items ≡ names_after (map (λ n. n.now) names.old.items) (split_on 44 text.entry.now) }
+{
+    let mut rest = text;
+    while let Some((name, after)) = split_at_byte(rest, b',') {
+        add_name(name, names)?;
+        rest = after;
+    }
+    add_name(rest, names)
+}
+
+/// Where a name stands first.
+fn first_place(name: &[u8], names: &[&str]) -> Option<usize>
+    ensures value { result ≡ position (λ n. bytes_eq n.now name.now) names.now }
+    ensures within { IfSome result (λ at. at < length names.now) }
+{
+    names.iter().position(|n| n.as_bytes() == name)
+}
+
+/// The same as a position's number.
+fn place(name: &[u8], names: &[&str]) -> Option<u16>
+    requires { length names.now ≤ 16 }
+    ensures { result ≡ place_of name.now (map (λ n. n.now) names.now) }
+{
+    match first_place(name, names) {
+        Some(at) => Some(at as u16),
+        None => None,
+    }
+}
+
+/// The positions of a switch, put into `names`, which holds none before, and the current one.
+#[tactic(auto, unfolding(crate::specs::Lines::positions_of))]
+pub fn positions<'a>(
+    rest: Option<&'a [u8]>,
+    names: &mut Names<'a>,
+) -> Result<(u16, Option<&'a [u8]>), ObjectFault>
+    requires { names.old.items ≡ [] }
+    ensures { positions_view result names.new.items ≡ positions_of (option_copied rest.entry) }
+{
+    let (text, rest) = field(rest)?;
+    add_names(text, names)?;
+    let (name, rest) = field(rest)?;
+    let position = place(name, names.as_slice()).ok_or(ObjectFault::Value)?;
+    Ok((position, rest))
+}
+
+/// What an object is, and what is left of its line.
+type Read<'a> = Result<(Kind<'a>, Option<&'a [u8]>), ObjectFault>;
+
+/// A mute.
+#[tactic(auto, unfolding(crate::specs::Lines::value_at, crate::specs::Lines::by_word, crate::specs::Lines::one_of, oca_tree::specs::Building::value_of))]
+fn mute_at(rest: Option<&[u8]>) -> Read<'_>
+    ensures { kind_view result ≡ value_at Class.Mute (option_copied rest.entry) }
+{
+    let (word, rest) = field(rest)?;
+    let Some(state) = mute(word) else {
+        return Err(ObjectFault::Value);
+    };
+    Ok((Kind::Mute(state), rest))
+}
+
+/// A polarity.
+#[tactic(auto, unfolding(crate::specs::Lines::value_at, crate::specs::Lines::by_word, crate::specs::Lines::one_of, oca_tree::specs::Building::value_of))]
+fn polarity_at(rest: Option<&[u8]>) -> Read<'_>
+    ensures { kind_view result ≡ value_at Class.Polarity (option_copied rest.entry) }
+{
+    let (word, rest) = field(rest)?;
+    let Some(state) = polarity(word) else {
+        return Err(ObjectFault::Value);
+    };
+    Ok((Kind::Polarity(state), rest))
+}
+
+/// A Boolean.
+#[tactic(auto, unfolding(crate::specs::Lines::value_at, crate::specs::Lines::by_word, crate::specs::Lines::one_of, oca_tree::specs::Building::value_of))]
+fn boolean_at(rest: Option<&[u8]>) -> Read<'_>
+    ensures { kind_view result ≡ value_at Class.Boolean (option_copied rest.entry) }
+{
+    let (word, rest) = field(rest)?;
+    let Some(state) = truth(word) else {
+        return Err(ObjectFault::Value);
+    };
+    Ok((Kind::Boolean(state), rest))
+}
+
+/// An integer of the type Int8, with its limits.
+#[tactic(auto, unfolding(crate::specs::Lines::value_at, oca_tree::specs::Building::value_of))]
+fn int8_at(rest: Option<&[u8]>) -> Read<'_>
+    ensures { kind_view result ≡ value_at Class.Int8 (option_copied rest.entry) }
+{
+    let read = read_limits(rest, -128, 127)?;
+    let kind = Kind::Int8 {
+        setting: read.setting as i8,
+        least: read.least as i8,
+        greatest: read.greatest as i8,
+    };
+    Ok((kind, read.rest))
+}
+
+/// An integer of the type Int16, with its limits.
+#[tactic(auto, unfolding(crate::specs::Lines::value_at, oca_tree::specs::Building::value_of))]
+fn int16_at(rest: Option<&[u8]>) -> Read<'_>
+    ensures { kind_view result ≡ value_at Class.Int16 (option_copied rest.entry) }
+{
+    let read = read_limits(rest, -32768, 32767)?;
+    let kind = Kind::Int16 {
+        setting: read.setting as i16,
+        least: read.least as i16,
+        greatest: read.greatest as i16,
+    };
+    Ok((kind, read.rest))
+}
+
+/// An integer of the type Int32, with its limits.
+#[tactic(auto, unfolding(crate::specs::Lines::value_at, oca_tree::specs::Building::value_of))]
+fn int32_at(rest: Option<&[u8]>) -> Read<'_>
+    ensures { kind_view result ≡ value_at Class.Int32 (option_copied rest.entry) }
+{
+    let read = read_limits(rest, -2147483648, 2147483647)?;
+    let kind = Kind::Int32 {
+        setting: read.setting as i32,
+        least: read.least as i32,
+        greatest: read.greatest as i32,
+    };
+    Ok((kind, read.rest))
+}
+
+/// An integer of the type Int64, with its limits.
+#[tactic(auto, unfolding(crate::specs::Lines::value_at, oca_tree::specs::Building::value_of))]
+fn int64_at(rest: Option<&[u8]>) -> Read<'_>
+    ensures { kind_view result ≡ value_at Class.Int64 (option_copied rest.entry) }
+{
+    let read = read_limits(rest, -9223372036854775808, 9223372036854775807)?;
+    let kind = Kind::Int64 {
+        setting: read.setting as i64,
+        least: read.least as i64,
+        greatest: read.greatest as i64,
+    };
+    Ok((kind, read.rest))
+}
+
+/// An integer of the type Uint8, with its limits.
+#[tactic(auto, unfolding(crate::specs::Lines::value_at, oca_tree::specs::Building::value_of))]
+fn uint8_at(rest: Option<&[u8]>) -> Read<'_>
+    ensures { kind_view result ≡ value_at Class.Uint8 (option_copied rest.entry) }
+{
+    let read = read_limits(rest, i128::from(u8::MIN), i128::from(u8::MAX))?;
+    let kind = Kind::Uint8 {
+        setting: read.setting as u8,
+        least: read.least as u8,
+        greatest: read.greatest as u8,
+    };
+    Ok((kind, read.rest))
+}
+
+/// An integer of the type Uint16, with its limits.
+#[tactic(auto, unfolding(crate::specs::Lines::value_at, oca_tree::specs::Building::value_of))]
+fn uint16_at(rest: Option<&[u8]>) -> Read<'_>
+    ensures { kind_view result ≡ value_at Class.Uint16 (option_copied rest.entry) }
+{
+    let read = read_limits(rest, i128::from(u16::MIN), i128::from(u16::MAX))?;
+    let kind = Kind::Uint16 {
+        setting: read.setting as u16,
+        least: read.least as u16,
+        greatest: read.greatest as u16,
+    };
+    Ok((kind, read.rest))
+}
+
+/// An integer of the type Uint32, with its limits.
+#[tactic(auto, unfolding(crate::specs::Lines::value_at, oca_tree::specs::Building::value_of))]
+fn uint32_at(rest: Option<&[u8]>) -> Read<'_>
+    ensures { kind_view result ≡ value_at Class.Uint32 (option_copied rest.entry) }
+{
+    let read = read_limits(rest, i128::from(u32::MIN), i128::from(u32::MAX))?;
+    let kind = Kind::Uint32 {
+        setting: read.setting as u32,
+        least: read.least as u32,
+        greatest: read.greatest as u32,
+    };
+    Ok((kind, read.rest))
+}
+
+/// An integer of the type Uint64, with its limits.
+#[tactic(auto, unfolding(crate::specs::Lines::value_at, oca_tree::specs::Building::value_of))]
+fn uint64_at(rest: Option<&[u8]>) -> Read<'_>
+    ensures { kind_view result ≡ value_at Class.Uint64 (option_copied rest.entry) }
+{
+    let read = read_limits(rest, i128::from(u64::MIN), i128::from(u64::MAX))?;
+    let kind = Kind::Uint64 {
+        setting: read.setting as u64,
+        least: read.least as u64,
+        greatest: read.greatest as u64,
+    };
+    Ok((kind, read.rest))
+}
+
+/// What the object of a class but a switch is, and what is left of its line.
+#[tactic(auto, unfolding(crate::specs::Lines::value_at, oca_tree::specs::Building::value_of))]
+pub fn kind_at(class: Class, rest: Option<&[u8]>) -> Read<'_>
+    requires { class ≡ Class.Switch → ⊥ }
+    ensures { kind_view result ≡ value_at class (option_copied rest.entry) }
+{
+    match class {
+        Class::Block | Class::Switch => Ok((Kind::Block, rest)),
+        Class::Mute => mute_at(rest),
+        Class::Polarity => polarity_at(rest),
+        Class::Boolean => boolean_at(rest),
+        Class::Int8 => int8_at(rest),
+        Class::Int16 => int16_at(rest),
+        Class::Int32 => int32_at(rest),
+        Class::Int64 => int64_at(rest),
+        Class::Uint8 => uint8_at(rest),
+        Class::Uint16 => uint16_at(rest),
+        Class::Uint32 => uint32_at(rest),
+        Class::Uint64 => uint64_at(rest),
+    }
+}

@@ -1,0 +1,11 @@
+use Rattle.std.proofs.Common.{◌∙◌, ap, arith}
+use Rattle.oca_tree.specs.Objects.{Store}
+use Rattle.oca_tree.proofs.Adding.{alone_tree}
+use Rattle.oca_tree.proofs.builder.TreeBuilder.holding.Goals as goal
+
+pub invariant_of-result : goal.invariant_of-result
+invariant_of-result c =
+    let none = ap (λ (h : Store). h.list) c.in-Ok.ensures in
+    let more = ap (λ (h : Store). h.list) c.push.ensures in
+    let room = ap (λ (h : Store). h.room) c.push.ensures ∙ ap (λ (h : Store). h.room) c.in-Ok.ensures in
+    (alone_tree c.in-Ok.objects.list c.push.new.self.list _ none more c.requires.place c.requires.sound, omega (arith, room, c.get.ensures.most))

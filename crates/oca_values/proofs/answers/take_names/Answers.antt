@@ -1,0 +1,18 @@
+use Rattle.std.proofs.Common.{arith, sym}
+use Rattle.oca_types.specs.Reading.{text_at}
+use Rattle.oca_types.specs.Taking.{bytes_left}
+use Rattle.oca_tree.proofs.Items.{items_step, items_fail, items_done}
+use Rattle.oca_values.proofs.answers.take_names.Goals as goal
+
+pub returns-in_default : goal.returns-in_default
+returns-in_default c =
+    sym (items_fail text_at c.args.number c.loop.counter c.loop-test.true c.loop.names.items (bytes_left c.loop.cursor) _ c.loop.invariant.rest c.in_default.ensures.reads)
+
+pub loop-preserved : goal.loop-preserved
+loop-preserved c = record {
+  long = omega arith;
+  rest = rw c.push.ensures.items (items_step text_at c.args.number c.loop.counter c.loop-test.true c.loop.names.items (bytes_left c.loop.cursor) _ c.loop.invariant.rest c.in-Ok.name (bytes_left c.take_text.new.self) c.in-Ok.ensures.reads);
+}
+
+pub returns : goal.returns
+returns c = items_done text_at c.args.number c.loop.counter c.loop.names.items (bytes_left c.loop.cursor) _ (omega arith) c.loop.invariant.rest

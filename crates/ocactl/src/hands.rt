@@ -1,0 +1,219 @@
+//! Objects one after another: read, set, locked, unlocked. Each has its line.
+ghost use Rattle.std.specs.Prelude.{◌≡◌, ◌≤◌, [], map, length, IfOk};
+ghost use Rattle.ocactl.specs.Hands.{SetsAll, SetsEach};
+ghost use Rattle.ocactl.specs.PrivateHands.{pair_of, wish_of, FindsAllTo, FindsOneTo, SetsOneTo};
+
+use super::objects::{lock, name_of, set_to, unlock, value_of, wanted};
+use super::talk::{Talk, Trouble};
+use super::told::{Told, graver, status_of, tell};
+use oca_net::End;
+use oca_program::{Failure, RunFault};
+use oca_script::{Printer, Sink, WriteFailed};
+use oca_types::{Ono, Text};
+use oca_values::{Value, word_of};
+use std::alloc::Global;
+
+/// An object, and the word for the value that it is to have.
+#[derive(Drop)]
+pub struct Pair {
+    pub ono: Ono,
+    pub word: Text,
+}
+
+/// An object, and the value that it is to have.
+#[derive(Clone, Copy)]
+struct Wish {
+    ono: Ono,
+    value: Value,
+}
+
+/// Reads the objects one after another, and prints the value of each. Returns the exit status.
+pub fn get_all<E: End, W: Sink>(
+    talk: &mut Talk<E>,
+    onos: &[Ono],
+    printer: &mut Printer<W>,
+) -> Result<u8, WriteFailed> {
+    let mut status = 0;
+    for ono in onos {
+        let read = value_of(talk, *ono);
+        status = graver(status, tell_value(talk, *ono, read, printer)?);
+    }
+    Ok(status)
+}
+
+/// Prints the value of an object, of a switch with the position's name, or why there is none. Returns the exit status.
+fn tell_value<E: End, W: Sink>(
+    talk: &mut Talk<E>,
+    ono: Ono,
+    read: Result<Value, Trouble>,
+    printer: &mut Printer<W>,
+) -> Result<u8, WriteFailed> {
+    match read {
+        Ok(Value::Switch(position)) => {
+            let word = word_of(Value::Switch(position));
+            match name_of(talk, ono, position) {
+                Ok(name) => tell(ono, Told::Named(word.as_str(), name.as_str()), printer)?,
+                Err(_) => tell(ono, Told::Word(word.as_str()), printer)?,
+            }
+            Ok(0)
+        }
+        Ok(value) => {
+            tell(ono, Told::Word(word_of(value).as_str()), printer)?;
+            Ok(0)
+        }
+        Err(trouble) => tell_trouble(ono, trouble, printer),
+    }
+}
+
+/// Prints why an object is not as it was asked for. Returns the exit status.
+pub fn tell_trouble<W: Sink>(
+    ono: Ono,
+    trouble: Trouble,
+    printer: &mut Printer<W>,
+) -> Result<u8, WriteFailed> {
+    tell(ono, Told::Hindered(trouble), printer)?;
+    Ok(status_of(trouble))
+}
+
+/// Prints that an object is as it was asked for, by a word, or why it is not. Returns the exit status.
+fn tell_done<W: Sink>(
+    ono: Ono,
+    done: Result<(), Trouble>,
+    word: &str,
+    printer: &mut Printer<W>,
+) -> Result<u8, WriteFailed>
+    requires { length word.now ≤ 64 }
+{
+    match done {
+        Ok(()) => {
+            tell(ono, Told::Word(word), printer)?;
+            Ok(0)
+        }
+        Err(trouble) => tell_trouble(ono, trouble, printer),
+    }
+}
+
+/// Sets the objects one after another, and prints the value of each. Where the word of one is for no value of it, or its class can't
+/// be read, nothing is set, and this is printed of each such object. Returns the exit status.
+pub fn set_all<E: End, W: Sink>(
+    alloc: Global,
+    talk: &mut Talk<E>,
+    pairs: &[Pair],
+    printer: &mut Printer<W>,
+) -> Result<u8, Failure>
+    ensures { IfOk result (λ status. SetsAll (map pair_of pairs.now) talk.old talk.new) }
+{
+    let mut wishes = Vec::new(alloc);
+    let search = find_wishes(talk, pairs, &mut wishes, printer)?;
+    if search.all {
+        Ok(set_wishes(talk, wishes.as_slice(), printer)?)
+    } else {
+        Ok(search.status)
+    }
+}
+
+/// What a search for values came to: the exit status so far, and whether there is a value for each.
+#[derive(Clone, Copy)]
+struct Search {
+    status: u8,
+    all: bool,
+}
+
+/// Finds the values that words name, and prints of each object where there is none.
+fn find_wishes<E: End, W: Sink>(
+    talk: &mut Talk<E>,
+    pairs: &[Pair],
+    wishes: &mut Vec<Wish>,
+    printer: &mut Printer<W>,
+) -> Result<Search, Failure>
+    requires { wishes.old.items ≡ [] }
+    ensures { IfOk result (λ s. FindsAllTo (map pair_of pairs.now) wishes.new.items s.all talk.old talk.new) }
+{
+    let mut search = Search {
+        status: 0,
+        all: true,
+    };
+    for pair in pairs {
+        search = find_one(talk, pair, wishes, search, printer)?;
+    }
+    Ok(search)
+}
+
+/// Finds the value that a word names, or prints why there is none.
+fn find_one<E: End, W: Sink>(
+    talk: &mut Talk<E>,
+    pair: &Pair,
+    wishes: &mut Vec<Wish>,
+    search: Search,
+    printer: &mut Printer<W>,
+) -> Result<Search, Failure>
+    ensures { IfOk result (λ s. FindsOneTo (pair_of pair.now) wishes.old.items search.all talk.old wishes.new.items s.all talk.new) }
+{
+    match wanted(talk, pair.ono, pair.word.as_str()) {
+        Ok(value) => {
+            let wish = Wish {
+                ono: pair.ono,
+                value,
+            };
+            match wishes.push(wish) {
+                Ok(()) => Ok(search),
+                Err(_) => Err(Failure::from(RunFault::NoMemory)),
+            }
+        }
+        Err(trouble) => {
+            let status = tell_trouble(pair.ono, trouble, printer)?;
+            Ok(Search {
+                status: graver(search.status, status),
+                all: false,
+            })
+        }
+    }
+}
+
+/// Sets objects one after another, and prints the value of each.
+fn set_wishes<E: End, W: Sink>(
+    talk: &mut Talk<E>,
+    wishes: &[Wish],
+    printer: &mut Printer<W>,
+) -> Result<u8, WriteFailed>
+    ensures { IfOk result (λ status. SetsEach (map wish_of wishes.now) talk.old talk.new) }
+{
+    let mut status = 0;
+    for wish in wishes {
+        let more = set_one(talk, wish, printer)?;
+        status = graver(status, more);
+    }
+    Ok(status)
+}
+
+/// Sets an object, and prints its value.
+fn set_one<E: End, W: Sink>(
+    talk: &mut Talk<E>,
+    wish: &Wish,
+    printer: &mut Printer<W>,
+) -> Result<u8, WriteFailed>
+    ensures { SetsOneTo (wish_of wish.now) talk.old talk.new }
+{
+    let done = set_to(talk, wish.ono, wish.value);
+    let word = word_of(wish.value);
+    tell_done(wish.ono, done, word.as_str(), printer)
+}
+
+/// Locks the objects one after another, or takes their locks off, and prints how each fared. Returns the exit status.
+pub fn lock_all<E: End, W: Sink>(
+    talk: &mut Talk<E>,
+    onos: &[Ono],
+    locks: bool,
+    printer: &mut Printer<W>,
+) -> Result<u8, WriteFailed> {
+    let mut status = 0;
+    for ono in onos {
+        let (done, word) = if locks {
+            (lock(talk, *ono), "locked")
+        } else {
+            (unlock(talk, *ono), "unlocked")
+        };
+        status = graver(status, tell_done(*ono, done, word, printer)?);
+    }
+    Ok(status)
+}

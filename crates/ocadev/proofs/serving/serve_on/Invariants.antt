@@ -1,0 +1,5 @@
+use Rattle.ocadev.specs.Totals.{ServesOn}
+use Rattle.ocadev.proofs.serving.serve_on.Given as goal
+
+abbrev pub invariant-loop-round : goal.invariant-loop-round
+invariant-loop-round g l = ServesOn l.fn.device l.device (g.E.End.state l.fn.end) (g.E.End.state l.end) l.report

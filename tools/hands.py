@@ -1,0 +1,322 @@
+#!/usr/bin/env python3
+"""What `ocactl tree`, `get`, `set`, `lock` and `unlock` print, ask and leave, against an independent device: the second
+implementation behind a socket (served.py), and devices that answer what no device of the profile does.
+
+Usage: hands.py BIN     BIN is the folder with `ocactl`
+
+What is to be printed is made here from the objects of the second implementation and the rules of docs/PROTOCOL.md. The
+last line is 'N passed, M failed'."""
+import socket
+import subprocess
+import sys
+
+import oca_profile as oca
+from served import Served
+
+CLASS, LOCK, UNLOCK, ROLE, MEMBERS, NAME, NAMES = (1, 1), (1, 3), (1, 4), (1, 5), (3, 5), (4, 3), (4, 5)
+GET = {"mute": (4, 1), "polarity": (4, 1), "switch": (4, 1)}
+SET = {"mute": (4, 2), "polarity": (4, 2), "switch": (4, 2)}
+OTHER = (127, 0, 0, 1, 9)  # a peer that never speaks
+
+
+def free_port():
+    with socket.socket(socket.AF_INET, socket.SOCK_DGRAM) as s:
+        s.bind(("127.0.0.1", 0))
+        return s.getsockname()[1]
+
+
+def word(obj):
+    """How an object is set, in its class's words."""
+    if obj.kind == "mute":
+        return {1: "muted", 2: "unmuted"}[obj.state]
+    if obj.kind == "polarity":
+        return {1: "non-inverted", 2: "inverted"}[obj.state]
+    if obj.kind == "boolean":
+        return "on" if obj.state else "off"
+    if obj.kind == "switch":
+        return f"{obj.state} {obj.names[obj.state]}"
+    return str(obj.state)
+
+
+def line(obj):
+    return f"{obj.ono} {'.'.join(map(str, oca.CLASSES[obj.kind]))} {obj.container} {obj.role}\n"
+
+
+def lines(tree, ono=100):
+    """The lines of a tree, each block's members behind it."""
+    own = next(o for o in tree if o.ono == ono)
+    return line(own) + "".join(lines(tree, o.ono) for o in oca.members(tree, ono))
+
+
+def stagebox():
+    """One object of each class, with names that need care."""
+    tree = oca.bench()
+    block = len(tree)
+    tree += [oca.Object(5000, "block", 100, "two words"), oca.Object(5001, "int8", 5000, "", state=-128, low=-128, high=127),
+             oca.Object(5002, "int32", 5000, "Ünïcode", state=2**31 - 1, low=-2**31, high=2**31 - 1),
+             oca.Object(5003, "int64", 5000, "x" * 64, state=-2**63, low=-2**63, high=2**63 - 1),
+             oca.Object(5004, "uint16", 5000, "a", state=65535, low=0, high=65535),
+             oca.Object(5005, "uint32", 5000, "b", state=0, low=0, high=2**32 - 1),
+             oca.Object(5006, "uint64", 5000, "c", state=2**64 - 1, low=0, high=2**64 - 1),
+             oca.Object(5007, "switch", 5000, "names", state=2, names=["", "two words", "7", "Mic", "Mic"]),
+             oca.Object(4294967295, "polarity", 5000, "last", state=2)]
+    assert block == 8
+    return tree
+
+
+class Strange:
+    """A device that answers each command by a function of (target, (level, index)): a status and parameters."""
+
+    def __init__(self, answers):
+        self.answers, self.heard = answers, []
+        self.served = Served()
+        self.served.device.datagram = self.datagram
+        self.port = self.served.port
+
+    def datagram(self, peer, data, now):
+        packets = []
+        for message in oca.check(data):
+            if message[0] == "command":
+                command = message[2]
+                self.heard.append((command.target, (command.level, command.index), command.params))
+                status, params = self.answers(command.target, (command.level, command.index))
+                packets.append(oca.pdu(3, [oca.response_body(command.handle, status, 1 if params else 0, params)]))
+            else:
+                packets.append(oca.pdu(4, [message[1]]))
+        return "", packets
+
+    def __enter__(self):
+        self.served.__enter__()
+        return self
+
+    def __exit__(self, *_):
+        self.served.__exit__()
+
+
+def asked(device):
+    """The commands that were heard, each once: target, method and parameters."""
+    found = {}
+    for data, _ in device.heard:
+        for message in oca.check(data):
+            if message[0] == "command":
+                found[message[2].handle] = (message[2].target, (message[2].level, message[2].index), message[2].params)
+    return list(found.values())
+
+
+class Checks:
+    def __init__(self, folder):
+        self.folder, self.passed, self.failed = folder, 0, 0
+        self.port = free_port()  # one for all calls: one session at each device
+
+    def same(self, what, got, expected):
+        if got == expected:
+            self.passed += 1
+        else:
+            self.failed += 1
+            print(f"{what}: {got!r} in place of {expected!r}")
+
+    def run(self, device, command, *words):
+        port = getattr(device, "port", device)
+        own = [] if "--port" in words else ["--port", self.port]
+        done = subprocess.run([f"{self.folder}/ocactl", command, "--device", f"127.0.0.1:{port}", *map(str, [*own, *words])],
+                              capture_output=True, text=True, timeout=60)
+        return done.stdout, done.stderr, done.returncode
+
+    def prints(self, what, device, words, printed, status):
+        """The words print just that, and nothing on standard error."""
+        self.same(what, self.run(device, *words), (printed, "", status))
+
+
+def trees(checks):
+    """`tree`: all objects; past a block that is too long and past a lock."""
+    for tree in (oca.bench(5), stagebox()):
+        with Served(tree) as device:
+            checks.prints("tree", device, ["tree"], lines(tree), 0)
+            wanted = []
+            for obj in sorted(tree, key=lambda o: lines(tree).index(line(o))):
+                wanted += [(obj.ono, CLASS, b""), (obj.ono, ROLE, b"")] + [(obj.ono, MEMBERS, b"")] * (obj.kind == "block")
+            checks.same("tree: what it asks", asked(device), wanted)
+    tree = oca.bench(1)
+    tree += [oca.Object(6000 + n, "mute", 4096, "m", state=1) for n in range(100)]
+    tree += [oca.Object(7000, "mute", 100, "behind", state=1)]
+    tree[-2].lock = ("total", OTHER)  # a member of the long block
+    tree[9].lock = ("total", OTHER)   # a mute of the strip
+    printed = line(tree[0]) + line(tree[1]) + "4096 BufferOverflow\n" + line(tree[8]) + f"{tree[9].ono} Locked\n"
+    printed += line(tree[10]) + line(tree[11]) + line(tree[-1])
+    with Served(tree) as device:
+        checks.prints("tree: past a long block and a lock", device, ["tree"], printed, 4)
+
+
+def gets(checks):
+    """`get`: each class's words, in the order in which they are asked; the class first."""
+    tree = stagebox()
+    valued = [o for o in tree if o.kind != "block"]
+    with Served(tree) as device:
+        printed = "".join(f"{o.ono} {word(o)}\n" for o in valued)
+        checks.prints("get", device, ["get", *(o.ono for o in valued)], printed, 0)
+        wanted = []
+        for obj in valued:
+            wanted += [(obj.ono, CLASS, b""), (obj.ono, GET.get(obj.kind, (5, 1)), b"")]
+            wanted += [(obj.ono, NAME, oca.u16(obj.state))] if obj.kind == "switch" else []
+        checks.same("get: what it asks", asked(device), wanted)
+    with Served(stagebox()) as device:
+        checks.prints("get: no value, no object", device, ["get", 4096, 77, 4097], "4096 no value\n77 BadONo\n4097 muted\n", 4)
+        checks.same("get: what it asks of a block", asked(device)[:2], [(4096, CLASS, b""), (77, CLASS, b"")])
+
+
+VALUES = [(4097, "unmuted", 2), (4097, "muted", 1), (4098, "inverted", 2), (4098, "non-inverted", 1), (4099, "2", 2), (4099, "Mic", 1),
+          (4100, "-600", -600), (4100, "600", 600), (4100, "+5", 5), (4101, "on", True), (4101, "off", False), (4102, "100", 100),
+          (5001, "-128", -128), (5002, "-2147483648", -2**31), (5003, "9223372036854775807", 2**63 - 1), (5004, "65535", 65535),
+          (5005, "4294967295", 2**32 - 1), (5006, "18446744073709551615", 2**64 - 1), (5007, "two words", 1), (5007, "Mic", 3),
+          (5007, "4", 4), (4294967295, "non-inverted", 1)]
+# of a switch the number is printed, and of an integer its digits without a plus
+PRINTED = {"Mic": {4099: "1", 5007: "3"}, "two words": {5007: "1"}, "+5": {4100: "5"}}
+
+
+def sets(checks):
+    """`set`: each class's words, one by one and together; what the device then holds and heard."""
+    for together in (False, True):
+        tree = stagebox()
+        at = {o.ono: o for o in tree}
+        with Served(tree) as device:
+            said = [f"{ono} {PRINTED.get(text, {}).get(ono, text)}\n" for ono, text, _ in VALUES]
+            if together:
+                words = [w for ono, text, _ in VALUES for w in (ono, text)]
+                checks.prints("set of all", device, ["set", *words], "".join(said), 0)
+                writes = [c for c in asked(device) if c[1] in (SET["mute"], (5, 2))]
+                checks.same("set of all: in order", [c[0] for c in writes], [ono for ono, _, _ in VALUES])
+                checks.same("set of all: first what is wanted", asked(device)[-len(VALUES):], writes)
+            else:
+                for (ono, text, state), printed in zip(VALUES, said):
+                    checks.prints(f"set {ono} {text}", device, ["set", ono, text], printed, 0)
+                    checks.same(f"set {ono} {text}: the device", at[ono].state, state)
+    with Served(stagebox()) as device:
+        checks.prints("set by a name", device, ["set", 4099, "Mic"], "4099 1\n", 0)
+        checks.same("set by a name: what it asks", asked(device),
+                    [(4099, CLASS, b""), (4099, NAMES, b""), (4099, SET["switch"], b"\0\1")])
+
+
+def refusals(checks):
+    """Values that a device refuses, by the status's name; words that are for no value, of which nothing is set."""
+    tree = stagebox()
+    tree[2].lock = ("read-only", OTHER)
+    tree[3].lock = ("total", OTHER)
+    before = [(o.ono, o.state) for o in tree]
+    with Served(tree) as device:
+        checks.prints("set: refused", device, ["set", 4097, "unmuted", 4100, 601, 4102, 101, 4099, 3],
+                      "4097 Locked\n4100 ParameterOutOfRange\n4102 ParameterOutOfRange\n4099 ParameterOutOfRange\n", 4)
+        checks.prints("set: the class is locked", device, ["set", 4098, "inverted"], "4098 Locked\n", 4)
+        checks.prints("get: locked", device, ["get", 4097, 4098], "4097 muted\n4098 Locked\n", 4)
+        checks.same("refused: the objects", [(o.ono, o.state) for o in tree], before)
+    for words, printed, status in (
+            ((4097, "loud"), "4097 no such value\n", 2), ((4097, "1"), "4097 no such value\n", 2),
+            ((4098, "on"), "4098 no such value\n", 2), ((4099, "Aux"), "4099 no such value\n", 2),
+            ((4099, "65536"), "4099 no such value\n", 2), ((4100, "32768"), "4100 no such value\n", 2),
+            ((4100, "-32769"), "4100 no such value\n", 2), ((4101, "true"), "4101 no such value\n", 2),
+            ((4102, "-1"), "4102 no such value\n", 2), ((4102, "1.5"), "4102 no such value\n", 2),
+            ((4096, "on"), "4096 no value\n", 4), ((77, "on"), "77 BadONo\n", 4),
+            ((4101, "on", 4097, "loud", 4102, 5), "4097 no such value\n", 2),
+            ((4101, "on", 77, "loud", 4097, "x"), "77 BadONo\n4097 no such value\n", 2)):
+        with Served(stagebox()) as device:
+            checks.prints(f"set {words}", device, ["set", *words], printed, status)
+            checks.same(f"set {words}: nothing is set", {c[1] for c in asked(device)} <= {CLASS, NAMES}, True)
+
+
+def bad_words(checks):
+    """Words that are of no form: a fault, and nothing is sent."""
+    with Served(stagebox()) as device:
+        for command, words in (
+                ("get", ()), ("get", ("x",)), ("get", (4097, "-1")), ("get", ("4294967296",)), ("get", ("00000004097",)),
+                ("set", ()), ("set", (4097,)), ("set", (4097, "muted", 4098)), ("set", ("mute", "muted")), ("set", (4097, "x" * 65)),
+                ("lock", ()), ("unlock", ("all",)), ("tree", (100,)), ("get", (4097, "--turns", "x")), ("get", (4097, "--port", "65536"))):
+            out, said, status = checks.run(device, command, *words)
+            checks.same(f"{command} {words}", (out, said.splitlines()[-1:], said[:6], status), ("", ["bad words"], "note: ", 2))
+        checks.same("bad words: what is heard", device.heard, [])
+
+
+def locks(checks):
+    """`lock` and `unlock`: who holds the lock, and what is refused."""
+    tree = stagebox()
+    with Served(tree) as device:
+        port = free_port()
+        checks.prints("lock", device, ["lock", "--port", port, 4097, 4098], "4097 locked\n4098 locked\n", 0)
+        checks.same("lock: the holder", [o.lock for o in tree[2:4]], [("total", (127, 0, 0, 1, port))] * 2)
+        checks.same("lock: what it asks", asked(device), [(4097, LOCK, b""), (4098, LOCK, b"")])
+        checks.prints("lock: another's", device, ["lock", 4097], "4097 Locked\n", 4)
+        checks.prints("set under another's lock", device, ["set", 4097, "unmuted"], "4097 Locked\n", 4)
+        checks.prints("set under its own lock", device, ["set", "--port", port, 4097, "unmuted"], "4097 unmuted\n", 0)
+        checks.prints("unlock: another's", device, ["unlock", 4097], "4097 Locked\n", 4)
+        checks.prints("unlock", device, ["unlock", "--port", port, 4097, 4098], "4097 unlocked\n4098 unlocked\n", 0)
+        checks.same("unlock: no lock", [o.lock for o in tree[2:4]], [None, None])
+        checks.prints("not lockable, not locked", device, ["lock", 4102], "4102 InvalidRequest\n", 4)
+        checks.prints("not locked", device, ["unlock", 4097], "4097 InvalidRequest\n", 4)
+
+
+def strange_answers(checks):
+    """Devices that answer what no device of the profile does."""
+    mute = oca.u16(4) + b"".join(map(oca.u16, (1, 1, 1, 2, 2)))
+    for answers, words, printed, status in (
+            (lambda t, m: (0, oca.u16(3) + b"".join(map(oca.u16, (1, 2, 9, 2)))), ["get", 4097], "4097 no value\n", 4),
+            (lambda t, m: (0, b"\0\1\0"), ["get", 4097], "4097 unreadable answer\n", 4),
+            (lambda t, m: (0, mute + b"\0"), ["get", 4097], "4097 unreadable answer\n", 4),
+            (lambda t, m: (0, mute if m == CLASS else b"\3"), ["get", 4097], "4097 unreadable answer\n", 4),
+            (lambda t, m: (0, mute[:-1] + b"\7" if m == CLASS else b"\2"), ["get", 4097], "4097 unmuted\n", 0),
+            (lambda t, m: (77, b""), ["get", 4097], "4097 status 77\n", 4),
+            (lambda t, m: (15, b""), ["lock", 4097], "4097 status 15\n", 4),
+            (lambda t, m: (0, mute) if m == CLASS else (10, b""), ["set", 4097, "muted"], "4097 ProcessingFailed\n", 4)):
+        with Strange(answers) as device:
+            checks.prints(f"strange answers to {words}", device, words, printed, status)
+    names = ["OK", "ProtocolVersionError", "DeviceError", "Locked", "BadFormat", "BadONo", "ParameterError", "ParameterOutOfRange",
+             "NotImplemented", "InvalidRequest", "ProcessingFailed", "BadMethod", "PartiallySucceeded", "Timeout", "BufferOverflow"]
+    with Strange(lambda t, m: (t, b"")) as device:
+        checks.prints("names of statuses", device, ["unlock", *range(1, 15)], "".join(f"{n} {names[n]}\n" for n in range(1, 15)), 4)
+
+    def foreign(target, method):
+        """A root block with an object of a class that is not known here, a block of another version, and no role."""
+        block, text = oca.u16(3) + b"\0\1\0\1\0\3\0\2", oca.text_bytes("")
+        if method == CLASS:
+            return 0, {100: block, 4096: oca.u16(5) + b"\0\1\0\1\0\1\xff\xff\0\7\0\3", 4097: block[:-1] + b"\1"}[target]
+        if method == ROLE:
+            return (0, text) if target != 100 else (0, oca.text_bytes("root"))
+        ids = b"".join(n.to_bytes(4, "big") + block for n in (4096, 4097))
+        return (0, oca.u16(2) + ids) if target == 100 else (0, oca.u16(0))
+
+    with Strange(foreign) as device:
+        checks.prints("tree: a class that is not known", device, ["tree"], "100 1.1.3 0 root\n4096 1.1.1.65535.7 100 \n4097 1.1.3 100 \n", 0)
+
+    def endless(target, method):
+        """A root block that is its own member."""
+        block = oca.u16(3) + b"\0\1\0\1\0\3\0\2"
+        return 0, {CLASS: block, ROLE: oca.text_bytes("r"), MEMBERS: oca.u16(1) + (100).to_bytes(4, "big") + block}[method]
+
+    with Strange(endless) as device:
+        printed = "100 1.1.3 0 r\n" + "100 1.1.3 100 r\n" * 4095 + "more than 4096 objects\n"
+        checks.prints("tree: a block in itself", device, ["tree"], printed, 4)
+
+
+def silence(checks):
+    """Nobody answers: each object has its line."""
+    with socket.socket(socket.AF_INET, socket.SOCK_DGRAM) as s:
+        s.bind(("127.0.0.1", 0))  # hears, and never answers
+        port = s.getsockname()[1]
+        checks.prints("get: no answer", port, ["get", "--turns", 2, 4097, 4098], "4097 no answer\n4098 no answer\n", 3)
+        checks.prints("set: no answer", port, ["set", "--turns", 2, 4097, "on"], "4097 no answer\n", 3)
+        checks.prints("tree: lost", port, ["tree"], "100 lost\n", 3)
+        checks.prints("get: no handle is left", port, ["get", "--first-handle", oca.U32, "--turns", 1, 1, 2],
+                      "1 no answer\n2 refused 2 handles-spent\n", 3)
+
+
+def main():
+    checks = Checks(sys.argv[1])
+    for part in (trees, gets, sets, refusals, bad_words, locks, strange_answers, silence):
+        try:
+            part(checks)
+        except (OSError, KeyError, subprocess.TimeoutExpired) as fault:
+            checks.failed += 1
+            print(f"{part.__name__}: {fault!r}")
+    print(f"{checks.passed} passed, {checks.failed} failed")
+    return 1 if checks.failed else 0
+
+
+if __name__ == "__main__":
+    sys.exit(main())
