@@ -2,9 +2,7 @@
 """What the words of the command lines make of a run: `ocadev serve`, `ocactl send` and `ocactl run` over real sockets,
 and the objects that a file lists.
 
-Usage: words.py BIN [more]     BIN is the folder with `ocadev` and `ocactl`
-
-With `more`: `serve` until it is stopped, and trees that are read from files. That part is not in the gate yet.
+Usage: words.py BIN     BIN is the folder with `ocadev` and `ocactl`
 
 A device of this script hears what `ocactl` sends, byte for byte, and from which port; a controller of this script speaks to `ocadev
 serve` and compares the counts at the end, each of another number. The last line is 'N passed, M failed'."""
@@ -345,9 +343,7 @@ def trees(checks):
 
 def main():
     checks = Checks(sys.argv[1])
-    more = (serves_until_stopped, trees)
-    parts = (sends, runs, runs_ahead, typed, own_ports, limits, defaults, faults, unwritten, serves)
-    for part in more if sys.argv[2:] == ["more"] else parts:
+    for part in (sends, runs, runs_ahead, typed, own_ports, limits, defaults, faults, unwritten, serves, serves_until_stopped, trees):
         try:
             part(checks)
         except (OSError, TypeError, subprocess.TimeoutExpired) as fault:  # nothing came, or other words than those that were waited for
