@@ -1,5 +1,6 @@
 -- Reports of rounds, one after another.
-use Rattle.std.proofs.Common.{◌≡◌, ℕ, ◌+◌, false, true, [], refl, sym, ap, ◌∙◌, arith}
+use Rattle.std.proofs.Common.{◌≡◌, ℕ, ◌+◌, ◌≤◌, false, true, [], refl, sym, ap, ◌∙◌, arith}
+use Rattle.oca_net.specs.Ends.{last_u64}
 use Rattle.oca_net.specs.EndStates.{EndState}
 use Rattle.oca_device.specs.declared.report.Report.{Report}
 use Rattle.oca_device.specs.Devices.{DeviceState}
@@ -35,3 +36,10 @@ on-more a b c e f g p r s h k is = record {
   serves = (with_more (with-silent a b e f h.report h.serves) (with-silent b c f g r k)).serves;
   prints = is ∙ ap (λ (q : Report). capped (added q r)) h.prints ∙ capped-more h.report r;
 }
+
+cap-fits : (a b t n : ℕ) → a ≡ t → b ≡ n → t + n ≤ last_u64 → cap (a + b) ≡ t + n
+cap-fits a b t n is more fits = omega arith
+
+-- after so many turns, and so many more
+pub turns-more : (t n : ℕ) (p r s : Report) → s ≡ capped (added p r) → p.turns ≡ t → r.turns ≡ n → t + n ≤ last_u64 → s.turns ≡ t + n
+turns-more t n p r s is had more fits = ap (λ (q : Report). q.turns) is ∙ cap-fits p.turns r.turns t n had more fits

@@ -1,5 +1,6 @@
 //! Serving an end until it is stopped, and turn by turn with a line for each datagram.
-ghost use Rattle.std.specs.Prelude.{◌≡◌};
+ghost use Rattle.std.specs.Prelude.{◌≡◌, ◌≤◌, ◌<◌, IsTrue};
+ghost use Rattle.oca_net.specs.Ends.{last_u64};
 ghost use Rattle.oca_device.specs.Reports.{added, no_turns};
 ghost use Rattle.ocadev.specs.Totals.{ServesOn, capped};
 
@@ -13,7 +14,9 @@ const ROUNDS: u64 = 4_294_967_297;
 
 /// Serves an end for 2^64 - 1 turns, which no run comes to, or until it is closed.
 pub fn serve_on<E: End>(device: &mut Device, end: &mut E, outbox: &mut Outbox) -> Report
-    ensures { ServesOn device.old device.new (E.state end.old) (E.state end.new) result }
+    ensures served { ServesOn device.old device.new (E.state end.old) (E.state end.new) result }
+    ensures turns { result.turns ≤ last_u64 }
+    ensures closed { result.turns < last_u64 → IsTrue (E.state end.new).closed }
 {
     let mut report = nothing();
     for _round in 0..ROUNDS {
@@ -36,7 +39,9 @@ pub fn serve_traced<E: End, F: Sink>(
     turns: u64,
     faults: &mut Printer<F>,
 ) -> Report
-    ensures { ServesOn device.old device.new (E.state end.old.end) (E.state end.new.end) result }
+    ensures served { ServesOn device.old device.new (E.state end.old.end) (E.state end.new.end) result }
+    ensures turns { result.turns ≤ turns }
+    ensures closed { result.turns < turns → IsTrue (E.state end.new.end).closed }
 {
     let mut report = nothing();
     for _turn in 0..turns {
