@@ -94,7 +94,8 @@ static inline struct oca_name oca_name_of(const char *text) {
 /* A switch with 1 to 16 positions, all enabled, and the one that it stands at, counted from 0. */
 uint32_t oca_device_add_switch(struct oca_device *device, uint32_t container, uint32_t ono, const uint8_t *role, size_t role_len, bool lockable, const struct oca_name *names, size_t names_len, uint16_t position);
 
-/* Starts the device, with reply windows of this size (1 to 64; 32 is usual) and sessions of so many peers (1 to 64; 16 is usual). */
+/* Starts the device, with reply windows of this size (1 to 64; 32 is usual) and sessions of so many peers (1 to 64; 16 is usual).
+ * OCA_NO_MEMORY loses the objects: close the struct, and begin anew. */
 uint32_t oca_device_start(struct oca_device *device, uint8_t window, uint8_t peers);
 
 /* What became of a datagram. `kind` is 0 for one that was served, with how many of its commands were executed, were duplicates, were

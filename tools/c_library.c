@@ -273,6 +273,7 @@ static void device(void) {
     same("65 peers", oca_device_start(&d, 32, 65), OCA_BAD_SIZE);
     same("start", oca_device_start(&d, 32, 16), OCA_DONE);
     same("start again", oca_device_start(&d, 32, 16), OCA_STARTED);
+    same("a window of 0 after the start", oca_device_start(&d, 0, 16), OCA_BAD_SIZE);
     same("an addition after the start", oca_device_add_block(&d, 100, 5000, text("late"), 4, true), OCA_STARTED);
     same("a switch after the start", oca_device_add_switch(&d, 100, 5000, text("late"), 4, true, positions, 3, 0), OCA_STARTED);
     same("no session to lapse", oca_device_next_lapse(&d, &moment), OCA_NOTHING);
@@ -295,6 +296,9 @@ static void device(void) {
     same("the first word", words[0], 0);
     same("the second word", words[1], 0);
     same("tick", oca_device_tick(&d, 1000), OCA_DONE);
+    same("front", oca_device_set_state(&d, 4097, 1), OCA_DONE);
+    same("packets after them", oca_device_packets(&d, &size), OCA_DONE);
+    same("the last datagram's", (uint32_t)size, 1);
     same("setting", oca_device_setting(&d, 4103, &s), OCA_DONE);
     same("a number", s.kind, 4);
     same("a negative one", s.negative, 1);

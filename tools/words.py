@@ -108,7 +108,7 @@ def runs_ahead(checks):
 
 
 def own_ports(checks):
-    """`run` without a port is at 65001, or at another where that is in use; its first handle is the clock's."""
+    """`run` and `lock` without a port are at 65001, or at another where that is in use; the first handle is the clock's."""
     for taken in (False, True):
         with bound() as device, contextlib.ExitStack() as more:
             if taken:
@@ -124,6 +124,11 @@ def own_ports(checks):
             device.sendto(response(handle, 0, 0, b""), sender)
             out = run.communicate(timeout=30)
             checks.same("run: an answer", (*out, run.returncode), ("answer 0 0 -\n", "", 0))
+            run = checks.start("ocactl", "lock", "--device", f"127.0.0.1:{device.getsockname()[1]}", 4097)
+            data, sender = device.recvfrom(2000)
+            checks.same("lock: its own port", sender[1] == 65001, not taken)
+            device.sendto(response(int.from_bytes(data[14:18], "big"), 0, 0, b""), sender)
+            checks.same("lock: what it prints", (*run.communicate(timeout=30), run.returncode), ("4097 locked\n", "", 0))
 
 
 def faults(checks):
@@ -283,6 +288,24 @@ def serves_until_stopped(checks):
     run.terminate()
     out, fault = run.communicate(timeout=30)
     checks.same("serve: stopped by a signal", (out, fault, run.returncode), ("", "", -15))
+    run = checks.start("ocadev", "serve", "--port", 0, "--window", 1, "--verbose")
+    port = int(run.stderr.readline().split(":")[1])
+    with bound() as peer:
+        told = []
+        for handle in (1, 2, 1):
+            peer.sendto(oca.pdu(1, [oca.Command(handle, 4097, 4, 1, 0, b"").body()]), ("127.0.0.1", port))
+            told.append(run.stderr.readline().split(" ", 1)[1])
+        checks.same("serve --verbose: an old command", told, ["served 1 0 0\n", "served 1 0 0\n", "served 0 0 1\n"])
+    run.kill()
+    run = checks.start("ocadev", "serve", "--port", 0)
+    port = int(run.stderr.readline().split(":")[1])
+    with bound() as peer:
+        for handle in range(1, 3001):
+            peer.sendto(oca.pdu(1, [oca.Command(handle, 4097, 4, 1, 0, b"").body()]), ("127.0.0.1", port))
+            checks.failed += not select.select([peer], [], [], 5)[0] or len(peer.recv(2000)) != 21
+    checks.same("serve: it goes on after 3,000 turns", run.poll(), None)
+    run.terminate()
+    checks.same("serve: stopped by a signal", (*run.communicate(timeout=30), run.returncode), ("", "", -15))
     for turns in (0, 3):
         out, fault = checks.start("ocadev", "serve", "--port", 0, "--turns", turns, "--verbose").communicate(timeout=30)
         checks.same(f"serve --verbose --turns {turns}", (out.split()[:2], out.split()[16:18], len(fault.splitlines())),
@@ -317,7 +340,8 @@ def trees(checks):
     r = random.Random(1)
     with tempfile.TemporaryDirectory() as folder:
         path = f"{folder}/objects.tree"
-        texts = [(EXAMPLES / "stagebox.tree").read_bytes(), b""]
+        long = b"".join(b"%d 100 mute muted lockable mute\n# %s\n" % (4096 + n, b"-" * (n % 90)) for n in range(127))
+        texts = [(EXAMPLES / "stagebox.tree").read_bytes(), b"", long, long.replace(b"4190 100", b"4190 101")]
         for _ in range(300):
             onos = []
             lines = [b"4096 100 block lockable desk"] * r.randrange(2) + [listed_line(r, onos) for _ in range(r.choice([1, 2, 5, 9, 12]))]
@@ -336,6 +360,11 @@ def trees(checks):
                               timeout=30)
         said, packets = oca.Device(oca.tree_of_text(texts[0])).datagram((127, 0, 0, 1, 9001), get, 0)
         checks.same("replay --tree", done.stdout.decode(), f"{said}\n> {packets[0].hex()}\n")
+        comments = (b"#" * 127 + b"\n") * (2**24 // 128)
+        for text, fault, code in ((comments, "", 0), (comments + b"\n", "too much input\n", 1)):
+            Path(path).write_bytes(text)
+            done = subprocess.run([f"{checks.folder}/ocadev", "show", "--tree", path], capture_output=True, text=True, timeout=60)
+            checks.same(f"show --tree of {len(text)} bytes", (done.stdout, done.stderr, done.returncode), ("" if fault else "100 1.1.3 0 root\n", fault, code))
         for words, fault, code in ((["--tree", path, "--channels", "1"], "bad words", 2), (["--tree", f"{folder}/none"], "read failed", 1)):
             done = subprocess.run([f"{checks.folder}/ocadev", "show", *words], capture_output=True, text=True, timeout=30)
             checks.same(f"show {words}", (done.stdout, done.stderr.splitlines()[-1:], done.stderr[:6], done.returncode), ("", [fault], "note: ", code))

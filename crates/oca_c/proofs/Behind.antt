@@ -26,7 +26,7 @@ starts_behind old new u u' number answer window peers o n e k B h = rw (o, n, e)
   where
     told : Starts answer u u' window peers B.list → HandleStarts (answer_number answer) (Some u) (Some u') window peers B.list
     told (inl (is, w, p, runs)) = inl (rw is refl, w, p, runs)
-    told (inr (inl (is, w, p))) = inr (inl (rw is refl, w, p))
+    told (inr (inl (is, w, p, spent))) = inr (inl (rw is refl, w, p, spent))
     told (inr (inr (is, bad, same))) = inr (inr (rw is refl, bad, rw same refl))
 
 -- an addition of a switch, once its names were read

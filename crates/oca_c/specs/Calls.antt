@@ -47,20 +47,27 @@ HandleRuns w behind tree events = IsSomeAnd behind (λ b. Runs w b tree events)
 abbrev pub HasPackets : Option DeviceBehind → List (List ℕ) → Type 0
 HasPackets behind packets = IsSomeAnd behind (λ b. b.outbox ≡ packets)
 
+-- the packets that wait stay
+abbrev pub KeepsPackets : Option DeviceBehind → Option DeviceBehind → Type 0
+KeepsPackets old new = (packets : List (List ℕ)) → HasPackets old packets → HasPackets new packets
+
 -- ---- refusals
 
 -- what is closed refuses, and stays closed
 abbrev pub RefusesClosed : {X : Type 0} → Option X → Option X → ℕ → Type 0
 RefusesClosed old new number = old ≡ None → (number ≡ 9) × (new ≡ None)
 
--- before the start there is no device yet
+-- where there is no device, as before the start, nothing is asked of one
 abbrev pub RefusesBuilding : Option DeviceBehind → Option DeviceBehind → ℕ → Type 0
-RefusesBuilding old new number = (built : Store) → HandleBuilds old built → (number ≡ 11) × (new ≡ old)
+RefusesBuilding old new number = IsSomeAnd old (λ b. b.device ≡ None) → (number ≡ 11) × (new ≡ old)
 
--- after it the tree is fixed
+-- where no tree is being built, as after the start, nothing is added to one and none is started
 abbrev pub RefusesRunning : Option DeviceBehind → Option DeviceBehind → ℕ → Type 0
-RefusesRunning old new number =
-    (w : DeviceSizes) (tree : List Object) (events : List Event) → HandleRuns w old tree events → (number ≡ 12) × (new ≡ old)
+RefusesRunning old new number = IsSomeAnd old (λ b. b.builder ≡ None) → (number ≡ 12) × (new ≡ old)
+
+-- a start after the start changes nothing, whatever it asks for
+abbrev pub KeepsRunning : Option DeviceBehind → Option DeviceBehind → Type 0
+KeepsRunning old new = IsSomeAnd old (λ b. b.builder ≡ None) → new ≡ old
 
 -- ---- opening and starting
 
@@ -82,18 +89,22 @@ Opens number new room =
 abbrev pub IsSize : ℕ → Type 0
 IsSize size = (1 ≤ size) × (size ≤ 64)
 
--- A device is started with the objects; or not, for want of memory, or where a size is none, which changes nothing.
+-- the objects are gone, and there is no device: neither is there before the struct is closed and opened again
+abbrev pub IsSpent : DeviceBehind → Type 0
+IsSpent behind = (behind.builder ≡ None) × (behind.device ≡ None)
+
+-- A device is started with the objects; or not, for want of memory, which loses them, or where a size is none, which changes nothing.
 abbrev pub Starts : Answer → DeviceBehind → DeviceBehind → ℕ → ℕ → List Object → Type 0
 Starts answer old new window peers tree =
     ((answer ≡ answers.Done) × IsSize window × IsSize peers × Runs (record { window = window; peers = peers }) new tree [])
-    ⊎ (((answer ≡ answers.NoMemory) × IsSize window × IsSize peers)
+    ⊎ (((answer ≡ answers.NoMemory) × IsSize window × IsSize peers × IsSpent new)
     ⊎ ((answer ≡ answers.BadSize) × (IsSize window → IsSize peers → ⊥) × (new ≡ old)))
 
 -- the same behind an open handle
 abbrev pub HandleStarts : ℕ → Option DeviceBehind → Option DeviceBehind → ℕ → ℕ → List Object → Type 0
 HandleStarts number old new window peers tree =
     ((number ≡ 0) × IsSize window × IsSize peers × HandleRuns (record { window = window; peers = peers }) new tree [])
-    ⊎ (((number ≡ 8) × IsSize window × IsSize peers)
+    ⊎ (((number ≡ 8) × IsSize window × IsSize peers × IsSomeAnd new IsSpent)
     ⊎ ((number ≡ 15) × (IsSize window → IsSize peers → ⊥) × (new ≡ old)))
 
 -- ---- additions

@@ -81,10 +81,10 @@ FitsReading (settings.Position position) = Unit {0}
 FitsReading (settings.Truth truth) = Unit {0}
 FitsReading (settings.Number setting least greatest) = nat_abs setting < 2 ^ 64
 
--- A setting is told; or that there is none.
+-- A setting is told; or that it does not fit, or that there is none.
 abbrev pub TellsSetting : Option Setting → Reading → ℕ → Type 0
 TellsSetting None reading number = number ≡ 13
-TellsSetting (Some setting) reading number = FitsReading setting → (number ≡ 0) × (reading ≡ reading_of setting)
+TellsSetting (Some setting) reading number = ((number ≡ 0) × (reading ≡ reading_of setting)) ⊎ ((number ≡ 14) × (FitsReading setting → ⊥))
 
 -- what is told of when a clock reading next changes something: the moment; or that there is none within 64 bits
 abbrev pub TellsNextLapse : DeviceSizes → State → ℕ → ℕ → Type 0

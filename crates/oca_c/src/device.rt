@@ -110,6 +110,8 @@ impl DeviceBehind {
     pub fn start(&mut self, alloc: Global, window: u8, peers: u8) -> Answer
         ensures starts { (B : Store) → Builds self.old B → Starts result self.old self.new window peers B.list }
         ensures started { IsSize window → IsSize peers → self.old.builder ≡ None → (result ≡ Started) × (self.new ≡ self.old) }
+        ensures running { self.old.builder ≡ None → self.new ≡ self.old }
+        ensures packets { self.new.outbox ≡ self.old.outbox }
     {
         let Some(window) = Window::new(window) else {
             return Answer::BadSize;
@@ -151,6 +153,7 @@ impl DeviceBehind {
     pub fn tick(&mut self, now: u64) -> Answer
         ensures serves { (w : DeviceSizes) (T : List Object) (E : List Event) → Runs w self.old T E →
             Runs w self.new T (Tick now ∷ E) × (result ≡ Done) }
+        ensures packets { self.new.outbox ≡ self.old.outbox }
         ensures building { self.old.device ≡ None → (result ≡ NotStarted) × (self.new ≡ self.old) }
     {
         let Some(device) = &mut self.device else {
@@ -183,6 +186,7 @@ impl DeviceBehind {
         ensures sets { (w : DeviceSizes) (T : List Object) (E : List Event) → Runs w self.old T E →
             Runs w self.new T (Local ono value ∷ E)
             × (result ≡ set_answers (set_fault (state_after w T E).tree ono value)) }
+        ensures packets { self.new.outbox ≡ self.old.outbox }
         ensures building { self.old.device ≡ None → (result ≡ NotStarted) × (self.new ≡ self.old) }
     {
         let Some(device) = &mut self.device else {

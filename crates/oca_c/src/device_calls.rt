@@ -7,7 +7,7 @@ ghost use Rattle.oca_device.specs.Events.{Event, Datagram as DatagramEvent, Tick
 ghost use Rattle.oca_device.specs.States.{state_after};
 ghost use Rattle.oca_device.specs.Answers.{packets, verdict};
 ghost use Rattle.oca_device.specs.Written.{written};
-ghost use Rattle.oca_c.specs.Calls.{HandleBuilds, HandleRuns, HandleStarts, HasPackets, IsSize, Opens, RefusesBuilding, RefusesClosed, RefusesRunning};
+ghost use Rattle.oca_c.specs.Calls.{HandleBuilds, HandleRuns, HandleStarts, HasPackets, IsSize, KeepsPackets, KeepsRunning, Opens, RefusesBuilding, RefusesClosed, RefusesRunning};
 ghost use Rattle.oca_c.specs.Told.{TellsNextLapse, TellsWords, put_words, verdict_words};
 
 use crate::answer::Answer;
@@ -59,6 +59,8 @@ pub extern "C" fn oca_device_start(
 ) -> u32
     ensures closed { RefusesClosed handle.old.slot.inner handle.new.slot.inner result }
     ensures started { IsSize window → IsSize peers → RefusesRunning handle.old.slot.inner handle.new.slot.inner result }
+    ensures running { KeepsRunning handle.old.slot.inner handle.new.slot.inner }
+    ensures packets { KeepsPackets handle.old.slot.inner handle.new.slot.inner }
     ensures starts { (B : Store) → HandleBuilds handle.old.slot.inner B → HandleStarts result handle.old.slot.inner handle.new.slot.inner window peers B.list }
 {
     let Some(mut behind) = handle.take(alloc) else {
@@ -101,6 +103,7 @@ pub extern "C" fn oca_device_datagram_words(
 pub extern "C" fn oca_device_tick(alloc: Global, handle: &mut DeviceHandle, now: u64) -> u32
     ensures closed { RefusesClosed handle.old.slot.inner handle.new.slot.inner result }
     ensures building { RefusesBuilding handle.old.slot.inner handle.new.slot.inner result }
+    ensures packets { KeepsPackets handle.old.slot.inner handle.new.slot.inner }
     ensures serves { (w : DeviceSizes) (T : List Object) (E : List Event) → HandleRuns w handle.old.slot.inner T E →
         HandleRuns w handle.new.slot.inner T (Tick now ∷ E) × (result ≡ 0) }
 {

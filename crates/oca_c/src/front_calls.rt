@@ -1,7 +1,7 @@
 //! What C calls to set the objects of a device at its own front.
 ghost use Rattle.std.specs.Prelude.{pos};
 ghost use Rattle.oca_tree.specs.declared.setting.LocalValue.TheVariants as values;
-ghost use Rattle.oca_c.specs.Calls.{HandleSets, RefusesBuilding, RefusesClosed};
+ghost use Rattle.oca_c.specs.Calls.{HandleSets, KeepsPackets, RefusesBuilding, RefusesClosed};
 
 use crate::answer::Answer;
 use crate::device_handle::DeviceHandle;
@@ -12,6 +12,7 @@ use std::alloc::Global;
 fn set(alloc: Global, handle: &mut DeviceHandle, ono: u32, value: LocalValue) -> u32
     ensures closed { RefusesClosed handle.old.slot.inner handle.new.slot.inner result }
     ensures building { RefusesBuilding handle.old.slot.inner handle.new.slot.inner result }
+    ensures packets { KeepsPackets handle.old.slot.inner handle.new.slot.inner }
     ensures sets { HandleSets result handle.old.slot.inner handle.new.slot.inner ono value }
 {
     let Some(mut behind) = handle.take(alloc) else {
@@ -32,6 +33,7 @@ pub extern "C" fn oca_device_set_state(
 ) -> u32
     ensures closed { RefusesClosed handle.old.slot.inner handle.new.slot.inner result }
     ensures building { RefusesBuilding handle.old.slot.inner handle.new.slot.inner result }
+    ensures packets { KeepsPackets handle.old.slot.inner handle.new.slot.inner }
     ensures sets { HandleSets result handle.old.slot.inner handle.new.slot.inner ono (values.State state) }
 {
     set(alloc, handle, ono, LocalValue::State(state))
@@ -47,6 +49,7 @@ pub extern "C" fn oca_device_set_position(
 ) -> u32
     ensures closed { RefusesClosed handle.old.slot.inner handle.new.slot.inner result }
     ensures building { RefusesBuilding handle.old.slot.inner handle.new.slot.inner result }
+    ensures packets { KeepsPackets handle.old.slot.inner handle.new.slot.inner }
     ensures sets { HandleSets result handle.old.slot.inner handle.new.slot.inner ono (values.Position position) }
 {
     set(alloc, handle, ono, LocalValue::Position(position))
@@ -62,6 +65,7 @@ pub extern "C" fn oca_device_set_truth(
 ) -> u32
     ensures closed { RefusesClosed handle.old.slot.inner handle.new.slot.inner result }
     ensures building { RefusesBuilding handle.old.slot.inner handle.new.slot.inner result }
+    ensures packets { KeepsPackets handle.old.slot.inner handle.new.slot.inner }
     ensures sets { HandleSets result handle.old.slot.inner handle.new.slot.inner ono (values.Truth truth) }
 {
     set(alloc, handle, ono, LocalValue::Truth(truth))
@@ -77,6 +81,7 @@ pub extern "C" fn oca_device_set_signed(
 ) -> u32
     ensures closed { RefusesClosed handle.old.slot.inner handle.new.slot.inner result }
     ensures building { RefusesBuilding handle.old.slot.inner handle.new.slot.inner result }
+    ensures packets { KeepsPackets handle.old.slot.inner handle.new.slot.inner }
     ensures sets { HandleSets result handle.old.slot.inner handle.new.slot.inner ono (values.Number number) }
 {
     set(alloc, handle, ono, LocalValue::Number(i128::from(number)))
@@ -92,6 +97,7 @@ pub extern "C" fn oca_device_set_unsigned(
 ) -> u32
     ensures closed { RefusesClosed handle.old.slot.inner handle.new.slot.inner result }
     ensures building { RefusesBuilding handle.old.slot.inner handle.new.slot.inner result }
+    ensures packets { KeepsPackets handle.old.slot.inner handle.new.slot.inner }
     ensures sets { HandleSets result handle.old.slot.inner handle.new.slot.inner ono (values.Number (pos number)) }
 {
     set(alloc, handle, ono, LocalValue::Number(i128::from(number)))
