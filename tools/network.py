@@ -141,6 +141,11 @@ def refused_sends(checks):
         counts = dict(zip(out.split()[::2], map(int, out.split()[1::2])))
         checks.same(f"error {number}: counts", [counts[name] for name in ("executed", "kept", "failed-sends")], [1, 1, 1])
         checks.expect(f"error {number}: a note", re.fullmatch(r"note: failed sends: 1, the last: .+\n", told), told)
+    run, port = checks.serve(30, "--verbose", FAIL_SEND=1, ERRNO=errno.EPERM)
+    with bound() as peer:
+        checks.same("--verbose: the answer to a copy", answer(peer, get_command(5), ("127.0.0.1", port))[0], response(5))
+    told = run.communicate(timeout=60)[1].splitlines()
+    checks.expect("--verbose: the failed send, and a note", "failed-sends 1" in told[0] and told[-1].startswith("note: failed sends: 1, the last: "), told)
 
 
 def a_stalled_neighbour(checks):

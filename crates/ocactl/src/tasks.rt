@@ -1,6 +1,8 @@
 //! The commands for hands: what they take, and what their words say.
-ghost use Rattle.std.specs.Prelude.{◌≡◌};
+ghost use Rattle.std.specs.Prelude.{◌≡◌, codes};
 ghost use Rattle.std.specs.Option.{option_map};
+ghost use Rattle.oca_script.specs.Fields.{number_of};
+ghost use Rattle.oca_program.specs.Options.{given, read_or};
 ghost use Rattle.ocactl.specs.Hands.{ono_said};
 
 use super::hands::Pair;
@@ -139,8 +141,10 @@ pub fn is_task(name: &str) -> bool {
     matches!(name, "tree" | "get" | "set" | "lock" | "unlock")
 }
 
-/// How often a command waits for its answer.
-pub fn turns_of(words: &ArgMatches<'_>) -> Option<u32> {
+/// How many turns a command waits for its answer: 200 unless said.
+pub fn turns_of(words: &ArgMatches<'_>) -> Option<u32>
+    ensures { result ≡ read_or 200 (number_of 10 4294967295) (given words.now (codes "turns")) }
+{
     match number_or(words, "turns", 10, 4294967295, 200) {
         Some(turns) => Some(turns as u32),
         None => None,
