@@ -99,7 +99,13 @@ fn refusals_of_the_worked_examples(rt: HostRuntime) -> Result<(), Fail> {
         (0, &[]),
         Status::InvalidRequest,
     );
+    Ok(())
+}
 
+/// What comes first where more than one status applies.
+#[test]
+fn the_first_status_that_applies(rt: HostRuntime) -> Result<(), Fail> {
+    let mut tree = bench(rt.alloc())?;
     // the lock state is read by no method of the profile
     sets(&rt, &mut tree, 4097, (1, 7), (0, &[]), Status::BadMethod);
     // a wrong count of parameters comes before what cannot be locked or taken off

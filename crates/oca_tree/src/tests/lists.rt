@@ -103,65 +103,35 @@ fn shows(
 fn the_objects_of_the_bench_device(rt: HostRuntime) -> Result<(), Fail> {
     let tree = bench(rt.alloc())?;
     assert_eq!(rt; tree.len(), 8);
-    shows(&rt, &tree, 0, 100, (Class::Block, &[1, 1, 3]), 0, "root");
-    shows(&rt, &tree, 1, 4096, (Class::Block, &[1, 1, 3]), 100, "desk");
-    shows(
-        &rt,
-        &tree,
-        2,
-        4097,
-        (Class::Mute, &[1, 1, 1, 2]),
-        4096,
-        "mute",
-    );
-    shows(
-        &rt,
-        &tree,
-        3,
-        4098,
-        (Class::Polarity, &[1, 1, 1, 3]),
-        4096,
-        "polarity",
-    );
-    shows(
-        &rt,
-        &tree,
-        4,
-        4099,
-        (Class::Switch, &[1, 1, 1, 4]),
-        4096,
-        "input",
-    );
-    shows(
-        &rt,
-        &tree,
-        5,
-        4100,
-        (Class::Int16, &[1, 1, 1, 1, 3]),
-        4096,
-        "trim",
-    );
-    shows(
-        &rt,
-        &tree,
-        6,
-        4101,
-        (Class::Boolean, &[1, 1, 1, 1, 1]),
-        4096,
-        "lamp",
-    );
-    shows(
-        &rt,
-        &tree,
-        7,
-        4102,
-        (Class::Uint8, &[1, 1, 1, 1, 6]),
-        4096,
-        "dim",
-    );
+    let block: &[u16] = &[1, 1, 3];
+    shows(&rt, &tree, 0, 100, (Class::Block, block), 0, "root");
+    shows(&rt, &tree, 1, 4096, (Class::Block, block), 100, "desk");
     assert!(rt; tree.object_at(8).is_none());
     assert_eq!(rt; tree.setting_of(Ono(100)), None);
     assert_eq!(rt; tree.setting_of(Ono(4095)), None);
+    Ok(())
+}
+
+/// What is read of each object on the desk of the bench device.
+#[test]
+fn the_objects_on_the_desk(rt: HostRuntime) -> Result<(), Fail> {
+    let tree = bench(rt.alloc())?;
+    let mute: &[u16] = &[1, 1, 1, 2];
+    let polarity: &[u16] = &[1, 1, 1, 3];
+    let switch: &[u16] = &[1, 1, 1, 4];
+    let int16: &[u16] = &[1, 1, 1, 1, 3];
+    let boolean: &[u16] = &[1, 1, 1, 1, 1];
+    let uint8: &[u16] = &[1, 1, 1, 1, 6];
+    for (place, ono, class, fields, role) in [
+        (2, 4097, Class::Mute, mute, "mute"),
+        (3, 4098, Class::Polarity, polarity, "polarity"),
+        (4, 4099, Class::Switch, switch, "input"),
+        (5, 4100, Class::Int16, int16, "trim"),
+        (6, 4101, Class::Boolean, boolean, "lamp"),
+        (7, 4102, Class::Uint8, uint8, "dim"),
+    ] {
+        shows(&rt, &tree, place, ono, (class, fields), 4096, role);
+    }
     Ok(())
 }
 

@@ -44,27 +44,43 @@ fn locks_of_two_peers(rt: HostRuntime) -> Result<(), Fail> {
     Ok(())
 }
 
+/// A lock that keeps others from reading too.
+fn total(holder: Peer) -> Lock {
+    Lock {
+        kind: LockKind::Total,
+        holder,
+    }
+}
+
+/// A lock that keeps others from writing.
+fn readonly(holder: Peer) -> Lock {
+    Lock {
+        kind: LockKind::Readonly,
+        holder,
+    }
+}
+
 /// What is left of the lock of 4097 after a call of A, and the call's status.
 fn lock_after(
     rt: &impl Abort,
     alloc: Global,
-    before: Option<(LockKind, Peer)>,
+    before: Option<Lock>,
     method: (u16, u16),
     params: (u8, &[u8]),
     want: (Status, Option<Lock>),
 ) -> Result<(), AddFault> {
     let mut tree = bench(alloc)?;
-    if let Some((kind, peer)) = before {
-        let lock = match kind {
+    if let Some(lock) = before {
+        let locks = match lock.kind {
             LockKind::Total => LOCK_TOTAL,
             LockKind::Readonly => LOCK_READONLY,
         };
         gives(
             rt,
             &mut tree,
-            peer,
+            lock.holder,
             4097,
-            lock,
+            locks,
             (0, &[]),
             (Status::Ok, 0, &[]),
         );
@@ -86,108 +102,53 @@ fn lock_after(
     Ok(())
 }
 
-/// Both kinds of lock against each access, for the holder and for another peer.
+/// Both kinds of lock against reading and writing, for the holder and for another peer.
 #[test]
 fn each_lock_meets_each_access(rt: HostRuntime) -> Result<(), Fail> {
-    let total = |holder: Peer| Lock {
-        kind: LockKind::Total,
-        holder,
-    };
-    let readonly = |holder: Peer| Lock {
-        kind: LockKind::Readonly,
-        holder,
-    };
-    let read: ((u16, u16), (u8, &[u8])) = (GET_STATE, (0, &[]));
-    let write: ((u16, u16), (u8, &[u8])) = (SET_STATE, (1, &[2]));
-    let alloc = rt.alloc();
-
-    for (method, params) in [read, write] {
-        lock_after(&rt, alloc, None, method, params, (Status::Ok, None))?;
-        let own = Some((LockKind::Total, A));
-        lock_after(
-            &rt,
-            alloc,
-            own,
-            method,
-            params,
-            (Status::Ok, Some(total(A))),
-        )?;
-        let own = Some((LockKind::Readonly, A));
-        lock_after(
-            &rt,
-            alloc,
-            own,
-            method,
-            params,
-            (Status::Ok, Some(readonly(A))),
-        )?;
-        let other = Some((LockKind::Total, B));
-        lock_after(
-            &rt,
-            alloc,
-            other,
-            method,
-            params,
-            (Status::Locked, Some(total(B))),
-        )?;
+    for (before, reads, writes) in [
+        (None, Status::Ok, Status::Ok),
+        (Some(total(A)), Status::Ok, Status::Ok),
+        (Some(readonly(A)), Status::Ok, Status::Ok),
+        (Some(total(B)), Status::Locked, Status::Locked),
+        (Some(readonly(B)), Status::Ok, Status::Locked),
+    ] {
+        let alloc = rt.alloc();
+        lock_after(&rt, alloc, before, GET_STATE, (0, &[]), (reads, before))?;
+        lock_after(&rt, alloc, before, SET_STATE, (1, &[2]), (writes, before))?;
     }
-    let other = Some((LockKind::Readonly, B));
-    lock_after(
-        &rt,
-        alloc,
-        other,
-        read.0,
-        read.1,
-        (Status::Ok, Some(readonly(B))),
-    )?;
-    lock_after(
-        &rt,
-        alloc,
-        other,
-        write.0,
-        write.1,
-        (Status::Locked, Some(readonly(B))),
-    )?;
+    Ok(())
+}
 
+/// Both kinds of lock against locking, for the holder, who changes the kind, and for another peer.
+#[test]
+fn each_lock_meets_locking(rt: HostRuntime) -> Result<(), Fail> {
     for (method, lock) in [(LOCK_TOTAL, total(A)), (LOCK_READONLY, readonly(A))] {
-        lock_after(&rt, alloc, None, method, (0, &[]), (Status::Ok, Some(lock)))?;
-        let own = Some((LockKind::Total, A));
-        lock_after(&rt, alloc, own, method, (0, &[]), (Status::Ok, Some(lock)))?;
-        let own = Some((LockKind::Readonly, A));
-        lock_after(&rt, alloc, own, method, (0, &[]), (Status::Ok, Some(lock)))?;
+        for (before, status, after) in [
+            (None, Status::Ok, Some(lock)),
+            (Some(total(A)), Status::Ok, Some(lock)),
+            (Some(readonly(A)), Status::Ok, Some(lock)),
+            (Some(total(B)), Status::Locked, Some(total(B))),
+            (Some(readonly(B)), Status::Locked, Some(readonly(B))),
+        ] {
+            let alloc = rt.alloc();
+            lock_after(&rt, alloc, before, method, (0, &[]), (status, after))?;
+        }
     }
-    let unlock = UNLOCK;
-    lock_after(
-        &rt,
-        alloc,
-        None,
-        unlock,
-        (0, &[]),
-        (Status::InvalidRequest, None),
-    )?;
-    let own = Some((LockKind::Total, A));
-    lock_after(&rt, alloc, own, unlock, (0, &[]), (Status::Ok, None))?;
-    let own = Some((LockKind::Readonly, A));
-    lock_after(&rt, alloc, own, unlock, (0, &[]), (Status::Ok, None))?;
-    for method in [LOCK_TOTAL, LOCK_READONLY, unlock] {
-        let other = Some((LockKind::Total, B));
-        lock_after(
-            &rt,
-            alloc,
-            other,
-            method,
-            (0, &[]),
-            (Status::Locked, Some(total(B))),
-        )?;
-        let other = Some((LockKind::Readonly, B));
-        lock_after(
-            &rt,
-            alloc,
-            other,
-            method,
-            (0, &[]),
-            (Status::Locked, Some(readonly(B))),
-        )?;
+    Ok(())
+}
+
+/// Both kinds of lock against unlocking, for the holder and for another peer.
+#[test]
+fn each_lock_meets_unlocking(rt: HostRuntime) -> Result<(), Fail> {
+    for (before, status, after) in [
+        (None, Status::InvalidRequest, None),
+        (Some(total(A)), Status::Ok, None),
+        (Some(readonly(A)), Status::Ok, None),
+        (Some(total(B)), Status::Locked, Some(total(B))),
+        (Some(readonly(B)), Status::Locked, Some(readonly(B))),
+    ] {
+        let alloc = rt.alloc();
+        lock_after(&rt, alloc, before, UNLOCK, (0, &[]), (status, after))?;
     }
     Ok(())
 }

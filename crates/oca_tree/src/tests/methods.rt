@@ -168,6 +168,130 @@ fn methods_of_mute_and_polarity(rt: HostRuntime) -> Result<(), Fail> {
     Ok(())
 }
 
+/// The position of the switch.
+fn has_a_position(rt: &impl Abort, t: &mut Tree) {
+    answers(rt, t, 4099, GET_POSITION, 3, &[0, 0, 0, 0, 0, 2]);
+    sets(rt, t, 4099, SET_POSITION, (1, &[0, 1]), Status::Ok);
+    answers(rt, t, 4099, GET_POSITION, 3, &[0, 1, 0, 0, 0, 2]);
+    assert_eq!(rt; t.setting_of(Ono(4099)), Some(Setting::Position(1)));
+}
+
+/// The name of a position of the switch.
+fn has_names(rt: &impl Abort, t: &mut Tree) {
+    let mic: (Status, u8, &[u8]) = (Status::Ok, 1, &[0, 3, 0x4D, 0x69, 0x63]);
+    gives(rt, t, A, 4099, GET_POSITION_NAME, (1, &[0, 1]), mic);
+    sets(
+        rt,
+        t,
+        4099,
+        GET_POSITION_NAME,
+        (1, &[0, 3]),
+        Status::ParameterOutOfRange,
+    );
+    sets(
+        rt,
+        t,
+        4099,
+        SET_POSITION_NAME,
+        (2, &[0, 1, 0, 1, 0x61]),
+        Status::Ok,
+    );
+    sets(
+        rt,
+        t,
+        4099,
+        SET_POSITION_NAME,
+        (2, &[0, 3, 0, 1, 0x61]),
+        Status::ParameterOutOfRange,
+    );
+}
+
+/// The names of all positions of the switch.
+fn has_all_names(rt: &impl Abort, t: &mut Tree) {
+    let names = [
+        0, 3, 0, 4, 0x4C, 0x69, 0x6E, 0x65, 0, 1, 0x61, 0, 3, 0x4F, 0x66, 0x66,
+    ];
+    answers(rt, t, 4099, GET_POSITION_NAMES, 1, &names);
+    sets(
+        rt,
+        t,
+        4099,
+        SET_POSITION_NAMES,
+        (1, &[0, 3, 0, 1, 0x61, 0, 0, 0, 1, 0x63]),
+        Status::Ok,
+    );
+    answers(
+        rt,
+        t,
+        4099,
+        GET_POSITION_NAMES,
+        1,
+        &[0, 3, 0, 1, 0x61, 0, 0, 0, 1, 0x63],
+    );
+}
+
+/// The flag of a position of the switch.
+fn has_flags(rt: &impl Abort, t: &mut Tree) {
+    let one: (Status, u8, &[u8]) = (Status::Ok, 1, &[1]);
+    let zero: (Status, u8, &[u8]) = (Status::Ok, 1, &[0]);
+    gives(rt, t, A, 4099, GET_POSITION_ENABLED, (1, &[0, 2]), one);
+    sets(
+        rt,
+        t,
+        4099,
+        GET_POSITION_ENABLED,
+        (1, &[0, 3]),
+        Status::ParameterOutOfRange,
+    );
+    sets(
+        rt,
+        t,
+        4099,
+        SET_POSITION_ENABLED,
+        (2, &[0, 2, 0]),
+        Status::Ok,
+    );
+    sets(
+        rt,
+        t,
+        4099,
+        SET_POSITION_ENABLED,
+        (2, &[0, 3, 0]),
+        Status::ParameterOutOfRange,
+    );
+    gives(rt, t, A, 4099, GET_POSITION_ENABLED, (1, &[0, 2]), zero);
+}
+
+/// The flags of all positions of the switch.
+fn has_all_flags(rt: &impl Abort, t: &mut Tree) {
+    answers(rt, t, 4099, GET_POSITION_ENABLEDS, 1, &[0, 3, 1, 1, 0]);
+    sets(
+        rt,
+        t,
+        4099,
+        SET_POSITION_ENABLEDS,
+        (1, &[0, 3, 0, 7, 1]),
+        Status::Ok,
+    );
+    answers(rt, t, 4099, GET_POSITION_ENABLEDS, 1, &[0, 3, 0, 1, 1]);
+    sets(
+        rt,
+        t,
+        4099,
+        SET_POSITION_ENABLEDS,
+        (1, &[0, 4, 0, 1, 1, 1]),
+        Status::ParameterError,
+    );
+    sets(
+        rt,
+        t,
+        4099,
+        SET_POSITION_ENABLEDS,
+        (1, &[0, 2, 0, 1]),
+        Status::ParameterError,
+    );
+}
+
 /// Each method of a switch.
 #[test]
 fn methods_of_a_switch(rt: HostRuntime) -> Result<(), Fail> {
@@ -176,134 +300,24 @@ fn methods_of_a_switch(rt: HostRuntime) -> Result<(), Fail> {
     let name = [0, 5, 0x69, 0x6E, 0x70, 0x75, 0x74];
     has_the_common_methods(&rt, &mut tree, 4099, &class, &name, &DESK);
     can_be_locked(&rt, &mut tree, 4099);
-    let t = &mut tree;
-    answers(&rt, t, 4099, GET_POSITION, 3, &[0, 0, 0, 0, 0, 2]);
-    sets(&rt, t, 4099, SET_POSITION, (1, &[0, 1]), Status::Ok);
-    answers(&rt, t, 4099, GET_POSITION, 3, &[0, 1, 0, 0, 0, 2]);
-    assert_eq!(rt; t.setting_of(Ono(4099)), Some(Setting::Position(1)));
-    let mic: (Status, u8, &[u8]) = (Status::Ok, 1, &[0, 3, 0x4D, 0x69, 0x63]);
-    gives(&rt, t, A, 4099, GET_POSITION_NAME, (1, &[0, 1]), mic);
-    sets(
-        &rt,
-        t,
-        4099,
-        GET_POSITION_NAME,
-        (1, &[0, 3]),
-        Status::ParameterOutOfRange,
-    );
-    sets(
-        &rt,
-        t,
-        4099,
-        SET_POSITION_NAME,
-        (2, &[0, 1, 0, 1, 0x61]),
-        Status::Ok,
-    );
-    sets(
-        &rt,
-        t,
-        4099,
-        SET_POSITION_NAME,
-        (2, &[0, 3, 0, 1, 0x61]),
-        Status::ParameterOutOfRange,
-    );
-    let names = [
-        0, 3, 0, 4, 0x4C, 0x69, 0x6E, 0x65, 0, 1, 0x61, 0, 3, 0x4F, 0x66, 0x66,
-    ];
-    answers(&rt, t, 4099, GET_POSITION_NAMES, 1, &names);
-    sets(
-        &rt,
-        t,
-        4099,
-        SET_POSITION_NAMES,
-        (1, &[0, 3, 0, 1, 0x61, 0, 0, 0, 1, 0x63]),
-        Status::Ok,
-    );
-    answers(
-        &rt,
-        t,
-        4099,
-        GET_POSITION_NAMES,
-        1,
-        &[0, 3, 0, 1, 0x61, 0, 0, 0, 1, 0x63],
-    );
-    let one: (Status, u8, &[u8]) = (Status::Ok, 1, &[1]);
-    let zero: (Status, u8, &[u8]) = (Status::Ok, 1, &[0]);
-    gives(&rt, t, A, 4099, GET_POSITION_ENABLED, (1, &[0, 2]), one);
-    sets(
-        &rt,
-        t,
-        4099,
-        GET_POSITION_ENABLED,
-        (1, &[0, 3]),
-        Status::ParameterOutOfRange,
-    );
-    sets(
-        &rt,
-        t,
-        4099,
-        SET_POSITION_ENABLED,
-        (2, &[0, 2, 0]),
-        Status::Ok,
-    );
-    sets(
-        &rt,
-        t,
-        4099,
-        SET_POSITION_ENABLED,
-        (2, &[0, 3, 0]),
-        Status::ParameterOutOfRange,
-    );
-    gives(&rt, t, A, 4099, GET_POSITION_ENABLED, (1, &[0, 2]), zero);
-    answers(&rt, t, 4099, GET_POSITION_ENABLEDS, 1, &[0, 3, 1, 1, 0]);
-    sets(
-        &rt,
-        t,
-        4099,
-        SET_POSITION_ENABLEDS,
-        (1, &[0, 3, 0, 7, 1]),
-        Status::Ok,
-    );
-    answers(&rt, t, 4099, GET_POSITION_ENABLEDS, 1, &[0, 3, 0, 1, 1]);
-    sets(
-        &rt,
-        t,
-        4099,
-        SET_POSITION_ENABLEDS,
-        (1, &[0, 4, 0, 1, 1, 1]),
-        Status::ParameterError,
-    );
-    sets(
-        &rt,
-        t,
-        4099,
-        SET_POSITION_ENABLEDS,
-        (1, &[0, 2, 0, 1]),
-        Status::ParameterError,
-    );
-    sets(&rt, t, 4099, (4, 11), (0, &[]), Status::BadMethod);
+    has_a_position(&rt, &mut tree);
+    has_names(&rt, &mut tree);
+    has_all_names(&rt, &mut tree);
+    has_flags(&rt, &mut tree);
+    has_all_flags(&rt, &mut tree);
+    sets(&rt, &mut tree, 4099, (4, 11), (0, &[]), Status::BadMethod);
     Ok(())
 }
 
-/// Each method of a Boolean and of an integer actuator.
-#[test]
-fn methods_of_basic_actuators(rt: HostRuntime) -> Result<(), Fail> {
-    let mut tree = bench(rt.alloc())?;
-    let t = &mut tree;
+/// An Int16 actuator.
+fn methods_of_the_trim(rt: &impl Abort, t: &mut Tree) {
     let int16 = [0, 5, 0, 1, 0, 1, 0, 1, 0, 1, 0, 3, 0, 2];
-    has_the_common_methods(&rt, t, 4100, &int16, &[0, 4, 0x74, 0x72, 0x69, 0x6D], &DESK);
-    can_be_locked(&rt, t, 4100);
+    has_the_common_methods(rt, t, 4100, &int16, &[0, 4, 0x74, 0x72, 0x69, 0x6D], &DESK);
+    can_be_locked(rt, t, 4100);
+    answers(rt, t, 4100, GET_SETTING, 3, &[0, 0, 0xFD, 0xA8, 0x02, 0x58]);
+    sets(rt, t, 4100, SET_SETTING, (1, &[0xFF, 0xFF]), Status::Ok);
     answers(
-        &rt,
-        t,
-        4100,
-        GET_SETTING,
-        3,
-        &[0, 0, 0xFD, 0xA8, 0x02, 0x58],
-    );
-    sets(&rt, t, 4100, SET_SETTING, (1, &[0xFF, 0xFF]), Status::Ok);
-    answers(
-        &rt,
+        rt,
         t,
         4100,
         GET_SETTING,
@@ -316,47 +330,61 @@ fn methods_of_basic_actuators(rt: HostRuntime) -> Result<(), Fail> {
         greatest: 600,
     };
     assert_eq!(rt; t.setting_of(Ono(4100)), Some(trim));
+}
 
+/// A Boolean actuator.
+fn methods_of_the_lamp(rt: &impl Abort, t: &mut Tree) {
     let boolean = [0, 5, 0, 1, 0, 1, 0, 1, 0, 1, 0, 1, 0, 2];
     has_the_common_methods(
-        &rt,
+        rt,
         t,
         4101,
         &boolean,
         &[0, 4, 0x6C, 0x61, 0x6D, 0x70],
         &DESK,
     );
-    can_be_locked(&rt, t, 4101);
-    answers(&rt, t, 4101, GET_SETTING, 1, &[0]);
-    sets(&rt, t, 4101, SET_SETTING, (1, &[255]), Status::Ok);
-    answers(&rt, t, 4101, GET_SETTING, 1, &[1]);
+    can_be_locked(rt, t, 4101);
+    answers(rt, t, 4101, GET_SETTING, 1, &[0]);
+    sets(rt, t, 4101, SET_SETTING, (1, &[255]), Status::Ok);
+    answers(rt, t, 4101, GET_SETTING, 1, &[1]);
     assert_eq!(rt; t.setting_of(Ono(4101)), Some(Setting::Truth(true)));
+}
 
+/// A Uint8 actuator that can't be locked.
+fn methods_of_the_dimmer(rt: &impl Abort, t: &mut Tree) {
     let uint8 = [0, 5, 0, 1, 0, 1, 0, 1, 0, 1, 0, 6, 0, 2];
-    has_the_common_methods(&rt, t, 4102, &uint8, &[0, 3, 0x64, 0x69, 0x6D], &DESK);
-    answers(&rt, t, 4102, GET_LOCKABLE, 1, &[0]);
+    has_the_common_methods(rt, t, 4102, &uint8, &[0, 3, 0x64, 0x69, 0x6D], &DESK);
+    answers(rt, t, 4102, GET_LOCKABLE, 1, &[0]);
     for index in [3, 4, 6] {
-        sets(&rt, t, 4102, (1, index), (0, &[]), Status::InvalidRequest);
+        sets(rt, t, 4102, (1, index), (0, &[]), Status::InvalidRequest);
     }
-    answers(&rt, t, 4102, GET_SETTING, 3, &[10, 0, 100]);
-    sets(&rt, t, 4102, SET_SETTING, (1, &[100]), Status::Ok);
+    answers(rt, t, 4102, GET_SETTING, 3, &[10, 0, 100]);
+    sets(rt, t, 4102, SET_SETTING, (1, &[100]), Status::Ok);
     sets(
-        &rt,
+        rt,
         t,
         4102,
         SET_SETTING,
         (1, &[101]),
         Status::ParameterOutOfRange,
     );
-    answers(&rt, t, 4102, GET_SETTING, 3, &[100, 0, 100]);
-    sets(&rt, t, 4102, (5, 3), (0, &[]), Status::BadMethod);
+    answers(rt, t, 4102, GET_SETTING, 3, &[100, 0, 100]);
+    sets(rt, t, 4102, (5, 3), (0, &[]), Status::BadMethod);
+}
+
+/// Each method of a Boolean and of an integer actuator.
+#[test]
+fn methods_of_basic_actuators(rt: HostRuntime) -> Result<(), Fail> {
+    let mut tree = bench(rt.alloc())?;
+    methods_of_the_trim(&rt, &mut tree);
+    methods_of_the_lamp(&rt, &mut tree);
+    methods_of_the_dimmer(&rt, &mut tree);
     Ok(())
 }
 
-/// An actuator of each integer type.
-#[test]
-fn every_integer_type(rt: HostRuntime) -> Result<(), Fail> {
-    let mut builder = TreeBuilder::new(rt.alloc())?;
+/// A device with an actuator of each integer type, at its limits.
+fn numbers(alloc: Global) -> Result<Tree, AddFault> {
+    let mut builder = TreeBuilder::new(alloc)?;
     let kinds = [
         Kind::Int8 {
             setting: -1,
@@ -409,7 +437,13 @@ fn every_integer_type(rt: HostRuntime) -> Result<(), Fail> {
         builder.add(Ono(100), Ono(ono), &spec)?;
         ono = ono.saturating_add(1);
     }
-    let mut tree = builder.finish();
+    Ok(builder.finish())
+}
+
+/// An actuator of each integer type.
+#[test]
+fn every_integer_type(rt: HostRuntime) -> Result<(), Fail> {
+    let mut tree = numbers(rt.alloc())?;
     let t = &mut tree;
     answers(&rt, t, 4096, GET_SETTING, 3, &[255, 128, 127]);
     answers(&rt, t, 4097, GET_SETTING, 3, &[255, 255, 128, 0, 127, 255]);
@@ -428,8 +462,14 @@ fn every_integer_type(rt: HostRuntime) -> Result<(), Fail> {
         0, 0, 0, 0, 0, 0, 0, 1, 0, 0, 0, 0, 0, 0, 0, 0, 255, 255, 255, 255, 255, 255, 255, 255,
     ];
     answers(&rt, t, 4103, GET_SETTING, 3, &uint64);
+    Ok(())
+}
 
-    // a number of another width is no parameter
+/// A number is set in its own width, and in no other.
+#[test]
+fn widths_of_integers(rt: HostRuntime) -> Result<(), Fail> {
+    let mut tree = numbers(rt.alloc())?;
+    let t = &mut tree;
     sets(
         &rt,
         t,
