@@ -84,7 +84,7 @@ module _ (ps : List Place) (built : IsBuilt ps) (i : ℕ) (d : Place) (within : 
       (below, sym among ∙ find_some (is_container_of (get_or ps i d)) (take i ps) j d at ∙ ap Some (get_or-take i ps j d below))
 
 -- an object is the one that has its number
-itself : (ps : List Place) → IsBuilt ps → (i : ℕ) (d : Place) → i < length ps → place_at ps (get_or ps i d).number ≡ Some (get_or ps i d)
+pub itself : (ps : List Place) → IsBuilt ps → (i : ℕ) (d : Place) → i < length ps → place_at ps (get_or ps i d).number ≡ Some (get_or ps i d)
 itself _ trees.root zero d h = refl
 itself _ trees.root (suc i) d h = absurd (omega arith)
 itself _ (trees.next ps p built free) i d h = by (cases_lt i (length ps)) (itself ps built i d)

@@ -37,7 +37,7 @@ block_there ps n e = by (place_at ps n) e
     by (Some q) h = refl
 
 -- the container of an object is there, but for the root's
-closed : (ps : List Place) → IsBuilt ps → (n : ℕ) (q : Place) → place_at ps n ≡ Some q → (q.container ≡ 0) ⊎ (is_some (place_at ps q.container) ≡ true)
+pub closed : (ps : List Place) → IsBuilt ps → (n : ℕ) (q : Place) → place_at ps n ≡ Some q → (q.container ≡ 0) ⊎ (is_some (place_at ps q.container) ≡ true)
 closed _ trees.root n q e = by (100 == n) e
   where
     by : (b : Bool) → cond b (Some (record { number = 100; container = 0; block = true })) None ≡ Some q → (q.container ≡ 0) ⊎ (is_some (place_at (record { number = 100; container = 0; block = true } ∷ []) q.container) ≡ true)
@@ -79,21 +79,22 @@ apart ps p free m s = test (p.number == m) refl
         let never : true ≡ false = sym s ∙ no in cc
     test false t = t
 
+-- nor is it that of a container of one that is there
+pub apart_from : (ps : List Place) (p : Place) → IsFree ps p → (q : Place) → (q.container ≡ 0) ⊎ (is_some (place_at ps q.container) ≡ true) → (p.number == q.container) ≡ false
+apart_from ps p free q (inl z) = let big = free.number in grind arith
+apart_from ps p free q (inr s) = apart ps p free q.container s
+
 -- a number that is not the new one has the chain that it had
 chain_push : (k : ℕ) (ps : List Place) (p : Place) → IsBuilt ps → IsFree ps p → (n : ℕ) → (p.number == n) ≡ false → chain_within k (ps ++ p ∷ []) n ≡ chain_within k ps n
 unfolding chain_within
 chain_push zero ps p built free n e = refl
 chain_push (suc k) ps p built free n e = by (place_at ps n) refl (chain_push k ps p built free)
   where
-    apart_from : (q : Place) → (q.container ≡ 0) ⊎ (is_some (place_at ps q.container) ≡ true) → (p.number == q.container) ≡ false
-    apart_from q (inl z) = let big = free.number in grind arith
-    apart_from q (inr s) = apart ps p free q.container s
-
     by : (o : Option Place) → place_at ps n ≡ o → ((m : ℕ) → (p.number == m) ≡ false → chain_within k (ps ++ p ∷ []) m ≡ chain_within k ps m)
         → chain_within (suc k) (ps ++ p ∷ []) n ≡ chain_within (suc k) ps n
     by None t fewer = chain_absent (suc k) (ps ++ p ∷ []) n (other ps p n e ∙ t) ∙ sym (chain_absent (suc k) ps n t)
     by (Some q) t fewer =
-        chain_there k (ps ++ p ∷ []) n q (other ps p n e ∙ t) ∙ ap (λ c. n ∷ c) (fewer q.container (apart_from q (closed ps built n q t))) ∙ sym (chain_there k ps n q t)
+        chain_there k (ps ++ p ∷ []) n q (other ps p n e ∙ t) ∙ ap (λ c. n ∷ c) (fewer q.container (apart_from ps p free q (closed ps built n q t))) ∙ sym (chain_there k ps n q t)
 
 -- where one step more adds nothing, nor do two
 once_more : (k : ℕ) (ps : List Place) → ((n : ℕ) → chain_within (suc k) ps n ≡ chain_within k ps n) → (n : ℕ) → chain_within (suc (suc k)) ps n ≡ chain_within (suc k) ps n
@@ -134,6 +135,12 @@ ends _ (trees.next ps p built free) n =
         chain_there (suc (length ps)) (ps ++ p ∷ []) n p there
         ∙ ap (λ c. n ∷ c) (push (suc (length ps)) p.container away ∙ same p.container ∙ sym (push (length ps) p.container away))
         ∙ sym (chain_there (length ps) (ps ++ p ∷ []) n p there)
+
+-- so its whole chain is as it was
+pub chain_kept : (ps : List Place) (p : Place) → IsBuilt ps → IsFree ps p → (n : ℕ) → (p.number == n) ≡ false → chain (ps ++ p ∷ []) n ≡ chain ps n
+chain_kept ps p built free n e =
+    let long : length (ps ++ p ∷ []) ≡ suc (length ps) = omega (arith, length-append ps (p ∷ [])) in
+    ap (λ k. chain_within k (ps ++ p ∷ []) n) long ∙ chain_push (suc (length ps)) ps p built free n e ∙ ends ps built n
 
 pub depth_absent : (ps : List Place) (n : ℕ) → place_at ps n ≡ None → depth ps n ≡ 0
 depth_absent ps n e = ap length (chain_absent (length ps) ps n e)

@@ -12,8 +12,8 @@ use Rattle.std.proofs.lemmas.Option.{get_or_from_slice_get}
 use Rattle.std.proofs.Math.Seq.{map-set_same}
 use Rattle.oca_tree.specs.Execution.{changed}
 use Rattle.oca_tree.specs.Locks.{without_lock_of, is_held_by}
-use Rattle.oca_tree.specs.Places.{place_of, places}
 use Rattle.oca_tree.specs.PrivateObjects.{IsKeyed}
+use Rattle.oca_tree.proofs.Sound.{shape_of, shapes}
 use Rattle.oca_tree.proofs.Writes.{written_so}
 
 pub values_length : (es : List (Ono × Object)) → length (values_of es) ≡ length es
@@ -71,10 +71,10 @@ length-set_value [] i w = refl
 length-set_value (e ∷ es) zero w = refl
 length-set_value (e ∷ es) (suc i) w = ap suc (length-set_value es i w)
 
--- what is written where the object was leaves the places
-pub places_kept : (es : List (Ono × Object)) (i : ℕ) (old new : Object) → slice_get (values_of es) i ≡ Some old → place_of new ≡ place_of old → places (values_of (set_value_at es i new)) ≡ places (values_of es)
-places_kept es i old new at same =
-    ap places (values-set_value_at es i new) ∙ map-set_same place_of (values_of es) i new old (same ∙ ap place_of (sym (get_or_from_slice_get (values_of es) i old old at)))
+-- what is written where the object was leaves the places, and the classes
+pub shapes_kept : (es : List (Ono × Object)) (i : ℕ) (old new : Object) → slice_get (values_of es) i ≡ Some old → shape_of new ≡ shape_of old → shapes (values_of (set_value_at es i new)) ≡ shapes (values_of es)
+shapes_kept es i old new at same =
+    ap shapes (values-set_value_at es i new) ∙ map-set_same shape_of (values_of es) i new old (same ∙ ap shape_of (sym (get_or_from_slice_get (values_of es) i old old at)))
 
 pub change_there : (es : List (Ono × Object)) (i : ℕ) (old new : Object) (peer : Peer) (r : Request) (d : Object) → slice_get (values_of es) i ≡ Some old → new ≡ changed old peer r
     → values_of (set_value_at es i new) ≡ set (values_of es) i (changed (get_or (values_of es) i d) peer r)

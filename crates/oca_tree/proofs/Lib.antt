@@ -15,4 +15,5 @@ pub mod Listing
 pub mod Locking
 pub mod Keyed
 pub mod Takes
+pub mod Totals
 pub mod Fronts

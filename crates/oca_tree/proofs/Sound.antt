@@ -5,6 +5,7 @@ use Rattle.std.proofs.lemmas.Int.{ints}
 use Rattle.std.proofs.Math.ListN.{length-set}
 use Rattle.std.proofs.lemmas.List.{length-map}
 use Rattle.std.proofs.lemmas.List.Elements.{All-map, All-set, All-weaker}
+use Rattle.oca_types.specs.declared.class.Class.{Class}
 use Rattle.oca_types.specs.declared.words.Peer.{Peer}
 use Rattle.oca_tree.specs.declared.object.NumberKind.{NumberKind}
 use Rattle.oca_tree.specs.declared.object.NumberKind.TheVariants.{Int8, Int16, Int32, Int64, Uint8, Uint16, Uint32, Uint64}
@@ -17,7 +18,8 @@ use Rattle.oca_tree.specs.declared.request.Request.{Request}
 use Rattle.oca_tree.specs.declared.request.Request.TheVariants as requests
 use Rattle.oca_tree.specs.declared.request.SwitchRequest.{SwitchRequest}
 use Rattle.oca_tree.specs.declared.request.SwitchRequest.TheVariants as switches
-use Rattle.oca_tree.specs.Kinds.{IsOfType}
+use Rattle.oca_tree.specs.Kinds.{IsOfType, number_class}
+use Rattle.oca_tree.specs.Objects.{class_of}
 use Rattle.oca_tree.specs.Places.{Place, place_of, places, is_block_value}
 use Rattle.oca_tree.specs.Locks.{without_lock_of, is_held_by}
 use Rattle.oca_tree.specs.Requests.{is_enabled, is_out_of_range, is_outside, is_bad_position, is_bad_switch_request, is_invalid}
@@ -36,30 +38,56 @@ value_block (values.Switch switch) r = refl
 value_block (values.Boolean truth) r = refl
 value_block (values.Number range) r = refl
 
-placed : (o : Object) (v : Value) → is_block_value v ≡ is_block_value o.value → place_of (record o { value = v }) ≡ place_of o
-placed o v e = ap (λ b. record { number = o.ono.0; container = o.container.0; block = b }) e
+-- the class of a number is that of its type
+range_class : (range : Range) (r : Request) → number_class (changed_range range r).kind ≡ number_class range.kind
+range_class range (requests.SetNumber n) = refl
+range_class range _ = refl
+
+value_class : (v : Value) (r : Request) → class_of (changed_value v r) ≡ class_of v
+unfolding changed_value class_of
+value_class values.Block r = refl
+value_class (values.Mute state) r = refl
+value_class (values.Polarity state) r = refl
+value_class (values.Switch switch) r = refl
+value_class (values.Boolean truth) r = refl
+value_class (values.Number range) r = range_class range r
+
+-- of an object: its place and its class, which no command changes
+abbrev pub shape_of : Object → Place × Class
+shape_of o = (place_of o, class_of o.value)
+
+abbrev pub shapes : List Object → List (Place × Class)
+shapes tree = map shape_of tree
+
+shaped : (o : Object) (r : Request) → shape_of (record o { value = changed_value o.value r }) ≡ shape_of o
+shaped o r =
+    ap (λ b. (record { number = o.ono.0; container = o.container.0; block = b }, class_of (changed_value o.value r))) (value_block o.value r)
+    ∙ ap (λ c. (place_of o, c)) (value_class o.value r)
+
+pub changed_shape : (o : Object) (peer : Peer) (r : Request) → shape_of (changed o peer r) ≡ shape_of o
+unfolding changed
+changed_shape o peer requests.GetClassIdentification = shaped o requests.GetClassIdentification
+changed_shape o peer requests.GetLockable = shaped o requests.GetLockable
+changed_shape o peer requests.LockTotal = refl
+changed_shape o peer requests.Unlock = refl
+changed_shape o peer requests.GetRole = shaped o requests.GetRole
+changed_shape o peer requests.LockReadonly = refl
+changed_shape o peer requests.GetEnabled = shaped o requests.GetEnabled
+changed_shape o peer (requests.SetEnabled truth) = refl
+changed_shape o peer requests.GetLabel = shaped o requests.GetLabel
+changed_shape o peer (requests.SetLabel text) = refl
+changed_shape o peer requests.GetOwner = shaped o requests.GetOwner
+changed_shape o peer requests.GetMembers = shaped o requests.GetMembers
+changed_shape o peer requests.GetMembersRecursive = shaped o requests.GetMembersRecursive
+changed_shape o peer requests.GetState = shaped o requests.GetState
+changed_shape o peer (requests.SetState n) = shaped o (requests.SetState n)
+changed_shape o peer (requests.Switch request) = shaped o (requests.Switch request)
+changed_shape o peer requests.GetSetting = shaped o requests.GetSetting
+changed_shape o peer (requests.SetBoolean truth) = shaped o (requests.SetBoolean truth)
+changed_shape o peer (requests.SetNumber n) = shaped o (requests.SetNumber n)
 
 pub changed_place : (o : Object) (peer : Peer) (r : Request) → place_of (changed o peer r) ≡ place_of o
-unfolding changed
-changed_place o peer requests.GetClassIdentification = placed o (changed_value o.value requests.GetClassIdentification) (value_block o.value requests.GetClassIdentification)
-changed_place o peer requests.GetLockable = placed o (changed_value o.value requests.GetLockable) (value_block o.value requests.GetLockable)
-changed_place o peer requests.LockTotal = refl
-changed_place o peer requests.Unlock = refl
-changed_place o peer requests.GetRole = placed o (changed_value o.value requests.GetRole) (value_block o.value requests.GetRole)
-changed_place o peer requests.LockReadonly = refl
-changed_place o peer requests.GetEnabled = placed o (changed_value o.value requests.GetEnabled) (value_block o.value requests.GetEnabled)
-changed_place o peer (requests.SetEnabled truth) = refl
-changed_place o peer requests.GetLabel = placed o (changed_value o.value requests.GetLabel) (value_block o.value requests.GetLabel)
-changed_place o peer (requests.SetLabel text) = refl
-changed_place o peer requests.GetOwner = placed o (changed_value o.value requests.GetOwner) (value_block o.value requests.GetOwner)
-changed_place o peer requests.GetMembers = placed o (changed_value o.value requests.GetMembers) (value_block o.value requests.GetMembers)
-changed_place o peer requests.GetMembersRecursive = placed o (changed_value o.value requests.GetMembersRecursive) (value_block o.value requests.GetMembersRecursive)
-changed_place o peer requests.GetState = placed o (changed_value o.value requests.GetState) (value_block o.value requests.GetState)
-changed_place o peer (requests.SetState n) = placed o (changed_value o.value (requests.SetState n)) (value_block o.value (requests.SetState n))
-changed_place o peer (requests.Switch request) = placed o (changed_value o.value (requests.Switch request)) (value_block o.value (requests.Switch request))
-changed_place o peer requests.GetSetting = placed o (changed_value o.value requests.GetSetting) (value_block o.value requests.GetSetting)
-changed_place o peer (requests.SetBoolean truth) = placed o (changed_value o.value (requests.SetBoolean truth)) (value_block o.value (requests.SetBoolean truth))
-changed_place o peer (requests.SetNumber n) = placed o (changed_value o.value (requests.SetNumber n)) (value_block o.value (requests.SetNumber n))
+changed_place o peer r = ap (λ (s : Place × Class). s.0) (changed_shape o peer r)
 
 pub changed_ono : (o : Object) (peer : Peer) (r : Request) → (changed o peer r).ono.0 ≡ o.ono.0
 changed_ono o peer r = ap (λ (p : Place). p.number) (changed_place o peer r)
@@ -201,16 +229,26 @@ without_lock_sound peer o s = by_test (is_held_by peer o.lock)
     by_test true = record { value = s.value; lock = tt }
     by_test false = s
 
-without_lock_place : (peer : Peer) (o : Object) → place_of (without_lock_of peer o) ≡ place_of o
-without_lock_place peer o = by_test (is_held_by peer o.lock)
+without_lock_shape : (peer : Peer) (o : Object) → shape_of (without_lock_of peer o) ≡ shape_of o
+without_lock_shape peer o = by_test (is_held_by peer o.lock)
   where
-    by_test : (b : Bool) → place_of (cond b (record o { lock = None }) o) ≡ place_of o
+    by_test : (b : Bool) → shape_of (cond b (record o { lock = None }) o) ≡ shape_of o
     by_test true = refl
     by_test false = refl
 
+pub released_shapes : (peer : Peer) (tree : List Object) → shapes (map (without_lock_of peer) tree) ≡ shapes tree
+released_shapes peer [] = refl
+released_shapes peer (o ∷ os) = rw (without_lock_shape peer o, released_shapes peer os) refl
+
+pub place_shapes : (tree : List Object) → map (λ (s : Place × Class). s.0) (shapes tree) ≡ places tree
+place_shapes [] = refl
+place_shapes (o ∷ os) = ap (λ ps. place_of o ∷ ps) (place_shapes os)
+
+pub same_places : (t u : List Object) → shapes t ≡ shapes u → places t ≡ places u
+same_places t u e = sym (place_shapes t) ∙ ap (map (λ (s : Place × Class). s.0)) e ∙ place_shapes u
+
 pub released_places : (peer : Peer) (tree : List Object) → places (map (without_lock_of peer) tree) ≡ places tree
-released_places peer [] = refl
-released_places peer (o ∷ os) = rw (without_lock_place peer o, released_places peer os) refl
+released_places peer tree = same_places (map (without_lock_of peer) tree) tree (released_shapes peer tree)
 
 pub released_tree : (peer : Peer) (old new : List Object) → new ≡ map (without_lock_of peer) old → IsTree old → IsTree new
 released_tree peer old new e h = rw e (record {

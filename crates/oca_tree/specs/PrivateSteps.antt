@@ -1,5 +1,6 @@
 -- What the tree's own functions say to one another. No public clause cites it.
-use Rattle.std.specs.Prelude.{◌≡◌, ℕ, ◌==◌, Bool, true, false, if◌then◌else◌, List, [], ◌∷◌, ◌++◌, length, ◌+◌, ◌<◌, nat_lt, Option, Some, None, Result, Ok, Err}
+use Rattle.std.specs.Prelude.{◌≡◌, ℕ, ◌==◌, Bool, true, false, if◌then◌else◌, List, [], ◌∷◌, ◌++◌, map, length, ◌+◌, ◌<◌, nat_lt, Option, Some, None, Result, Ok, Err}
+use Rattle.std.specs.List.{flat_map, filter}
 use Rattle.oca_types.specs.declared.words.Peer.{Peer}
 use Rattle.oca_types.specs.declared.fault.PutFault.{PutFault}
 use Rattle.oca_types.specs.declared.class.Access.{Access}
@@ -10,6 +11,7 @@ use Rattle.oca_types.specs.Methods.{access}
 use Rattle.oca_types.specs.declared.status.Status.{Status}
 use Rattle.oca_types.specs.declared.status.Status.TheVariants as status
 use Rattle.oca_types.specs.Peers.{CommandFields}
+use Rattle.oca_tree.specs.declared.lengths.Lengths.{Lengths}
 use Rattle.oca_tree.specs.declared.object.Object.{Object}
 use Rattle.oca_tree.specs.declared.object.Value.{Value}
 use Rattle.oca_tree.specs.declared.object.Value.TheVariants as values
@@ -40,6 +42,31 @@ is_listed tree block false o = o.container.0 == block
 abbrev pub item_encoding : Bool → Object → List ℕ
 item_encoding true o = block_member_encoding o
 item_encoding false o = identification_encoding o
+
+-- how many bytes the items of all that is listed take
+abbrev pub listed_bytes : Bool → List Object → ℕ → ℕ
+listed_bytes deep tree block = length (flat_map (item_encoding deep) (filter (is_listed tree block deep) tree))
+
+-- of each object, how many bytes are listed of its members, and of all that lie in it
+abbrev pub lengths_of : List Object → Object → Lengths
+lengths_of tree o = record { members = listed_bytes false tree o.ono.0; descendants = listed_bytes true tree o.ono.0 }
+
+abbrev pub lengths : List Object → List Lengths
+lengths tree = map (lengths_of tree) tree
+
+abbrev pub nothing_listed : Lengths
+nothing_listed = record { members = 0; descendants = 0 }
+
+-- The last object was just added: nothing is listed of it yet, and of the others what was before it.
+pub record LastIsNew (tree : List Object) (all : List Lengths) : Type 0 where
+  pub front : List Object
+  pub last : Object
+  pub is : tree ≡ front ++ last ∷ []
+  pub others : all ≡ lengths front ++ nothing_listed ∷ []
+
+abbrev pub length_in : Lengths → Bool → ℕ
+length_in l true = l.descendants
+length_in l false = l.members
 
 -- what comes of a put of so many parameters
 abbrev pub counted_as : {X : Type 0} → ℕ → Result X PutFault → Result ℕ Status

@@ -21,8 +21,8 @@ use crate::objects::Objects;
 use crate::put::put_number;
 use crate::request::{Request, SwitchRequest};
 use oca_types::{
-    Params, PutFault, Status, Text, put_bool, put_class_identification, put_text, put_u8, put_u16,
-    put_u32,
+    MOST_PARAMETER_BYTES, Params, PutFault, Status, Text, put_bool, put_class_identification,
+    put_text, put_u8, put_u16, put_u32,
 };
 
 /// An object's number and class, and where all descendants are listed its container too.
@@ -120,7 +120,8 @@ fn write_u16(bytes: &mut [u8], at: usize, value: u16)
     bytes[at..at + 2].copy_from_slice(&value.to_be_bytes());
 }
 
-/// The members of a block, or all that lie in it however deep. Their number is written once they are put.
+/// The members of a block, or all that lie in it however deep. Where they are too long for the room, that is told before
+/// any is looked for. Their number is written once they are put.
 #[inline(never)]
 fn put_members(
     out: &mut Params,
@@ -135,6 +136,9 @@ fn put_members(
     ensures { Puts result out.old.items out.new.items (list_encoding (item_encoding deep) (filter (is_listed objects.now.list block.now.ono.0 deep) objects.now.list)) }
 {
     let start = out.len();
+    if MOST_PARAMETER_BYTES - start < 2 + objects.listed_bytes_at(place, deep) as usize {
+        return Err(PutFault::Full);
+    }
     put_u16(out, 0)?;
     let count = put_items(out, objects, block, place, deep)?;
     write_u16(out.as_mut_slice(), start, count);

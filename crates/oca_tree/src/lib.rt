@@ -13,6 +13,7 @@ mod execute;
 mod held;
 mod infos;
 mod laws;
+mod lengths;
 mod marks;
 mod object;
 mod objects;

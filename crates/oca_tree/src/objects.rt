@@ -9,9 +9,11 @@ ghost use Rattle.oca_tree.specs.Execution.{changed};
 ghost use Rattle.oca_tree.specs.Places.{places};
 ghost use Rattle.oca_tree.specs.Trees.{IsTree};
 ghost use Rattle.oca_tree.specs.PrivateObjects.{IsKeyed, IsMap, containers};
+ghost use Rattle.oca_tree.specs.PrivateSteps.{listed_bytes};
 ghost use Rattle.oca_tree.specs.declared.object.Object.{Object as Item};
 
 use crate::change::change;
+use crate::lengths::{Lengths, add_last, push_none};
 use crate::marks::Marks;
 use crate::object::Object;
 use crate::request::Request;
@@ -20,13 +22,15 @@ use oca_types::{Ono, Peer};
 use std::alloc::{AllocError, Global};
 use std::marker::Model;
 
-/// Objects, each with the index of its container. Contracts see the list of them in order of adding, and for how many
-/// there is room.
+/// Objects, each with the index of its container and with how long the answers are that list what is in it. Contracts
+/// see the list of them in order of adding, and for how many there is room.
 #[derive(Drop)]
 pub(crate) struct Objects {
     map: IndexMap<Ono, Object>,
     /// Where the container of each object stands in the map; nothing for the root.
     containers: Vec<Option<usize>>,
+    /// How many bytes are listed of what is in each object.
+    lengths: Vec<Lengths>,
     /// How many objects fit without more memory.
     room: usize,
 }
@@ -37,13 +41,16 @@ impl Model for Objects {
     ghost use Rattle.oca_tree.specs.Objects.{Store};
     ghost use Rattle.oca_tree.specs.Places.{places};
     ghost use Rattle.oca_tree.specs.PrivateObjects.{IsMap, HasRoom, containers as containers_of};
+    ghost use Rattle.oca_tree.specs.PrivateSteps.{lengths as lengths_of};
 
     ghost Value = { Store };
 
     ghost view = { λ o. record { room = o.room; list = values o.map } };
 
     ghost invariant = { λ o. IsMap o.map × HasRoom o.map (vec_len o.containers) (vec_capacity o.containers) o.room
-        × (o.containers.items ≡ containers_of (places (values o.map))) };
+        × (o.containers.items ≡ containers_of (places (values o.map)))
+        × HasRoom o.map (vec_len o.lengths) (vec_capacity o.lengths) o.room
+        × (o.lengths.items ≡ lengths_of (values o.map)) };
 }
 
 impl Objects {
@@ -53,9 +60,11 @@ impl Objects {
     {
         let map = IndexMap::with_capacity(alloc, room)?;
         let containers = Vec::with_capacity(alloc, room)?;
+        let lengths = Vec::with_capacity(alloc, room)?;
         Ok(Objects {
             map,
             containers,
+            lengths,
             room,
         })
     }
@@ -99,6 +108,15 @@ impl Objects {
         containers[index]
     }
 
+    /// How many bytes the items take that are listed of the object at this index: its members, or all that lie in it.
+    pub(crate) fn listed_bytes_at(&self, index: usize, deep: bool) -> u32
+        requires { index < length self.now.list }
+        ensures { (d : Item) → result ≡ listed_bytes deep self.now.list (slice_index_or self.now.list index d).ono.0 }
+    {
+        let lengths = self.lengths.as_slice();
+        lengths[index].of(deep)
+    }
+
     /// The object with this number.
     pub(crate) fn find(&self, ono: Ono) -> Option<&Object>
         ensures { option_copied result ≡ object_of self.now.list ono.0 }
@@ -117,14 +135,21 @@ impl Objects {
     pub(crate) fn push(&mut self, object: Object)
         requires room { length self.old.list < self.old.room }
         requires free { object_of self.old.list object.ono.0 ≡ None }
+        requires tree { IsTree (self.old.list ++ object ∷ []) }
         ensures { self.new ≡ record { room = self.old.room; list = self.old.list ++ object ∷ [] } }
     {
         let container = self.map.get_index_of(&object.container);
         push_index(&mut self.containers, container);
+        push_none(&mut self.lengths);
         match self.map.insert(object.ono, object) {
             Ok(_) => {}
             Err(_) => unreachable!(),
         }
+        add_last(
+            self.map.values().as_slice(),
+            self.containers.as_slice(),
+            &mut self.lengths,
+        );
     }
 
     /// Carries out what a request changes in the object at this index. `marks` count the locks that are held.

@@ -25,28 +25,37 @@ pub enum Kind {
     Setting,
     /// One new GetState a datagram, of another object each time.
     Others,
+    /// One new GetMembers of the root a datagram.
+    Members,
 }
 
 /// How many commands a datagram of this kind has.
 pub fn commands_in(kind: Kind) -> u32 {
     match kind {
         Kind::Packed => 86,
-        Kind::Single | Kind::Copies | Kind::Setting | Kind::Others => 1,
+        Kind::Single | Kind::Copies | Kind::Setting | Kind::Others | Kind::Members => 1,
     }
 }
 
-/// A command of 4097 of this kind, in a packet of its own: GetState, or SetState to Muted.
+/// The object of a command of this kind, and its method: 4097 and GetState or SetState, or the root and GetMembers.
+fn called(kind: Kind) -> (Ono, MethodId) {
+    match kind {
+        Kind::Members => (Ono(100), MethodId { level: 3, index: 5 }),
+        Kind::Setting => (Ono(4097), MethodId { level: 4, index: 2 }),
+        _ => (Ono(4097), MethodId { level: 4, index: 1 }),
+    }
+}
+
+/// A command of this kind, in a packet of its own. What SetState sets is Muted.
 fn command_of(kind: Kind) -> Packet {
     let sets = kind == Kind::Setting;
     let params: &[u8] = if sets { &[1] } else { &[] };
+    let (target, method) = called(kind);
     let mut packet = Packet::new();
     let command = Command {
         handle: Handle(1),
-        target: Ono(4097),
-        method: MethodId {
-            level: 4,
-            index: if sets { 2 } else { 1 },
-        },
+        target,
+        method,
         count: u8::from(sets),
         params,
     };

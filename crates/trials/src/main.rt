@@ -176,6 +176,7 @@ fn measured<R: Runtime + AllocGlobal>(
         "copies" => Kind::Copies,
         "setting" => Kind::Setting,
         "others" => Kind::Others,
+        "members" => Kind::Members,
         _ => return said(rt, "bad words", 2),
     };
     let (Ok(count), true) = (count.parse::<u32>(), way == "served" || way == "made") else {

@@ -37,8 +37,13 @@ fn members_and_descendants(rt: HostRuntime) -> Result<(), Fail> {
     Ok(())
 }
 
-/// The status of GetMembersRecursive of the root with so many Int16 actuators in it, and the answer's size.
-fn answer_of_many(alloc: Global, many: u32) -> Result<(Status, u8, usize), AddFault> {
+/// The status of GetMembersRecursive of the root with so many Int16 actuators in it, and a mute where it says so, and the
+/// answer's size.
+fn answer_of_many(
+    alloc: Global,
+    many: u32,
+    and_a_mute: bool,
+) -> Result<(Status, u8, usize), AddFault> {
     let mut builder = TreeBuilder::new(alloc)?;
     let trim = Spec {
         role: "trim",
@@ -51,6 +56,14 @@ fn answer_of_many(alloc: Global, many: u32) -> Result<(Status, u8, usize), AddFa
     };
     for ono in 0..many {
         builder.add(Ono(100), Ono(4096 + ono % 128), &trim)?;
+    }
+    if and_a_mute {
+        let mute = Spec {
+            role: "mute",
+            lockable: true,
+            kind: Kind::Mute(MuteState::Muted),
+        };
+        builder.add(Ono(100), Ono(5000), &mute)?;
     }
     let mut tree = builder.finish();
     let command = Command {
@@ -65,12 +78,19 @@ fn answer_of_many(alloc: Global, many: u32) -> Result<(Status, u8, usize), AddFa
     Ok((done.status, done.count, out.len()))
 }
 
-/// An answer of 1,432 bytes fits, and one object more does not.
+/// Answers of 1,432 and of 1,452 bytes fit, and one of 1,454 does not.
 #[test]
 fn an_answer_has_its_limit(rt: HostRuntime) -> Result<(), Fail> {
-    assert_eq!(rt; answer_of_many(rt.alloc(), 65)?, (Status::Ok, 1, 1432));
     assert_eq!(rt;
-        answer_of_many(rt.alloc(), 66)?,
+        answer_of_many(rt.alloc(), 65, false)?,
+        (Status::Ok, 1, 1432)
+    );
+    assert_eq!(rt;
+        answer_of_many(rt.alloc(), 65, true)?,
+        (Status::Ok, 1, 1452)
+    );
+    assert_eq!(rt;
+        answer_of_many(rt.alloc(), 66, false)?,
         (Status::BufferOverflow, 0, 0)
     );
     Ok(())

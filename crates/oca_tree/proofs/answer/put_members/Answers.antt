@@ -1,10 +1,16 @@
-use Rattle.std.proofs.Common.{◌+◌, ◌++◌, take, drop, ap, ◌∙◌, refl}
+use Rattle.std.proofs.Common.{◌+◌, ◌++◌, take, drop, sym, ap, ◌∙◌, refl, arith}
 use Rattle.std.specs.List.{filter, flat_map}
 use Rattle.std.specs.Int.{w16}
 use Rattle.oca_types.specs.Numbers.{unsigned_encoding}
-use Rattle.oca_tree.specs.PrivateSteps.{is_listed, item_encoding}
+use Rattle.oca_tree.specs.PrivateSteps.{is_listed, item_encoding, listed_bytes}
+use Rattle.oca_tree.specs.declared.object.Object.{Object}
 use Rattle.oca_tree.proofs.Listing.{counted_over}
 use Rattle.oca_tree.proofs.answer.put_members.Goals as goal
+
+pub returns-then-start-listed_bytes_at : goal.returns-then-start-listed_bytes_at
+returns-then-start-listed_bytes_at c =
+    let listed = c.listed_bytes_at.ensures c.args.block.now ∙ ap (λ (o : Object). listed_bytes c.args.deep c.args.objects.now.list o.ono.0) (sym c.requires.here) in
+    omega (arith, listed, c.len-start.ensures.value, c.if-start-listed_bytes_at.true)
 
 pub returns : goal.returns
 returns c =

@@ -4,14 +4,17 @@ use Rattle.oca_tree.specs.Places.{place_of}
 use Rattle.oca_tree.proofs.Starting.{restored_place, restored_sound, replaced_tree}
 use Rattle.oca_tree.proofs.builder.TreeBuilder.add_with.Goals as goal
 
-pub invariant_of-self : goal.invariant_of-self
-invariant_of-self c =
+pub push-requires-clause-tree : goal.push-requires-clause-tree
+push-requires-clause-tree c =
     let o = c.in_ok-restored.restored in
     let new = c.restore.new.object in
     let made = c.in_ok-restored.ensures.makes in
     let put = c.in_ok-restore.ensures in
+    let sound = restored_sound c.args.start.now o new put.1 put.2 (rw made.1 tt) in
+    replaced_tree c.self.inside.objects.list o new (ap place_of put.1 ∙ restored_place c.args.start.now o) sound c.self.invariant.0 made.2
+
+pub invariant_of-self : goal.invariant_of-self
+invariant_of-self c =
     let list = ap (λ (h : Store). h.list) c.push.ensures in
     let room = ap (λ (h : Store). h.room) c.push.ensures in
-    let sound = restored_sound c.args.start.now o new put.1 put.2 (rw made.1 tt) in
-    let tree = replaced_tree c.self.inside.objects.list o new (ap place_of put.1 ∙ restored_place c.args.start.now o) sound c.self.invariant.0 made.2 in
-    (rw list tree, omega (arith, room, c.self.invariant.1))
+    (rw list (push-requires-clause-tree c.before), omega (arith, room, c.self.invariant.1))

@@ -1,7 +1,12 @@
-use Rattle.std.proofs.Common.{◌∙◌, ap, arith}
+use Rattle.std.proofs.Common.{[], ◌∷◌, ◌++◌, refl, ◌∙◌, ap, arith}
 use Rattle.oca_tree.specs.Objects.{Store}
 use Rattle.oca_tree.proofs.Adding.{alone_tree}
 use Rattle.oca_tree.proofs.builder.TreeBuilder.holding.Goals as goal
+
+pub push-requires-clause-tree : goal.push-requires-clause-tree
+push-requires-clause-tree c =
+    let none = ap (λ (h : Store). h.list) c.in-Ok.ensures in
+    alone_tree c.in-Ok.objects.list (c.in-Ok.objects.list ++ c.args.object ∷ []) c.args.object none refl c.requires.place c.requires.sound
 
 pub invariant_of-result : goal.invariant_of-result
 invariant_of-result c =

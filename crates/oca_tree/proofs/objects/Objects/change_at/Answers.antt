@@ -2,11 +2,13 @@ use Rattle.std.proofs.Common.{sym, ap, ◌∙◌, arith}
 use Rattle.indexmap.specs.IndexMap.{values}
 use Rattle.oca_tree.specs.Locks.{lock_count}
 use Rattle.oca_tree.specs.Objects.{Store}
-use Rattle.oca_tree.specs.Places.{Place, place_of}
+use Rattle.oca_tree.specs.Places.{Place}
+use Rattle.oca_types.specs.declared.class.Class.{Class}
 use Rattle.oca_tree.specs.PrivateObjects.{containers}
-use Rattle.oca_tree.proofs.Keyed.{keyed-set_value_at, length-set_value, places_kept, change_there, same_ono}
+use Rattle.oca_tree.proofs.Keyed.{keyed-set_value_at, length-set_value, shapes_kept, change_there, same_ono}
 use Rattle.oca_tree.proofs.Locking.{locks_few, lock_counted_get, lock_written_get}
-use Rattle.oca_tree.proofs.Sound.{changed_place}
+use Rattle.oca_tree.proofs.Sound.{shape_of, changed_shape, same_places}
+use Rattle.oca_tree.proofs.Totals.{lengths_kept}
 use Rattle.oca_tree.proofs.objects.Objects.change_at.Goals as goal
 
 pub change-requires-clause-room : goal.change-requires-clause-room
@@ -20,18 +22,25 @@ change-requires-clause-counted c =
 
 pub invariant_of-self : goal.invariant_of-self
 invariant_of-self c =
-    let place = ap place_of c.change.ensures.object ∙ changed_place c.index_mut.result.now c.args.peer c.args.request in
-    let same_containers = ap containers (places_kept c.self.inside.map.entries c.args.at c.index_mut.result.now c.change.new.object c.index_mut.ensures.value place) in (
+    let shape = ap shape_of c.change.ensures.object ∙ changed_shape c.index_mut.result.now c.args.peer c.args.request in
+    let same = shapes_kept c.self.inside.map.entries c.args.at c.index_mut.result.now c.change.new.object c.index_mut.ensures.value shape in
+    let long = length-set_value c.self.inside.map.entries c.args.at c.change.new.object in (
       record {
         keyed = keyed-set_value_at c.self.inside.map.entries c.args.at c.change.new.object c.index_mut.result.now c.index_mut.ensures.value
-            (same_ono c.change.new.object c.index_mut.result.now (ap (λ (p : Place). p.number) place)) c.self.invariant.0.keyed;
+            (same_ono c.change.new.object c.index_mut.result.now (ap (λ (s : Place × Class). s.0.number) shape)) c.self.invariant.0.keyed;
       },
       record {
-        objects = rw (length-set_value c.self.inside.map.entries c.args.at c.change.new.object) c.self.invariant.1.objects;
+        objects = rw long c.self.invariant.1.objects;
         containers = c.self.invariant.1.containers;
-        both = c.self.invariant.1.both ∙ sym (length-set_value c.self.inside.map.entries c.args.at c.change.new.object);
+        both = c.self.invariant.1.both ∙ sym long;
       },
-      c.self.invariant.2 ∙ sym same_containers,
+      c.self.invariant.2 ∙ sym (ap containers (same_places _ _ same)),
+      record {
+        objects = rw long c.self.invariant.3.objects;
+        containers = c.self.invariant.3.containers;
+        both = c.self.invariant.3.both ∙ sym long;
+      },
+      c.self.invariant.4 ∙ sym (lengths_kept _ _ same),
     )
 
 pub returns-clause-objects : goal.returns-clause-objects
