@@ -4,8 +4,9 @@
 Usage: core.py BIN     BIN is the folder with `trials`
 
 single: one GetState a datagram. packed: 86 of them. copies: the same command again and again. setting: one SetState a
-datagram. others: one GetState a datagram, of another object each time. What making the datagrams costs is taken off.
-The goal of `single` by objects and by sessions is what the first row has, 1 and 10 in 100 more."""
+datagram. others: one GetState a datagram, of another object each time. members: one GetMembers of the root a datagram,
+whose answer is too long, which one look tells. What making the datagrams costs is taken off. The goal of `single` by
+objects and by sessions is what the first row has, 1 and 10 in 100 more, and that of `members` 5 in 100 more."""
 import re
 import subprocess
 import sys
@@ -14,7 +15,8 @@ import tempfile
 # kind, objects, sessions, the most instructions wanted, or in how many parts of a hundred more than the first row
 ROWS = [("single", 8, 1, "490"), ("single", 128, 1, "1%"), ("single", 4096, 1, "1%"), ("single", 8, 16, "10%"),
         ("single", 8, 64, "10%"), ("single", 128, 16, "10%"), ("single", 4096, 64, "10%"), ("others", 128, 1, ""),
-        ("others", 4096, 1, ""), ("packed", 8, 1, "285"), ("copies", 8, 1, ""), ("setting", 8, 1, "")]
+        ("others", 4096, 1, ""), ("members", 128, 1, "5%"), ("members", 4096, 1, "5%"), ("packed", 8, 1, "285"),
+        ("copies", 8, 1, ""), ("setting", 8, 1, "")]
 
 
 def instructions(program, kind, objects, sessions, count, way):
