@@ -16,6 +16,7 @@ from served import Served
 CLASS, LOCK, UNLOCK, ROLE, MEMBERS, NAME, NAMES = (1, 1), (1, 3), (1, 4), (1, 5), (3, 5), (4, 3), (4, 5)
 GET = {"mute": (4, 1), "polarity": (4, 1), "switch": (4, 1)}
 SET = {"mute": (4, 2), "polarity": (4, 2), "switch": (4, 2)}
+SETS = ((4, 2), (5, 2))
 OTHER = (127, 0, 0, 1, 9)  # a peer that never speaks
 
 
@@ -91,6 +92,28 @@ class Strange:
 
     def __exit__(self, *_):
         self.served.__exit__()
+
+
+class Holding(Served):
+    """The second implementation's device, which keeps its answers to set commands back until those to so many are kept, and then gives
+    the last one's first."""
+
+    def __init__(self, tree, count):
+        super().__init__(tree)
+        self.count, self.held, self.answers, self.kept = count, {}, self.device.datagram, []
+        self.device.datagram = self.datagram
+
+    def datagram(self, peer, data, now):
+        said, packets = self.answers(peer, data, now)
+        for message in oca.check(data):
+            if message[0] == "command" and (message[2].level, message[2].index) in SETS:
+                self.held[message[2].handle] = packets
+                packets = []
+        if len(self.held) == self.count:
+            packets = [packet for handle in reversed(self.held) for packet in self.held[handle]]
+            self.kept.append(len(self.held))
+            self.held = {}
+        return said, packets
 
 
 def asked(device):
@@ -196,6 +219,31 @@ def sets(checks):
                     [(4099, CLASS, b""), (4099, NAMES, b""), (4099, SET["switch"], b"\0\1")])
 
 
+def sets_at_once(checks):
+    """`set --ahead N`: so many set commands are there before any of them is answered; one that is refused has its line in its place."""
+    values = list({ono: (ono, text, state) for ono, text, state in VALUES}.values())
+    words = [w for ono, text, _ in values for w in (ono, text)]
+    for options, count in ((["--ahead", 8], 7), (["--ahead", 8], 2), (["--ahead", 14], 14), (["--ahead", 32, "--span", 32], 14), ([], 1)):
+        tree = stagebox()
+        at = {o.ono: o for o in tree}
+        before = at[4097].state
+        at[4097].lock = ("read-only", OTHER)
+        said = [f"{ono} {PRINTED.get(text, {}).get(ono, text)}\n" if ono != 4097 else "4097 Locked\n" for ono, text, _ in values]
+        with Holding(tree, count) as device:
+            checks.prints(f"set {options}", device, ["set", *options, *words], "".join(said), 4)
+            checks.same(f"set {options}: how many at once", device.kept, [count] * (len(values) // count))
+            checks.same(f"set {options}: the device", [at[ono].state for ono, _, _ in values],
+                        [before if ono == 4097 else state for ono, _, state in values])
+            writes = [c for c in asked(device) if c[1] in SETS]
+            checks.same(f"set {options}: in order", [c[0] for c in writes], [ono for ono, _, _ in values])
+            checks.same(f"set {options}: first what is wanted", asked(device)[-len(values):], writes)
+    with Holding(stagebox(), 2) as device:
+        checks.prints("set --ahead: no handle is left for the last", device,
+                      ["set", "--ahead", 3, "--first-handle", oca.U32 - 4, 4097, "muted", 4098, "inverted", 4101, "on"],
+                      "4097 muted\n4098 inverted\n4101 refused 2 handles-spent\n", 3)
+        checks.same("set --ahead: both before it at once", device.kept, [2])
+
+
 def refusals(checks):
     """Values that a device refuses, by the status's name; words that are for no value, of which nothing is set."""
     tree = stagebox()
@@ -228,6 +276,8 @@ def bad_words(checks):
         for command, words in (
                 ("get", ()), ("get", ("x",)), ("get", (4097, "-1")), ("get", ("4294967296",)), ("get", ("00000004097",)),
                 ("set", ()), ("set", (4097,)), ("set", (4097, "muted", 4098)), ("set", ("mute", "muted")), ("set", (4097, "x" * 65)),
+                ("set", (4097, "muted", "--ahead", 0)), ("set", (4097, "muted", "--ahead", 17)), ("set", (4097, "muted", "--ahead", "x")),
+                ("set", (4097, "muted", "--span", 4, "--ahead", 5)), ("get", (4097, "--ahead", 2)),
                 ("lock", ()), ("unlock", ("all",)), ("tree", (100,)), ("get", (4097, "--turns", "x")), ("get", (4097, "--port", "65536"))):
             out, said, status = checks.run(device, command, *words)
             checks.same(f"{command} {words}", (out, said.splitlines()[-1:], said[:6], status), ("", ["bad words"], "note: ", 2))
@@ -308,7 +358,7 @@ def silence(checks):
 
 def main():
     checks = Checks(sys.argv[1])
-    for part in (trees, gets, sets, refusals, bad_words, locks, strange_answers, silence):
+    for part in (trees, gets, sets, sets_at_once, refusals, bad_words, locks, strange_answers, silence):
         try:
             part(checks)
         except (OSError, KeyError, subprocess.TimeoutExpired) as fault:

@@ -1,4 +1,5 @@
 pub mod FieldLemmas
 pub mod ServeLemmas
 pub mod ExchangeLemmas
+mod TurnLemmas
 mod HandLemmas

@@ -1,6 +1,6 @@
 -- What is asked of objects in words, and what answers say of them (AES70-2; the words are the profile's).
-use Rattle.std.specs.Prelude.{◌≡◌, ◌≤◌, ℕ, ◌==◌, ◌||◌, Bool, true, false, if◌then◌else◌, List, [], ◌∷◌, ◌++◌, length, codes, decimal, Option, Some, None, Result, Ok, Err}
-use Rattle.std.specs.List.{position, flat_map}
+use Rattle.std.specs.Prelude.{◌≡◌, ◌≤◌, ◌<◌, ◌+◌, ℕ, ◌==◌, ◌||◌, if◌then◌else◌, List, [], ◌∷◌, ◌++◌, length, map, codes, decimal, Option, Some, None, Result, Ok, Err}
+use Rattle.std.specs.List.{position, flat_map, fold, slice_get}
 use Rattle.std.specs.Str.{bytes_eq}
 use Rattle.oca_types.specs.declared.class.Class.{Class}
 use Rattle.oca_types.specs.declared.class.Class.TheVariants as class
@@ -8,22 +8,27 @@ use Rattle.oca_types.specs.declared.class.Method.{Method}
 use Rattle.oca_types.specs.declared.class.MethodKind.TheVariants.{Known}
 use Rattle.oca_types.specs.Methods.{method_kind, access}
 use Rattle.std.specs.Int.{w16}
+use Rattle.oca_types.specs.declared.words.Handle.{Handle}
 use Rattle.oca_types.specs.Numbers.{unsigned_encoding}
 use Rattle.oca_types.specs.Reading.{text_at}
 use Rattle.oca_types.specs.Peers.{RequestFields}
 use Rattle.oca_tree.specs.Parameters.{whole}
 use Rattle.oca_net.specs.EndStates.{EndState}
 use Rattle.oca_script.specs.Fields.{number_of}
+use Rattle.oca_script.specs.Ends.{Output}
+use Rattle.oca_script.specs.Printing.{PrintsAll}
 use Rattle.oca_control.specs.declared.fault.ControlFault.{ControlFault}
 use Rattle.oca_control.specs.declared.fault.ControlFault.TheVariants as faults
 use Rattle.oca_control.specs.declared.outcome.Outcome.{Outcome}
 use Rattle.oca_control.specs.declared.outcome.Outcome.TheVariants as outcomes
-use Rattle.oca_control.specs.Links.{LinkState, submission}
-use Rattle.oca_control.specs.Asking.{Asks}
+use Rattle.oca_control.specs.declared.report.DriveReport.{DriveReport}
+use Rattle.oca_control.specs.Links.{LinkState, submission, submitted}
+use Rattle.oca_control.specs.Driving.{GivesOut}
+use Rattle.oca_control.specs.Asking.{Asks, Waits, refused_by}
 use Rattle.oca_values.specs.declared.value.Value.{Value}
 use Rattle.oca_values.specs.declared.value.Value.TheVariants as values
 use Rattle.oca_values.specs.Values.{value_in, get_method, set_method, class_of_value, value_encoding}
-use Rattle.oca_values.specs.Words.{IsRead}
+use Rattle.oca_values.specs.Words.{IsRead, word_of}
 use Rattle.oca_values.specs.Answers.{class_id_in, class_with, members_in, names_in, status_name_of}
 use Rattle.ocactl.specs.declared.talk.Trouble.{Trouble}
 use Rattle.ocactl.specs.declared.talk.Trouble.TheVariants as trouble
@@ -93,6 +98,28 @@ pub record TalkState : Type 0 where
 pub record AsksIn (request : RequestFields) (old new : TalkState) (outcome : Outcome) : Type 0 where
   pub asks : Asks request old.turns (submission request old.link) old.link outcome new.link old.end_state new.end_state
   pub turns : new.turns ≡ old.turns
+
+-- The request got its handle and all that was due was given out; or it was refused, which changes nothing.
+abbrev pub GivesAtOnce : RequestFields → Result Handle ControlFault → TalkState → TalkState → Type 0
+GivesAtOnce request (Ok handle) old new =
+    (report : DriveReport) × GivesOut 0 ((submitted request 0 old.link).span + 1) (submitted request 0 old.link) new.link old.end_state new.end_state report
+GivesAtOnce request (Err fault) old new = (new.link ≡ old.link) × (new.end_state ≡ old.end_state)
+
+-- The request was submitted.
+pub record BeginsIn (request : RequestFields) (answer : Result Handle ControlFault) (old new : TalkState) : Type 0 where
+  pub answers : answer ≡ submission request old.link
+  pub gives : GivesAtOnce request answer old new
+  pub turns : new.turns ≡ old.turns
+
+-- The answer under this handle was waited for.
+pub record FinishesIn (handle : ℕ) (old new : TalkState) (outcome : Outcome) : Type 0 where
+  pub waits : Waits handle old.turns old.link outcome new.link old.end_state new.end_state
+  pub turns : new.turns ≡ old.turns
+
+-- How a command fared that was submitted: it was waited for, or it had been refused.
+abbrev pub EndsIn : Result Handle ControlFault → TalkState → TalkState → Outcome → Type 0
+EndsIn (Ok handle) old new outcome = FinishesIn handle.0 old new outcome
+EndsIn (Err fault) old new outcome = (outcome ≡ refused_by fault) × (new ≡ old)
 
 -- a call of an object's method, without parameters
 abbrev pub call : ℕ → ℕ → ℕ → RequestFields
@@ -204,35 +231,6 @@ abbrev pub AsksName : ℕ → ℕ → TalkState → TalkState → Result (List �
 AsksName target n old new result =
     (o : Outcome) × AsksIn (record { target = target; level = 4; index = 3; count = 1; params = unsigned_encoding w16 n }) old new o × (result ≡ text_said o)
 
--- ---- several objects
-
--- The values that words name were found, one after another: those that there are, in order, and whether there is one for each.
-pub data FindsAll : List (ℕ × List ℕ) → List (ℕ × Value) → Bool → (old new : TalkState) → Type 0 where
-  NoneSought : {s : TalkState} → FindsAll [] [] true s s
-  OneFound : {pairs : List (ℕ × List ℕ)} {wishes : List (ℕ × Value)} {all : Bool} {r s t : TalkState} (target : ℕ) (word : List ℕ) (value : Value)
-      → FindsAll pairs wishes all r s → FindsValue target word s t (Ok value) → FindsAll (pairs ++ (target, word) ∷ []) (wishes ++ (target, value) ∷ []) all r t
-  OneMissed : {pairs : List (ℕ × List ℕ)} {wishes : List (ℕ × Value)} {all : Bool} {r s t : TalkState} (target : ℕ) (word : List ℕ) (why : Trouble)
-      → FindsAll pairs wishes all r s → FindsValue target word s t (Err why) → FindsAll (pairs ++ (target, word) ∷ []) wishes false r t
-
--- Objects were set to values, one after another in this order.
-pub data SetsEach : List (ℕ × Value) → (old new : TalkState) → Type 0 where
-  NoneSet : {s : TalkState} → SetsEach [] s s
-  OneSet : {wishes : List (ℕ × Value)} {r s t : TalkState} (target : ℕ) (value : Value) (result : Result Unit Trouble)
-      → SetsEach wishes r s → SetsValue target value s t result → SetsEach (wishes ++ (target, value) ∷ []) r t
-
--- where there is a value for each, they are set; else nothing is
-abbrev pub SetsWhere : Bool → List (ℕ × Value) → TalkState → TalkState → Type 0
-SetsWhere true wishes old new = SetsEach wishes old new
-SetsWhere false wishes old new = new ≡ old
-
--- ALL OBJECTS WERE SET to what words name, or none: all values were found first, which sets nothing.
-pub record SetsAll (pairs : List (ℕ × List ℕ)) (old new : TalkState) : Type 0 where
-  pub wishes : List (ℕ × Value)
-  pub all : Bool
-  pub between : TalkState
-  pub finds : FindsAll pairs wishes all old between
-  pub sets : SetsWhere all wishes between new
-
 -- ---- lines
 
 -- the name of a status, or its number
@@ -302,6 +300,99 @@ graver_of a b =
     else if (a == 2) || (b == 2) then 2
     else if (a == 4) || (b == 4) then 4
     else 0
+
+-- ---- several objects
+
+-- what is told of an object: its value, or why it has not the one that was asked for
+abbrev pub fared_text : Result Value Trouble → List ℕ
+fared_text (Ok value) = word_of value
+fared_text (Err why) = trouble_text why
+
+abbrev pub fared_line : ℕ × Result Value Trouble → List ℕ
+fared_line fared = decimal fared.0 ++ codes " " ++ fared_text fared.1 ++ codes "\n"
+
+abbrev pub fared_status : Result Value Trouble → ℕ
+fared_status (Ok value) = 0
+fared_status (Err why) = trouble_status why
+
+-- the lines of several, and the gravest of their exit statuses
+abbrev pub fared_lines : List (ℕ × Result Value Trouble) → List ℕ
+fared_lines fared = flat_map fared_line fared
+
+abbrev pub gravest : List (ℕ × Result Value Trouble) → ℕ
+gravest fared = fold (λ worst one. graver_of worst (fared_status one.1)) 0 fared
+
+-- The values that words name were found, one after another: those that there are, in order, and the objects for which there is none, and
+-- why.
+pub data FindsAll : List (ℕ × List ℕ) → List (ℕ × Value) → (missed : List (ℕ × Result Value Trouble)) → (old new : TalkState) → Type 0 where
+  NoneSought : {s : TalkState} → FindsAll [] [] [] s s
+  OneFound : {pairs : List (ℕ × List ℕ)} {wishes : List (ℕ × Value)} {missed : List (ℕ × Result Value Trouble)} {r s t : TalkState}
+      (target : ℕ) (word : List ℕ) (value : Value)
+      → FindsAll pairs wishes missed r s → FindsValue target word s t (Ok value) → FindsAll (pairs ++ (target, word) ∷ []) (wishes ++ (target, value) ∷ []) missed r t
+  OneMissed : {pairs : List (ℕ × List ℕ)} {wishes : List (ℕ × Value)} {missed : List (ℕ × Result Value Trouble)} {r s t : TalkState}
+      (target : ℕ) (word : List ℕ) (why : Trouble)
+      → FindsAll pairs wishes missed r s → FindsValue target word s t (Err why) → FindsAll (pairs ++ (target, word) ∷ []) wishes (missed ++ (target, Err why) ∷ []) r t
+
+-- A set command that was submitted: its object, the value, and its handle, or why the link refused it.
+pub record SetCommand : Type 0 where
+  pub target : ℕ
+  pub value : Value
+  pub answer : Result Handle ControlFault
+
+abbrev pub wish_in : SetCommand → ℕ × Value
+wish_in command = (command.target, command.value)
+
+-- It was submitted, as the set method of the value's class.
+pub record BeginsSet (command : SetCommand) (old new : TalkState) : Type 0 where
+  pub request : RequestFields
+  pub calls : Calls command.target (class_of_value command.value) (set_method command.value) 1 (value_encoding command.value) request
+  pub begins : BeginsIn request command.answer old new
+
+-- what is told of it, by its outcome
+abbrev pub fared_by : SetCommand → Outcome → ℕ × Result Value Trouble
+fared_by command outcome = (command.target, on_ok (λ done. command.value) (carried_out (said outcome)))
+
+-- SET COMMANDS WERE SUBMITTED, one after another, and those that were waited for so far fared so: in the same order, each by its own
+-- handle. Never were more than `ahead` submitted that had not been waited for.
+pub data SetsUpTo (ahead : ℕ) : (begun : List SetCommand) (fared : List (ℕ × Result Value Trouble)) (old new : TalkState) → Type 0 where
+  NoneBegun : {s : TalkState} → SetsUpTo ahead [] [] s s
+  OneBegun : {begun : List SetCommand} {fared : List (ℕ × Result Value Trouble)} {r s t : TalkState} (command : SetCommand)
+      → SetsUpTo ahead begun fared r s → length begun < length fared + ahead → BeginsSet command s t → SetsUpTo ahead (begun ++ command ∷ []) fared r t
+  OneFared : {begun : List SetCommand} {fared : List (ℕ × Result Value Trouble)} {r s t : TalkState} (command : SetCommand) (outcome : Outcome)
+      → SetsUpTo ahead begun fared r s → slice_get begun (length fared) ≡ Some command → EndsIn command.answer s t outcome
+      → SetsUpTo ahead begun (fared ++ fared_by command outcome ∷ []) r t
+
+-- Objects were set to values, one after another in this order, and fared so.
+pub data SetsInTurn : List (ℕ × Value) → (fared : List (ℕ × Result Value Trouble)) → (old new : TalkState) → Type 0 where
+  NoneSet : {s : TalkState} → SetsInTurn [] [] s s
+  OneSet : {wishes : List (ℕ × Value)} {fared : List (ℕ × Result Value Trouble)} {r s t : TalkState} (target : ℕ) (value : Value) (result : Result Unit Trouble)
+      → SetsInTurn wishes fared r s → SetsValue target value s t result
+      → SetsInTurn (wishes ++ (target, value) ∷ []) (fared ++ (target, on_ok (λ done. value) result) ∷ []) r t
+
+-- Each of these wishes was submitted, in this order, and each was waited for. One at a time: each was asked, and answered before the next.
+pub record SetsEach (ahead : ℕ) (wishes : List (ℕ × Value)) (fared : List (ℕ × Result Value Trouble)) (old new : TalkState) : Type 0 where
+  pub begun : List SetCommand
+  pub sets : SetsUpTo ahead begun fared old new
+  pub every : map wish_in begun ≡ wishes
+  pub none_left : length fared ≡ length begun
+  pub one_at_a_time : ahead ≡ 1 → SetsInTurn wishes fared old new
+
+-- where there is a value for each, they are set; else nothing is, and it is told of which there is none
+abbrev pub SetsWhere : ℕ → List (ℕ × Value) → (missed fared : List (ℕ × Result Value Trouble)) → TalkState → TalkState → Type 0
+SetsWhere ahead wishes [] fared old new = SetsEach ahead wishes fared old new
+SetsWhere ahead wishes (m ∷ missed) fared old new = (fared ≡ m ∷ missed) × (new ≡ old)
+
+-- ALL OBJECTS WERE SET to what words name, up to `ahead` commands at once, or none: all values were found first, which sets nothing. The
+-- line of each that fared in some way was printed, in the order of the words, and the exit status is the gravest.
+pub record SetsAll (ahead : ℕ) (pairs : List (ℕ × List ℕ)) (old new : TalkState) (status : ℕ) (was is : Output) : Type 0 where
+  pub wishes : List (ℕ × Value)
+  pub missed : List (ℕ × Result Value Trouble)
+  pub fared : List (ℕ × Result Value Trouble)
+  pub between : TalkState
+  pub finds : FindsAll pairs wishes missed old between
+  pub sets : SetsWhere ahead wishes missed fared between new
+  pub worst : status ≡ gravest fared
+  pub prints : PrintsAll was is (fared_lines fared)
 
 -- ---- the words of the command line
 

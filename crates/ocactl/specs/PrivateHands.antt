@@ -1,10 +1,15 @@
 -- For private contracts: objects and values as the program has them, and what is done for one of several.
-use Rattle.std.specs.Prelude.{◌≡◌, ℕ, Bool, false, List, [], ◌∷◌, ◌++◌, map, Result, Ok, Err}
+use Rattle.std.specs.Prelude.{◌≡◌, ℕ, Bool, true, false, List, [], ◌∷◌, ◌++◌, length, map, Result, Ok, Err}
+use Rattle.oca_script.specs.Ends.{Output}
+use Rattle.oca_script.specs.Printing.{PrintsAll}
+use Rattle.oca_control.specs.declared.outcome.Outcome.{Outcome}
 use Rattle.oca_values.specs.declared.value.Value.{Value}
 use Rattle.ocactl.specs.declared.hands.Pair.{Pair}
-use Rattle.ocactl.specs.declared.hands.Wish.{Wish}
+use Rattle.ocactl.specs.declared.hands.Search.{Search}
+use Rattle.ocactl.specs.declared.setting.Wish.{Wish}
+use Rattle.ocactl.specs.declared.setting.Setting.{Setting}
 use Rattle.ocactl.specs.declared.talk.Trouble.{Trouble}
-use Rattle.ocactl.specs.Hands.{TalkState, FindsValue, FindsAll, SetsValue}
+use Rattle.ocactl.specs.Hands.{TalkState, FindsValue, FindsAll, SetCommand, EndsIn, SetsUpTo, SetsEach, wish_in, fared_by, fared_status, fared_line, fared_lines, gravest, graver_of}
 
 abbrev pub pair_of : Pair → ℕ × List ℕ
 pair_of p = (p.ono.0, p.word)
@@ -12,16 +17,76 @@ pair_of p = (p.ono.0, p.word)
 abbrev pub wish_of : Wish → ℕ × Value
 wish_of w = (w.ono.0, w.value)
 
-abbrev pub FindsAllTo : List (ℕ × List ℕ) → List Wish → Bool → TalkState → TalkState → Type 0
-FindsAllTo pairs wishes all old new = FindsAll pairs (map wish_of wishes) all old new
+abbrev pub command_of : Setting → SetCommand
+command_of s = record { target = s.wish.ono.0; value = s.wish.value; answer = s.answer }
 
--- what was found is behind what was found before; what was not makes that there is not a value for each
-abbrev pub AddsFound : Result Value Trouble → ℕ → List Wish → Bool → List Wish → Bool → Type 0
-AddsFound (Ok v) target wishes all more now = (map wish_of more ≡ map wish_of wishes ++ (target, v) ∷ []) × (now ≡ all)
-AddsFound (Err why) target wishes all more now = (more ≡ wishes) × (now ≡ false)
+-- what is told of one object was printed, and this is its status
+abbrev pub TellsFared : ℕ × Result Value Trouble → ℕ → Output → Output → Type 0
+TellsFared fared status was is = (status ≡ fared_status fared.1) × PrintsAll was is (fared_line fared)
 
-abbrev pub FindsOneTo : ℕ × List ℕ → List Wish → Bool → TalkState → List Wish → Bool → TalkState → Type 0
-FindsOneTo pair wishes all old more now new = (found : Result Value Trouble) × FindsValue pair.0 pair.1 old new found × AddsFound found pair.0 wishes all more now
+-- the same behind what was told before
+pub record TellsNext (fared : ℕ × Result Value Trouble) (status now : ℕ) (was is : Output) : Type 0 where
+  pub worst : now ≡ graver_of status (fared_status fared.1)
+  pub prints : PrintsAll was is (fared_line fared)
 
-abbrev pub SetsOneTo : ℕ × Value → TalkState → TalkState → Type 0
-SetsOneTo wish old new = (result : Result Unit Trouble) × SetsValue wish.0 wish.1 old new result
+-- all that was told so far
+pub record TellsAll (fared : List (ℕ × Result Value Trouble)) (status : ℕ) (was is : Output) : Type 0 where
+  pub worst : status ≡ gravest fared
+  pub prints : PrintsAll was is (fared_lines fared)
+
+-- ---- values that are sought
+
+abbrev pub is_none : List (ℕ × Result Value Trouble) → Bool
+is_none [] = true
+is_none (m ∷ missed) = false
+
+pub record FindsAllTo (pairs : List (ℕ × List ℕ)) (wishes : List Wish) (search : Search) (old new : TalkState) (was is : Output) : Type 0 where
+  pub missed : List (ℕ × Result Value Trouble)
+  pub finds : FindsAll pairs (map wish_of wishes) missed old new
+  pub all : search.all ≡ is_none missed
+  pub tells : TellsAll missed search.status was is
+
+-- what was found is behind what was found before; what was not is told, and makes that there is not a value for each
+abbrev pub AddsFound : Result Value Trouble → ℕ → List Wish → Search → List Wish → Search → Output → Output → Type 0
+AddsFound (Ok v) target wishes search more now was is = (map wish_of more ≡ map wish_of wishes ++ (target, v) ∷ []) × (now ≡ search) × (is ≡ was)
+AddsFound (Err why) target wishes search more now was is =
+    (more ≡ wishes) × (now.all ≡ false) × TellsNext (target, Err why) search.status now.status was is
+
+abbrev pub FindsOneTo : ℕ × List ℕ → List Wish → Search → TalkState → List Wish → Search → TalkState → Output → Output → Type 0
+FindsOneTo pair wishes search old more now new was is =
+    (found : Result Value Trouble) × FindsValue pair.0 pair.1 old new found × AddsFound found pair.0 wishes search more now was is
+
+-- ---- set commands
+
+-- the commands that were submitted from a start on, of which these are still waited for, and what was told of the others
+pub record SoFar (ahead : ℕ) (start : TalkState) (before : Output) (wishes : List (ℕ × Value)) (talk : TalkState) (waiting : List SetCommand) (status : ℕ) (is : Output) : Type 0 where
+  pub front : List SetCommand
+  pub fared : List (ℕ × Result Value Trouble)
+  pub sets : SetsUpTo ahead (front ++ waiting) fared start talk
+  pub known : length front ≡ length fared
+  pub every : map wish_in (front ++ waiting) ≡ wishes
+  pub tells : TellsAll fared status before is
+
+-- whatever was submitted so far, some more of it was waited for and told
+pub record WaitsOn (old new : TalkState) (waiting more : List SetCommand) (status now : ℕ) (was is : Output) : Type 0 where
+  pub on : (ahead : ℕ) (start : TalkState) (before : Output) (wishes : List (ℕ × Value))
+      → SoFar ahead start before wishes old waiting status was → SoFar ahead start before wishes new more now is
+
+-- whatever was submitted so far, one more was
+pub record SetsOn (ahead : ℕ) (wish : ℕ × Value) (old new : TalkState) (waiting more : List SetCommand) (status now : ℕ) (was is : Output) : Type 0 where
+  pub on : (start : TalkState) (before : Output) (wishes : List (ℕ × Value))
+      → SoFar ahead start before wishes old waiting status was → SoFar ahead start before (wishes ++ wish ∷ []) new more now is
+
+-- the first that is waited for fared so, and was told
+pub record WaitsForFirst (old new : TalkState) (waiting more : List Setting) (status now : ℕ) (was is : Output) : Type 0 where
+  pub setting : Setting
+  pub outcome : Outcome
+  pub first : waiting ≡ setting ∷ more
+  pub ends : EndsIn setting.answer old new outcome
+  pub tells : TellsNext (fared_by (command_of setting) outcome) status now was is
+
+-- all wishes were set, and told
+pub record SetsEachTo (ahead : ℕ) (wishes : List (ℕ × Value)) (status : ℕ) (old new : TalkState) (was is : Output) : Type 0 where
+  pub fared : List (ℕ × Result Value Trouble)
+  pub sets : SetsEach ahead wishes fared old new
+  pub tells : TellsAll fared status was is

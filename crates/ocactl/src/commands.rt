@@ -138,7 +138,7 @@ fn send<E: End, W: Sink>(
 }
 
 /// How a command fares that the link refuses.
-fn refused(fault: ControlFault) -> Outcome
+pub fn refused(fault: ControlFault) -> Outcome
     ensures { result ≡ refused_by fault }
 {
     match fault {

@@ -1,15 +1,17 @@
-//! Objects one after another: read, set, locked, unlocked. Each has its line.
-ghost use Rattle.std.specs.Prelude.{◌≡◌, ◌≤◌, [], map, length, IfOk};
-ghost use Rattle.ocactl.specs.Hands.{SetsAll, SetsEach};
-ghost use Rattle.ocactl.specs.PrivateHands.{pair_of, wish_of, FindsAllTo, FindsOneTo, SetsOneTo};
+//! Several objects: read, set, locked, unlocked. Each has its line.
+ghost use Rattle.std.specs.Prelude.{◌≡◌, ◌≤◌, [], map, length, IfOk, Err};
+ghost use Rattle.oca_types.specs.Sizes.{span_size};
+ghost use Rattle.ocactl.specs.Hands.{SetsAll};
+ghost use Rattle.ocactl.specs.PrivateHands.{pair_of, FindsAllTo, FindsOneTo, TellsFared};
 
-use super::objects::{lock, name_of, set_to, unlock, value_of, wanted};
+use super::objects::{lock, name_of, unlock, value_of, wanted};
+use super::setting::{Wish, set_wishes};
 use super::talk::{Talk, Trouble};
 use super::told::{Told, graver, status_of, tell};
 use oca_net::End;
 use oca_program::{Failure, RunFault};
 use oca_script::{Printer, Sink, WriteFailed};
-use oca_types::{Ono, Text};
+use oca_types::{Ono, Span, Text};
 use oca_values::{Value, word_of};
 use std::alloc::Global;
 
@@ -18,13 +20,6 @@ use std::alloc::Global;
 pub struct Pair {
     pub ono: Ono,
     pub word: Text,
-}
-
-/// An object, and the value that it is to have.
-#[derive(Clone, Copy)]
-struct Wish {
-    ono: Ono,
-    value: Value,
 }
 
 /// Reads the objects one after another, and prints the value of each. Returns the exit status.
@@ -57,6 +52,19 @@ fn tell_value<E: End, W: Sink>(
             }
             Ok(0)
         }
+        other => tell_fared(ono, other, printer),
+    }
+}
+
+/// Prints the value of an object, or why it is not as it was asked for. Returns the exit status.
+pub fn tell_fared<W: Sink>(
+    ono: Ono,
+    fared: Result<Value, Trouble>,
+    printer: &mut Printer<W>,
+) -> Result<u8, WriteFailed>
+    ensures { IfOk result (λ status. TellsFared (ono.0, fared) status printer.old printer.new) }
+{
+    match fared {
         Ok(value) => {
             tell(ono, Told::Word(word_of(value).as_str()), printer)?;
             Ok(0)
@@ -70,7 +78,9 @@ pub fn tell_trouble<W: Sink>(
     ono: Ono,
     trouble: Trouble,
     printer: &mut Printer<W>,
-) -> Result<u8, WriteFailed> {
+) -> Result<u8, WriteFailed>
+    ensures { IfOk result (λ status. TellsFared (ono.0, Err trouble) status printer.old printer.new) }
+{
     tell(ono, Told::Hindered(trouble), printer)?;
     Ok(status_of(trouble))
 }
@@ -93,20 +103,21 @@ fn tell_done<W: Sink>(
     }
 }
 
-/// Sets the objects one after another, and prints the value of each. Where the word of one is for no value of it, or its class can't
-/// be read, nothing is set, and this is printed of each such object. Returns the exit status.
+/// Sets the objects, so many at once, and prints the value of each, in the order of the pairs. Where the word of one is for no value of
+/// it, or its class can't be read, nothing is set, and this is printed of each such object. Returns the exit status.
 pub fn set_all<E: End, W: Sink>(
     alloc: Global,
     talk: &mut Talk<E>,
     pairs: &[Pair],
+    ahead: Span,
     printer: &mut Printer<W>,
 ) -> Result<u8, Failure>
-    ensures { IfOk result (λ status. SetsAll (map pair_of pairs.now) talk.old talk.new) }
+    ensures { IfOk result (λ status. SetsAll (span_size ahead) (map pair_of pairs.now) talk.old talk.new status printer.old printer.new) }
 {
     let mut wishes = Vec::new(alloc);
     let search = find_wishes(talk, pairs, &mut wishes, printer)?;
     if search.all {
-        Ok(set_wishes(talk, wishes.as_slice(), printer)?)
+        Ok(set_wishes(talk, wishes.as_slice(), ahead, printer)?)
     } else {
         Ok(search.status)
     }
@@ -127,7 +138,7 @@ fn find_wishes<E: End, W: Sink>(
     printer: &mut Printer<W>,
 ) -> Result<Search, Failure>
     requires { wishes.old.items ≡ [] }
-    ensures { IfOk result (λ s. FindsAllTo (map pair_of pairs.now) wishes.new.items s.all talk.old talk.new) }
+    ensures { IfOk result (λ s. FindsAllTo (map pair_of pairs.now) wishes.new.items s talk.old talk.new printer.old printer.new) }
 {
     let mut search = Search {
         status: 0,
@@ -147,7 +158,7 @@ fn find_one<E: End, W: Sink>(
     search: Search,
     printer: &mut Printer<W>,
 ) -> Result<Search, Failure>
-    ensures { IfOk result (λ s. FindsOneTo (pair_of pair.now) wishes.old.items search.all talk.old wishes.new.items s.all talk.new) }
+    ensures { IfOk result (λ s. FindsOneTo (pair_of pair.now) wishes.old.items search talk.old wishes.new.items s talk.new printer.old printer.new) }
 {
     match wanted(talk, pair.ono, pair.word.as_str()) {
         Ok(value) => {
@@ -168,35 +179,6 @@ fn find_one<E: End, W: Sink>(
             })
         }
     }
-}
-
-/// Sets objects one after another, and prints the value of each.
-fn set_wishes<E: End, W: Sink>(
-    talk: &mut Talk<E>,
-    wishes: &[Wish],
-    printer: &mut Printer<W>,
-) -> Result<u8, WriteFailed>
-    ensures { IfOk result (λ status. SetsEach (map wish_of wishes.now) talk.old talk.new) }
-{
-    let mut status = 0;
-    for wish in wishes {
-        let more = set_one(talk, wish, printer)?;
-        status = graver(status, more);
-    }
-    Ok(status)
-}
-
-/// Sets an object, and prints its value.
-fn set_one<E: End, W: Sink>(
-    talk: &mut Talk<E>,
-    wish: &Wish,
-    printer: &mut Printer<W>,
-) -> Result<u8, WriteFailed>
-    ensures { SetsOneTo (wish_of wish.now) talk.old talk.new }
-{
-    let done = set_to(talk, wish.ono, wish.value);
-    let word = word_of(wish.value);
-    tell_done(wish.ono, done, word.as_str(), printer)
 }
 
 /// Locks the objects one after another, or takes their locks off, and prints how each fared. Returns the exit status.

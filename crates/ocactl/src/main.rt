@@ -12,6 +12,7 @@ mod replay;
 mod request;
 mod run;
 mod session;
+mod setting;
 mod talk;
 mod tasks;
 mod told;

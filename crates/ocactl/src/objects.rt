@@ -2,12 +2,12 @@
 ghost use Rattle.std.specs.Prelude.{◌≡◌};
 ghost use Rattle.oca_types.specs.Peers.{request_of};
 ghost use Rattle.oca_values.specs.Values.{get_method, request_to};
-ghost use Rattle.ocactl.specs.Hands.{AsksClass, ReadsValue, FindsValue, SetsValue, DoesCall, AsksName, ReadsBy, ReadsWith, FindsOf, FindsName, FindsPosition, call, lock_total, unlocking};
+ghost use Rattle.ocactl.specs.Hands.{AsksClass, ReadsValue, FindsValue, DoesCall, AsksName, ReadsBy, ReadsWith, FindsOf, FindsName, FindsPosition, call, lock_total, unlocking};
 
 use super::talk::{Talk, Trouble, class_in, done_in, position_in, text_in, value_in};
 use oca_net::End;
 use oca_types::{Class, MethodId, Ono, Request, Text};
-use oca_values::{Value, get_request, set_request, value_from_word};
+use oca_values::{Value, get_request, value_from_word};
 
 /// GetClassIdentification of every object.
 const GET_CLASS: MethodId = MethodId { level: 1, index: 1 };
@@ -137,15 +137,6 @@ fn find_position<E: End>(talk: &mut Talk<E>, ono: Ono, word: &str) -> Result<Val
         Ok(position) => Ok(Value::Switch(position)),
         Err(trouble) => Err(trouble),
     }
-}
-
-/// Sets an object.
-pub fn set_to<E: End>(talk: &mut Talk<E>, ono: Ono, value: Value) -> Result<(), Trouble>
-    ensures { SetsValue ono.0 value talk.old talk.new result }
-{
-    let request = set_request(value);
-    let outcome = talk.ask(request.of(ono));
-    done_in(&outcome)
 }
 
 /// Keeps other controllers from an object.

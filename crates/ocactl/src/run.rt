@@ -96,7 +96,7 @@ fn do_task<E: End, W: Sink>(
 ) -> Result<u8, Failure> {
     match task {
         Task::Get(onos) => Ok(get_all(talk, onos.as_slice(), printer)?),
-        Task::Set(pairs) => set_all(alloc, talk, pairs.as_slice(), printer),
+        Task::Set(ahead, pairs) => set_all(alloc, talk, pairs.as_slice(), *ahead, printer),
         Task::Lock(onos) => Ok(lock_all(talk, onos.as_slice(), true, printer)?),
         Task::Unlock(onos) => Ok(lock_all(talk, onos.as_slice(), false, printer)?),
         Task::Tree => walk(alloc, talk, printer),

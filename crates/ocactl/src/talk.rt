@@ -4,9 +4,9 @@ ghost use Rattle.ocactl.specs.Hands.{on_ok, said, carried_out, fields_said, clas
 ghost use Rattle.std.specs.List.{position};
 ghost use Rattle.std.specs.Str.{bytes_eq};
 
-use oca_control::{ControlFault, Link, Outcome, ask};
+use oca_control::{ControlFault, Link, Outcome, ask, give_out, wait_for};
 use oca_net::End;
-use oca_types::{Class, Ono, Request, Text};
+use oca_types::{Class, Handle, Ono, Request, Text};
 use oca_values::{
     ClassFields, Members, Names, Value, class_with, read_class_fields, read_members, read_names,
     read_text, read_value,
@@ -42,7 +42,7 @@ impl<E: End + Drop> Drop for Talk<E> {
 impl<E: End> Talk<E> {
     ghost use Rattle.std.specs.Prelude.{◌≡◌};
     ghost use Rattle.oca_types.specs.Peers.{request_of};
-    ghost use Rattle.ocactl.specs.Hands.{AsksIn};
+    ghost use Rattle.ocactl.specs.Hands.{AsksIn, BeginsIn, FinishesIn};
 
     /// A conversation in which nothing was asked.
     pub fn new(link: Link, end: E, turns: u32) -> Talk<E>
@@ -63,6 +63,32 @@ impl<E: End> Talk<E> {
         ensures { AsksIn (request_of request.entry) self.old self.new result }
     {
         ask(&mut self.link, &mut self.end, request, self.turns)
+    }
+
+    /// Submits a command and gives it out at once. What the link refuses changes nothing.
+    pub fn begin(&mut self, request: Request<'_>) -> Result<Handle, ControlFault>
+        ensures { BeginsIn (request_of request.entry) result self.old self.new }
+    {
+        match self.link.submit(
+            request.target,
+            request.method,
+            request.count,
+            request.params,
+            0,
+        ) {
+            Ok(handle) => {
+                give_out(&mut self.link, &mut self.end, 0);
+                Ok(handle)
+            }
+            Err(fault) => Err(fault),
+        }
+    }
+
+    /// Waits for the answer under this handle.
+    pub fn finish(&mut self, handle: Handle) -> Outcome
+        ensures { FinishesIn handle.0 self.old self.new result }
+    {
+        wait_for(&mut self.link, &mut self.end, handle, self.turns)
     }
 }
 

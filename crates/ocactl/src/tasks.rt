@@ -6,12 +6,12 @@ ghost use Rattle.oca_program.specs.Options.{given, read_or};
 ghost use Rattle.ocactl.specs.Hands.{ono_said};
 
 use super::hands::Pair;
-use super::words::networked;
+use super::words::{ahead_option, networked};
 use clap::{Arg, ArgAction, ArgMatches, Command};
 use oca_program::options::{number_or, option};
 use oca_program::{Failure, RunFault};
 use oca_script::field::number;
-use oca_types::{Ono, Text};
+use oca_types::{Ono, Span, Text};
 use std::alloc::{AllocError, Global};
 
 /// What is to be done with objects of a device.
@@ -19,8 +19,8 @@ use std::alloc::{AllocError, Global};
 pub enum Task {
     /// To print how they are set.
     Get(Vec<Ono>),
-    /// To set them.
-    Set(Vec<Pair>),
+    /// To set them, so many at once.
+    Set(Span, Vec<Pair>),
     /// To lock them.
     Lock(Vec<Ono>),
     /// To take their locks off.
@@ -39,7 +39,8 @@ Example: ocactl get --device 127.0.0.1:65000 4097 4100";
 
 const SET_EXAMPLE: &str =
     "VALUE is muted or unmuted; inverted or non-inverted; on or off; a position's number or its name; an integer. Where one is for no value
-of its object, nothing is set.
+of its object, nothing is set. Up to N set commands are under way at once (--ahead), 1 unless given; the lines stand in the order of the
+words, whichever is carried out first.
 
 Status: 0 where all was set, 4 where something was refused, 2 where a value is none of its object's, 3 where an answer did not come.
 
@@ -121,9 +122,11 @@ pub fn with_tasks<'a>(program: Command<'a>, alloc: Global) -> Result<Command<'a>
             GET_EXAMPLE,
         )?
         .arg(objects(alloc))?)?
-        .subcommand(handed(alloc, "set", "Sets objects of a device", SET_EXAMPLE)?.arg(pairs(
-            alloc,
-        ))?)?
+        .subcommand(
+            handed(alloc, "set", "Sets objects of a device", SET_EXAMPLE)?
+                .arg(ahead_option(alloc))?
+                .arg(pairs(alloc))?,
+        )?
         .subcommand(handed(alloc, "lock", "Locks objects of a device", LOCK_EXAMPLE)?.arg(objects(
             alloc,
         ))?)?
@@ -151,12 +154,17 @@ pub fn turns_of(words: &ArgMatches<'_>) -> Option<u32>
     }
 }
 
-/// What the words of a command for hands ask for.
-pub fn task_of(alloc: Global, name: &str, words: &ArgMatches<'_>) -> Result<Task, Failure> {
+/// What the words of a command for hands ask for; what sets, so many at once.
+pub fn task_of(
+    alloc: Global,
+    name: &str,
+    words: &ArgMatches<'_>,
+    ahead: Span,
+) -> Result<Task, Failure> {
     let given = words.get_strs("ONO").unwrap_or(&[]);
     Ok(match name {
         "get" => Task::Get(onos_of(alloc, given)?),
-        "set" => Task::Set(pairs_of(alloc, given)?),
+        "set" => Task::Set(ahead, pairs_of(alloc, given)?),
         "lock" => Task::Lock(onos_of(alloc, given)?),
         "unlock" => Task::Unlock(onos_of(alloc, given)?),
         _ => Task::Tree,

@@ -7,6 +7,7 @@ use std::process::Abort;
 use std::rt::Clock;
 
 mod commands;
+mod hands;
 mod pair;
 mod replay;
 mod sockets;

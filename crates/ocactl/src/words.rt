@@ -134,6 +134,16 @@ pub fn networked<'a>(command: Command<'a>, alloc: Global) -> Result<Command<'a>,
         ))
 }
 
+/// How many commands may be under way at once.
+pub fn ahead_option<'a>(alloc: Global) -> Arg<'a> {
+    option(
+        alloc,
+        "ahead",
+        "N",
+        "How many commands may be under way at once, 1 to the span; those may be executed in any order [1 unless given]",
+    )
+}
+
 const REPLAY_EXAMPLE: &str =
     "Lines: N submit ONO LEVEL INDEX COUNT HEX, N due, N from A.B.C.D:PORT HEX, take H; N is a moment in ms.
 
@@ -211,12 +221,7 @@ fn run_command<'a>(alloc: Global) -> Result<Command<'a>, AllocError> {
         )
         .after_help(RUN_EXAMPLE);
     networked(command, alloc)?
-        .arg(option(
-            alloc,
-            "ahead",
-            "N",
-            "How many commands may be under way at once, 1 to the span; those may be executed in any order [1 unless given]",
-        ))?
+        .arg(ahead_option(alloc))?
         .arg(option(
             alloc,
             "port",
@@ -261,7 +266,7 @@ fn asked_in(matches: &ArgMatches<'_>) -> Option<Asked> {
         ("run", words) => {
             let reach = reach_of(words)?;
             let ahead = ahead_of(words, reach.span)?;
-            Some(Asked::Run(reach, Span::new(ahead as u8)?))
+            Some(Asked::Run(reach, ahead))
         }
         _ => None,
     }
@@ -283,7 +288,10 @@ fn done_by(alloc: Global, matches: &ArgMatches<'_>) -> Result<Asked, Failure> {
     let (Some(reach), Some(turns)) = (reach_of(words), turns_of(words)) else {
         return Err(bad);
     };
-    Ok(Asked::Do(reach, turns, task_of(alloc, name, words)?))
+    let Some(ahead) = ahead_of(words, reach.span) else {
+        return Err(bad);
+    };
+    Ok(Asked::Do(reach, turns, task_of(alloc, name, words, ahead)?))
 }
 
 /// The span that a text says: 1 to 3 digits, 1 to 32.
@@ -394,7 +402,14 @@ fn reach_of(words: &ArgMatches<'_>) -> Option<Reach>
 }
 
 /// How many commands may be under way at once.
-fn ahead_of(words: &ArgMatches<'_>, span: Span) -> Option<usize>
+fn ahead_of(words: &ArgMatches<'_>, span: Span) -> Option<Span>
+    ensures { option_map span_size result ≡ ahead_in (span_size span) words.now }
+{
+    Span::new(ahead_within(words, span)? as u8)
+}
+
+/// How many commands may be under way at once, as a number.
+fn ahead_within(words: &ArgMatches<'_>, span: Span) -> Option<usize>
     ensures value { result ≡ ahead_in (span_size span) words.now }
     ensures within { IfSome result (λ n. (1 ≤ n) × (n ≤ 32)) }
 {

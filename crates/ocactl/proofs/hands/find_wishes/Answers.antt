@@ -1,10 +1,10 @@
-use Rattle.ocactl.specs.Hands.{NoneSought}
-use Rattle.ocactl.proofs.HandLemmas.{finds-next}
+use Rattle.std.proofs.Common.{refl}
+use Rattle.ocactl.proofs.HandLemmas.{finds-none, finds-next}
 use Rattle.ocactl.proofs.hands.find_wishes.Goals as goal
 
 pub loop-pair-init : goal.loop-pair-init
-loop-pair-init g c = rw c.requires NoneSought
+loop-pair-init g c = finds-none _ _ _ _ c.requires refl refl
 
 pub loop-pair-preserved : goal.loop-pair-preserved
 loop-pair-preserved g c =
-    finds-next c.args.pairs.now c.loop-pair.pair-index c.pair-item.result _ _ _ _ _ _ _ c.loop-pair-test.true c.pair-item.is c.loop-pair.invariant c.in_ok-search.ensures
+    finds-next c.args.pairs.now c.loop-pair.pair-index c.pair-item.result _ _ _ _ _ _ _ _ _ _ c.loop-pair-test.true c.pair-item.is c.loop-pair.invariant c.in_ok-search.ensures
