@@ -2,31 +2,12 @@
 use Rattle.std.proofs.Common.{◌≡◌, ℕ, ◌+◌, ◌-◌, ◌^◌, ◌<◌, ◌≤◌, Bool, true, false, cond, ◌||◌, min, max, List, [], ◌∷◌, ◌++◌, Option, Some, None, refl, sym, ap, ◌∙◌, subst, arith, append-nil}
 use Rattle.std.specs.Prelude.{nat_lt, nat_le, is_some}
 use Rattle.std.proofs.lemmas.Bool.Decides.{nat_tests}
+use Rattle.oca_types.specs.Moments.{HoldsFrom}
+use Rattle.oca_types.proofs.MomentTests.{same_test}
 use Rattle.oca_control.specs.Untaken.{Untaken, is_due, first_due, first_answered}
 use Rattle.oca_control.specs.Links.{LinkState, command_under, GivesCommand, GivesKeepAlive, GivesNothing, IsLost, decision_among, decision, IsNextDue, NeverIsDue}
-use Rattle.oca_control.specs.PrivateSlots.{Kept, kept_at, kept_is_due, kept_answer, untaken_at, untaken_from, some_due, HoldsFrom, sooner}
+use Rattle.oca_control.specs.PrivateSlots.{Kept, kept_at, kept_is_due, kept_answer, untaken_at, untaken_from, some_due}
 use Rattle.oca_control.proofs.Places.{split, step, done}
-
--- ---- tests of moments
-
-same_test : (f g : ℕ → Bool) (o : Option ℕ) → ((s : ℕ) → g s ≡ f s) → HoldsFrom f o → HoldsFrom g o
-same_test f g None same p = λ s below. same s ∙ p s below
-same_test f g (Some m) same p = λ s below. same s ∙ p s below
-
-sooner_holds : (f g : ℕ → Bool) (a b : Option ℕ) → HoldsFrom f a → HoldsFrom g b → HoldsFrom (λ s. f s || g s) (sooner a b)
-sooner_holds f g None None p q = λ s below. ap (λ x. x || g s) (p s below) ∙ q s below
-sooner_holds f g None (Some n) p q = λ s below. ap (λ x. x || g s) (p s below) ∙ q s below
-sooner_holds f g (Some m) None p q = λ s below. ap (λ x. x || g s) (p s below) ∙ ap (λ x. nat_le m s || x) (q s below) ∙ or_false (nat_le m s)
-  where
-    or_false : (b : Bool) → (b || false) ≡ b
-    or_false true = refl
-    or_false false = refl
-sooner_holds f g (Some m) (Some n) p q = λ s below. ap (λ x. x || g s) (p s below) ∙ ap (λ x. nat_le m s || x) (q s below) ∙ least s (nat_le m s) (nat_le n s) refl refl
-  where
-    least : (s : ℕ) (a b : Bool) → nat_le m s ≡ a → nat_le n s ≡ b → (a || b) ≡ nat_le (min m n) s
-    least s true b p q = grind (arith, nat_tests)
-    least s false true p q = grind (arith, nat_tests)
-    least s false false p q = grind (arith, nat_tests)
 
 -- ---- a walk through the handles
 
@@ -63,14 +44,13 @@ one_due h s (Some k) =
 pub none_from : (lo : ℕ) (slots : List (Option Kept)) → HoldsFrom (some_due (untaken_from lo (lo - lo) slots)) None
 none_from lo slots = λ s below. ap (λ us. some_due us s) (done lo lo slots (omega arith))
 
-pub from_more : (lo h : ℕ) (slots : List (Option Kept)) (k : Option Kept) (a b : Option ℕ) → lo ≤ h → kept_at h slots ≡ k →
-    HoldsFrom (some_due (untaken_from lo (h - lo) slots)) a → HoldsFrom (λ s. kept_is_due s k) b → HoldsFrom (some_due (untaken_from lo (h + 1 - lo) slots)) (sooner a b)
-from_more lo h slots k a b above read p q =
-    same_test (λ s. some_due (untaken_from lo (h - lo) slots) s || kept_is_due s k) (some_due (untaken_from lo (h + 1 - lo) slots)) (sooner a b)
+pub from_more : (lo h : ℕ) (slots : List (Option Kept)) (k : Option Kept) (o : Option ℕ) → lo ≤ h → kept_at h slots ≡ k →
+    HoldsFrom (λ s. some_due (untaken_from lo (h - lo) slots) s || kept_is_due s k) o → HoldsFrom (some_due (untaken_from lo (h + 1 - lo) slots)) o
+from_more lo h slots k o above read =
+    same_test (λ s. some_due (untaken_from lo (h - lo) slots) s || kept_is_due s k) (some_due (untaken_from lo (h + 1 - lo) slots)) o
     (λ s. ap (λ us. some_due us s) (grown lo h slots above)
     ∙ due_more s (untaken_from lo (h - lo) slots) (untaken_at h (kept_at h slots))
     ∙ ap (λ x. some_due (untaken_from lo (h - lo) slots) s || x) (one_due h s (kept_at h slots) ∙ ap (kept_is_due s) read))
-    (sooner_holds (some_due (untaken_from lo (h - lo) slots)) (λ s. kept_is_due s k) a b p q)
 
 pub not_answered : (lo hi : ℕ) (slots : List (Option Kept)) → lo < hi → is_some (kept_answer (kept_at lo slots)) ≡ false →
     first_answered (untaken_from lo (hi - lo) slots) ≡ first_answered (untaken_from (lo + 1) (hi - (lo + 1)) slots)
@@ -124,21 +104,15 @@ module _ (l : LinkState) (going : l.lost ≡ false) where
       by None p e = by_silence (nat_le 2500 (s - l.sent)) p e
       by (Some u) p e = by_times (nat_lt u.times 20) u e
 
-  tests : (a b o : Option ℕ) → HoldsFrom (some_due l.untaken) a → HoldsFrom (λ s. nat_le 2500 (s - l.sent)) b → o ≡ sooner a b →
-      HoldsFrom (λ s. some_due l.untaken s || nat_le 2500 (s - l.sent)) o
-  tests a b o p q e =
-      subst (HoldsFrom (λ s. some_due l.untaken s || nat_le 2500 (s - l.sent))) (sym e) (sooner_holds (some_due l.untaken) (λ s. nat_le 2500 (s - l.sent)) a b p q)
-
-  pub next_some : (a b o : Option ℕ) (first t : ℕ) → HoldsFrom (some_due l.untaken) a → HoldsFrom (λ s. nat_le 2500 (s - l.sent)) b → o ≡ sooner a b → o ≡ Some first →
-      t ≡ max first l.moment → t < 2 ^ 64 → IsNextDue l t
-  next_some a b o first t p q e is latest fits = record {
+  pub next_some : (o : Option ℕ) (first t : ℕ) → HoldsFrom (λ s. some_due l.untaken s || nat_le 2500 (s - l.sent)) o → o ≡ Some first → t ≡ max first l.moment → t < 2 ^ 64 → IsNextDue l t
+  next_some o first t p is latest fits = record {
     own = omega arith;
     due = loud t (omega arith) (at t fits ∙ reached first t (omega arith));
     earlier = λ s own below. quiet s own (at s (omega arith) ∙ unreached first s (omega arith));
   }
     where
       at : (s : ℕ) → s < 2 ^ 64 → (some_due l.untaken s || nat_le 2500 (s - l.sent)) ≡ nat_le first s
-      at = tests a b (Some first) p q (sym is ∙ e)
+      at = subst (HoldsFrom (λ s. some_due l.untaken s || nat_le 2500 (s - l.sent))) is p
 
       reached : (m s : ℕ) → m ≤ s → nat_le m s ≡ true
       reached m s p = grind (arith, nat_tests)
@@ -146,8 +120,8 @@ module _ (l : LinkState) (going : l.lost ≡ false) where
       unreached : (m s : ℕ) → s < m → nat_le m s ≡ false
       unreached m s p = grind (arith, nat_tests)
 
-  pub next_none : (a b o : Option ℕ) → HoldsFrom (some_due l.untaken) a → HoldsFrom (λ s. nat_le 2500 (s - l.sent)) b → o ≡ sooner a b → o ≡ None → NeverIsDue l
-  next_none a b o p q e is = record { never = λ s own fits. quiet s own (tests a b None p q (sym is ∙ e) s fits) }
+  pub next_none : (o : Option ℕ) → HoldsFrom (λ s. some_due l.untaken s || nat_le 2500 (s - l.sent)) o → o ≡ None → NeverIsDue l
+  next_none o p is = record { never = λ s own fits. quiet s own (subst (HoldsFrom (λ s. some_due l.untaken s || nat_le 2500 (s - l.sent))) is p s fits) }
 
 -- a lost link is due at once, since `due` answers so
 pub next_lost : (l : LinkState) → l.lost ≡ true → IsNextDue l l.moment

@@ -93,17 +93,6 @@ IsLowestDue now slots low next None = first_due now (untaken_from low (next - lo
 IsLowestDue now slots low next (Some h) = (low ≤ h) × (h < next) × (kept_is_due now (kept_at h slots) ≡ true)
     × (first_due now (untaken_from low (next - low) slots) ≡ first_due now (untaken_at h (kept_at h slots)))
 
--- a test of moments that holds from this one on, and not before; or at none of 64 bits
-abbrev pub HoldsFrom : (ℕ → Bool) → Option ℕ → Type 0
-HoldsFrom test None = (s : ℕ) → s < 2 ^ 64 → test s ≡ false
-HoldsFrom test (Some m) = (s : ℕ) → s < 2 ^ 64 → test s ≡ nat_le m s
-
--- the earlier of two moments
-abbrev pub sooner : Option ℕ → Option ℕ → Option ℕ
-sooner None b = b
-sooner (Some m) None = Some m
-sooner (Some m) (Some n) = Some (min m n)
-
 -- a command is due
 abbrev pub some_due : List Untaken → ℕ → Bool
 some_due us s = is_some (first_due s us)

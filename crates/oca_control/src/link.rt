@@ -15,11 +15,13 @@ ghost use Rattle.oca_control.specs.PrivateSlots.{AreShort, IsShort};
 use crate::answer::Answer;
 use crate::due::Due;
 use crate::fault::ControlFault;
-use crate::moments::{later, latest, sooner};
+use crate::moments::{later, latest};
 use crate::reception::Reception;
 use crate::table::Table;
 use oca_pdu::{Form, Message, Messages, check, write_keepalive};
-use oca_types::{Handle, MOST_COMMAND_PARAMETER_BYTES, MethodId, Ono, Packet, Peer, Request, Span};
+use oca_types::{
+    Handle, MOST_COMMAND_PARAMETER_BYTES, MethodId, Ono, Packet, Peer, Request, Span, sooner,
+};
 use std::marker::Model;
 
 /// A keep-alive is given out after so many milliseconds without anything.

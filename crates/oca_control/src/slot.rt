@@ -3,11 +3,12 @@ ghost use Rattle.std.specs.Prelude.{◌≡◌, ◌<◌, ◌≤◌, [], ◌∷◌
 ghost use Rattle.std.specs.Option.{option_map};
 ghost use Rattle.oca_types.specs.Peers.{request_of};
 ghost use Rattle.oca_types.specs.Sizes.{most_command_parameter_bytes, most_parameter_bytes};
+ghost use Rattle.oca_types.specs.Moments.{HoldsFrom};
 ghost use Rattle.oca_pdu.specs.Messages.{Commands};
 ghost use Rattle.oca_pdu.specs.Encoding.{pdu_encoding};
 ghost use Rattle.oca_control.specs.Answers.{answer_fields};
 ghost use Rattle.oca_control.specs.Links.{command_under};
-ghost use Rattle.oca_control.specs.PrivateSlots.{new_kept, kept_is_due, kept_waits, kept_answer, kept_given, kept_answered, HoldsFrom};
+ghost use Rattle.oca_control.specs.PrivateSlots.{new_kept, kept_is_due, kept_waits, kept_answer, kept_given, kept_answered};
 
 use crate::answer::Answer;
 use crate::moments::later;

@@ -4,16 +4,16 @@ ghost use Rattle.std.specs.List.{list_any};
 ghost use Rattle.std.specs.Option.{option_map};
 ghost use Rattle.oca_types.specs.Peers.{request_of};
 ghost use Rattle.oca_types.specs.Sizes.{most_command_parameter_bytes, most_parameter_bytes};
+ghost use Rattle.oca_types.specs.Moments.{HoldsFrom};
 ghost use Rattle.oca_control.specs.Answers.{answer_fields};
 ghost use Rattle.oca_control.specs.Untaken.{new_untaken, has_room, first_due, waits, answered, first_answered, answer_under, without_handle};
 ghost use Rattle.oca_control.specs.Links.{command_under, due_answer};
-ghost use Rattle.oca_control.specs.PrivateSlots.{IsTable, untaken_from, untaken_at, kept_at, kept_is_due, some_due, HoldsFrom, handle_left, first_decided, after_decision, bytes_decided, IsLowestDue, IsPlaceOf};
+ghost use Rattle.oca_control.specs.PrivateSlots.{IsTable, untaken_from, untaken_at, kept_at, kept_is_due, some_due, handle_left, first_decided, after_decision, bytes_decided, IsLowestDue, IsPlaceOf};
 
 use crate::answer::Answer;
 use crate::due::Due;
-use crate::moments::sooner;
 use crate::slot::Slot;
-use oca_types::{Handle, Packet, Request};
+use oca_types::{Handle, Packet, Request, sooner};
 use std::marker::Model;
 
 /// The untaken commands of a link. They have handles from `low` on and below `next`, at most 32 of them, and the command

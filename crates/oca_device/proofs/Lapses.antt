@@ -12,7 +12,9 @@ use Rattle.oca_tree.specs.declared.object.Object.{Object}
 use Rattle.oca_tree.specs.declared.object.Lock.{Lock}
 use Rattle.oca_tree.specs.Locks.{is_held_by, without_lock_of, released, lock_of_one, lock_count}
 use Rattle.oca_session.specs.Table.{Session, Table, stays, staying, lapsed}
-use Rattle.oca_session.specs.Lapses.{HoldsFrom, forgets, lapses}
+use Rattle.oca_types.specs.Moments.{HoldsFrom}
+use Rattle.oca_types.proofs.MomentTests.{same_test}
+use Rattle.oca_session.specs.Lapses.{forgets, lapses}
 use Rattle.oca_device.specs.States.{State, released_all, lapsed_at, moved_to}
 use Rattle.oca_device.specs.Devices.{table_of}
 use Rattle.oca_device.specs.Lapses.{TickKeeps, IsNextLapse, NeverLapses}
@@ -139,10 +141,6 @@ releases_more ss t tree i within = ap (λ (n : ℕ). releases (take n tree) ss t
   where
     after : (n : ℕ) → n + 1 ≡ suc n
     after n = omega arith
-
-same_test : (f g : ℕ → Bool) (o : Option ℕ) → ((t : ℕ) → g t ≡ f t) → HoldsFrom f o → HoldsFrom g o
-same_test f g None same p = λ t below. same t ∙ p t below
-same_test f g (Some m) same p = λ t below. same t ∙ p t below
 
 pub lock_there : (tree : List Object) (ss : List Session) (i : ℕ) (l : Lock) (o : Option ℕ) → i < length tree → Some l ≡ lock_in tree i →
     HoldsFrom (λ t. releases (take i tree) ss t || lapses l.holder ss t) o → HoldsFrom (releases (take (i + 1) tree) ss) o

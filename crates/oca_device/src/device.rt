@@ -22,9 +22,11 @@ use crate::outbox::Outbox;
 use crate::verdict::Verdict;
 use arrayvec::ArrayVec;
 use oca_pdu::{Form, Message, Messages, check};
-use oca_session::{Admission, Judged, Sessions, sooner};
+use oca_session::{Admission, Judged, Sessions};
 use oca_tree::{LocalValue, SetFault, Tree};
-use oca_types::{Command, NoMemory, Ono, Params, Peer, Peers, Reply, Sizes, Status, Window};
+use oca_types::{
+    Command, NoMemory, Ono, Params, Peer, Peers, Reply, Sizes, Status, Window, sooner,
+};
 use std::alloc::Global;
 use std::marker::Model;
 

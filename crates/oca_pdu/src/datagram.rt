@@ -5,7 +5,7 @@ ghost use Rattle.oca_pdu.specs.Reading.{read_datagram};
 use crate::messages::Messages;
 
 /// The bytes of a well-formed datagram, seen as its messages.
-#[derive(Clone, Copy)]
+#[derive(Clone, Copy, Debug)]
 pub struct Datagram<'a> {
     pub(crate) bytes: &'a [u8],
     ghost well_formed: { IsTrue (is_ok (read_datagram bytes.now)) },

@@ -7,7 +7,7 @@ use crate::message::{Content, Form, Kind, Message};
 
 /// The messages of a datagram that are still to come: those of the PDU that was begun, and the PDUs after it. No check is
 /// made again.
-#[derive(Drop)]
+#[derive(Debug, Drop)]
 pub struct Messages<'a> {
     kind: Kind,
     left: u16,

@@ -17,7 +17,7 @@ mod sessions;
 mod slot;
 mod window;
 
-pub use moments::sooner;
+pub use oca_types::sooner;
 pub use sessions::{Admission, Sessions};
 pub use window::Judged;
 

@@ -2,19 +2,19 @@
 ghost use Rattle.std.specs.Prelude.{◌≡◌, ℕ, ◌<◌, ◌≤◌, List, [], ◌∷◌, ◌++◌, length, IfOk, IsSome, IfSome, is_some, Some, vec_len, take, position, All, Contains, ◌==◌};
 ghost use Rattle.oca_types.specs.declared.words.Peer.{Peer};
 ghost use Rattle.oca_types.specs.Peers.{fields_of};
-ghost use Rattle.oca_types.specs.Sizes.{window_size, sizes_of};
+ghost use Rattle.oca_types.specs.Sizes.{most_command_parameter_bytes, window_size, sizes_of};
 ghost use Rattle.oca_session.specs.Accepted.{Entry, judgement, Fresh};
 ghost use Rattle.oca_session.specs.Judging.{as_judgement, judgement_by_window};
 ghost use Rattle.oca_session.specs.Table.{is_of, session_of, peers_of, lapsed, staying, forgotten};
-ghost use Rattle.oca_session.specs.Lapses.{HoldsFrom, forgets, lapses};
+ghost use Rattle.oca_types.specs.Moments.{HoldsFrom};
+ghost use Rattle.oca_session.specs.Lapses.{forgets, lapses};
 ghost use Rattle.oca_session.specs.Sound.{IsSession, IsOnePerPeer};
 ghost use Rattle.oca_session.specs.PrivateQuiet.{IsQuietUntil};
 
-use crate::moments::sooner;
 use crate::slot::Slot;
 use crate::window::Judged;
 use arrayvec::ArrayVec;
-use oca_types::{Command, NoMemory, Peer, Peers, Reply, Sizes, Window};
+use oca_types::{Command, NoMemory, Peer, Peers, Reply, Sizes, Window, sooner};
 use std::alloc::{AllocError, Global};
 use std::marker::Model;
 
@@ -261,7 +261,7 @@ impl Sessions {
     pub fn keep(&mut self, peer: Peer, command: &Command<'_>, reply: &Reply)
         requires known { IsSome (session_of peer self.old.sessions) }
         requires fresh { IfSome (session_of peer self.old.sessions) (λ s. judgement_by_window s.retained (fields_of command.now) ≡ Fresh) }
-        requires room { length command.now.params.now ≤ 1445 }
+        requires room { length command.now.params.now ≤ most_command_parameter_bytes }
         ensures retained { self.new ≡ with_sessions self.old
             (changed peer (with_entry (record { command = fields_of command.now; reply = reply.now })) self.old.sessions) }
         ensures accepted { (w : ℕ) (A : List Entry) → AgreesAt peer w A self.old.sessions →
@@ -303,7 +303,7 @@ impl Sessions {
     fn put(&mut self, peer: Peer, command: &Command<'_>, reply: &Reply)
         requires known { IsSome (session_of peer self.old.sessions) }
         requires fresh { IfSome (session_of peer self.old.sessions) (λ s. judgement_by_window s.retained (fields_of command.now) ≡ Fresh) }
-        requires room { length command.now.params.now ≤ 1445 }
+        requires room { length command.now.params.now ≤ most_command_parameter_bytes }
         ensures retained { self.new ≡ with_sessions self.old
             (changed peer (with_entry (record { command = fields_of command.now; reply = reply.now })) self.old.sessions) }
         ensures one { IsTable self.old }

@@ -2,6 +2,7 @@
 ghost use Rattle.std.specs.Prelude.{◌≡◌, ℕ, ◌+◌, ◌<◌, ◌≤◌, max, vec_len, vec_capacity, List, [], ◌∷◌, ◌++◌, length, option_map, option_copied, IfOk, MatchOption, AllPairs, find};
 ghost use Rattle.circular_buffer.specs.Buffer.{buffer};
 ghost use Rattle.oca_types.specs.Peers.{CommandFields, fields_of};
+ghost use Rattle.oca_types.specs.Sizes.{most_command_parameter_bytes};
 ghost use Rattle.oca_session.specs.Accepted.{Entry, retained_of, Agrees, judgement, Fresh, entry_under, duplicate_or_reused};
 ghost use Rattle.oca_session.specs.Judging.{as_judgement, judgement_by_window, retained_after};
 ghost use Rattle.oca_session.specs.PrivateCells.{is_under, held_in, judge_cell, AreApart, IsCellOfOldest, AddsCell};
@@ -13,7 +14,7 @@ use std::alloc::{AllocError, Global};
 use std::marker::Model;
 
 /// What the reply window of a session says of a command.
-#[derive(Clone, Copy)]
+#[derive(Clone, Copy, Debug)]
 pub enum Judged<'a> {
     /// No accepted command has its handle, which is above all that the window pushed out: execute it.
     Fresh,
@@ -140,7 +141,7 @@ impl ReplyWindow {
     /// Retains a fresh command with its reply. A full window pushes its oldest out.
     pub fn keep(&mut self, command: &Command<'_>, reply: &Reply)
         requires fresh { judgement_by_window self.old (fields_of command.now) ≡ Fresh }
-        requires room { length command.now.params.now ≤ 1445 }
+        requires room { length command.now.params.now ≤ most_command_parameter_bytes }
         ensures exact { self.new ≡ retained_after self.old (record { command = fields_of command.now; reply = reply.now }) }
         ensures accepted { (w : ℕ) (A : List Entry) → Agrees w A self.old →
             Agrees w (A ++ record { command = fields_of command.now; reply = reply.now } ∷ []) self.new }
@@ -151,7 +152,7 @@ impl ReplyWindow {
     /// Retains a fresh command with its reply. `keep` says beside it of which accepted commands the window is then.
     fn put(&mut self, command: &Command<'_>, reply: &Reply)
         requires fresh { judgement_by_window self.old (fields_of command.now) ≡ Fresh }
-        requires room { length command.now.params.now ≤ 1445 }
+        requires room { length command.now.params.now ≤ most_command_parameter_bytes }
         ensures { self.new ≡ retained_after self.old (record { command = fields_of command.now; reply = reply.now }) }
     {
         raise(&mut self.above, command.handle);
@@ -200,7 +201,7 @@ fn add(
     command: &Command<'_>,
     reply: &Reply,
 )
-    requires params { length command.now.params.now ≤ 1445 }
+    requires params { length command.now.params.now ≤ most_command_parameter_bytes }
     requires room { (length held.old.items < held.old.capacity) × (held.old.capacity ≤ 64) × (vec_len cells.old < vec_capacity cells.old) }
     ensures capacity { vec_capacity cells.new ≡ vec_capacity cells.old }
     ensures held { held.new ≡ buffer (held.old.items ++ held_in command.now.handle (length held.old.items) ∷ []) held.old.capacity }

@@ -14,6 +14,7 @@ use std::alloc::AllocError;
 
 /// What is left of a slice. Each take answers the value whose encoding is at the front (AES70-3) and
 /// goes past exactly that encoding; after a refusal the cursor is as it was.
+#[derive(Debug)]
 pub struct Cursor<'a> {
     rest: &'a [u8],
 }

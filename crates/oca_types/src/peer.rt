@@ -23,6 +23,7 @@ impl Peer {
 impl From<SocketAddrV4> for Peer {
     ghost from_gives = { λ address peer. IsPeerAt address peer };
 
+    /// The peer at this address.
     fn from(address: SocketAddrV4) -> Peer {
         Peer {
             ip: address.ip().to_bits(),
@@ -34,6 +35,7 @@ impl From<SocketAddrV4> for Peer {
 impl From<Peer> for SocketAddrV4 {
     ghost from_gives = { λ peer address. IsAddressOf peer address };
 
+    /// The address of this peer.
     fn from(peer: Peer) -> SocketAddrV4 {
         SocketAddrV4::new(Ipv4Addr::from_bits(peer.ip), peer.port)
     }
@@ -42,6 +44,7 @@ impl From<Peer> for SocketAddrV4 {
 impl From<([u8; 4], u16)> for Peer {
     ghost from_gives = { λ parts peer. (octets peer.ip ≡ parts.0) × (peer.port ≡ parts.1) };
 
+    /// The peer of these four numbers of an address, and of this port.
     fn from(parts: ([u8; 4], u16)) -> Peer {
         Peer {
             ip: u32::from_be_bytes(parts.0),
@@ -54,6 +57,7 @@ impl From<([u8; 4], u16)> for Peer {
 impl Display for Peer {
     ghost output = { λ peer. Some (peer_text peer) };
 
+    /// Writes it.
     fn fmt<W: fmt::Write>(&self, f: &mut Formatter<W>) -> fmt::Result {
         Display::fmt(&SocketAddrV4::from(*self), f)
     }
@@ -65,6 +69,7 @@ impl FromStr for Peer {
 
     ghost from_str_gives = { ReadsAPeer };
 
+    /// The peer that the text names. Refusal: that of the standard library.
     fn from_str(text: &str) -> Result<Peer, AddrParseError> {
         match SocketAddrV4::from_str(text) {
             Ok(address) => Ok(Peer::from(address)),

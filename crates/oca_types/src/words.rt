@@ -49,7 +49,7 @@ pub type Packet = ArrayVec<u8, MOST_BYTES>;
 
 /// A command: what its handle is, which object and method it calls, its ParamCount and the bytes of
 /// its parameters (AES70-3).
-#[derive(Clone, Copy)]
+#[derive(Clone, Copy, Debug)]
 pub struct Command<'a> {
     /// By which its response is known.
     pub handle: Handle,
@@ -65,7 +65,7 @@ pub struct Command<'a> {
 
 /// What a command asks for, before it has a handle: which object and method it calls, its ParamCount and the bytes of its
 /// parameters (AES70-3).
-#[derive(Clone, Copy)]
+#[derive(Clone, Copy, Debug)]
 pub struct Request<'a> {
     /// The object that it is for.
     pub target: Ono,
@@ -78,7 +78,7 @@ pub struct Request<'a> {
 }
 
 /// What executing a command gave: its status, and the ParamCount and the parameters of the response.
-#[derive(Drop)]
+#[derive(Debug, Drop)]
 pub struct Reply {
     /// How it went.
     pub status: Status,
