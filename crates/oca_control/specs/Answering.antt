@@ -10,6 +10,7 @@ use Rattle.oca_control.specs.declared.due.Due.{Due}
 use Rattle.oca_control.specs.declared.due.Due.TheVariants as dues
 use Rattle.oca_control.specs.declared.reception.Reception.{Reception}
 use Rattle.oca_control.specs.Untaken.{answer_under}
+use Rattle.oca_control.specs.Limits.{repeat_time, most_sendings}
 use Rattle.oca_control.specs.Links.{LinkState, Request}
 use Rattle.oca_control.specs.Histories.{Call, Submits, GivesOut, Receives, TakesAnswer, IsHistory, clock, Sending, sendings, answers_in, answers_to, first_of, is_untaken, is_due_at, is_lost}
 
@@ -105,12 +106,12 @@ pub record Waits (device : Peer) (h : ℕ) (calls : List Call) : Type 0 where
 -- never given out, and submitted at most so many ms ago.
 abbrev pub IsRecent : ℕ → ℕ → ℕ → List Sending → Type 0
 IsRecent ms since t [] = t ≤ since + ms
-IsRecent ms since t (s ∷ before) = t < s.at + (250 + ms)
+IsRecent ms since t (s ∷ before) = t < s.at + (repeat_time + ms)
 
 -- And it does not wait for ever, since it is given out at most 20 times.
 pub record IsGivenOutInTime (ms since t : ℕ) (given : List Sending) : Type 0 where
   pub recent : IsRecent ms since t given
-  pub ends : t ≤ since + ms + 20 * (250 + ms)
+  pub ends : t ≤ since + ms + most_sendings * (repeat_time + ms)
 
 -- Where a link is asked every so many ms from the submit of a command on, the command is given out in time as long as it
 -- waits.

@@ -17,6 +17,8 @@ use Rattle.oca_control.specs.declared.reception.Reception.{Reception}
 use Rattle.oca_control.specs.Answers.{AnswerFields, answer_in}
 use Rattle.oca_control.specs.Contents.{IsContent}
 use Rattle.oca_control.specs.Untaken.{answer_under, first_answered}
+use Rattle.oca_types.specs.Sizes.{most_command_parameter_bytes}
+use Rattle.oca_control.specs.Limits.{repeat_time, most_sendings, keep_alive_time, last_handle}
 use Rattle.oca_control.specs.Links.{LinkState, Request, new_link, command_under, submission, submitted, decision, due_answer, due_bytes, gone_on, reception, received, taken}
 
 -- ---- what happened to a link
@@ -123,7 +125,7 @@ is_untaken h (TakesAnswer x None ∷ before) = is_untaken h before
 -- a command has rested where it was never given out, or last 250 ms before t or earlier
 abbrev pub has_rested : ℕ → List Sending → Bool
 has_rested t [] = true
-has_rested t (s ∷ before) = nat_le 250 (t - s.at)
+has_rested t (s ∷ before) = nat_le repeat_time (t - s.at)
 
 -- A handle is DUE at t while it is untaken, no answer came to it, and its command has rested.
 abbrev pub is_due_at : Peer → ℕ → ℕ → ℕ → List Call → Bool
@@ -189,11 +191,11 @@ IsFull span n before = (x : ℕ) × (is_untaken x before ≡ true) × (x + span 
 -- What `submit` answers, n being the next handle and k the number of parameter bytes: the handle; or that the link is lost; or that no
 -- handle is left; or that the span is full; or that the parameters are too long.
 abbrev pub IsSubmitAnswer : ℕ → ℕ → ℕ → List Call → Result Handle ControlFault → Type 0
-IsSubmitAnswer span n k before (Ok h) = (is_lost before ≡ false) × (h.0 ≡ n) × (n ≤ 4294967295) × HasRoom span n before × (k ≤ 1445)
+IsSubmitAnswer span n k before (Ok h) = (is_lost before ≡ false) × (h.0 ≡ n) × (n ≤ last_handle) × HasRoom span n before × (k ≤ most_command_parameter_bytes)
 IsSubmitAnswer span n k before (Err faults.Lost) = is_lost before ≡ true
-IsSubmitAnswer span n k before (Err faults.HandlesSpent) = (is_lost before ≡ false) × (4294967295 < n)
-IsSubmitAnswer span n k before (Err faults.SpanFull) = (is_lost before ≡ false) × (n ≤ 4294967295) × IsFull span n before
-IsSubmitAnswer span n k before (Err faults.TooLong) = (is_lost before ≡ false) × (n ≤ 4294967295) × HasRoom span n before × (1445 < k)
+IsSubmitAnswer span n k before (Err faults.HandlesSpent) = (is_lost before ≡ false) × (last_handle < n)
+IsSubmitAnswer span n k before (Err faults.SpanFull) = (is_lost before ≡ false) × (n ≤ last_handle) × IsFull span n before
+IsSubmitAnswer span n k before (Err faults.TooLong) = (is_lost before ≡ false) × (n ≤ last_handle) × HasRoom span n before × (most_command_parameter_bytes < k)
 
 -- EACH SUBMIT answers that.
 abbrev pub AnswersSubmits : ℕ → ℕ → List Call → Type 0
@@ -214,7 +216,7 @@ pub record IsCopy (h : ℕ) (accepted : List CommandFields) (bytes : List ℕ) :
 abbrev pub AreApart : List Sending → Type 0
 AreApart [] = ⊤
 AreApart (s ∷ []) = ⊤
-AreApart (s ∷ r ∷ before) = (r.at + 250 ≤ s.at) × AreApart (r ∷ before)
+AreApart (s ∷ r ∷ before) = (r.at + repeat_time ≤ s.at) × AreApart (r ∷ before)
 
 -- EACH TAKE of an untaken handle gives the first answer that came to it, where one came. Of another handle it gives nothing.
 abbrev pub TakesTheFirst : Peer → List Call → Type 0
@@ -235,17 +237,17 @@ NoneIsDue device opened t before = (x : ℕ) → is_due_at device opened t x bef
 
 -- the lowest due command was given out 20 times
 abbrev pub IsLostNow : Peer → ℕ → ℕ → List Call → Type 0
-IsLostNow device opened t before = (h : ℕ) × IsLowestDue device opened t h before × (length (sendings opened h before) ≡ 20)
+IsLostNow device opened t before = (h : ℕ) × IsLowestDue device opened t h before × (length (sendings opened h before) ≡ most_sendings)
 
 -- What `due` answers at t. A command: the lowest due one, which was given out less than 20 times. A keep-alive of 5 seconds: none is
 -- due, and nothing was given out for 2,500 ms. Nothing: none is due. Lost: the link is lost now, or it was.
 abbrev pub IsDueAnswer : Peer → ℕ → ℕ → List ℕ → List Call → Due → Type 0
 IsDueAnswer device opened t bytes before (dues.Send h) =
-    (is_lost before ≡ false) × IsLowestDue device opened t h.0 before × (length (sendings opened h.0 before) < 20)
+    (is_lost before ≡ false) × IsLowestDue device opened t h.0 before × (length (sendings opened h.0 before) < most_sendings)
 IsDueAnswer device opened t bytes before dues.KeepAlive =
-    (is_lost before ≡ false) × NoneIsDue device opened t before × (last_given opened before + 2500 ≤ t) × (bytes ≡ pdu_encoding (OneKeepAlive (Seconds 5)))
+    (is_lost before ≡ false) × NoneIsDue device opened t before × (last_given opened before + keep_alive_time ≤ t) × (bytes ≡ pdu_encoding (OneKeepAlive (Seconds 5)))
 IsDueAnswer device opened t bytes before dues.Nothing =
-    (is_lost before ≡ false) × NoneIsDue device opened t before × (t < last_given opened before + 2500) × (bytes ≡ [])
+    (is_lost before ≡ false) × NoneIsDue device opened t before × (t < last_given opened before + keep_alive_time) × (bytes ≡ [])
 IsDueAnswer device opened t bytes before dues.Lost = ((is_lost before ≡ true) ⊎ IsLostNow device opened t before) × (bytes ≡ [])
 
 -- EACH DUE gives that, at the clock.
@@ -261,9 +263,9 @@ GivesWhatIsDue device opened (TakesAnswer h answer ∷ before) = GivesWhatIsDue 
 pub record IsLawful (device : Peer) (first opened span : ℕ) (calls : List Call) : Type 0 where
   pub handles : RiseFrom first (commands calls)
   -- each first handle has 32 bits
-  pub submits_are : first ≤ 4294967295 → AnswersSubmits first span calls
+  pub submits_are : first ≤ last_handle → AnswersSubmits first span calls
   pub copies : (h : ℕ) → AllByRecursion (λ s. IsCopy h (commands calls) s.bytes) (sendings opened h calls)
-  pub at_most_20 : (h : ℕ) → length (sendings opened h calls) ≤ 20
+  pub at_most_20 : (h : ℕ) → length (sendings opened h calls) ≤ most_sendings
   pub apart : (h : ℕ) → AreApart (sendings opened h calls)
   pub dues_are : GivesWhatIsDue device opened calls
   pub answers : TakesTheFirst device calls

@@ -13,6 +13,7 @@ use Rattle.oca_control.specs.declared.due.Due.{Due}
 use Rattle.oca_control.specs.declared.due.Due.TheVariants as dues
 use Rattle.oca_control.specs.declared.reception.Reception.{Reception}
 use Rattle.oca_control.specs.declared.reception.Reception.TheVariants as receptions
+use Rattle.oca_control.specs.Limits.{most_sendings, keep_alive_time, last_handle}
 use Rattle.oca_control.specs.Untaken.{Untaken, new_untaken, has_room, first_due, given_out, hears_all, answers_by_all, answer_under, without_handle}
 
 -- The device's address, the present moment, the handle of the next command or none, the moment when something was given out
@@ -58,7 +59,7 @@ submission r l = if l.lost then Err faults.Lost else submission_under r l.next l
 
 -- After 4294967295 no handle is left.
 abbrev pub handle_after : ℕ → Option ℕ
-handle_after h = if h == 4294967295 then None else Some (h + 1)
+handle_after h = if h == last_handle then None else Some (h + 1)
 
 -- the link after it: a refusal changes nothing, and keeps no moment
 abbrev pub after_submission : Result Handle ControlFault → RequestFields → ℕ → LinkState → LinkState
@@ -79,8 +80,8 @@ pub data Decision : Type 0 where
 -- The due command with the lowest handle decides: if it was given out 20 times already, the link is lost. With none, a
 -- keep-alive is given out 2,500 ms after anything was.
 abbrev pub decision_among : ℕ → ℕ → Option Untaken → Decision
-decision_among now sent None = if nat_le 2500 (now - sent) then GivesKeepAlive else GivesNothing
-decision_among now sent (Some u) = if nat_lt u.times 20 then GivesCommand u.command else IsLost
+decision_among now sent None = if nat_le keep_alive_time (now - sent) then GivesKeepAlive else GivesNothing
+decision_among now sent (Some u) = if nat_lt u.times most_sendings then GivesCommand u.command else IsLost
 
 -- what is decided; a link that is lost stays lost
 abbrev pub decision : ℕ → LinkState → Decision

@@ -8,7 +8,7 @@ ghost use Rattle.oca_types.specs.Moments.{HoldsFrom};
 ghost use Rattle.oca_control.specs.Answers.{answer_fields};
 ghost use Rattle.oca_control.specs.Untaken.{new_untaken, has_room, first_due, waits, answered, first_answered, answer_under, without_handle};
 ghost use Rattle.oca_control.specs.Links.{command_under, due_answer};
-ghost use Rattle.oca_control.specs.PrivateSlots.{IsTable, untaken_from, untaken_at, kept_at, kept_is_due, some_due, handle_left, first_decided, after_decision, bytes_decided, IsLowestDue, IsPlaceOf};
+ghost use Rattle.oca_control.specs.PrivateSlots.{IsTable, untaken_from, untaken_at, held_at, held_is_due, some_due, handle_left, first_decided, after_decision, bytes_decided, IsLowestDue, IsPlaceOf};
 
 use crate::answer::Answer;
 use crate::due::Due;
@@ -209,7 +209,7 @@ fn lowest_held(slots: &[Slot; 32], low: u64, next: u64) -> u64
     requires { low ≤ next }
     ensures above { low ≤ result }
     ensures below { result ≤ next }
-    ensures held { result < next → kept_at result slots.now ≡ None → ⊥ }
+    ensures held { result < next → held_at result slots.now ≡ None → ⊥ }
     ensures same { untaken_from result (next - result) slots.now ≡ untaken_from low (next - low) slots.now }
 {
     for handle in low..next {

@@ -4,7 +4,7 @@ use Rattle.std.specs.Prelude.{nat_le, not, ◌||◌, map, filter, is_some}
 use Rattle.std.specs.List.{list_any, slice_get}
 use Rattle.std.specs.Option.{option_and_then}
 use Rattle.std.proofs.lemmas.List.Sums.{sum_by-cons}
-use Rattle.std.proofs.lemmas.Bool.Decides.{nat_tests}
+use Rattle.std.proofs.lemmas.Bool.{le-leb, lt-leb}
 use Rattle.oca_types.specs.declared.words.Peer.{Peer}
 use Rattle.oca_types.specs.Peers.{same_peer}
 use Rattle.oca_types.specs.Sizes.{DeviceSizes}
@@ -237,17 +237,11 @@ module _ (w : DeviceSizes) (s : State) where
       differs : true ≡ false → ⊥
       differs e = cc
 
-  reached : (m t : ℕ) → m ≤ t → nat_le m t ≡ true
-  reached m t le = grind (arith, nat_tests)
-
-  unreached : (m t : ℕ) → t < m → nat_le m t ≡ false
-  unreached m t lt = grind (arith, nat_tests)
-
   some_lapse : (first t : ℕ) → HoldsFrom changes_at (Some first) → t ≡ max first s.moment → t < 2 ^ 64 → IsNextLapse w s t
   some_lapse first t h e fits = record {
     own = omega arith;
-    changes = alters t (omega arith) (h t fits ∙ reached first t (omega arith));
-    earlier = λ u own below. keeps u own (h u (omega arith) ∙ unreached first u (omega arith));
+    changes = alters t (omega arith) (h t fits ∙ le-leb first t (omega arith));
+    earlier = λ u own below. keeps u own (h u (omega arith) ∙ lt-leb first u (omega arith));
   }
 
   no_lapse : HoldsFrom changes_at None → NeverLapses w s

@@ -1,7 +1,7 @@
 //! The device: it takes events, and puts its answers into an outbox.
 ghost use Rattle.std.specs.Prelude.{◌≡◌, ℕ, ◌+◌, ◌<◌, ◌≤◌, List, [], ◌∷◌, ◌++◌, length, max, IfOk, OnErr, MatchOption, IsTrue, IsSome, if◌then◌else◌, Ok, Err};
 ghost use Rattle.oca_types.specs.Peers.{fields_of};
-ghost use Rattle.oca_types.specs.Sizes.{window_size, sizes_of, DeviceSizes};
+ghost use Rattle.oca_types.specs.Sizes.{most_command_parameter_bytes, window_size, sizes_of, DeviceSizes};
 ghost use Rattle.std.specs.List.{AllByRecursion};
 ghost use Rattle.oca_pdu.specs.Messages.{Msg, Command as Commands, msg_of};
 ghost use Rattle.oca_pdu.specs.Datagrams.{messages_left};
@@ -310,7 +310,7 @@ impl Device {
         requires known { IsSome (session_of from self.old.sessions.sessions) }
         requires room { length outbox.old < 122 }
         requires groups { AreGrouped outbox.old }
-        requires short { length command.now.params.now ≤ 1445 }
+        requires short { length command.now.params.now ≤ most_command_parameter_bytes }
         requires few { commands_in counts.now < 86 }
         requires within { length self.old.written ≤ commands_in counts.now }
         ensures serves { (w : DeviceSizes) (s : State) → IsIn w self.old s → last_moment (run from s.notes) ≡ s.moment →

@@ -63,7 +63,7 @@ taken_after was_taken to bytes taken = if was_taken then taken ++ (record { to =
 -- The first list is the second without k of its members.
 pub data Lacks {X : Type 0} : (k : ℕ) (xs ys : List X) → Type 0 where
   none : Lacks 0 [] []
-  kept : {k : ℕ} {xs ys : List X} (x : X) → Lacks k xs ys → Lacks k (x ∷ xs) (x ∷ ys)
+  both : {k : ℕ} {xs ys : List X} (x : X) → Lacks k xs ys → Lacks k (x ∷ xs) (x ∷ ys)
   missing : {k : ℕ} {xs ys : List X} (y : X) → Lacks k xs ys → Lacks (k + 1) xs (y ∷ ys)
 
 -- what an end took grew by these datagrams, but for those whose send failed

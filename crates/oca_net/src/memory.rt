@@ -10,7 +10,7 @@ use std::alloc::Global;
 use std::marker::Model;
 
 /// An entry of the script of a [`MemoryEnd`]. Moments are in milliseconds.
-#[derive(Drop)]
+#[derive(Debug, Drop)]
 pub enum Scripted {
     /// A datagram. One of more than 1,472 bytes is heard as oversize.
     Datagram {
