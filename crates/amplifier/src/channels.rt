@@ -16,9 +16,10 @@ pub struct Channel {
     pub gain: i16,
 }
 
-/// The blocks of the channels. A mute stands behind each, and a gain behind that.
+/// The block of the first channel. A mute stands behind the block of each, and a gain behind that.
 pub const FIRST: u32 = 4096;
 
+/// The block of the second.
 pub const SECOND: u32 = 5096;
 
 /// Both channels, as the electronics were last told, and whether an object was set since that was last asked.

@@ -13,15 +13,12 @@ use channels::{Channels, build};
 use knob::Knob;
 use oca_device::{Device, Outbox, serve_with};
 use oca_net::UdpEnd;
-use oca_types::Window;
+use oca_types::{LOOPBACK, Window};
 use std::io::IsTerminal;
 use std::net::Net;
 use std::process::ExitCode;
 use std::rt::Runtime;
 use std::{env, io};
-
-/// 127.0.0.1
-const LOOPBACK: u32 = 0x7f00_0001;
 
 /// Serves the channels at the port and for the turns that the words say, and ends with 1 where that fails.
 fn main(rt: HostRuntime) -> ExitCode {

@@ -150,7 +150,7 @@ impl LinkBehind {
     }
 }
 
-/// Copies bytes to the front of a place that has room for them, and answers how many.
+/// Copies bytes to the front of a place that has room for them, and returns how many.
 fn put_front(bytes: &[u8], place: &mut [u8]) -> usize
     requires { length bytes.now ≤ length place.old }
     ensures { LiesIn bytes.now place.new result }

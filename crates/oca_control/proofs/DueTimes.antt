@@ -117,7 +117,7 @@ module _ (l : LinkState) (going : l.lost ≡ false) where
   pub next_none : (o : Option ℕ) → HoldsFrom (λ s. some_due l.untaken s || nat_le 2500 (s - l.sent)) o → o ≡ None → NeverIsDue l
   next_none o p is = record { never = λ s own fits. quiet s own (subst (HoldsFrom (λ s. some_due l.untaken s || nat_le 2500 (s - l.sent))) is p s fits) }
 
--- a lost link is due at once, since `due` answers so
+-- a lost link is due at once, since `due` returns that
 pub next_lost : (l : LinkState) → l.lost ≡ true → IsNextDue l l.moment
 next_lost l lost = record {
   own = omega arith;

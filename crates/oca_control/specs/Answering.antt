@@ -21,26 +21,26 @@ has_response h messages = is_some (first_of (answers_in h messages))
 -- a call is no take of this handle
 abbrev pub TakesNothingOf : ℕ → Call → Type 0
 TakesNothingOf h (TakesAnswer x answer) = x ≡ h → ⊥
-TakesNothingOf h (Submits request now answer) = ⊤
-TakesNothingOf h (GivesOut now answer bytes) = ⊤
-TakesNothingOf h (Receives from bytes content now answer) = ⊤
+TakesNothingOf h (Submits request now returned) = ⊤
+TakesNothingOf h (GivesOut now returned bytes) = ⊤
+TakesNothingOf h (Receives from bytes content now returned) = ⊤
 
 -- A well-formed datagram came from the device, with a response to an untaken command, whatever else it has. Then
 -- whatever is called, but for a take of this handle, the link holds an answer to it, which a take gives.
 abbrev pub EveryAnswerIsKept : Type 0
 EveryAnswerIsKept =
     (device : Peer) (first opened span : ℕ) (before later : List Call) (after : LinkState) (h : ℕ) (from : Peer)
-    (bytes : List ℕ) (messages : List Msg) (now : ℕ) (answer : Reception) →
-    0 < span → IsHistory device first opened span (later ++ Receives from bytes (Some messages) now answer ∷ before) after →
+    (bytes : List ℕ) (messages : List Msg) (now : ℕ) (returned : Reception) →
+    0 < span → IsHistory device first opened span (later ++ Receives from bytes (Some messages) now returned ∷ before) after →
     same_peer from device ≡ true → is_untaken h before ≡ true → has_response h messages ≡ true →
     AllByRecursion (TakesNothingOf h) later →
     is_some (answer_under h after.untaken) ≡ true
 
 -- a call of `due` at this moment
 abbrev pub IsDueAt : ℕ → Call → Type 0
-IsDueAt t (GivesOut now answer bytes) = now ≡ t
-IsDueAt t (Submits request now answer) = ⊥
-IsDueAt t (Receives from bytes content now answer) = ⊥
+IsDueAt t (GivesOut now returned bytes) = now ≡ t
+IsDueAt t (Submits request now returned) = ⊥
+IsDueAt t (Receives from bytes content now returned) = ⊥
 IsDueAt t (TakesAnswer x answer) = ⊥
 
 -- the command of this handle was given out in the call
@@ -51,9 +51,9 @@ is_send_of h dues.Nothing = false
 is_send_of h dues.Lost = false
 
 abbrev pub is_given_in : ℕ → Call → Bool
-is_given_in h (GivesOut now answer bytes) = is_send_of h answer
-is_given_in h (Submits request now answer) = false
-is_given_in h (Receives from bytes content now answer) = false
+is_given_in h (GivesOut now returned bytes) = is_send_of h returned
+is_given_in h (Submits request now returned) = false
+is_given_in h (Receives from bytes content now returned) = false
 is_given_in h (TakesAnswer x answer) = false
 
 -- the handle stands in the list
@@ -73,7 +73,7 @@ EveryDueCommandIsGivenOut =
 
 -- ---- a link that is asked often enough
 
--- `due` answered that no command is left to give out: with a keep-alive, with nothing, or that the link is lost
+-- `due` returned that no command is left to give out: with a keep-alive, with nothing, or that the link is lost
 abbrev pub says_none_left : Due → Bool
 says_none_left (dues.Send h) = false
 says_none_left dues.KeepAlive = true
@@ -83,10 +83,10 @@ says_none_left dues.Lost = true
 -- THE LAST TIME that it did, by the clock, and at first the moment since when the calls are looked at.
 abbrev pub last_asked : ℕ → List Call → ℕ
 last_asked since [] = since
-last_asked since (GivesOut now answer bytes ∷ before) =
-    if says_none_left answer then max (clock since before) now else last_asked since before
-last_asked since (Submits request now answer ∷ before) = last_asked since before
-last_asked since (Receives from bytes content now answer ∷ before) = last_asked since before
+last_asked since (GivesOut now returned bytes ∷ before) =
+    if says_none_left returned then max (clock since before) now else last_asked since before
+last_asked since (Submits request now returned ∷ before) = last_asked since before
+last_asked since (Receives from bytes content now returned ∷ before) = last_asked since before
 last_asked since (TakesAnswer h answer ∷ before) = last_asked since before
 
 -- A link IS ASKED EVERY so many ms: after each of the calls, that was at most so long ago by the clock. So its `due` is

@@ -62,7 +62,7 @@ all_given_to device decisions = flat_map (given_to device) decisions
 
 -- What is heard of a delivery: a datagram of at most 1,472 bytes is one for the link, and nothing else is.
 pub record HearsDatagram (from : Peer) (bytes : List ℕ) (now : ℕ) (old new : LinkState) (answered : ℕ) : Type 0 where
-  pub short : length bytes ≤ largest_datagram → (answer : Reception) × ReceivesDatagram from bytes now old answer new × (answered ≡ answered_by answer)
+  pub short : length bytes ≤ largest_datagram → (returned : Reception) × ReceivesDatagram from bytes now old returned new × (answered ≡ answered_by returned)
   pub long : largest_datagram < length bytes → (new ≡ old) × (answered ≡ 0)
 
 abbrev pub Hears : Delivery → LinkState → LinkState → ℕ → Type 0

@@ -46,14 +46,14 @@ command_under h r =
 abbrev pub Request : Type 0
 Request = RequestFields
 
--- the answer where this is the next handle, or none is left
+-- what `submit` returns where this is the next handle, or none is left
 abbrev pub submission_under : RequestFields → Option ℕ → LinkState → Result Handle ControlFault
 submission_under r None l = Err faults.HandlesSpent
 submission_under r (Some h) l =
     if has_room l.span h l.untaken then (if nat_lt most_command_parameter_bytes (length r.params) then Err faults.TooLong else Ok (record { 0 = h }))
     else Err faults.SpanFull
 
--- what `submit` answers
+-- what `submit` returns
 abbrev pub submission : RequestFields → LinkState → Result Handle ControlFault
 submission r l = if l.lost then Err faults.Lost else submission_under r l.next l
 
@@ -87,7 +87,7 @@ decision_among now sent (Some u) = if nat_lt u.times most_sendings then GivesCom
 abbrev pub decision : ℕ → LinkState → Decision
 decision now l = if l.lost then IsLost else decision_among (present now l) l.sent (first_due (present now l) l.untaken)
 
--- what `due` answers
+-- what `due` returns
 abbrev pub due_answer : Decision → Due
 due_answer (GivesCommand c) = dues.Send (record { 0 = c.handle })
 due_answer GivesKeepAlive = dues.KeepAlive
@@ -121,16 +121,16 @@ pub record IsNextDue (l : LinkState) (t : ℕ) : Type 0 where
 pub record NeverIsDue (l : LinkState) : Type 0 where
   pub never : (s : ℕ) → l.moment ≤ s → s < 2 ^ 64 → decision s l ≡ GivesNothing
 
--- DATAGRAM. What it answers where so many commands were answered.
+-- DATAGRAM. What it returns where so many commands were answered.
 abbrev pub reception_counted : ℕ → Reception
 reception_counted n = if n == 0 then receptions.NothingNew else receptions.Answered n
 
--- what it answers of messages, or of bytes that are no datagram
+-- what it returns of messages, or of bytes that are no datagram
 abbrev pub reception_of : Option (List Msg) → List Untaken → Reception
 reception_of None us = receptions.Malformed
 reception_of (Some messages) us = reception_counted (answers_by_all messages us)
 
--- what `datagram` answers: the address is looked at first
+-- what `datagram` returns: the address is looked at first
 abbrev pub reception : Peer → Option (List Msg) → LinkState → Reception
 reception from content l = if same_peer from l.device then reception_of content l.untaken else receptions.Stranger
 

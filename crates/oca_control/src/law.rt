@@ -5,7 +5,7 @@ ghost use Rattle.oca_control.specs.Histories.{EveryHistoryIsLawful, EveryLinkTel
 
 use oca_pdu::law_one_list_of_messages;
 
-/// Over every list of calls of a link, what it answers is said by these alone. Each accepted command gets a handle of its own, and they
+/// Over every list of calls of a link, what it returns is said by these alone. Each accepted command gets a handle of its own, and they
 /// rise by one from the first. A submit is refused exactly where the link is lost, no handle of 32 bits is left, the next handle is not
 /// below each untaken one plus the span, or the parameters have more than 1,445 bytes.
 ///
@@ -15,11 +15,11 @@ use oca_pdu::law_one_list_of_messages;
 /// 20 times. A take of an untaken handle gives the first answer that came to it in a well-formed datagram of the device since its
 /// submit, and nothing where none came. The next handle is at most an untaken one plus the span.
 ///
-/// `datagram` answers by the sender whether it is a stranger, by the bytes whether they are well-formed, and else how many untaken
+/// `datagram` says by the sender whether it is a stranger, by the bytes whether they are well-formed, and else how many untaken
 /// commands got their first answer in it.
 ///
 /// What a link tells of itself: `last_heard` is the clock at the last well-formed datagram of the device, at first that of the opening;
-/// `is_lost` says whether `due` answered so; `answered` is the lowest handle that is untaken and to which an answer came.
+/// `is_lost` says whether `due` returned so; `answered` is the lowest handle that is untaken and to which an answer came.
 ///
 /// With the clauses of [`Link`](crate::Link) this is a promise of every run of a link. And bytes have one content alone.
 pub fn law_of_histories()
@@ -42,7 +42,7 @@ pub fn law_of_answering()
 /// earlier. Where k commands are due at a moment, each of them is given out within k calls of `due` at that moment, or the
 /// link is lost.
 ///
-/// Where a link is asked at least every `ms` milliseconds, from the submit of a command on, each time until it answers anything but
+/// Where a link is asked at least every `ms` milliseconds, from the submit of a command on, each time until it returns anything but
 /// `Send`, the command is given out within `ms` of its submit, and again less than `250 + ms` after each giving out, until an answer
 /// came, it was taken, or the link is lost. One of these comes within `ms + 20 * (250 + ms)` of the submit: asked every 250 ms, the link
 /// gives a command out again in less than half a second, and has its answer or is lost after 10,250 ms at most.

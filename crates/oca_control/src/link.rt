@@ -4,6 +4,7 @@ ghost use Rattle.std.specs.Option.{option_map};
 ghost use Rattle.oca_types.specs.Peers.{RequestFields};
 ghost use Rattle.oca_types.specs.Sizes.{span_size};
 ghost use Rattle.oca_pdu.specs.Messages.{Msg, msg_of};
+ghost use Rattle.oca_pdu.specs.Limits.{most_messages};
 ghost use Rattle.oca_pdu.specs.Datagrams.{messages_left};
 ghost use Rattle.oca_control.specs.Answers.{answer_fields};
 ghost use Rattle.oca_control.specs.Contents.{IsContent};
@@ -80,7 +81,7 @@ impl Link {
         }
     }
 
-    /// Submits a command, to be given out when it is due, and answers its handle (AES70-3). `count` is ParamCount.
+    /// Submits a command, to be given out when it is due, and returns its handle (AES70-3). `count` is ParamCount.
     ///
     /// Refusals, in this order, each of which changes nothing and keeps no moment: `Lost`; `HandlesSpent`, after the handle
     /// 4294967295; `SpanFull`, where the next handle is not below the lowest untaken one plus the span; `TooLong`, above
@@ -155,7 +156,7 @@ impl Link {
         }
     }
 
-    /// Takes a datagram that came from this address, and answers what became of it. The address is looked at first, then
+    /// Takes a datagram that came from this address, and returns what became of it. The address is looked at first, then
     /// the grammar (AES70-3); the responses are taken in order. A response is stored where its handle is that of an untaken
     /// command without an answer; commands and keep-alives are ignored. The moment is kept in all cases.
     pub fn datagram(&mut self, from: Peer, bytes: &[u8], now: u64) -> Reception
@@ -184,7 +185,7 @@ impl Link {
         self.table.take(handle)
     }
 
-    /// The earliest moment, not before the link's own, at which [`due`](Link::due) answers anything but `Nothing`: a loop may wait
+    /// The earliest moment, not before the link's own, at which [`due`](Link::due) returns anything but `Nothing`: a loop may wait
     /// until then. `None` where that lies beyond 64 bits.
     pub fn next_due(&self) -> Option<u64>
         ensures { MatchOption result (NeverIsDue self.now) (λ t. IsNextDue self.now t) }
@@ -250,9 +251,9 @@ fn counted(answered: u32) -> Reception
     }
 }
 
-/// Takes the responses among the messages in, and answers how many commands they answer.
+/// Takes the responses among the messages in, and returns how many commands they answer.
 fn hear_all(table: &mut Table, messages: Messages<'_>) -> u32
-    requires few { length (messages_left messages) ≤ 146 }
+    requires few { length (messages_left messages) ≤ most_messages }
     requires short { AreShort (messages_left messages) }
     ensures answered { result ≡ answers_by_all (messages_left messages.entry) table.old.untaken }
     ensures table { table.new ≡ record { next = table.old.next; untaken = hears_all (messages_left messages.entry) table.old.untaken } }
@@ -266,7 +267,7 @@ fn hear_all(table: &mut Table, messages: Messages<'_>) -> u32
     answered
 }
 
-/// Takes a message in, and answers whether it is a response that a command waited for.
+/// Takes a message in, and returns whether it is a response that a command waited for.
 fn hear(table: &mut Table, message: Message<'_>) -> bool
     requires { IsShort (msg_of message) }
     ensures answered { (if result then 1 else 0) ≡ answers_by (msg_of message.entry) table.old.untaken }

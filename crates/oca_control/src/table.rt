@@ -77,7 +77,7 @@ impl Table {
         self.next += 1;
     }
 
-    /// Gives the due command with the lowest handle out, or answers that it was given out 20 times. Nothing where no
+    /// Gives the due command with the lowest handle out, or says that it was given out 20 times. Nothing where no
     /// command is due.
     pub fn give_first(&mut self, now: u64, packet: &mut Packet) -> Option<Due>
         requires { packet.old.items ≡ [] }
@@ -114,7 +114,7 @@ impl Table {
         }
     }
 
-    /// Stores an answer, and answers whether a command waited for it.
+    /// Stores an answer, and returns whether a command waited for it.
     pub fn answer(&mut self, handle: Handle, status: u8, count: u8, params: &[u8]) -> bool
         requires { length params.now ≤ most_parameter_bytes }
         ensures new { result ≡ list_any (waits handle.0) self.old.untaken }
@@ -145,7 +145,8 @@ impl Table {
     }
 }
 
-/// From which moment on a command is due of those from `low` on and below `next`, where there is such a moment.
+/// Apart from the method, since a loop over the slots leaves the table closed: from which moment on a command is due of
+/// those from `low` on and below `next`, where there is such a moment.
 fn due_from(slots: &[Slot; 32], low: u64, next: u64) -> Option<u64>
     requires { low ≤ next }
     ensures { HoldsFrom (some_due (untaken_from low (next - low) slots.now)) result }

@@ -79,6 +79,6 @@ abbrev pub report_of : DeviceSizes → List Object → List Event → List Deliv
 report_of w tree events [] = no_turns
 report_of w tree events (d ∷ deliveries) = added (turn_report w tree events d) (report_of w tree (events_after d events) deliveries)
 
--- How often a loop of at most `bound` turns receives: once a turn, and once more, which answered Closed, where it took fewer turns.
+-- How often a loop of at most `bound` turns receives: once a turn, and once more, which returned Closed, where it took fewer turns.
 abbrev pub receives_of : ℕ → ℕ → ℕ
 receives_of turns bound = if nat_lt turns bound then turns + 1 else turns

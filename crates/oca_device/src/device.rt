@@ -4,6 +4,7 @@ ghost use Rattle.oca_types.specs.Peers.{fields_of};
 ghost use Rattle.oca_types.specs.Sizes.{most_command_parameter_bytes, window_size, sizes_of, DeviceSizes};
 ghost use Rattle.std.specs.List.{AllByRecursion};
 ghost use Rattle.oca_pdu.specs.Messages.{Msg, Command as Commands, msg_of};
+ghost use Rattle.oca_pdu.specs.Limits.{most_answered, most_commands};
 ghost use Rattle.oca_pdu.specs.Datagrams.{messages_left};
 ghost use Rattle.oca_tree.specs.declared.object.Object.{Object};
 ghost use Rattle.oca_session.specs.Table.{session_of};
@@ -25,7 +26,7 @@ use oca_pdu::{Form, Message, Messages, check};
 use oca_session::{Admission, Judged, Sessions};
 use oca_tree::{LocalValue, SetFault, Tree};
 use oca_types::{
-    Command, NoMemory, Ono, Params, Peer, Peers, Reply, Sizes, Status, Window, sooner,
+    Command, MOST_PEERS, NoMemory, Ono, Params, Peer, Peers, Reply, Sizes, Status, Window, sooner,
 };
 use std::alloc::Global;
 use std::marker::Model;
@@ -42,7 +43,7 @@ pub struct Device {
     tree: Tree,
     sessions: Sessions,
     /// The peers that had lapsed when the clock moved last: a place for them, which is not made anew at each datagram.
-    lapsed: ArrayVec<Peer, 64>,
+    lapsed: ArrayVec<Peer, MOST_PEERS>,
     /// The room in which a command is executed: its reply is made here once, and read where it is needed.
     reply: Reply,
     /// The objects that the last datagram wrote to.
@@ -255,10 +256,10 @@ impl Device {
     /// Serves the messages of a peer that was let in, in order.
     fn serve_messages(&mut self, from: Peer, messages: Messages<'_>, outbox: &mut Outbox) -> Counts
         requires known { IsSome (session_of from self.old.sessions.sessions) }
-        requires room { length outbox.old + most_answers (messages_left messages) ≤ 122 }
+        requires room { length outbox.old + most_answers (messages_left messages) ≤ most_answered }
         requires groups { AreGrouped outbox.old }
         requires short { AllByRecursion IsShort (messages_left messages) }
-        requires few { all_commands (messages_left messages) ≤ 86 }
+        requires few { all_commands (messages_left messages) ≤ most_commands }
         requires none { self.old.written ≡ [] }
         ensures { (w : DeviceSizes) (s : State) → IsIn w self.old s → last_moment (run from s.notes) ≡ s.moment →
             ServesAll w self.new from (messages_left messages.entry) s outbox.old outbox.new result }
@@ -273,10 +274,10 @@ impl Device {
     /// Serves a message of a peer that was let in, and counts it.
     fn serve(&mut self, from: Peer, message: Message<'_>, outbox: &mut Outbox, counts: &mut Counts)
         requires known { IsSome (session_of from self.old.sessions.sessions) }
-        requires room { length outbox.old + may_answer (msg_of message) ≤ 122 }
+        requires room { length outbox.old + may_answer (msg_of message) ≤ most_answered }
         requires groups { AreGrouped outbox.old }
         requires short { IsShort (msg_of message) }
-        requires few { commands_in counts.now + commands_of (msg_of message) ≤ 86 }
+        requires few { commands_in counts.now + commands_of (msg_of message) ≤ most_commands }
         requires within { length self.old.written ≤ commands_in counts.now }
         ensures serves { (w : DeviceSizes) (s : State) → IsIn w self.old s → last_moment (run from s.notes) ≡ s.moment →
             Serves w self.old self.new from (msg_of message.entry) s outbox.old outbox.new counts.entry.now counts.exit.now }
@@ -308,10 +309,10 @@ impl Device {
         counts: &mut Counts,
     )
         requires known { IsSome (session_of from self.old.sessions.sessions) }
-        requires room { length outbox.old < 122 }
+        requires room { length outbox.old < most_answered }
         requires groups { AreGrouped outbox.old }
         requires short { length command.now.params.now ≤ most_command_parameter_bytes }
-        requires few { commands_in counts.now < 86 }
+        requires few { commands_in counts.now < most_commands }
         requires within { length self.old.written ≤ commands_in counts.now }
         ensures serves { (w : DeviceSizes) (s : State) → IsIn w self.old s → last_moment (run from s.notes) ≡ s.moment →
             Serves w self.old self.new from (Commands respond (fields_of command.now)) s outbox.old outbox.new counts.entry.now counts.exit.now }
@@ -357,7 +358,8 @@ fn release_all(tree: &mut Tree, peers: &[Peer])
     }
 }
 
-/// Forgets the objects. Clearing is a call that overwrites the cells, so none and a single one are taken out without it.
+/// Forgets the objects. Clearing is a call that overwrites the cells, so none and a single one, the common cases here, are
+/// taken out without it. Each `empty` of the core spares itself the call in the cases that are common where it stands.
 fn empty(written: &mut ArrayVec<Ono, MOST_WRITTEN>)
     ensures { written.new.items ≡ [] }
 {
@@ -378,7 +380,7 @@ fn execute(
     reply: &mut Reply,
     written: &mut ArrayVec<Ono, MOST_WRITTEN>,
 )
-    requires { length written.old.items < 86 }
+    requires { length written.old.items < most_commands }
     ensures tree { tree.new ≡ (execution tree.old peer (fields_of command.now)).tree }
     ensures reply { reply.new ≡ reply_of tree.old peer (fields_of command.now) }
     ensures written { numbers_of written.new.items ≡ numbers_of written.old.items ++ written_by_execution tree.old peer (fields_of command.now) }

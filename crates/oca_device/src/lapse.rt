@@ -3,6 +3,7 @@ ghost use Rattle.oca_types.specs.Moments.{HoldsFrom};
 ghost use Rattle.oca_device.specs.PrivateLapses.{releases};
 
 use oca_session::Sessions;
+use oca_types::sooner;
 use oca_tree::Tree;
 
 /// From which moment on the holder of some lock is lapsed, where no peer is heard; nothing where no holder has

@@ -222,7 +222,7 @@ impl Bench {
         }
     }
 
-    /// Takes a datagram of A, compares the verdict, and answers the number of replies.
+    /// Takes a datagram of A, compares the verdict, and returns the number of replies.
     fn answers(&mut self, rt: &impl Abort, bytes: &[u8], verdict: Verdict) -> usize {
         self.outbox.clear();
         let outcome = self.device.datagram(peer(A), bytes, 0, &mut self.outbox);

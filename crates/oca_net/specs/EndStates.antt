@@ -6,7 +6,7 @@ use Rattle.oca_net.specs.Deliveries.{Delivery, Sent}
 use Rattle.oca_net.specs.Ends.{Delivers, HoldsOnlyADatagram, is_closed, failures_after, failures_sent, taken_after, one_more, last_u64, TakesAllBut}
 
 -- Whether the end tells what it delivers and takes; what it delivered and what it took (the latest last), which say nothing
--- of an end that does not tell; whether it has answered Closed; how many calls failed, and how often `receive` was called,
+-- of an end that does not tell; whether it has returned Closed; how many calls failed, and how often `receive` was called,
 -- failed and closed calls too: 64-bit numbers that stay at their last value.
 pub record EndState : Type 0 where
   pub tells : Bool
@@ -16,7 +16,7 @@ pub record EndState : Type 0 where
   pub failures : ℕ
   pub receives : ℕ
 
--- A receive answered this, and the packet then held these bytes.
+-- A receive returned this, and the packet then held these bytes.
 pub record Receives (heard : Heard) (bytes : List ℕ) (old new : EndState) : Type 0 where
   pub telling : new.tells ≡ old.tells
   pub delivered : IsTrue old.tells → Delivers heard bytes old.delivered new.delivered
@@ -26,7 +26,7 @@ pub record Receives (heard : Heard) (bytes : List ℕ) (old new : EndState) : Ty
   pub failures : new.failures ≡ failures_after heard old.failures
   pub receives : new.receives ≡ one_more old.receives
 
--- A send of these bytes to a peer answered whether the end took them.
+-- A send of these bytes to a peer returned whether the end took them.
 pub record Sends (was_taken : Bool) (to : Peer) (bytes : List ℕ) (old new : EndState) : Type 0 where
   pub telling : new.tells ≡ old.tells
   pub delivered : IsTrue old.tells → new.delivered ≡ old.delivered

@@ -79,7 +79,7 @@ bytes_of (Datagram from bytes now) = if nat_le (length bytes) largest_datagram t
 bytes_of (Quiet now) = []
 bytes_of Failed = []
 
--- A receive delivers the next entry of the script. Behind the last it answers Closed.
+-- A receive delivers the next entry of the script. Behind the last it returns Closed.
 abbrev pub next_heard : List Delivery → Heard
 next_heard [] = heard.Closed
 next_heard (d ∷ rest) = heard_of d

@@ -113,7 +113,7 @@ impl MemoryEnd {
 impl End for MemoryEnd {
     ghost state = { state_of_memory };
 
-    /// Delivers the next entry of the script; behind the last it answers `Closed`.
+    /// Delivers the next entry of the script; behind the last it returns `Closed`.
     fn receive(&mut self, packet: &mut Packet) -> Heard
         ensures heard { result ≡ next_heard self.old.to_come }
         ensures packet { packet.new.items ≡ next_bytes self.old.to_come }

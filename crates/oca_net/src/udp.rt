@@ -7,7 +7,7 @@ use crate::count::step;
 use crate::end::{End, Heard};
 use crate::moments::Moments;
 use crate::socket::{SEND_MS, Socket};
-use oca_types::{Packet, Peer};
+use oca_types::{MOST_BYTES, Packet, Peer};
 use std::alloc::Global;
 use std::io;
 use std::marker::Model;
@@ -17,7 +17,7 @@ use std::rt::Clock;
 use thiserror::Error;
 
 /// One more than the largest datagram, so that a larger one is seen to be larger.
-const BUFFER: usize = 1473;
+const BUFFER: usize = MOST_BYTES + 1;
 
 /// How long a receive waits, in milliseconds.
 const WAIT_MS: u64 = 50;
@@ -68,10 +68,10 @@ impl BindError {
 
 /// An end at a UDP socket of IPv4.
 ///
-/// A receive waits 50 ms for a datagram, and answers `Quiet` where none has come by then; a signal does not end the wait. Its
+/// A receive waits 50 ms for a datagram, and returns `Quiet` where none has come by then; a signal does not end the wait. Its
 /// moments are the milliseconds since `bind`, and none is before an earlier one. A datagram of more than 1,472 bytes is heard
 /// as `Oversize`. What comes faster than it is received waits in the system's buffer; beyond that the system drops it, and
-/// nothing tells. Whatever else the system answers is `Failed`, once the 50 ms are over, and counts as a failure.
+/// nothing tells. Whatever else the system returns is `Failed`, once the 50 ms are over, and counts as a failure.
 ///
 /// A send waits for room in the system's buffer, which datagrams to a host that does not answer fill: for a millisecond, by the
 /// system's tick (two where signals interrupt it). Then it is `false`, as where a network can't be reached, and counts as a
@@ -228,7 +228,7 @@ impl<'a, C: Clock> UdpEnd<'a, C> {
 impl<'a, C: Clock> End for UdpEnd<'a, C> {
     ghost state = { state_of_socket };
 
-    /// Waits up to 50 ms for a datagram. It never answers `Closed`.
+    /// Waits up to 50 ms for a datagram. It never returns `Closed`.
     fn receive(&mut self, packet: &mut Packet) -> Heard
         ensures packet { HoldsOnlyADatagram result packet.new.items }
         ensures open { is_closed result ≡ false }
@@ -270,7 +270,7 @@ impl<'a, C: Clock> AsRawFd for UdpEnd<'a, C> {
     }
 }
 
-/// Waits for a datagram from this moment until that one at most, and answers its length, cut to the buffer's, and its sender;
+/// Waits for a datagram from this moment until that one at most, and returns its length, cut to the buffer's, and its sender;
 /// nothing where none has come. A wait that a signal interrupts goes on for what is left.
 fn wait<C: Clock>(
     socket: &mut Socket,

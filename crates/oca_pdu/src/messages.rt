@@ -39,7 +39,7 @@ impl<'a> Messages<'a> {
         }
     }
 
-    /// Begins the next PDU. Of messages none is taken yet; a keep-alive is passed, and its time is the answer.
+    /// Begins the next PDU. Of messages none is taken yet; a keep-alive is passed, and its time is returned.
     fn begin(&mut self) -> Option<Form>
         requires ended { self.old.left ≡ 0 }
         requires some { 0 < length self.old.rest.now }

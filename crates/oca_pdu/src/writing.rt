@@ -116,8 +116,8 @@ pub fn replace_response(packet: &mut Packet, handle: Handle, reply: &Reply)
     }
 }
 
-/// Writes a PDU of one response in the place of more bytes, or of fewer. It stands apart, since `clear` overwrites what there
-/// was by a call.
+/// Apart from `replace_response`, since `clear` overwrites what there was by a call: writes a PDU of one response in the
+/// place of more bytes, or of fewer.
 #[inline(never)]
 fn write_anew(packet: &mut Packet, handle: Handle, reply: &Reply)
     ensures fits { ResponseFits (response_with handle reply.now) }

@@ -15,7 +15,7 @@ pub trait Source {
     // Whether a read has failed.
     ghost failed: { Self → Bool };
 
-    /// Puts the next bytes at the front of the buffer and answers how many there are: none only at the end, or where the
+    /// Puts the next bytes at the front of the buffer and returns how many there are: none only at the end, or where the
     /// buffer has no room. `ReadFailed` where nothing can be read.
     fn read(&mut self, buf: &mut [u8]) -> Result<usize, ReadFailed>
         ensures within { ReadsAtMost result buf.new }
@@ -31,7 +31,7 @@ pub trait Sink {
     // Whether a write has failed.
     ghost failed: { Self → Bool };
 
-    /// Takes a front of the bytes, and answers how many it took: one or more, where there are any. `WriteFailed` where it
+    /// Takes a front of the bytes, and returns how many it took: one or more, where there are any. `WriteFailed` where it
     /// can take none.
     fn write(&mut self, bytes: &[u8]) -> Result<usize, WriteFailed>
         ensures within { WritesAtMost result bytes.now }

@@ -64,8 +64,8 @@ impl Cell {
         write_over(self.params.as_mut_slice(), command.params);
     }
 
-    /// Writes a command and its reply over those that the cell held, whatever their lengths. It stands apart from `set`,
-    /// since its calls would leave the callers of `set` few registers.
+    /// Apart from `set`, since its calls would leave the callers of `set` few registers: writes a command and its reply
+    /// over those that the cell held, whatever their lengths.
     #[inline(never)]
     fn set_other(&mut self, command: &Command<'_>, reply: &Reply)
         requires { length command.now.params.now ≤ most_command_parameter_bytes }

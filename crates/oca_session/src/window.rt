@@ -113,7 +113,7 @@ impl ReplyWindow {
         Some(&self.cells[held.cell as usize])
     }
 
-    /// What the retained commands say of a command. `judge` says beside it what the accepted ones do.
+    /// Apart from `judge`, which says beside it what the accepted commands do: what the retained ones say of a command.
     fn judge_retained(&self, command: &Command<'_>) -> Judged<'_>
         ensures { as_judgement result ≡ judgement_by_window self.now (fields_of command.now) }
     {
@@ -123,8 +123,8 @@ impl ReplyWindow {
         self.judge_accepted(command)
     }
 
-    /// What the retained commands say of a command, by the one under its handle and by the floor. It stands apart, since
-    /// most commands are above each handle that was accepted.
+    /// Apart from `judge_retained`, since most commands are above each handle that was accepted: what the retained
+    /// commands say of a command, by the one under its handle and by the floor.
     #[inline(never)]
     fn judge_accepted(&self, command: &Command<'_>) -> Judged<'_>
         ensures { as_judgement result ≡ judgement_by_window self.now (fields_of command.now) }
@@ -149,7 +149,8 @@ impl ReplyWindow {
         self.put(command, reply);
     }
 
-    /// Retains a fresh command with its reply. `keep` says beside it of which accepted commands the window is then.
+    /// Apart from `keep`, which says beside it of which accepted commands the window is then: retains a fresh command
+    /// with its reply.
     fn put(&mut self, command: &Command<'_>, reply: &Reply)
         requires fresh { judgement_by_window self.old (fields_of command.now) ≡ Fresh }
         requires room { length command.now.params.now ≤ most_command_parameter_bytes }
@@ -192,8 +193,8 @@ fn cell_of_oldest(held: &HeapCircularBuffer<Held>) -> Option<u32>
     Some(held.front()?.cell)
 }
 
-/// Adds a command and its reply while there is room, with a cell of its own. It stands apart from `put`, since a local of a
-/// cell's size would be cleared at each call there.
+/// Apart from `put`, since a local of a cell's size would be cleared at each call there: adds a command and its reply
+/// while there is room, with a cell of its own.
 #[inline(never)]
 fn add(
     held: &mut HeapCircularBuffer<Held>,

@@ -1,5 +1,5 @@
 -- Reading a value from the front of a list of bytes (AES70-3): the value and the bytes after it, or nothing. Each take of a
--- cursor states that it answers by its function here, and states beside it that this is what the encodings say.
+-- cursor states what its function here gives, and states beside it that this is what the encodings say.
 use Rattle.std.specs.Prelude.{ℕ, ◌==◌, ◌&&◌, nat_lt, not, Bool, if◌then◌else◌, List, [], ◌∷◌, length, take, drop, Option, Some, None, ℤ, option_and_then, find}
 use Rattle.std.specs.List.{range_with_len}
 use Rattle.std.specs.Option.{option_map}

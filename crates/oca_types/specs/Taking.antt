@@ -1,4 +1,4 @@
--- What a take answers of the bytes that are left, and what it leaves (the rules are AES70-3's encodings; the refusals are
+-- What a take returns of the bytes that are left, and what it leaves (the rules are AES70-3's encodings; the refusals are
 -- the profile's).
 use Rattle.std.specs.Prelude.{◌≡◌, ℕ, ◌<◌, List, ◌++◌, length, Result, Ok, Err, Option, Some, None}
 use Rattle.oca_types.specs.declared.fault.ReadFault.{ReadFault}
@@ -14,7 +14,7 @@ bytes_left c = c.rest.now
 abbrev pub Takes : {V : Type 0} → (V → List ℕ → Type 0) → V → List ℕ → List ℕ → Type 0
 Takes IsEncoding v old new = (front : List ℕ) × IsEncoding v front × (old ≡ front ++ new)
 
--- Whatever value has an encoding at the front of old, that value is the answer, and new is what is behind it.
+-- Whatever value has an encoding at the front of old, that value is the result, and new is what is behind it.
 abbrev pub TakesEach : {V : Type 0} → (V → List ℕ → Type 0) → List ℕ → Result V ReadFault → List ℕ → Type 0
 TakesEach {V} IsEncoding old r new = (v : V) (front rest : List ℕ) → IsEncoding v front → old ≡ front ++ rest → (r ≡ Ok v) × (new ≡ rest)
 

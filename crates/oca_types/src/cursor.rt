@@ -12,7 +12,7 @@ use crate::fault::ReadFault;
 use crate::text::{Text, chars_at};
 use std::alloc::AllocError;
 
-/// What is left of a slice. Each take answers the value whose encoding is at the front (AES70-3) and
+/// What is left of a slice. Each take returns the value whose encoding is at the front (AES70-3) and
 /// goes past exactly that encoding; after a refusal the cursor is as it was.
 #[derive(Debug)]
 pub struct Cursor<'a> {

@@ -28,10 +28,10 @@ pub use put::{
     put_bool, put_class_identification, put_i8, put_i16, put_i32, put_i64, put_text, put_u8,
     put_u16, put_u32, put_u64,
 };
-pub use sizes::{Peers, Sizes, Span, Window};
+pub use sizes::{MOST_PEERS, Peers, Sizes, Span, Window};
 pub use status::Status;
 pub use text::Text;
 pub use words::{
-    Command, Handle, MOST_BYTES, MOST_COMMAND_PARAMETER_BYTES, MOST_PARAMETER_BYTES, MethodId,
+    Command, Handle, LOOPBACK, MOST_BYTES, MOST_COMMAND_PARAMETER_BYTES, MOST_PARAMETER_BYTES, MethodId,
     NoMemory, Ono, Packet, Params, Peer, Reply, Request,
 };

@@ -2,7 +2,7 @@
 ghost use Rattle.std.specs.Prelude.{◌≡◌, Some};
 ghost use Rattle.oca_types.specs.Addresses.{IsAddressOf, IsPeerAt, octets, peer_text, ReadsAPeer};
 
-use crate::words::Peer;
+use crate::words::{LOOPBACK, Peer};
 use std::fmt;
 use std::fmt::{Display, Formatter};
 use std::net::{AddrParseError, Ipv4Addr, SocketAddrV4};
@@ -14,7 +14,7 @@ impl Peer {
         ensures { result ≡ record { ip = 0x7F000001; port = port } }
     {
         Peer {
-            ip: 0x7F00_0001,
+            ip: LOOPBACK,
             port,
         }
     }

@@ -30,6 +30,9 @@ pub struct Peer {
     pub port: u16,
 }
 
+/// The address 127.0.0.1, that of this machine.
+pub const LOOPBACK: u32 = 0x7F00_0001;
+
 /// How many bytes a datagram has at most (*profile*).
 pub const MOST_BYTES: usize = 1472;
 

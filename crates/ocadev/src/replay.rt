@@ -10,7 +10,7 @@ ghost use Rattle.ocadev.specs.Replaying.{Serves, ServesAndPrints, Outcome, Repla
 ghost use Rattle.ocadev.specs.PrivateRequests.{event_of};
 
 use super::answer::{print_packets, print_verdict};
-use super::request::{MOST_BYTES, Request, asked_by};
+use super::request::{DATAGRAM_ROOM, ScriptEvent, asked_by};
 use oca_device::{Device, Outbox};
 use oca_script::lines::serve_lines;
 use oca_script::{Language, Printer, ReplayFault, Sink, Source, Stop, WriteFailed};
@@ -19,7 +19,7 @@ use oca_types::Peer;
 /// The language of the device's scripts, in which a line is a datagram or a clock reading, and the room for serving one.
 pub struct DeviceScript<'a> {
     outbox: &'a mut Outbox,
-    bytes: [u8; MOST_BYTES],
+    bytes: [u8; DATAGRAM_ROOM],
 }
 
 impl Drop for DeviceScript<'_> {
@@ -65,17 +65,17 @@ impl<'a> Language for DeviceScript<'a> {
 fn serve<W: Sink>(
     device: &mut Device,
     outbox: &mut Outbox,
-    request: Request<'_>,
+    request: ScriptEvent<'_>,
     printer: &mut Printer<W>,
 ) -> Result<(), WriteFailed>
     ensures { ServesAndPrints device.old (event_of request.entry) device.new result printer.old printer.new }
 {
     match request {
-        Request::Tick { now } => {
+        ScriptEvent::Tick { now } => {
             device.tick(now);
             printer.print(b"quiet\n")
         }
-        Request::Datagram { now, from, bytes } => {
+        ScriptEvent::Datagram { now, from, bytes } => {
             datagram(device, outbox, from, bytes, now, printer)
         }
     }
@@ -123,7 +123,7 @@ pub fn replay<R: Source, W: Sink>(
 {
     let mut room = DeviceScript {
         outbox,
-        bytes: [0; MOST_BYTES],
+        bytes: [0; DATAGRAM_ROOM],
     };
     serve_lines::<DeviceScript<'_>, R, W>(device, &mut room, reader, printer)
 }

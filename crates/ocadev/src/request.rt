@@ -11,11 +11,11 @@ use oca_script::field::{first_field, hex_bytes, number_before, peer, peer_before
 use oca_types::Peer;
 
 /// Room for the bytes of a datagram in a script.
-pub const MOST_BYTES: usize = 2048;
+pub const DATAGRAM_ROOM: usize = 2048;
 
 /// What a line asks for.
 #[derive(Clone, Copy)]
-pub enum Request<'a> {
+pub enum ScriptEvent<'a> {
     Tick {
         now: u64,
     },
@@ -63,11 +63,11 @@ fn is_quiet(word: &[u8]) -> bool
 
 /// A clock reading at this moment.
 #[tactic(auto, unfolding(crate::specs::Requests::tick_of))]
-fn tick<'a>(now: &[u8]) -> Result<Request<'a>, LineFault>
+fn tick<'a>(now: &[u8]) -> Result<ScriptEvent<'a>, LineFault>
     ensures { event_asked result ≡ tick_of now.now }
 {
     let now = moment(now)?;
-    Ok(Request::Tick { now })
+    Ok(ScriptEvent::Tick { now })
 }
 
 /// A datagram: its moment, its sender and its bytes, looked at in this order.
@@ -77,7 +77,7 @@ fn datagram<'a>(
     sender: &[u8],
     text: &[u8],
     room: &'a mut [u8],
-) -> Result<Request<'a>, LineFault>
+) -> Result<ScriptEvent<'a>, LineFault>
     requires { length text.now ≤ 2 * length room.old }
     ensures { event_asked result ≡ datagram_of now.now sender.now text.now }
 {
@@ -86,7 +86,7 @@ fn datagram<'a>(
     let Some(bytes) = hex_bytes(text, room) else {
         return Err(LineFault::Hex);
     };
-    Ok(Request::Datagram { now, from, bytes })
+    Ok(ScriptEvent::Datagram { now, from, bytes })
 }
 
 /// The moment and the peer of a datagram's line, and what stands after them, read in one pass. `None` where the line does not
@@ -108,12 +108,12 @@ fn bytes_after<'a>(
     from: Peer,
     rest: &[u8],
     room: &'a mut [u8],
-) -> Result<Request<'a>, LineFault>
+) -> Result<ScriptEvent<'a>, LineFault>
     requires { length rest.now ≤ 2 * length room.old }
     ensures { event_asked result ≡ datagram_after now from (fields rest.now) }
 {
     match hex_bytes(rest, room) {
-        Some(bytes) => Ok(Request::Datagram { now, from, bytes }),
+        Some(bytes) => Ok(ScriptEvent::Datagram { now, from, bytes }),
         None => Err(fault_after_peer(rest)),
     }
 }
@@ -131,7 +131,7 @@ fn fault_after_peer(rest: &[u8]) -> LineFault
 }
 
 /// What the fields of the line ask for. The bytes of a datagram are put into `room`.
-pub fn asked_by<'a>(line: &[u8], room: &'a mut [u8; MOST_BYTES]) -> Result<Request<'a>, LineFault>
+pub fn asked_by<'a>(line: &[u8], room: &'a mut [u8; DATAGRAM_ROOM]) -> Result<ScriptEvent<'a>, LineFault>
     requires { length line.now ≤ 4096 }
     ensures { event_asked result ≡ asked_event (fields line.now) }
 {
@@ -145,8 +145,8 @@ pub fn asked_by<'a>(line: &[u8], room: &'a mut [u8; MOST_BYTES]) -> Result<Reque
 #[inline(never)]
 fn asked_by_fields<'a>(
     line: &[u8],
-    room: &'a mut [u8; MOST_BYTES],
-) -> Result<Request<'a>, LineFault>
+    room: &'a mut [u8; DATAGRAM_ROOM],
+) -> Result<ScriptEvent<'a>, LineFault>
     requires { length line.now ≤ 4096 }
     ensures { event_asked result ≡ asked_event (fields line.now) }
 {

@@ -171,7 +171,7 @@ fn open_sessions(device: &mut Device, outbox: &mut Outbox, sessions: u8) {
     }
 }
 
-/// Makes so many datagrams, and hands each to a device of this size where `served` says so. Answers how many packets came
+/// Makes so many datagrams, and hands each to a device of this size where `served` says so. Returns how many packets came
 /// back.
 pub fn run(
     alloc: Global,

@@ -26,7 +26,7 @@ fn plain_socket<R: Net>(rt: &R) -> Result<UdpSocket, Fail> {
     Ok(UdpSocket::bind(rt, (Ipv4Addr::LOCALHOST, 0u16))?)
 }
 
-/// Receives a datagram, and answers its sender and moment.
+/// Receives a datagram, and returns its sender and moment.
 fn datagram<E: End>(end: &mut E, packet: &mut Packet) -> Result<(Peer, u64), Fail> {
     match end.receive(packet) {
         Heard::Datagram { from, now } => Ok((from, now)),
