@@ -38,8 +38,8 @@ pub fn build(alloc: Global) -> Result<Tree, AddFault> {
     Ok(builder.finish())
 }
 
-/// Adds a channel: its block at this ONo with this role, a mute at the next ONo and a gain from -80 to 10 dB, in tenths, after it.
-/// Refusals: those of `add`, and what was added before stays.
+/// Adds a channel: its block at this ONo with this role, a mute at the next ONo and a gain from -80 to 10 dB, in
+/// tenths, after it. Refusals: those of `add`, and what was added before stays.
 fn add_channel(builder: &mut TreeBuilder, block: u32, role: &str) -> Result<(), AddFault>
     requires { block < 4294967290 }
 {

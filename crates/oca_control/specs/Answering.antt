@@ -37,11 +37,11 @@ EveryAnswerIsKept =
     is_some (answer_under h after.untaken) ≡ true
 
 -- a call of `due` at this moment
-abbrev pub IsDueAt : ℕ → Call → Type 0
-IsDueAt t (GivesOut now returned bytes) = now ≡ t
-IsDueAt t (Submits request now returned) = ⊥
-IsDueAt t (Receives from bytes content now returned) = ⊥
-IsDueAt t (TakesAnswer x answer) = ⊥
+abbrev pub CallsDueAt : ℕ → Call → Type 0
+CallsDueAt t (GivesOut now returned bytes) = now ≡ t
+CallsDueAt t (Submits request now returned) = ⊥
+CallsDueAt t (Receives from bytes content now returned) = ⊥
+CallsDueAt t (TakesAnswer x answer) = ⊥
 
 -- the command of this handle was given out in the call
 abbrev pub is_send_of : ℕ → Due → Bool
@@ -60,12 +60,12 @@ is_given_in h (TakesAnswer x answer) = false
 abbrev pub is_among : ℕ → List ℕ → Bool
 is_among h hs = list_any (λ x. x == h) hs
 
--- Where no others than these k handles are due at a moment, each that is due is given out within k calls of `due` at that
--- moment, or the link is lost.
+-- Where no others than these k handles are due at a moment, each that is due is given out within k calls of `due` at
+-- that moment, or the link is lost.
 abbrev pub EveryDueCommandIsGivenOut : Type 0
 EveryDueCommandIsGivenOut =
     (device : Peer) (first opened span : ℕ) (before calls : List Call) (after : LinkState) (now h : ℕ) (due : List ℕ) →
-    0 < span → IsHistory device first opened span (calls ++ before) after → AllByRecursion (IsDueAt now) calls →
+    0 < span → IsHistory device first opened span (calls ++ before) after → AllByRecursion (CallsDueAt now) calls →
     is_due_at device opened (max (clock opened before) now) h before ≡ true →
     ((x : ℕ) → is_due_at device opened (max (clock opened before) now) x before ≡ true → is_among x due ≡ true) →
     length due ≤ length calls →
@@ -102,8 +102,8 @@ pub record Waits (device : Peer) (h : ℕ) (calls : List Call) : Type 0 where
   pub unanswered : first_of (answers_to device h calls) ≡ None
   pub not_lost : is_lost calls ≡ false
 
--- Of a command that was submitted at a moment and waits at t: it was given out less than 250 ms and so many ago; or it was
--- never given out, and submitted at most so many ms ago.
+-- Of a command that was submitted at a moment and waits at t: it was given out less than 250 ms and so many ago; or it
+-- was never given out, and submitted at most so many ms ago.
 abbrev pub IsRecent : ℕ → ℕ → ℕ → List Sending → Type 0
 IsRecent ms since t [] = t ≤ since + ms
 IsRecent ms since t (s ∷ before) = t < s.at + (repeat_time + ms)
@@ -113,8 +113,8 @@ pub record IsGivenOutInTime (ms since t : ℕ) (given : List Sending) : Type 0 w
   pub recent : IsRecent ms since t given
   pub ends : t ≤ since + ms + most_sendings * (repeat_time + ms)
 
--- Where a link is asked every so many ms from the submit of a command on, the command is given out in time as long as it
--- waits.
+-- Where a link is asked every so many ms from the submit of a command on, the command is given out in time as long as
+-- it waits.
 abbrev pub EveryCommandIsGivenOutInTime : Type 0
 EveryCommandIsGivenOutInTime =
     (device : Peer) (first opened span : ℕ) (before later : List Call) (after : LinkState)

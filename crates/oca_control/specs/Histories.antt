@@ -1,6 +1,6 @@
--- THE LAW OF A LINK over whole histories of its calls (profile). Of calls, commands and sendings the LATEST STANDS FIRST, so that what
--- stands after a member (`before`) came before it. Messages and answers stand in order, the first one first. Moments are in
--- milliseconds.
+-- THE LAW OF A LINK over whole histories of its calls (profile). Of calls, commands and sendings the LATEST STANDS
+-- FIRST, so that what stands after a member (`before`) came before it. Messages and answers stand in order, the first
+-- one first. Moments are in milliseconds.
 use Rattle.std.specs.Prelude.{◌≡◌, ◌⊎◌, ℕ, ◌+◌, ◌-◌, ◌==◌, ◌<◌, ◌≤◌, nat_le, max, Bool, true, false, not, ◌&&◌, ◌||◌, ⊤, if◌then◌else◌, List, [], ◌∷◌, ◌++◌, length, Option, Some, None, is_none, is_some, Result, Ok, Err}
 use Rattle.std.specs.List.{AllByRecursion}
 use Rattle.oca_types.specs.declared.words.Peer.{Peer}
@@ -188,8 +188,8 @@ HasRoom span n before = (x : ℕ) → is_untaken x before ≡ true → n < x + s
 abbrev pub IsFull : ℕ → ℕ → List Call → Type 0
 IsFull span n before = (x : ℕ) × (is_untaken x before ≡ true) × (x + span ≤ n)
 
--- What `submit` returns, n being the next handle and k the number of parameter bytes: the handle; or that the link is lost; or that no
--- handle is left; or that the span is full; or that the parameters are too long.
+-- What `submit` returns, n being the next handle and k the number of parameter bytes: the handle; or that the link is
+-- lost; or that no handle is left; or that the span is full; or that the parameters are too long.
 abbrev pub IsSubmitAnswer : ℕ → ℕ → ℕ → List Call → Result Handle ControlFault → Type 0
 IsSubmitAnswer span n k before (Ok h) = (is_lost before ≡ false) × (h.0 ≡ n) × (n ≤ last_handle) × HasRoom span n before × (k ≤ most_command_parameter_bytes)
 IsSubmitAnswer span n k before (Err faults.Lost) = is_lost before ≡ true
@@ -206,7 +206,8 @@ AnswersSubmits first span (GivesOut now returned bytes ∷ before) = AnswersSubm
 AnswersSubmits first span (Receives from bytes content now returned ∷ before) = AnswersSubmits first span before
 AnswersSubmits first span (TakesAnswer h answer ∷ before) = AnswersSubmits first span before
 
--- A COPY: bytes that are a PDU of type 1 with the command of the handle alone (AES70-3). So all copies of a handle are the same.
+-- A COPY: bytes that are a PDU of type 1 with the command of the handle alone (AES70-3). So all copies of a handle are
+-- the same.
 pub record IsCopy (h : ℕ) (accepted : List CommandFields) (bytes : List ℕ) : Type 0 where
   pub command : CommandFields
   pub accepted_under : command_of h accepted ≡ Some command
@@ -218,7 +219,8 @@ AreApart [] = ⊤
 AreApart (s ∷ []) = ⊤
 AreApart (s ∷ r ∷ before) = (r.at + repeat_time ≤ s.at) × AreApart (r ∷ before)
 
--- EACH TAKE of an untaken handle gives the first answer that came to it, where one came. Of another handle it gives nothing.
+-- EACH TAKE of an untaken handle gives the first answer that came to it, where one came. Of another handle it gives
+-- nothing.
 abbrev pub TakesTheFirst : Peer → List Call → Type 0
 TakesTheFirst device [] = ⊤
 TakesTheFirst device (TakesAnswer h answer ∷ before) =
@@ -239,8 +241,9 @@ NoneIsDue device opened t before = (x : ℕ) → is_due_at device opened t x bef
 abbrev pub IsLostNow : Peer → ℕ → ℕ → List Call → Type 0
 IsLostNow device opened t before = (h : ℕ) × IsLowestDue device opened t h before × (length (sendings opened h before) ≡ most_sendings)
 
--- What `due` returns at t. A command: the lowest due one, which was given out less than 20 times. A keep-alive of 5 seconds: none is
--- due, and nothing was given out for 2,500 ms. Nothing: none is due. Lost: the link is lost now, or it was.
+-- What `due` returns at t. A command: the lowest due one, which was given out less than 20 times. A keep-alive of 5
+-- seconds: none is due, and nothing was given out for 2,500 ms. Nothing: none is due. Lost: the link is lost now, or it
+-- was.
 abbrev pub IsDueAnswer : Peer → ℕ → ℕ → List ℕ → List Call → Due → Type 0
 IsDueAnswer device opened t bytes before (dues.Send h) =
     (is_lost before ≡ false) × IsLowestDue device opened t h.0 before × (length (sendings opened h.0 before) < most_sendings)
@@ -269,7 +272,8 @@ pub record IsLawful (device : Peer) (first opened span : ℕ) (calls : List Call
   pub apart : (h : ℕ) → AreApart (sendings opened h calls)
   pub dues_are : GivesWhatIsDue device opened calls
   pub answers : TakesTheFirst device calls
-  -- the next handle, which is the first one plus the number of accepted commands, lies within the span above each untaken one
+  -- the next handle, which is the first one plus the number of accepted commands, lies within the span above each
+  -- untaken one
   pub within_span : (h : ℕ) → is_untaken h calls ≡ true → first + length (commands calls) ≤ h + span
 
 -- THE LAW holds of every history of a link whose span is not 0, as no span is.

@@ -16,8 +16,9 @@ use Rattle.oca_control.specs.declared.reception.Reception.TheVariants as recepti
 use Rattle.oca_control.specs.Limits.{most_sendings, keep_alive_time, last_handle}
 use Rattle.oca_control.specs.Untaken.{Untaken, new_untaken, has_room, first_due, given_out, hears_all, answers_by_all, answer_under, without_handle}
 
--- The device's address, the present moment, the handle of the next command or none, the moment when something was given out
--- last, that of the last well-formed datagram from the device, whether the link is lost, its span, and the untaken commands.
+-- The device's address, the present moment, the handle of the next command or none, the moment when something was given
+-- out last, that of the last well-formed datagram from the device, whether the link is lost, its span, and the untaken
+-- commands.
 pub record LinkState : Type 0 where
   pub device : Peer
   pub moment : ℕ
@@ -42,7 +43,7 @@ abbrev pub command_under : ℕ → RequestFields → CommandFields
 command_under h r =
     record { handle = h; target = r.target; level = r.level; index = r.index; count = r.count; params = r.params }
 
--- the same under another name
+-- what is submitted: `RequestFields`, which stand for a request as `oca_types` has it, before it has a handle
 abbrev pub Request : Type 0
 Request = RequestFields
 
@@ -138,7 +139,8 @@ abbrev pub hears_content : Option (List Msg) → List Untaken → List Untaken
 hears_content None us = us
 hears_content (Some messages) us = hears_all messages us
 
--- the link after it: it keeps the moment, whatever it answers; it was heard from where the device sent a well-formed datagram
+-- the link after it: it keeps the moment, whatever it answers; it was heard from where the device sent a well-formed
+-- datagram
 abbrev pub received : Peer → Option (List Msg) → ℕ → LinkState → LinkState
 received from content now l =
     record l { moment = present now l; heard = if same_peer from l.device && is_some content then present now l else l.heard; untaken = if same_peer from l.device then hears_content content l.untaken else l.untaken }

@@ -1,5 +1,5 @@
--- For private contracts: where the untaken commands lie in memory. The command of the handle h lies in the slot number h modulo
--- 32, and the handle itself is not stored.
+-- For private contracts: where the untaken commands lie in memory. The command of the handle h lies in the slot number
+-- h modulo 32, and the handle itself is not stored.
 use Rattle.std.specs.Prelude.{◌≡◌, ℕ, zero, suc, ◌+◌, ◌-◌, ◌%◌, ◌<◌, ◌≤◌, ◌==◌, nat_lt, nat_le, Bool, true, false, ◌&&◌, ◌||◌, if◌then◌else◌, List, [], ◌∷◌, ◌++◌, map, length, Option, Some, None, is_none, is_some, min, ◌^◌, slice_index_or}
 use Rattle.std.specs.List.{AllByRecursion}
 use Rattle.std.specs.Option.{option_map}

@@ -6,8 +6,8 @@ use Rattle.oca_pdu.specs.Messages.{Msg, Command, Response, KeepAlive}
 use Rattle.oca_control.specs.Limits.{repeat_time}
 use Rattle.oca_control.specs.Answers.{AnswerFields, answer_in}
 
--- A command, how often and when last it was given out, and its answer where one came. Moments are in milliseconds; the last
--- one of a command that was never given out says nothing.
+-- A command, how often and when last it was given out, and its answer where one came. Moments are in milliseconds; the
+-- last one of a command that was never given out says nothing.
 pub record Untaken : Type 0 where
   pub command : CommandFields
   pub times : ℕ

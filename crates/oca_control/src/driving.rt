@@ -14,10 +14,11 @@ use oca_types::{Packet, Peer};
 
 /// Drives a link over an end for at most so many turns, and returns what was done.
 ///
-/// A turn receives once. A datagram goes to the link. Then, at a datagram, at silence and at an oversize datagram, what is
-/// due is handed to the end, for the device, until `due` returns `Nothing` or `Lost`, and at most once more than the span
-/// has handles; where a send fails, it is counted. A failed receive does nothing else. The loop ends at Closed, which is no turn
-/// and after which it receives nothing, after a turn in which `due` returns `Lost`, or after the turns.
+/// A turn receives once. A datagram goes to the link. Then, at a datagram, at silence and at an oversize datagram, what
+/// is due is handed to the end, for the device, until `due` returns `Nothing` or `Lost`, and at most once more than the
+/// span has handles; where a send fails, it is counted. A failed receive does nothing else. The loop ends at Closed,
+/// which is no turn and after which it receives nothing, after a turn in which `due` returns `Lost`, or after the
+/// turns.
 pub fn drive<E: End>(link: &mut Link, end: &mut E, turns: u32) -> DriveReport
     ensures driven { DrivesEnd link.old link.new (E.state end.old) (E.state end.new) result }
     ensures turns { result.turns ≤ turns }
@@ -43,8 +44,9 @@ pub fn drive<E: End>(link: &mut Link, end: &mut E, turns: u32) -> DriveReport
 
 /// Hands the end all that is due at this moment, for the device, and returns what was handed over; `turns` is 0.
 ///
-/// `due` is called at this moment until it returns `Nothing` or `Lost`, and at most once more than the span has handles. Where a
-/// send fails, it is counted. Nothing is received. A moment that is earlier than one already seen counts as the one already seen.
+/// `due` is called at this moment until it returns `Nothing` or `Lost`, and at most once more than the span has
+/// handles. Where a send fails, it is counted. Nothing is received. A moment that is earlier than one already seen
+/// counts as the one already seen.
 pub fn give_out<E: End>(link: &mut Link, end: &mut E, now: u64) -> DriveReport
     ensures { GivesOut now (link.old.span + 1) link.old link.new (E.state end.old) (E.state end.new) result }
 {
@@ -112,8 +114,8 @@ fn give_all<E: End>(link: &mut Link, end: &mut E, packet: &mut Packet, now: u64)
     report
 }
 
-/// Calls `due` once, and hands what it gives to the end, for the device. Returns whether it gave anything, and what was handed
-/// over.
+/// Calls `due` once, and hands what it gives to the end, for the device. Returns whether it gave anything, and what was
+/// handed over.
 fn give_one<E: End>(
     link: &mut Link,
     end: &mut E,

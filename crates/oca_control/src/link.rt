@@ -30,10 +30,11 @@ const KEEP_ALIVE_MS: u64 = 2500;
 
 /// A controller's link to one device.
 ///
-/// Commands are submitted and get handles that rise by one. What is due is given out, a command again each 250 ms until its
-/// answer comes, and keep-alives in silence. Answers come in with the device's datagrams, and are taken by handle. A command
-/// that got no answer to 20 sendings loses the link. Moments are in milliseconds; one that is earlier than a moment already
-/// seen counts as the one already seen. No call takes memory: the commands, at most 32, lie in the link itself.
+/// Commands are submitted and get handles that rise by one. What is due is given out, a command again each 250 ms until
+/// its answer comes, and keep-alives in silence. Answers come in with the device's datagrams, and are taken by handle.
+/// A command that got no answer to 20 sendings loses the link. Moments are in milliseconds; one that is earlier than a
+/// moment already seen counts as the one already seen. No call takes memory: the commands, at most 32, lie in the link
+/// itself.
 #[derive(Drop)]
 pub struct Link {
     device: Peer,
@@ -83,9 +84,9 @@ impl Link {
 
     /// Submits a command, to be given out when it is due, and returns its handle (AES70-3). `count` is ParamCount.
     ///
-    /// Refusals, in this order, each of which changes nothing and keeps no moment: `Lost`; `HandlesSpent`, after the handle
-    /// 4294967295; `SpanFull`, where the next handle is not below the lowest untaken one plus the span; `TooLong`, above
-    /// 1,445 bytes of parameters.
+    /// Refusals, in this order, each of which changes nothing and keeps no moment: `Lost`; `HandlesSpent`, after the
+    /// handle 4294967295; `SpanFull`, where the next handle is not below the lowest untaken one plus the span;
+    /// `TooLong`, above 1,445 bytes of parameters.
     pub fn submit(
         &mut self,
         target: Ono,
@@ -121,9 +122,9 @@ impl Link {
         Ok(handle)
     }
 
-    /// Gives out what is due into the packet, which it empties first: the due command with the lowest handle, with unchanged
-    /// bytes, or a keep-alive of 5 seconds where nothing was given out for 2,500 ms. A command is due while it is unanswered,
-    /// and was never given out or was given out 250 ms ago or earlier.
+    /// Gives out what is due into the packet, which it empties first: the due command with the lowest handle, with
+    /// unchanged bytes, or a keep-alive of 5 seconds where nothing was given out for 2,500 ms. A command is due while
+    /// it is unanswered, and was never given out or was given out 250 ms ago or earlier.
     ///
     /// `Lost` where that command was given out 20 times, and from then on. The packet is empty at `Nothing` and `Lost`.
     pub fn due(&mut self, now: u64, packet: &mut Packet) -> Due
@@ -156,9 +157,9 @@ impl Link {
         }
     }
 
-    /// Takes a datagram that came from this address, and returns what became of it. The address is looked at first, then
-    /// the grammar (AES70-3); the responses are taken in order. A response is stored where its handle is that of an untaken
-    /// command without an answer; commands and keep-alives are ignored. The moment is kept in all cases.
+    /// Takes a datagram that came from this address, and returns what became of it. The address is looked at first,
+    /// then the grammar (AES70-3); the responses are taken in order. A response is stored where its handle is that of
+    /// an untaken command without an answer; commands and keep-alives are ignored. The moment is kept in all cases.
     pub fn datagram(&mut self, from: Peer, bytes: &[u8], now: u64) -> Reception
         ensures receives { ReceivesDatagram from bytes.now now self.old result self.new }
         ensures answer { (content : Option (List Msg)) → IsContent content bytes.now → result ≡ reception from content self.old }
@@ -177,7 +178,8 @@ impl Link {
         }
     }
 
-    /// Takes the answer under this handle, and the command with it. `None` where there is no answer, which changes nothing.
+    /// Takes the answer under this handle, and the command with it. `None` where there is no answer, which changes
+    /// nothing.
     pub fn take(&mut self, handle: Handle) -> Option<Answer>
         ensures answer { option_map answer_fields result ≡ answer_under handle.0 self.old.untaken }
         ensures link { self.new ≡ taken handle.0 self.old }
@@ -185,8 +187,8 @@ impl Link {
         self.table.take(handle)
     }
 
-    /// The earliest moment, not before the link's own, at which [`due`](Link::due) returns anything but `Nothing`: a loop may wait
-    /// until then. `None` where that lies beyond 64 bits.
+    /// The earliest moment, not before the link's own, at which [`due`](Link::due) returns anything but `Nothing`: a
+    /// loop may wait until then. `None` where that lies beyond 64 bits.
     pub fn next_due(&self) -> Option<u64>
         ensures { MatchOption result (NeverIsDue self.now) (λ t. IsNextDue self.now t) }
     {
@@ -206,17 +208,17 @@ impl Link {
         self.table.answered()
     }
 
-    /// The moment at which the last well-formed datagram came from the device, and at first that of the link's making. A datagram
-    /// from another address does not move it, nor one that is not well-formed. A device echoes each keep-alive, so at a device that
-    /// is there it lags by little more than 2,500 ms while the link is driven.
+    /// The moment at which the last well-formed datagram came from the device, and at first that of the link's making.
+    /// A datagram from another address does not move it, nor one that is not well-formed. A device echoes each
+    /// keep-alive, so at a device that is there it lags by little more than 2,500 ms while the link is driven.
     pub fn last_heard(&self) -> u64
         ensures { result ≡ self.now.heard }
     {
         self.heard
     }
 
-    /// Whether the link is lost: a command got no answer to 20 sendings. It stays so, and gives nothing out any more; answers that
-    /// still come are taken as before.
+    /// Whether the link is lost: a command got no answer to 20 sendings. It stays so, and gives nothing out any more;
+    /// answers that still come are taken as before.
     pub fn is_lost(&self) -> bool
         ensures { result ≡ self.now.lost }
     {

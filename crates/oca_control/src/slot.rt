@@ -93,8 +93,8 @@ impl Slot {
             && (self.times == 0 || now.saturating_sub(self.last) >= REPEAT_MS)
     }
 
-    /// From which moment on the command is due: from the first on where it was never given out, else 250 ms after it last was.
-    /// Nothing where that lies beyond 64 bits, or no command waits.
+    /// From which moment on the command is due: from the first on where it was never given out, else 250 ms after it
+    /// last was. Nothing where that lies beyond 64 bits, or no command waits.
     pub fn due_from(&self) -> Option<u64>
         ensures { HoldsFrom (λ s. held_is_due s self.now) result }
     {

@@ -16,9 +16,9 @@ use crate::slot::Slot;
 use oca_types::{Handle, Packet, Request, sooner};
 use std::marker::Model;
 
-/// The untaken commands of a link. They have handles from `low` on and below `next`, at most 32 of them, and the command
-/// of a handle lies in the slot of this handle modulo 32: it is found by its place. `next` is 4294967296 where no handle
-/// is left.
+/// The untaken commands of a link. They have handles from `low` on and below `next`, at most 32 of them, and the
+/// command of a handle lies in the slot of this handle modulo 32: it is found by its place. `next` is 4294967296 where
+/// no handle is left.
 #[derive(Drop)]
 pub struct Table {
     low: u64,

@@ -1,4 +1,5 @@
--- What serving a datagram, its messages or one message makes of a device and its outbox, and how many answers there are at most.
+-- What serving a datagram, its messages or one message makes of a device and its outbox, and how many answers there are
+-- at most.
 use Rattle.std.specs.Prelude.{◌≡◌, ℕ, ◌+◌, ◌≤◌, Bool, true, false, ⊤, List, [], ◌∷◌, ◌++◌, length}
 use Rattle.oca_types.specs.declared.words.Peer.{Peer}
 use Rattle.oca_types.specs.Sizes.{DeviceSizes, most_command_parameter_bytes}

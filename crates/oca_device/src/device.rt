@@ -36,8 +36,9 @@ const MOST_WRITTEN: usize = 86;
 
 /// A device: a tree of objects, and the sessions of its peers.
 ///
-/// What it is follows from the tree that it was made with and the events that it was given: datagrams, clock
-/// readings and changes at its own front. Moments are in milliseconds; one that is earlier than a moment already seen counts as the one already seen.
+/// What it is follows from the tree that it was made with and the events that it was given: datagrams, clock readings
+/// and changes at its own front. Moments are in milliseconds; one that is earlier than a moment already seen counts as
+/// the one already seen.
 #[derive(Drop)]
 pub struct Device {
     tree: Tree,
@@ -64,8 +65,8 @@ impl Device {
     ghost use Rattle.oca_device.specs.Lapses.{IsNextLapse, NeverLapses};
     ghost use Rattle.oca_device.specs.PrivateServing.{Serves, ServesAll, Receives, AreGrouped, IsShort, may_answer, most_answers, commands_in, commands_of, all_commands};
 
-    /// A device of these objects, with reply windows of this size and sessions of at most 16 peers, before any event. Takes
-    /// all the memory that its sessions will need. Refusal: `NoMemory`.
+    /// A device of these objects, with reply windows of this size and sessions of at most 16 peers, before any event.
+    /// Takes all the memory that its sessions will need. Refusal: `NoMemory`.
     pub fn new(alloc: Global, tree: Tree, window: Window) -> Result<Device, NoMemory>
         ensures { IfOk result (λ device. Represents (record { window = window_size window; peers = 16 }) device tree []) }
     {
@@ -79,8 +80,8 @@ impl Device {
         )
     }
 
-    /// A device of these objects, with reply windows and sessions of at most as many peers as these sizes say, before any
-    /// event. Takes all the memory that its sessions will need. Refusal: `NoMemory`.
+    /// A device of these objects, with reply windows and sessions of at most as many peers as these sizes say, before
+    /// any event. Takes all the memory that its sessions will need. Refusal: `NoMemory`.
     pub fn with_sizes(alloc: Global, tree: Tree, sizes: Sizes) -> Result<Device, NoMemory>
         ensures { IfOk result (λ device. Represents (sizes_of sizes) device tree []) }
     {
@@ -98,8 +99,8 @@ impl Device {
         })
     }
 
-    /// Takes a datagram that came from a peer, and returns what became of it. The outbox then holds its answers, all for that
-    /// peer, and nothing else: what it held before is taken out first.
+    /// Takes a datagram that came from a peer, and returns what became of it. The outbox then holds its answers, all
+    /// for that peer, and nothing else: what it held before is taken out first.
     ///
     /// First the clock moves: locks of peers that are silent for more than three heartbeats are released, and
     /// sessions that are silent for more than 120,000 ms forgotten. A malformed datagram, and one that finds no
@@ -123,16 +124,16 @@ impl Device {
         self.receive(from, bytes, now, outbox)
     }
 
-    /// Takes a clock reading: locks of peers that are silent for more than three heartbeats are released, and sessions that
-    /// are silent for more than 120,000 ms forgotten.
+    /// Takes a clock reading: locks of peers that are silent for more than three heartbeats are released, and sessions
+    /// that are silent for more than 120,000 ms forgotten.
     pub fn tick(&mut self, now: u64)
         ensures { (w : DeviceSizes) (T : List Object) (E : List Event) → Represents w self.old T E → Represents w self.new T (Tick now ∷ E) }
     {
         self.move_clock(now);
     }
 
-    /// Sets an object at the device's own front, as the set method of its class sets it at a peer that no lock refuses. A refusal
-    /// changes nothing. Either way the clock stays, and no session is opened.
+    /// Sets an object at the device's own front, as the set method of its class sets it at a peer that no lock refuses.
+    /// A refusal changes nothing. Either way the clock stays, and no session is opened.
     pub fn set(&mut self, ono: Ono, value: LocalValue) -> Result<(), SetFault>
         ensures represents { (w : DeviceSizes) (T : List Object) (E : List Event) → Represents w self.old T E →
             Represents w self.new T (Local ono.0 value ∷ E) }
@@ -358,8 +359,9 @@ fn release_all(tree: &mut Tree, peers: &[Peer])
     }
 }
 
-/// Forgets the objects. Clearing is a call that overwrites the cells, so none and a single one, the common cases here, are
-/// taken out without it. Each `empty` of the core spares itself the call in the cases that are common where it stands.
+/// Forgets the objects. Clearing is a call that overwrites the cells, so none and a single one, the common cases here,
+/// are taken out without it. Each `empty` of the core spares itself the call in the cases that are common where it
+/// stands.
 fn empty(written: &mut ArrayVec<Ono, MOST_WRITTEN>)
     ensures { written.new.items ≡ [] }
 {
@@ -372,7 +374,8 @@ fn empty(written: &mut ArrayVec<Ono, MOST_WRITTEN>)
     }
 }
 
-/// Executes a command of a peer, puts its reply in the place of another, and adds its object to those written where it wrote.
+/// Executes a command of a peer, puts its reply in the place of another, and adds its object to those written where it
+/// wrote.
 fn execute(
     tree: &mut Tree,
     peer: Peer,

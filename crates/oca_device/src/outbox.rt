@@ -14,8 +14,8 @@ use oca_types::{Handle, NoMemory, Packet, Reply};
 use std::alloc::Global;
 use std::marker::Model;
 
-/// The most packets that one datagram is answered with: a command has 17 bytes and a keep-alive PDU 12, so a datagram of
-/// 1,472 bytes has at most 122 messages that are answered.
+/// The most packets that one datagram is answered with: a command has 17 bytes and a keep-alive PDU 12, so a datagram
+/// of 1,472 bytes has at most 122 messages that are answered.
 const MOST_PACKETS: usize = 122;
 
 /// The packets that answer a datagram, in order, for the peer that sent it. There are at most 122.
@@ -86,7 +86,8 @@ impl Outbox {
         &self.places[..self.count]
     }
 
-    /// Adds a response: to the last packet where that holds responses and has room for it, and else in a packet of its own.
+    /// Adds a response: to the last packet where that holds responses and has room for it, and else in a packet of its
+    /// own.
     #[inline(always)]
     pub(crate) fn respond(&mut self, handle: Handle, reply: &Reply)
         requires room { length self.old < most_answered }
@@ -113,8 +114,8 @@ impl Outbox {
     }
 }
 
-/// Adds a response to the last of the first `count` packets where that holds responses and has room for it, and returns whether
-/// it did.
+/// Adds a response to the last of the first `count` packets where that holds responses and has room for it, and returns
+/// whether it did.
 #[inline(always)]
 fn join_last(places: &mut Vec<Packet>, count: usize, handle: Handle, reply: &Reply) -> bool
     requires within { count ≤ length places.old.items }
@@ -138,8 +139,8 @@ fn join(packet: &mut Packet, handle: Handle, reply: &Reply) -> bool
     holds_responses(packet) && extend_response(packet, handle, reply).is_ok()
 }
 
-/// Makes a place for one more packet after these, where none is left from earlier datagrams. It lies in memory that was taken
-/// at first.
+/// Makes a place for one more packet after these, where none is left from earlier datagrams. It lies in memory that was
+/// taken at first.
 fn make_place(places: &mut Vec<Packet>, count: usize)
     requires within { count ≤ length places.old.items }
     requires few { count < most_answered }

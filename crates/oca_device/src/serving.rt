@@ -20,8 +20,8 @@ use oca_types::{Packet, Peer};
 ///
 /// A turn receives once. A datagram goes to the device, and its answers are sent to its sender, in order; where a send
 /// fails, it is counted, and the next packet is sent. Silence and an oversize datagram move the clock. A failed receive
-/// does nothing. The loop ends at Closed, which is no turn and after which it receives nothing, or after the turns. The outbox
-/// is emptied at first and after each turn.
+/// does nothing. The loop ends at Closed, which is no turn and after which it receives nothing, or after the turns. The
+/// outbox is emptied at first and after each turn.
 pub fn serve<E: End>(device: &mut Device, end: &mut E, outbox: &mut Outbox, turns: u32) -> Report
     ensures served { ServesEnd device.old device.new (E.state end.old) (E.state end.new) result }
     ensures turns { result.turns ≤ turns }

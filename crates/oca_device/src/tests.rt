@@ -1,5 +1,5 @@
-//! Examples over the bench device. Expected bytes are those of AES70-3's layouts, written out or put together here, and never
-//! the device's own.
+//! Examples over the bench device. Expected bytes are those of AES70-3's layouts, written out or put together here, and
+//! never the device's own.
 mod blocks;
 mod commands;
 mod grouping;

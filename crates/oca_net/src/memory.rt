@@ -63,8 +63,8 @@ impl Model for MemoryEnd {
 }
 
 impl MemoryEnd {
-    /// An end that will deliver this script and take up to `room` datagrams. The send number `fail_send`, counted from 0,
-    /// fails. Refusal: `NoMemory`.
+    /// An end that will deliver this script and take up to `room` datagrams. The send number `fail_send`, counted from
+    /// 0, fails. Refusal: `NoMemory`.
     pub fn new(
         alloc: Global,
         script: Vec<Scripted>,

@@ -32,7 +32,8 @@ fn check_message(kind: Kind, at: u16, bytes: &[u8]) -> Result<&[u8], PduFault>
     Ok(&bytes[size..])
 }
 
-/// Checks the messages of the PDU at `pdu`, which are to be `count` and all of the bytes. Refusals: `Count`, `MessageSize`.
+/// Checks the messages of the PDU at `pdu`, which are to be `count` and all of the bytes. Refusals: `Count`,
+/// `MessageSize`.
 fn check_messages(kind: Kind, count: u16, pdu: u16, bytes: &[u8]) -> Result<(), PduFault>
     requires { pdu + 10 + length bytes.now ≤ largest_datagram }
     ensures { Agrees result (messages_at kind count pdu (pdu + 10) bytes.now) }
@@ -149,9 +150,10 @@ fn check_all(bytes: &[u8]) -> Result<(), PduFault>
     check_pdus(bytes)
 }
 
-/// Checks that the bytes are a well-formed datagram: one or more PDUs (AES70-3), of at most 1,472 bytes together (profile).
-/// Refuses any other bytes, and names the first check that fails and its offset. The order of the checks is: the number
-/// of bytes; in each PDU sync, ProtocolVersion, PduSize, PduType and MessageCount; then the sizes of its messages.
+/// Checks that the bytes are a well-formed datagram: one or more PDUs (AES70-3), of at most 1,472 bytes together
+/// (profile). Refuses any other bytes, and names the first check that fails and its offset. The order of the checks is:
+/// the number of bytes; in each PDU sync, ProtocolVersion, PduSize, PduType and MessageCount; then the sizes of its
+/// messages.
 pub fn check(bytes: &[u8]) -> Result<Datagram<'_>, PduFault>
     ensures found { IfOk result (λ d. (ps : List Pdu) × IsDatagram ps bytes.now × (datagram_messages d ≡ flat_map messages_of ps)) }
     ensures only { (ps : List Pdu) → IsDatagram ps bytes.now → IsOkAnd result (λ d. datagram_messages d ≡ flat_map messages_of ps) }

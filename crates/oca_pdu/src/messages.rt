@@ -5,8 +5,8 @@ ghost use Rattle.oca_pdu.specs.Reading.{messages_at, pdus_at};
 use crate::fields;
 use crate::message::{Content, Form, Kind, Message};
 
-/// The messages of a datagram that are still to come: those of the PDU that was begun, and the PDUs after it. No check is
-/// made again.
+/// The messages of a datagram that are still to come: those of the PDU that was begun, and the PDUs after it. No check
+/// is made again.
 #[derive(Debug, Drop)]
 pub struct Messages<'a> {
     kind: Kind,

@@ -33,8 +33,8 @@ fn put(packet: &mut Packet, bytes: &[u8])
     }
 }
 
-/// Appends a PDU of one command (AES70-3), of type 1 where it asks for a response. Refusal: `TooLong` where the packet would
-/// pass 1,472 bytes, and the packet is unchanged.
+/// Appends a PDU of one command (AES70-3), of type 1 where it asks for a response. Refusal: `TooLong` where the packet
+/// would pass 1,472 bytes, and the packet is unchanged.
 pub fn write_command(
     packet: &mut Packet,
     respond: bool,
@@ -80,8 +80,8 @@ fn command_front(respond: bool, command: &Command) -> [u8; 27]
     front
 }
 
-/// Appends a PDU of one response (AES70-3). Refusal: `TooLong` where the packet would pass 1,472 bytes, and the packet is
-/// unchanged.
+/// Appends a PDU of one response (AES70-3). Refusal: `TooLong` where the packet would pass 1,472 bytes, and the packet
+/// is unchanged.
 pub fn write_response(packet: &mut Packet, handle: Handle, reply: &Reply) -> Result<(), WriteFault>
     ensures room { let pdu = Responses (response_with handle reply.now ∷ []) in
         IsOk result ↔ (length packet.old.items + length (pdu_encoding pdu) ≤ largest_datagram) }
@@ -102,8 +102,8 @@ pub fn write_response(packet: &mut Packet, handle: Handle, reply: &Reply) -> Res
     Ok(())
 }
 
-/// Writes a PDU of one response (AES70-3) in the place of all that the packet held. It always fits, since a reply has at most
-/// 1,452 bytes of parameters. Where the packet has as many bytes already, they are written over.
+/// Writes a PDU of one response (AES70-3) in the place of all that the packet held. It always fits, since a reply has
+/// at most 1,452 bytes of parameters. Where the packet has as many bytes already, they are written over.
 #[inline(always)]
 pub fn replace_response(packet: &mut Packet, handle: Handle, reply: &Reply)
     ensures bytes { packet.new.items ≡ pdu_encoding (Responses (response_with handle reply.now ∷ [])) }
@@ -116,8 +116,8 @@ pub fn replace_response(packet: &mut Packet, handle: Handle, reply: &Reply)
     }
 }
 
-/// Apart from `replace_response`, since `clear` overwrites what there was by a call: writes a PDU of one response in the
-/// place of more bytes, or of fewer.
+/// Apart from `replace_response`, since `clear` overwrites what there was by a call: writes a PDU of one response in
+/// the place of more bytes, or of fewer.
 #[inline(never)]
 fn write_anew(packet: &mut Packet, handle: Handle, reply: &Reply)
     ensures fits { ResponseFits (response_with handle reply.now) }
@@ -214,8 +214,8 @@ pub fn extend_response(packet: &mut Packet, handle: Handle, reply: &Reply) -> Re
     Ok(())
 }
 
-/// Appends a PDU of one keep-alive (AES70-3). Refusal: `TooLong` where the packet would pass 1,472 bytes, and the packet is
-/// unchanged.
+/// Appends a PDU of one keep-alive (AES70-3). Refusal: `TooLong` where the packet would pass 1,472 bytes, and the
+/// packet is unchanged.
 pub fn write_keepalive(packet: &mut Packet, form: Form) -> Result<(), WriteFault>
     ensures room { IsOk result ↔ (length packet.old.items + length (pdu_encoding (OneKeepAlive form)) ≤ largest_datagram) }
     ensures ok { OnOk result (packet.new.items ≡ packet.old.items ++ pdu_encoding (OneKeepAlive form)) }

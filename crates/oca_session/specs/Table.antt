@@ -1,4 +1,5 @@
--- The sessions in order of opening, the latest last, and what each call makes of them (profile). Moments and times are in milliseconds.
+-- The sessions in order of opening, the latest last, and what each call makes of them (profile). Moments and times are
+-- in milliseconds.
 use Rattle.std.specs.Prelude.{◌≡◌, ℕ, ◌*◌, ◌-◌, ◌<◌, ◌≤◌, nat_lt, nat_le, max, Bool, not, if◌then◌else◌, List, [], ◌∷◌, ◌++◌, map, filter, length, Option, None, IfSome, IsSome}
 use Rattle.std.specs.List.{find}
 use Rattle.oca_types.specs.declared.words.Peer.{Peer}
@@ -94,7 +95,8 @@ staying moment ss = filter (stays moment) ss
 abbrev pub forgotten : ℕ → List Session → List Session
 forgotten moment ss = filter (λ s. not (stays moment s)) ss
 
--- What hearing a peer at the present moment returns, and what it makes of the table; each of the three results keeps that moment (profile).
+-- What hearing a peer at the present moment returns, and what it makes of the table; each of the three results keeps
+-- that moment (profile).
 abbrev pub Hears : Peer → ℕ → Table → Admission → Table → Type 0
 Hears p moment old admissions.Known new =
     IsSome (session_of p old.sessions) × (new ≡ with_moment_and_sessions old moment (changed p (heard_at moment) old.sessions))

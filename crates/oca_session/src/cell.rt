@@ -7,9 +7,7 @@ ghost use Rattle.oca_session.specs.Accepted.{asks_the_same};
 ghost use Rattle.oca_session.specs.PrivateCells.{entry_in};
 
 use arrayvec::ArrayVec;
-use oca_types::{
-    Command, MOST_COMMAND_PARAMETER_BYTES, MethodId, Ono, Params, Reply, write_over,
-};
+use oca_types::{Command, MOST_COMMAND_PARAMETER_BYTES, MethodId, Ono, Params, Reply, write_over};
 
 /// An accepted command but for its handle, and the reply that it got.
 #[derive(Drop)]

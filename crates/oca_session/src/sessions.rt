@@ -176,10 +176,10 @@ impl Sessions {
         self.recent = self.recent.min(self.count.saturating_sub(1));
     }
 
-    /// Notes that a peer was heard at a moment, in milliseconds. A known peer's silence ends. For another a
-    /// session is opened, the last in order, with an empty window, no floor and the heartbeat 5,000; but where
-    /// there are as many sessions as were chosen already, no session changes. In all cases the present moment goes on to `now`,
-    /// unless that is earlier.
+    /// Notes that a peer was heard at a moment, in milliseconds. A known peer's silence ends. For another a session is
+    /// opened, the last in order, with an empty window, no floor and the heartbeat 5,000; but where there are as many
+    /// sessions as were chosen already, no session changes. In all cases the present moment goes on to `now`, unless
+    /// that is earlier.
     pub fn hear(&mut self, peer: Peer, now: u64) -> Admission
         ensures hears { Hears peer (present self.old now) self.old result self.new }
         ensures known { IsKnownAfter result peer self.new.sessions }
@@ -285,8 +285,8 @@ impl Sessions {
         self.search_known(peer)
     }
 
-    /// Apart from `index_of_known`, so that the look at the recent slot is inlined: looks in all slots for the session of
-    /// a known peer. It takes no slice, whose length would be read at each such look.
+    /// Apart from `index_of_known`, so that the look at the recent slot is inlined: looks in all slots for the session
+    /// of a known peer. It takes no slice, whose length would be read at each such look.
     #[inline(never)]
     fn search_known(&self, peer: Peer) -> usize
         requires { IsSome (session_of peer self.now.sessions) }

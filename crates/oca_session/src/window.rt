@@ -18,7 +18,7 @@ use std::marker::Model;
 pub enum Judged<'a> {
     /// No accepted command has its handle, which is above all that the window pushed out: execute it.
     Fresh,
-    /// It is a duplicate of a command in the window, which got this reply.
+    /// It is a duplicate of a command in the window, which got this reply. What counts these calls them `kept`.
     Kept(&'a Reply),
     /// A command in the window has its handle, and asks something else.
     Reused,

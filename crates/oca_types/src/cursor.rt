@@ -168,7 +168,8 @@ impl<'a> Cursor<'a> {
         ]))
     }
 
-    /// An OcaBoolean (AES70-3): 0 is false and any other byte is true (*profile*). Refusal: `Short`, and the cursor is unchanged.
+    /// An OcaBoolean (AES70-3): 0 is false and any other byte is true (*profile*). Refusal: `Short`, and the cursor is
+    /// unchanged.
     #[tactic(auto, using(crate::proofs::Fixed::short_bool))]
     pub fn take_bool(&mut self) -> Result<bool, ReadFault>
         ensures found { IfOk result (λ v. Takes IsBoolEncoding v (bytes_left self.old) (bytes_left self.new)) }

@@ -32,6 +32,6 @@ pub use sizes::{MOST_PEERS, Peers, Sizes, Span, Window};
 pub use status::Status;
 pub use text::Text;
 pub use words::{
-    Command, Handle, LOOPBACK, MOST_BYTES, MOST_COMMAND_PARAMETER_BYTES, MOST_PARAMETER_BYTES, MethodId,
-    NoMemory, Ono, Packet, Params, Peer, Reply, Request,
+    Command, Handle, LOOPBACK, MOST_BYTES, MOST_COMMAND_PARAMETER_BYTES, MOST_PARAMETER_BYTES,
+    MethodId, NoMemory, Ono, Packet, Params, Peer, Reply, Request,
 };

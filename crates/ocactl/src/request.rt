@@ -224,7 +224,10 @@ pub fn call_by<'a>(line: &[u8], room: &'a mut [u8; PARAMS_ROOM]) -> Result<Call<
 }
 
 /// What the fields of the line of a command ask for. The bytes of its parameters are put into `room`.
-pub fn command_by<'a>(line: &[u8], room: &'a mut [u8; PARAMS_ROOM]) -> Result<Request<'a>, LineFault>
+pub fn command_by<'a>(
+    line: &[u8],
+    room: &'a mut [u8; PARAMS_ROOM],
+) -> Result<Request<'a>, LineFault>
     requires { length line.now ≤ 4096 }
     ensures { request_asked result ≡ asked_command (fields line.now) }
 {

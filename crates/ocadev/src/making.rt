@@ -21,7 +21,8 @@ use std::rt::Files;
 /// The most bytes of a file that lists objects.
 const LARGEST_TEXT: usize = 16_777_216;
 
-/// The device of these objects and sizes, before any event, and an outbox. Refusals: those of the objects, and `NoMemory`.
+/// The device of these objects and sizes, before any event, and an outbox. Refusals: those of the objects, and
+/// `NoMemory`.
 pub fn make<F: Files>(
     alloc: Global,
     files: &F,
@@ -48,8 +49,8 @@ fn made(alloc: Global, tree: Tree, sizes: Sizes) -> Result<(Device, Outbox), Run
     Ok((device, outbox))
 }
 
-/// The objects of a device. Refusals: `NoMemory`; of a file `Read` where it can't be read, `TooMuch` above 16,777,216 bytes, and
-/// `Object` with its first line that has a fault.
+/// The objects of a device. Refusals: `NoMemory`; of a file `Read` where it can't be read, `TooMuch` above 16,777,216
+/// bytes, and `Object` with its first line that has a fault.
 pub fn objects<F: Files>(alloc: Global, files: &F, objects: Objects<'_>) -> Result<Tree, Failure>
     ensures { IfOk result (AreObjects objects.entry) }
 {

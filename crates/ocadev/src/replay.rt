@@ -16,7 +16,8 @@ use oca_script::lines::serve_lines;
 use oca_script::{Language, Printer, ReplayFault, Sink, Source, Stop, WriteFailed};
 use oca_types::Peer;
 
-/// The language of the device's scripts, in which a line is a datagram or a clock reading, and the room for serving one.
+/// The language of the device's scripts, in which a line is a datagram or a clock reading, and the room for serving
+/// one.
 pub struct DeviceScript<'a> {
     outbox: &'a mut Outbox,
     bytes: [u8; DATAGRAM_ROOM],
@@ -98,13 +99,14 @@ fn datagram<W: Sink>(
     print_packets(outbox, printer)
 }
 
-/// Replays the script that the source has to give on the device, and writes what that prints, after what the printer held.
+/// Replays the script that the source has to give on the device, and writes what that prints, after what the printer
+/// held.
 ///
-/// A line `N P HEX` is a datagram of the peer P at the moment N in milliseconds, and a line `N quiet` a clock reading. The
-/// outbox is emptied before each datagram, and what it held at first does not matter. Faults: `Line` with the number of
-/// the first bad line, counted from 1; `TooMuch` beyond 16,777,216 bytes; `Read` and `Write` where a read or a write of ends
-/// that had not failed before failed in this call, and nowhere else. What the lines before printed is written in each case, as
-/// far as the writes went. Takes no memory. (The script's form is the profile's.)
+/// A line `N P HEX` is a datagram of the peer P at the moment N in milliseconds, and a line `N quiet` a clock reading.
+/// The outbox is emptied before each datagram, and what it held at first does not matter. Faults: `Line` with the
+/// number of the first bad line, counted from 1; `TooMuch` beyond 16,777,216 bytes; `Read` and `Write` where a read or
+/// a write of ends that had not failed before failed in this call, and nowhere else. What the lines before printed is
+/// written in each case, as far as the writes went. Takes no memory. (The script's form is the profile's.)
 pub fn replay<R: Source, W: Sink>(
     device: &mut Device,
     outbox: &mut Outbox,
@@ -115,8 +117,8 @@ pub fn replay<R: Source, W: Sink>(
     ensures known { (w : DeviceSizes) (tree : List Object) (events : List Event) → Represents w device.old tree events →
         IfSome (R.remaining reader.old) (λ given.
         Replays w tree events device.new printer.old printer.new result given) }
-    // Whatever source: there are bytes, those that it gave where it tells them, and the rest of what it had, and their script was
-    // replayed.
+    // Whatever source: there are bytes, those that it gave where it tells them, and the rest of what it had, and their
+    // script was replayed.
     ensures reads { (w : DeviceSizes) (tree : List Object) (events : List Event) → Represents w device.old tree events →
         Outcome w tree events device.new printer.old printer.new
         (input (R.remaining reader.old) (R.failed reader.old)) (input (R.remaining reader.new) (R.failed reader.new)) result }

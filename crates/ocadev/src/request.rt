@@ -2,6 +2,7 @@
 ghost use Rattle.std.specs.Prelude.{◌≡◌, ℕ, ◌≤◌, ◌*◌, IfSome, length, None, Err};
 ghost use Rattle.oca_types.specs.declared.words.Peer.{Peer as PeerFields};
 ghost use Rattle.oca_script.specs.Fields.{fields, hex_of};
+ghost use Rattle.oca_script.specs.Script.{longest_line};
 ghost use Rattle.ocadev.specs.Requests.{is_quiet as quiet_word, tick_of, datagram_of, asked_event};
 ghost use Rattle.ocadev.specs.PrivateRequests.{AreFields, FieldsWithin, begun, moment_and_peer_of, datagram_after, event_asked};
 
@@ -89,8 +90,8 @@ fn datagram<'a>(
     Ok(ScriptEvent::Datagram { now, from, bytes })
 }
 
-/// The moment and the peer of a datagram's line, and what stands after them, read in one pass. `None` where the line does not
-/// begin with both, each before a space.
+/// The moment and the peer of a datagram's line, and what stands after them, read in one pass. `None` where the line
+/// does not begin with both, each before a space.
 fn moment_and_peer(line: &[u8]) -> Option<(u64, Peer, &[u8])>
     ensures read { begun result ≡ moment_and_peer_of line.now }
     ensures value { IfSome result (λ p. asked_event (fields line.now) ≡ datagram_after p.0 p.1 (fields p.2.now)) }
@@ -101,8 +102,8 @@ fn moment_and_peer(line: &[u8]) -> Option<(u64, Peer, &[u8])>
     Some((now, from, rest))
 }
 
-/// The datagram of which the moment and the peer are read: its bytes are the one field that is left. Bytes that can be read
-/// are one field, so only a line with a fault is searched for a space.
+/// The datagram of which the moment and the peer are read: its bytes are the one field that is left. Bytes that can be
+/// read are one field, so only a line with a fault is searched for a space.
 fn bytes_after<'a>(
     now: u64,
     from: Peer,
@@ -131,8 +132,11 @@ fn fault_after_peer(rest: &[u8]) -> LineFault
 }
 
 /// What the fields of the line ask for. The bytes of a datagram are put into `room`.
-pub fn asked_by<'a>(line: &[u8], room: &'a mut [u8; DATAGRAM_ROOM]) -> Result<ScriptEvent<'a>, LineFault>
-    requires { length line.now ≤ 4096 }
+pub fn asked_by<'a>(
+    line: &[u8],
+    room: &'a mut [u8; DATAGRAM_ROOM],
+) -> Result<ScriptEvent<'a>, LineFault>
+    requires { length line.now ≤ longest_line }
     ensures { event_asked result ≡ asked_event (fields line.now) }
 {
     match moment_and_peer(line) {
@@ -147,7 +151,7 @@ fn asked_by_fields<'a>(
     line: &[u8],
     room: &'a mut [u8; DATAGRAM_ROOM],
 ) -> Result<ScriptEvent<'a>, LineFault>
-    requires { length line.now ≤ 4096 }
+    requires { length line.now ≤ longest_line }
     ensures { event_asked result ≡ asked_event (fields line.now) }
 {
     match fields_of(line) {
