@@ -16,9 +16,10 @@ pub struct Channel {
     pub gain: i16,
 }
 
-/// The blocks of the channels. A mute stands behind each, and a gain behind that.
+/// The block of the first channel. A mute stands behind the block of each, and a gain behind that.
 pub const FIRST: u32 = 4096;
 
+/// The block of the second.
 pub const SECOND: u32 = 5096;
 
 /// Both channels, as the electronics were last told, and whether an object was set since that was last asked.
@@ -37,8 +38,8 @@ pub fn build(alloc: Global) -> Result<Tree, AddFault> {
     Ok(builder.finish())
 }
 
-/// Adds a channel: its block at this ONo with this role, a mute at the next ONo and a gain from -80 to 10 dB, in tenths, after it.
-/// Refusals: those of `add`, and what was added before stays.
+/// Adds a channel: its block at this ONo with this role, a mute at the next ONo and a gain from -80 to 10 dB, in
+/// tenths, after it. Refusals: those of `add`, and what was added before stays.
 fn add_channel(builder: &mut TreeBuilder, block: u32, role: &str) -> Result<(), AddFault>
     requires { block < 4294967290 }
 {

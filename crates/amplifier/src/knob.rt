@@ -32,7 +32,8 @@ impl Knob {
         }
     }
 
-    /// Turns the knob: the object is set at the device's own front, and the electronics follow. A gain out of range changes nothing.
+    /// Turns the knob: the object is set at the device's own front, and the electronics follow. A gain out of range
+    /// changes nothing.
     pub fn turn(self, device: &mut Device, channels: &mut Channels) {
         if device.set(self.ono, self.value).is_ok() {
             channels.follow(device.tree(), &[self.ono]);

@@ -1,9 +1,9 @@
 //! A two-channel amplifier as an OCA device at a UDP socket: an example of embedding.
 //!
 //! `amplifier [PORT TURNS]` binds 127.0.0.1, says where on standard error, and serves so many turns; a line is printed
-//! whenever a controller or a knob set an object. Where standard input is no terminal, its lines turn knobs: `mute 1`, `open 2`,
-//! `gain 2 -60` in tenths of a decibel. They are read to their end at first, since reading waits, and one is turned before
-//! each turn.
+//! whenever a controller or a knob set an object. Where standard input is no terminal, its lines turn knobs: `mute 1`,
+//! `open 2`, `gain 2 -60` in tenths of a decibel. They are read to their end at first, since reading waits, and one is
+//! turned before each turn.
 #![tactic(auto)]
 
 mod channels;
@@ -13,15 +13,12 @@ use channels::{Channels, build};
 use knob::Knob;
 use oca_device::{Device, Outbox, serve_with};
 use oca_net::UdpEnd;
-use oca_types::Window;
+use oca_types::{LOOPBACK, Window};
 use std::io::IsTerminal;
 use std::net::Net;
 use std::process::ExitCode;
 use std::rt::Runtime;
 use std::{env, io};
-
-/// 127.0.0.1
-const LOOPBACK: u32 = 0x7f00_0001;
 
 /// Serves the channels at the port and for the turns that the words say, and ends with 1 where that fails.
 fn main(rt: HostRuntime) -> ExitCode {
@@ -56,8 +53,8 @@ fn words<R: Runtime + AllocGlobal>(rt: &R) -> (u16, u32) {
     }
 }
 
-/// The knobs that standard input turns, in order, unless it is a terminal; a line that turns none is left out. Nothing where reading
-/// fails or memory is refused.
+/// The knobs that standard input turns, in order, unless it is a terminal; a line that turns none is left out. Nothing
+/// where reading fails or memory is refused.
 fn knobs<R: Runtime + AllocGlobal>(rt: &R, is_terminal: bool) -> Option<Vec<Knob>> {
     let mut knobs = Vec::new(rt.alloc());
     if is_terminal {

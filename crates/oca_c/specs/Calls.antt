@@ -93,7 +93,8 @@ IsSize size = (1 ≤ size) × (size ≤ 64)
 abbrev pub IsSpent : DeviceBehind → Type 0
 IsSpent behind = (behind.builder ≡ None) × (behind.device ≡ None)
 
--- A device is started with the objects; or not, for want of memory, which loses them, or where a size is none, which changes nothing.
+-- A device is started with the objects; or not, for want of memory, which loses them, or where a size is none, which
+-- changes nothing.
 abbrev pub Starts : Answer → DeviceBehind → DeviceBehind → ℕ → ℕ → List Object → Type 0
 Starts answer old new window peers tree =
     ((answer ≡ answers.Done) × IsSize window × IsSize peers × Runs (record { window = window; peers = peers }) new tree [])
@@ -119,7 +120,8 @@ abbrev pub add_answers : {X : Type 0} → Result X AddFault → Answer
 add_answers (Ok _) = answers.Done
 add_answers (Err fault) = add_answer fault
 
--- An addition answered this: bad text, where the role is no UTF-8, which changes nothing; else as the builder's own addition.
+-- An addition answered this: bad text, where the role is no UTF-8, which changes nothing; else as the builder's own
+-- addition.
 abbrev pub AddedBy : Answer → Store → Store → ℕ → ℕ → List ℕ → Bool → Kind → Type 0
 AddedBy answer old new container ono role lockable kind =
     ((IsUtf8 role → ⊥) × (answer ≡ answers.BadText) × (new ≡ old))
@@ -153,8 +155,8 @@ IsSwitch (kinds.Uint16 _ _ _) texts position = ⊥
 IsSwitch (kinds.Uint32 _ _ _) texts position = ⊥
 IsSwitch (kinds.Uint64 _ _ _) texts position = ⊥
 
--- An addition of a switch answered this: bad range, where it has more than 16 names; bad text, where one is no name; neither changes
--- anything; else as the addition of a switch with the texts of these names.
+-- An addition of a switch answered this: bad range, where it has more than 16 names; bad text, where one is no name;
+-- neither changes anything; else as the addition of a switch with the texts of these names.
 abbrev pub SwitchAddedBy : Answer → Store → Store → ℕ → ℕ → List ℕ → Bool → List Name → ℕ → Type 0
 SwitchAddedBy answer old new container ono role lockable names position =
     ((16 < length names) × (answer ≡ answers.BadRange) × (new ≡ old))

@@ -1,11 +1,11 @@
-//! The numbers that calls answer.
+//! The numbers that calls return.
 ghost use Rattle.std.specs.Prelude.{◌≡◌};
 ghost use Rattle.oca_c.specs.Numbers.{add_answer, answer_number, set_answer, submission_answer};
 
 use oca_control::ControlFault;
 use oca_tree::{AddFault, SetFault};
 
-/// What a call answers. The numbers are promised; 1 to 8 are those of `AddFault`.
+/// What a call returns. The numbers are promised; 1 to 8 are those of `AddFault`.
 #[derive(Clone, Copy, Debug, PartialEq, Eq)]
 pub enum Answer {
     Done = 0,

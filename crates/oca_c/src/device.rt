@@ -226,7 +226,8 @@ impl DeviceBehind {
         Answer::Done
     }
 
-    /// Puts the numbers of the objects that the last datagram wrote to at the front of `out`, and tells how many there are.
+    /// Puts the numbers of the objects that the last datagram wrote to at the front of `out`, and tells how many there
+    /// are.
     pub fn written(&self, out: &mut [u32], count: &mut usize) -> Answer
         ensures told { (w : DeviceSizes) (T : List Object) (E : List Event) → Runs w self.now T E →
             TellsWords (written w T E) out.old out.new count.new (answer_number result) }

@@ -115,7 +115,8 @@ pub extern "C" fn oca_device_tick(alloc: Global, handle: &mut DeviceHandle, now:
     answer.number()
 }
 
-/// Tells the earliest moment, not before the device's own, at which a clock reading changes the objects or the sessions.
+/// Tells the earliest moment, not before the device's own, at which a clock reading changes the objects or the
+/// sessions.
 #[unsafe(no_mangle)]
 pub extern "C" fn oca_device_next_lapse(
     alloc: Global,
@@ -180,8 +181,8 @@ pub extern "C" fn oca_device_packet(
     answer.number()
 }
 
-/// Puts the numbers of the objects that the last datagram wrote to into a list, as many as there is room for, and tells how many
-/// there are.
+/// Puts the numbers of the objects that the last datagram wrote to into a list, as many as there is room for, and tells
+/// how many there are.
 #[unsafe(no_mangle)]
 pub extern "C" fn oca_device_written(
     alloc: Global,

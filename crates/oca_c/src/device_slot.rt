@@ -8,6 +8,7 @@ use crate::parts::Parts;
 use std::alloc::Global;
 use std::marker::Model;
 
+/// The owner of what is behind a handle, or nothing.
 #[repr(C)]
 #[derive(Drop)]
 pub struct DeviceSlot {
@@ -21,6 +22,7 @@ impl Model for DeviceSlot {
 }
 
 impl DeviceSlot {
+    /// A slot that owns nothing.
     pub(crate) fn empty(alloc: Global) -> DeviceSlot
         ensures { result.inner ≡ None }
     {
@@ -30,6 +32,7 @@ impl DeviceSlot {
         }
     }
 
+    /// A slot that owns what a box did.
     pub(crate) fn of_parts(parts: Parts<DeviceBehind, Global>) -> DeviceSlot
         ensures { result.inner ≡ Some parts.value }
     {
@@ -40,6 +43,7 @@ impl DeviceSlot {
         }
     }
 
+    /// The box that the slot owns, by its parts.
     pub(crate) fn into_parts(self) -> Parts<DeviceBehind, Global>
         requires { is_some self.inner ≡ true }
         ensures { self.inner ≡ Some result.value }

@@ -1,7 +1,7 @@
 //! Both ends for C: `liboca_c.a`, with `include/oca.h`, which says what a caller promises.
 //!
-//! C gives the storage of a handle (16 bytes, zeroed at first) and one handle to a call. Everything behind it is taken by the
-//! calls that open and start; no other call takes memory. A call answers a number of [`answer::Answer`].
+//! C gives the storage of a handle (16 bytes, zeroed at first) and one handle to a call. Everything behind it is taken
+//! by the calls that open and start; no other call takes memory. A call returns a number of [`answer::Answer`].
 #![tactic(auto)]
 
 mod adding_calls;

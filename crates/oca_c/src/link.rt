@@ -2,6 +2,7 @@
 ghost use Rattle.std.specs.Prelude.{◌≡◌, ◌≤◌, ◌<◌, List, Option, length};
 ghost use Rattle.std.specs.Option.{option_map};
 ghost use Rattle.oca_types.specs.Peers.{RequestFields};
+ghost use Rattle.oca_types.specs.Sizes.{largest_datagram, most_parameter_bytes};
 ghost use Rattle.oca_pdu.specs.Messages.{Msg};
 ghost use Rattle.oca_control.specs.Answers.{answer_fields};
 ghost use Rattle.oca_control.specs.Contents.{IsContent};
@@ -53,11 +54,11 @@ impl LinkBehind {
         kind: &mut u32,
         handle: &mut u32,
     ) -> u32
-        ensures small { length out.old < 1472 → (result ≡ 14) × (self.new ≡ self.old) }
-        ensures link { 1472 ≤ length out.old → (result ≡ 0) × (self.new.link ≡ gone_on now self.old.link) }
-        ensures told { 1472 ≤ length out.old → (kind.new ≡ due_kind (due_answer (decision now self.old.link)))
+        ensures small { length out.old < largest_datagram → (result ≡ 14) × (self.new ≡ self.old) }
+        ensures link { largest_datagram ≤ length out.old → (result ≡ 0) × (self.new.link ≡ gone_on now self.old.link) }
+        ensures told { largest_datagram ≤ length out.old → (kind.new ≡ due_kind (due_answer (decision now self.old.link)))
             × (handle.new ≡ due_handle (due_answer (decision now self.old.link))) }
-        ensures bytes { 1472 ≤ length out.old → LiesIn (due_bytes (decision now self.old.link)) out.new len.new }
+        ensures bytes { largest_datagram ≤ length out.old → LiesIn (due_bytes (decision now self.old.link)) out.new len.new }
     {
         if out.len() < MOST_BYTES {
             return Answer::TooSmall.number();
@@ -97,9 +98,9 @@ impl LinkBehind {
         out: &mut [u8],
         len: &mut usize,
     ) -> u32
-        ensures small { length out.old < 1452 → (result ≡ 14) × (self.new ≡ self.old) }
-        ensures link { 1452 ≤ length out.old → self.new.link ≡ taken handle self.old.link }
-        ensures told { 1452 ≤ length out.old → TellsAnswer result status.new count.new out.new len.new (answer_under handle self.old.link.untaken) }
+        ensures small { length out.old < most_parameter_bytes → (result ≡ 14) × (self.new ≡ self.old) }
+        ensures link { most_parameter_bytes ≤ length out.old → self.new.link ≡ taken handle self.old.link }
+        ensures told { most_parameter_bytes ≤ length out.old → TellsAnswer result status.new count.new out.new len.new (answer_under handle self.old.link.untaken) }
     {
         if out.len() < MOST_PARAMETER_BYTES {
             return Answer::TooSmall.number();
@@ -150,7 +151,7 @@ impl LinkBehind {
     }
 }
 
-/// Copies bytes to the front of a place that has room for them, and answers how many.
+/// Copies bytes to the front of a place that has room for them, and returns how many.
 fn put_front(bytes: &[u8], place: &mut [u8]) -> usize
     requires { length bytes.now ≤ length place.old }
     ensures { LiesIn bytes.now place.new result }

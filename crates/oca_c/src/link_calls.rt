@@ -1,6 +1,7 @@
 //! What C calls of a link.
 ghost use Rattle.std.specs.Prelude.{◌≡◌, ◌≤◌, ◌<◌, List, Option, None, IfSome, IsSome, length};
 ghost use Rattle.oca_types.specs.Peers.{RequestFields};
+ghost use Rattle.oca_types.specs.Sizes.{largest_datagram, most_parameter_bytes};
 ghost use Rattle.oca_pdu.specs.Messages.{Msg};
 ghost use Rattle.oca_control.specs.Contents.{IsContent};
 ghost use Rattle.oca_control.specs.Links.{decision, due_answer, due_bytes, gone_on, new_link, received, reception, submission, submitted, taken};
@@ -92,8 +93,8 @@ pub extern "C" fn oca_link_due(
     command: &mut u32,
 ) -> u32
     ensures closed { RefusesClosed handle.old.slot.inner handle.new.slot.inner result }
-    ensures small { IfSome handle.old.slot.inner (λ b. length out.old < 1472 → HoldsLink handle.new.slot.inner b.link × (result ≡ 14)) }
-    ensures gives { IfSome handle.old.slot.inner (λ b. 1472 ≤ length out.old → HoldsLink handle.new.slot.inner (gone_on now b.link) × (result ≡ 0)
+    ensures small { IfSome handle.old.slot.inner (λ b. length out.old < largest_datagram → HoldsLink handle.new.slot.inner b.link × (result ≡ 14)) }
+    ensures gives { IfSome handle.old.slot.inner (λ b. largest_datagram ≤ length out.old → HoldsLink handle.new.slot.inner (gone_on now b.link) × (result ≡ 0)
         × (kind.new ≡ due_kind (due_answer (decision now b.link))) × (command.new ≡ due_handle (due_answer (decision now b.link)))
         × LiesIn (due_bytes (decision now b.link)) out.new len.new) }
 {
@@ -143,8 +144,8 @@ pub extern "C" fn oca_link_take(
     len: &mut usize,
 ) -> u32
     ensures closed { RefusesClosed handle.old.slot.inner handle.new.slot.inner result }
-    ensures small { IfSome handle.old.slot.inner (λ b. length out.old < 1452 → HoldsLink handle.new.slot.inner b.link × (result ≡ 14)) }
-    ensures takes { IfSome handle.old.slot.inner (λ b. 1452 ≤ length out.old → HoldsLink handle.new.slot.inner (taken command b.link)
+    ensures small { IfSome handle.old.slot.inner (λ b. length out.old < most_parameter_bytes → HoldsLink handle.new.slot.inner b.link × (result ≡ 14)) }
+    ensures takes { IfSome handle.old.slot.inner (λ b. most_parameter_bytes ≤ length out.old → HoldsLink handle.new.slot.inner (taken command b.link)
         × TellsAnswer result status.new count.new out.new len.new (answer_under command b.link.untaken)) }
 {
     let Some(mut behind) = handle.take(alloc) else {

@@ -8,6 +8,7 @@ use crate::parts::Parts;
 use std::alloc::Global;
 use std::marker::Model;
 
+/// The owner of what is behind a handle, or nothing.
 #[repr(C)]
 #[derive(Drop)]
 pub struct LinkSlot {
@@ -21,6 +22,7 @@ impl Model for LinkSlot {
 }
 
 impl LinkSlot {
+    /// A slot that owns nothing.
     pub(crate) fn empty(alloc: Global) -> LinkSlot
         ensures { result.inner ≡ None }
     {
@@ -30,6 +32,7 @@ impl LinkSlot {
         }
     }
 
+    /// A slot that owns what a box did.
     pub(crate) fn of_parts(parts: Parts<LinkBehind, Global>) -> LinkSlot
         ensures { result.inner ≡ Some parts.value }
     {
@@ -40,6 +43,7 @@ impl LinkSlot {
         }
     }
 
+    /// The box that the slot owns, by its parts.
     pub(crate) fn into_parts(self) -> Parts<LinkBehind, Global>
         requires { is_some self.inner ≡ true }
         ensures { self.inner ≡ Some result.value }

@@ -13,8 +13,8 @@ pub const VERDICT_WORDS: usize = 7;
 /// How many words tell of an object.
 pub const OBJECT_WORDS: usize = 4;
 
-/// What is told of a verdict: 0, how many commands were executed, kept, old and reused; 1, 0, 0, 0, 0, the number of the fault and
-/// where it lies; or 2 for no room.
+/// What is told of a verdict: 0, how many commands were executed, kept, old and reused; 1, 0, 0, 0, 0, the number of
+/// the fault and where it lies; or 2 for no room.
 pub fn words_of(verdict: Verdict) -> [u32; VERDICT_WORDS]
     ensures { result ≡ verdict_words verdict }
 {

@@ -14,7 +14,7 @@ use Rattle.oca_control.specs.Answers.{AnswerFields}
 use Rattle.oca_control.specs.Untaken.{answer_under}
 use Rattle.oca_control.specs.Links.{LinkState}
 use Rattle.oca_control.specs.Histories.{Call, Submits, GivesOut, Receives, TakesAnswer, IsHistory, clock, commands, Sending, sendings, answers_in, answers_of, answers_to, first_of, is_untaken, is_answered, has_rested, is_due_at, says_lost, is_lost, IsDueAnswer, GivesWhatIsDue}
-use Rattle.oca_control.specs.Answering.{has_response, TakesNothingOf, IsDueAt, is_given_in, is_among}
+use Rattle.oca_control.specs.Answering.{has_response, TakesNothingOf, CallsDueAt, is_given_in, is_among}
 use Rattle.oca_control.proofs.Following.{equal_is, both_true, each_map}
 use Rattle.oca_control.proofs.Calls.{answer_is}
 use Rattle.oca_control.proofs.Dues.{each_held}
@@ -209,7 +209,7 @@ module _ (device : Peer) (opened now t h most : ℕ) (calls : List Call) (made :
   one_call dues.Lost bytes q s = inl refl
 
 -- the clock at the moment of the calls
-clock_stays : (opened now : ℕ) (before calls : List Call) → AllByRecursion (IsDueAt now) calls → max (clock opened (calls ++ before)) now ≡ max (clock opened before) now
+clock_stays : (opened now : ℕ) (before calls : List Call) → AllByRecursion (CallsDueAt now) calls → max (clock opened (calls ++ before)) now ≡ max (clock opened before) now
 clock_stays opened now before [] e = refl
 clock_stays opened now before (GivesOut n a bytes ∷ calls) e = same (clock opened (calls ++ before)) n e.0 ∙ clock_stays opened now before calls e.1
   where
@@ -219,7 +219,7 @@ clock_stays opened now before (Submits r n a ∷ calls) e = absurd e.0
 clock_stays opened now before (Receives from bytes content n a ∷ calls) e = absurd e.0
 clock_stays opened now before (TakesAnswer x a ∷ calls) e = absurd e.0
 
-goes_on_until : (device : Peer) (opened now h : ℕ) (before calls : List Call) (due : List ℕ) → GivesWhatIsDue device opened (calls ++ before) → AllByRecursion (IsDueAt now) calls →
+goes_on_until : (device : Peer) (opened now h : ℕ) (before calls : List Call) (due : List ℕ) → GivesWhatIsDue device opened (calls ++ before) → AllByRecursion (CallsDueAt now) calls →
     is_due_at device opened (max (clock opened before) now) h before ≡ true → ((x : ℕ) → is_due_at device opened (max (clock opened before) now) x before ≡ true → is_among x due ≡ true) →
     (is_lost (calls ++ before) ≡ true) ⊎ ((list_any (is_given_in h) calls ≡ true) ⊎ StillDue device opened (max (clock opened before) now) h (length due) (calls ++ before) (length calls))
 goes_on_until device opened now h before [] due g e d covers = inr (inr (record { left = due; covers = covers; due = d; count = at_first (length due) }))
@@ -251,7 +251,7 @@ goes_on_until device opened now h before (Receives from bytes content n a ∷ ca
 goes_on_until device opened now h before (TakesAnswer x a ∷ calls) due g e d covers = absurd e.0
 
 pub given_out : (device : Peer) (first opened span : ℕ) (before calls : List Call) (after : LinkState) (now h : ℕ) (due : List ℕ) → 0 < span → IsHistory device first opened span (calls ++ before) after →
-    AllByRecursion (IsDueAt now) calls → is_due_at device opened (max (clock opened before) now) h before ≡ true →
+    AllByRecursion (CallsDueAt now) calls → is_due_at device opened (max (clock opened before) now) h before ≡ true →
     ((x : ℕ) → is_due_at device opened (max (clock opened before) now) x before ≡ true → is_among x due ≡ true) → length due ≤ length calls →
     (is_lost (calls ++ before) ≡ true) ⊎ (list_any (is_given_in h) calls ≡ true)
 given_out device first opened span before calls after now h due some p e d covers enough =

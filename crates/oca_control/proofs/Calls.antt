@@ -300,15 +300,15 @@ passes device first s t now sent' lost' accepted sent came open_at l g = record 
 
 -- ---- a datagram is received
 
-pub kept_answered : (h : ℕ) (a : AnswerFields) (P : CommandFields → ℕ → ℕ → Type 0) (us : List Untaken) → AllByRecursion (λ u. P u.command u.times u.last) us →
+pub held_answered : (h : ℕ) (a : AnswerFields) (P : CommandFields → ℕ → ℕ → Type 0) (us : List Untaken) → AllByRecursion (λ u. P u.command u.times u.last) us →
     AllByRecursion (λ u. P u.command u.times u.last) (map (answered h a) us)
-kept_answered h a P [] p = tt
-kept_answered h a P (u ∷ us) p = (p.0, kept_answered h a P us p.1)
+held_answered h a P [] p = tt
+held_answered h a P (u ∷ us) p = (p.0, held_answered h a P us p.1)
 
 kept_heard : (ms : List Msg) (P : CommandFields → ℕ → ℕ → Type 0) (us : List Untaken) → AllByRecursion (λ u. P u.command u.times u.last) us →
     AllByRecursion (λ u. P u.command u.times u.last) (hears_all ms us)
 kept_heard [] P us p = p
-kept_heard (Response r ∷ ms) P us p = kept_heard ms P (map (answered r.handle (answer_in r)) us) (kept_answered r.handle (answer_in r) P us p)
+kept_heard (Response r ∷ ms) P us p = kept_heard ms P (map (answered r.handle (answer_in r)) us) (held_answered r.handle (answer_in r) P us p)
 kept_heard (KeepAlive form ∷ ms) P us p = kept_heard ms P us p
 kept_heard (Command respond c ∷ ms) P us p = kept_heard ms P us p
 

@@ -1,46 +1,27 @@
 -- From which moment on something is due, and which answer is there first.
 use Rattle.std.proofs.Common.{◌≡◌, ℕ, ◌+◌, ◌-◌, ◌^◌, ◌<◌, ◌≤◌, Bool, true, false, cond, ◌||◌, min, max, List, [], ◌∷◌, ◌++◌, Option, Some, None, refl, sym, ap, ◌∙◌, subst, arith, append-nil}
 use Rattle.std.specs.Prelude.{nat_lt, nat_le, is_some}
-use Rattle.std.proofs.lemmas.Bool.Decides.{nat_tests}
+use Rattle.std.proofs.lemmas.Bool.{le-leb, lt-leb}
+use Rattle.oca_types.specs.Moments.{HoldsFrom}
+use Rattle.oca_types.proofs.MomentTests.{same_test}
 use Rattle.oca_control.specs.Untaken.{Untaken, is_due, first_due, first_answered}
 use Rattle.oca_control.specs.Links.{LinkState, command_under, GivesCommand, GivesKeepAlive, GivesNothing, IsLost, decision_among, decision, IsNextDue, NeverIsDue}
-use Rattle.oca_control.specs.PrivateSlots.{Kept, kept_at, kept_is_due, kept_answer, untaken_at, untaken_from, some_due, HoldsFrom, sooner}
+use Rattle.oca_control.specs.PrivateSlots.{Held, held_at, held_is_due, held_answer, untaken_at, untaken_from, some_due}
 use Rattle.oca_control.proofs.Places.{split, step, done}
-
--- ---- tests of moments
-
-same_test : (f g : ℕ → Bool) (o : Option ℕ) → ((s : ℕ) → g s ≡ f s) → HoldsFrom f o → HoldsFrom g o
-same_test f g None same p = λ s below. same s ∙ p s below
-same_test f g (Some m) same p = λ s below. same s ∙ p s below
-
-sooner_holds : (f g : ℕ → Bool) (a b : Option ℕ) → HoldsFrom f a → HoldsFrom g b → HoldsFrom (λ s. f s || g s) (sooner a b)
-sooner_holds f g None None p q = λ s below. ap (λ x. x || g s) (p s below) ∙ q s below
-sooner_holds f g None (Some n) p q = λ s below. ap (λ x. x || g s) (p s below) ∙ q s below
-sooner_holds f g (Some m) None p q = λ s below. ap (λ x. x || g s) (p s below) ∙ ap (λ x. nat_le m s || x) (q s below) ∙ or_false (nat_le m s)
-  where
-    or_false : (b : Bool) → (b || false) ≡ b
-    or_false true = refl
-    or_false false = refl
-sooner_holds f g (Some m) (Some n) p q = λ s below. ap (λ x. x || g s) (p s below) ∙ ap (λ x. nat_le m s || x) (q s below) ∙ least s (nat_le m s) (nat_le n s) refl refl
-  where
-    least : (s : ℕ) (a b : Bool) → nat_le m s ≡ a → nat_le n s ≡ b → (a || b) ≡ nat_le (min m n) s
-    least s true b p q = grind (arith, nat_tests)
-    least s false true p q = grind (arith, nat_tests)
-    least s false false p q = grind (arith, nat_tests)
 
 -- ---- a walk through the handles
 
 -- one handle more was gone through
-grown : (lo h : ℕ) (slots : List (Option Kept)) → lo ≤ h → untaken_from lo (h + 1 - lo) slots ≡ untaken_from lo (h - lo) slots ++ untaken_at h (kept_at h slots)
+grown : (lo h : ℕ) (slots : List (Option Held)) → lo ≤ h → untaken_from lo (h + 1 - lo) slots ≡ untaken_from lo (h - lo) slots ++ untaken_at h (held_at h slots)
 unfolding untaken_from
 grown lo h slots above = by (h - lo) (omega arith) (omega arith)
   where
-    by : (m : ℕ) → lo + m ≡ h → h + 1 - lo ≡ m + 1 → untaken_from lo (h + 1 - lo) slots ≡ untaken_from lo m slots ++ untaken_at h (kept_at h slots)
+    by : (m : ℕ) → lo + m ≡ h → h + 1 - lo ≡ m + 1 → untaken_from lo (h + 1 - lo) slots ≡ untaken_from lo m slots ++ untaken_at h (held_at h slots)
     by m e f =
         ap (λ n. untaken_from lo n slots) f
         ∙ split lo m 1 slots
-        ∙ ap (λ us. untaken_from lo m slots ++ us) (append-nil (untaken_at (lo + m) (kept_at (lo + m) slots)))
-        ∙ ap (λ k. untaken_from lo m slots ++ untaken_at k (kept_at k slots)) e
+        ∙ ap (λ us. untaken_from lo m slots ++ us) (append-nil (untaken_at (lo + m) (held_at (lo + m) slots)))
+        ∙ ap (λ k. untaken_from lo m slots ++ untaken_at k (held_at k slots)) e
 
 due_more : (s : ℕ) (us vs : List Untaken) → some_due (us ++ vs) s ≡ (some_due us s || some_due vs s)
 due_more s [] vs = refl
@@ -51,44 +32,43 @@ due_more s (u ∷ us) vs = by_test (is_due s u) (due_more s us vs)
     by_test true rest = refl
     by_test false rest = rest
 
-one_due : (h s : ℕ) (o : Option Kept) → some_due (untaken_at h o) s ≡ kept_is_due s o
+one_due : (h s : ℕ) (o : Option Held) → some_due (untaken_at h o) s ≡ held_is_due s o
 one_due h s None = refl
 one_due h s (Some k) =
-    by_test (kept_is_due s (Some k)) (record { command = command_under h k.request; times = k.times; last = k.last; answer = k.answer })
+    by_test (held_is_due s (Some k)) (record { command = command_under h k.request; times = k.times; last = k.last; answer = k.answer })
   where
     by_test : (b : Bool) (u : Untaken) → is_some (cond b (Some u) None) ≡ b
     by_test true u = refl
     by_test false u = refl
 
-pub none_from : (lo : ℕ) (slots : List (Option Kept)) → HoldsFrom (some_due (untaken_from lo (lo - lo) slots)) None
+pub none_from : (lo : ℕ) (slots : List (Option Held)) → HoldsFrom (some_due (untaken_from lo (lo - lo) slots)) None
 none_from lo slots = λ s below. ap (λ us. some_due us s) (done lo lo slots (omega arith))
 
-pub from_more : (lo h : ℕ) (slots : List (Option Kept)) (k : Option Kept) (a b : Option ℕ) → lo ≤ h → kept_at h slots ≡ k →
-    HoldsFrom (some_due (untaken_from lo (h - lo) slots)) a → HoldsFrom (λ s. kept_is_due s k) b → HoldsFrom (some_due (untaken_from lo (h + 1 - lo) slots)) (sooner a b)
-from_more lo h slots k a b above read p q =
-    same_test (λ s. some_due (untaken_from lo (h - lo) slots) s || kept_is_due s k) (some_due (untaken_from lo (h + 1 - lo) slots)) (sooner a b)
+pub from_more : (lo h : ℕ) (slots : List (Option Held)) (k : Option Held) (o : Option ℕ) → lo ≤ h → held_at h slots ≡ k →
+    HoldsFrom (λ s. some_due (untaken_from lo (h - lo) slots) s || held_is_due s k) o → HoldsFrom (some_due (untaken_from lo (h + 1 - lo) slots)) o
+from_more lo h slots k o above read =
+    same_test (λ s. some_due (untaken_from lo (h - lo) slots) s || held_is_due s k) (some_due (untaken_from lo (h + 1 - lo) slots)) o
     (λ s. ap (λ us. some_due us s) (grown lo h slots above)
-    ∙ due_more s (untaken_from lo (h - lo) slots) (untaken_at h (kept_at h slots))
-    ∙ ap (λ x. some_due (untaken_from lo (h - lo) slots) s || x) (one_due h s (kept_at h slots) ∙ ap (kept_is_due s) read))
-    (sooner_holds (some_due (untaken_from lo (h - lo) slots)) (λ s. kept_is_due s k) a b p q)
+    ∙ due_more s (untaken_from lo (h - lo) slots) (untaken_at h (held_at h slots))
+    ∙ ap (λ x. some_due (untaken_from lo (h - lo) slots) s || x) (one_due h s (held_at h slots) ∙ ap (held_is_due s) read))
 
-pub not_answered : (lo hi : ℕ) (slots : List (Option Kept)) → lo < hi → is_some (kept_answer (kept_at lo slots)) ≡ false →
+pub not_answered : (lo hi : ℕ) (slots : List (Option Held)) → lo < hi → is_some (held_answer (held_at lo slots)) ≡ false →
     first_answered (untaken_from lo (hi - lo) slots) ≡ first_answered (untaken_from (lo + 1) (hi - (lo + 1)) slots)
-not_answered lo hi slots below not_so = ap first_answered (step lo hi slots below) ∙ by (kept_at lo slots) not_so
+not_answered lo hi slots below not_so = ap first_answered (step lo hi slots below) ∙ by (held_at lo slots) not_so
   where
-    by : (o : Option Kept) → is_some (kept_answer o) ≡ false → first_answered (untaken_at lo o ++ untaken_from (lo + 1) (hi - (lo + 1)) slots) ≡ first_answered (untaken_from (lo + 1) (hi - (lo + 1)) slots)
+    by : (o : Option Held) → is_some (held_answer o) ≡ false → first_answered (untaken_at lo o ++ untaken_from (lo + 1) (hi - (lo + 1)) slots) ≡ first_answered (untaken_from (lo + 1) (hi - (lo + 1)) slots)
     by None not_so = refl
     by (Some k) not_so = ap (λ b. cond b (Some lo) (first_answered (untaken_from (lo + 1) (hi - (lo + 1)) slots))) not_so
 
-pub answered_here : (lo hi : ℕ) (slots : List (Option Kept)) → lo < hi → is_some (kept_answer (kept_at lo slots)) ≡ true →
+pub answered_here : (lo hi : ℕ) (slots : List (Option Held)) → lo < hi → is_some (held_answer (held_at lo slots)) ≡ true →
     first_answered (untaken_from lo (hi - lo) slots) ≡ Some lo
-answered_here lo hi slots below so = ap first_answered (step lo hi slots below) ∙ by (kept_at lo slots) so
+answered_here lo hi slots below so = ap first_answered (step lo hi slots below) ∙ by (held_at lo slots) so
   where
-    by : (o : Option Kept) → is_some (kept_answer o) ≡ true → first_answered (untaken_at lo o ++ untaken_from (lo + 1) (hi - (lo + 1)) slots) ≡ Some lo
+    by : (o : Option Held) → is_some (held_answer o) ≡ true → first_answered (untaken_at lo o ++ untaken_from (lo + 1) (hi - (lo + 1)) slots) ≡ Some lo
     by None so = cc
     by (Some k) so = ap (λ b. cond b (Some lo) (first_answered (untaken_from (lo + 1) (hi - (lo + 1)) slots))) so
 
-pub none_answered : (lo hi : ℕ) (slots : List (Option Kept)) → hi ≤ lo → first_answered (untaken_from lo (hi - lo) slots) ≡ None
+pub none_answered : (lo hi : ℕ) (slots : List (Option Held)) → hi ≤ lo → first_answered (untaken_from lo (hi - lo) slots) ≡ None
 none_answered lo hi slots p = ap first_answered (done lo hi slots p)
 
 -- ---- what is decided at a moment
@@ -124,32 +104,20 @@ module _ (l : LinkState) (going : l.lost ≡ false) where
       by None p e = by_silence (nat_le 2500 (s - l.sent)) p e
       by (Some u) p e = by_times (nat_lt u.times 20) u e
 
-  tests : (a b o : Option ℕ) → HoldsFrom (some_due l.untaken) a → HoldsFrom (λ s. nat_le 2500 (s - l.sent)) b → o ≡ sooner a b →
-      HoldsFrom (λ s. some_due l.untaken s || nat_le 2500 (s - l.sent)) o
-  tests a b o p q e =
-      subst (HoldsFrom (λ s. some_due l.untaken s || nat_le 2500 (s - l.sent))) (sym e) (sooner_holds (some_due l.untaken) (λ s. nat_le 2500 (s - l.sent)) a b p q)
-
-  pub next_some : (a b o : Option ℕ) (first t : ℕ) → HoldsFrom (some_due l.untaken) a → HoldsFrom (λ s. nat_le 2500 (s - l.sent)) b → o ≡ sooner a b → o ≡ Some first →
-      t ≡ max first l.moment → t < 2 ^ 64 → IsNextDue l t
-  next_some a b o first t p q e is latest fits = record {
+  pub next_some : (o : Option ℕ) (first t : ℕ) → HoldsFrom (λ s. some_due l.untaken s || nat_le 2500 (s - l.sent)) o → o ≡ Some first → t ≡ max first l.moment → t < 2 ^ 64 → IsNextDue l t
+  next_some o first t p is latest fits = record {
     own = omega arith;
-    due = loud t (omega arith) (at t fits ∙ reached first t (omega arith));
-    earlier = λ s own below. quiet s own (at s (omega arith) ∙ unreached first s (omega arith));
+    due = loud t (omega arith) (at t fits ∙ le-leb first t (omega arith));
+    earlier = λ s own below. quiet s own (at s (omega arith) ∙ lt-leb first s (omega arith));
   }
     where
       at : (s : ℕ) → s < 2 ^ 64 → (some_due l.untaken s || nat_le 2500 (s - l.sent)) ≡ nat_le first s
-      at = tests a b (Some first) p q (sym is ∙ e)
+      at = subst (HoldsFrom (λ s. some_due l.untaken s || nat_le 2500 (s - l.sent))) is p
 
-      reached : (m s : ℕ) → m ≤ s → nat_le m s ≡ true
-      reached m s p = grind (arith, nat_tests)
+  pub next_none : (o : Option ℕ) → HoldsFrom (λ s. some_due l.untaken s || nat_le 2500 (s - l.sent)) o → o ≡ None → NeverIsDue l
+  next_none o p is = record { never = λ s own fits. quiet s own (subst (HoldsFrom (λ s. some_due l.untaken s || nat_le 2500 (s - l.sent))) is p s fits) }
 
-      unreached : (m s : ℕ) → s < m → nat_le m s ≡ false
-      unreached m s p = grind (arith, nat_tests)
-
-  pub next_none : (a b o : Option ℕ) → HoldsFrom (some_due l.untaken) a → HoldsFrom (λ s. nat_le 2500 (s - l.sent)) b → o ≡ sooner a b → o ≡ None → NeverIsDue l
-  next_none a b o p q e is = record { never = λ s own fits. quiet s own (tests a b None p q (sym is ∙ e) s fits) }
-
--- a lost link is due at once, since `due` answers so
+-- a lost link is due at once, since `due` returns that
 pub next_lost : (l : LinkState) → l.lost ≡ true → IsNextDue l l.moment
 next_lost l lost = record {
   own = omega arith;

@@ -11,7 +11,7 @@ use Rattle.oca_control.specs.Untaken.{Untaken, is_due, first_due, given_out, ans
 use Rattle.oca_control.specs.Links.{LinkState, hears_content}
 use Rattle.oca_control.specs.Histories.{Sending, first_of, has_rested}
 use Rattle.oca_control.proofs.Following.{equal_is, equal_self, each_map, each_both, each_append, IsLast, IsSent, AreSent, AreAnswered}
-use Rattle.oca_control.proofs.Calls.{kept_answered, each_without}
+use Rattle.oca_control.proofs.Calls.{held_answered, each_without}
 
 abbrev pub Rises : List Untaken → Type 0
 Rises [] = Unit {0}
@@ -36,7 +36,7 @@ rises_given_out t h (u ∷ us) r = (kept_given_out t h u.command.handle us r.0, 
 
 pub rises_answered : (h : ℕ) (a : AnswerFields) (us : List Untaken) → Rises us → Rises (map (answered h a) us)
 rises_answered h a [] r = tt
-rises_answered h a (u ∷ us) r = (kept_answered h a (λ c times last. u.command.handle < c.handle) us r.0, rises_answered h a us r.1)
+rises_answered h a (u ∷ us) r = (held_answered h a (λ c times last. u.command.handle < c.handle) us r.0, rises_answered h a us r.1)
 
 rises_heard : (ms : List Msg) (us : List Untaken) → Rises us → Rises (hears_all ms us)
 rises_heard [] us r = r

@@ -1,7 +1,7 @@
 -- Taking messages in, and what a link answers.
 use Rattle.std.proofs.Common.{◌≡◌, ℕ, ◌+◌, ◌<◌, ◌≤◌, Bool, true, false, List, [], ◌∷◌, length, refl, sym, ap, ◌∙◌, arith, subst}
 use Rattle.std.specs.Prelude.{nat_lt, ◌&&◌}
-use Rattle.std.proofs.lemmas.Bool.Decides.{nat_tests}
+use Rattle.std.proofs.lemmas.Bool.{lt-ltb, ltb-true}
 use Rattle.oca_pdu.specs.Messages.{Msg}
 use Rattle.oca_control.specs.Untaken.{Untaken, has_room, hears, hears_all, answers_by, answers_by_all}
 use Rattle.oca_control.specs.PrivateSlots.{AreShort, IsShort}
@@ -39,13 +39,7 @@ room_in_all s h [] small room = refl
 room_in_all s h (u ∷ us) small room = by (nat_lt h (u.command.handle + s)) refl room (room_in_all s h us small)
   where
     wider : (a : ℕ) → nat_lt h (a + s) ≡ true → nat_lt h (a + 32) ≡ true
-    wider a p = upper h (a + 32) (let q : h < a + s = lower h (a + s) p in omega arith)
-      where
-        lower : (a b : ℕ) → nat_lt a b ≡ true → a < b
-        lower a b p = grind (arith, nat_tests)
-
-        upper : (a b : ℕ) → a < b → nat_lt a b ≡ true
-        upper a b p = grind (arith, nat_tests)
+    wider a p = lt-ltb h (a + 32) (let q : h < a + s = ltb-true h (a + s) p in omega arith)
 
     by : (b : Bool) → nat_lt h (u.command.handle + s) ≡ b → (b && has_room s h us) ≡ true → (has_room s h us ≡ true → has_room 32 h us ≡ true) →
         (nat_lt h (u.command.handle + 32) && has_room 32 h us) ≡ true

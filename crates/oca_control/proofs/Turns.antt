@@ -1,7 +1,8 @@
 -- What the parts of a turn, and the turns, add up to.
 use Rattle.std.proofs.Common.{◌≡◌, ℕ, suc, ◌+◌, ◌-◌, ◌<◌, ◌≤◌, Bool, true, false, cond, List, [], ◌∷◌, ◌++◌, length, refl, sym, ap, ◌∙◌, subst, arith, length-append}
 use Rattle.std.specs.Prelude.{IsTrue, ◌&&◌, not, nat_lt, count_by}
-use Rattle.std.proofs.lemmas.Bool.Decides.{nat_tests}
+use Rattle.std.proofs.Math.Bool.{and-false}
+use Rattle.std.proofs.lemmas.Bool.{lt-ltb, le-ltb}
 use Rattle.std.specs.List.{list_any}
 use Rattle.std.proofs.lemmas.List.{append_assoc, append-nil}
 use Rattle.std.proofs.lemmas.Grind.{flat_map-append}
@@ -11,7 +12,7 @@ use Rattle.oca_types.specs.declared.words.Peer.{Peer}
 use Rattle.oca_net.specs.declared.end.Heard.{Heard}
 use Rattle.oca_net.specs.declared.end.Heard.TheVariants as heard
 use Rattle.oca_net.specs.Deliveries.{Delivery, Datagram, Quiet, Failed, Sent}
-use Rattle.oca_net.specs.Ends.{is_failed, last_u64, one_more}
+use Rattle.oca_net.specs.Ends.{is_failed}
 use Rattle.oca_net.specs.EndStates.{EndState, Receives, SendsAllBut, Runs}
 use Rattle.oca_net.proofs.Sending.{sends_none, sends_more}
 use Rattle.oca_net.proofs.Hearing.{oversize_heard}
@@ -250,11 +251,6 @@ wider m n r x le = record {
   failed_sends = omega (arith, x.failed_sends);
 }
 
--- ---- numbers of one turn and of those before
-
-pub receives_more : (r0 r1 r2 n n' : ℕ) → (r1 < last_u64 → r1 ≡ r0 + n) → r2 ≡ one_more r1 → n' ≡ n + 1 → r2 < last_u64 → r2 ≡ r0 + n'
-receives_more r0 r1 r2 n n' before here next below = let h : r1 < last_u64 = omega arith in let i = before h in omega arith
-
 -- ---- one turn
 
 datagram_reported : (from : Peer) (bytes : List ℕ) (now : ℕ) (ds : List Decision) (n : ℕ) (given : DriveReport) → given ≡ given_report ds given.failed_sends →
@@ -336,27 +332,14 @@ failed_turn {e} {f} given l h none =
     (record { between = l; hears = (refl, refl); gives = (refl, refl) }) (failed_reported given none) refl
 
 -- how often was received
-and_false : (b : Bool) → (b && false) ≡ false
-and_false true = refl
-and_false false = refl
+none_more : (n : ℕ) → n + 0 ≡ n
+none_more n = omega arith
 
 pub receives_lost : (r : DriveReport) (turns : ℕ) → r.lost ≡ true → receives_of r turns ≡ r.turns
-receives_lost r turns lost = ap (λ b. r.turns + cond (nat_lt r.turns turns && not b) 1 0) lost ∙ ap (λ b. r.turns + cond b 1 0) (and_false (nat_lt r.turns turns)) ∙ none_more r.turns
-  where
-    none_more : (n : ℕ) → n + 0 ≡ n
-    none_more n = omega arith
+receives_lost r turns lost = ap (λ b. r.turns + cond (nat_lt r.turns turns && not b) 1 0) lost ∙ ap (λ b. r.turns + cond b 1 0) (and-false (nat_lt r.turns turns)) ∙ none_more r.turns
 
 pub receives_closed : (r : DriveReport) (turns : ℕ) → r.lost ≡ false → r.turns < turns → receives_of r turns ≡ r.turns + 1
-receives_closed r turns going below = ap (λ b. r.turns + cond (b && not r.lost) 1 0) (lower r.turns turns below) ∙ ap (λ b. r.turns + cond (not b) 1 0) going
-  where
-    lower : (a b : ℕ) → a < b → nat_lt a b ≡ true
-    lower a b p = grind (arith, nat_tests)
+receives_closed r turns going below = ap (λ b. r.turns + cond (b && not r.lost) 1 0) (lt-ltb r.turns turns below) ∙ ap (λ b. r.turns + cond (not b) 1 0) going
 
 pub receives_all : (r : DriveReport) (turns : ℕ) → turns ≤ r.turns → receives_of r turns ≡ r.turns
-receives_all r turns over = ap (λ b. r.turns + cond (b && not r.lost) 1 0) (upper r.turns turns over) ∙ none_more r.turns
-  where
-    none_more : (n : ℕ) → n + 0 ≡ n
-    none_more n = omega arith
-
-    upper : (a b : ℕ) → b ≤ a → nat_lt a b ≡ false
-    upper a b p = grind (arith, nat_tests)
+receives_all r turns over = ap (λ b. r.turns + cond (b && not r.lost) 1 0) (le-ltb r.turns turns over) ∙ none_more r.turns

@@ -10,6 +10,7 @@ use Rattle.oca_control.specs.declared.due.Due.{Due}
 use Rattle.oca_control.specs.declared.due.Due.TheVariants as dues
 use Rattle.oca_control.specs.declared.reception.Reception.{Reception}
 use Rattle.oca_control.specs.Untaken.{answer_under}
+use Rattle.oca_control.specs.Limits.{repeat_time, most_sendings}
 use Rattle.oca_control.specs.Links.{LinkState, Request}
 use Rattle.oca_control.specs.Histories.{Call, Submits, GivesOut, Receives, TakesAnswer, IsHistory, clock, Sending, sendings, answers_in, answers_to, first_of, is_untaken, is_due_at, is_lost}
 
@@ -20,27 +21,27 @@ has_response h messages = is_some (first_of (answers_in h messages))
 -- a call is no take of this handle
 abbrev pub TakesNothingOf : ℕ → Call → Type 0
 TakesNothingOf h (TakesAnswer x answer) = x ≡ h → ⊥
-TakesNothingOf h (Submits request now answer) = ⊤
-TakesNothingOf h (GivesOut now answer bytes) = ⊤
-TakesNothingOf h (Receives from bytes content now answer) = ⊤
+TakesNothingOf h (Submits request now returned) = ⊤
+TakesNothingOf h (GivesOut now returned bytes) = ⊤
+TakesNothingOf h (Receives from bytes content now returned) = ⊤
 
 -- A well-formed datagram came from the device, with a response to an untaken command, whatever else it has. Then
 -- whatever is called, but for a take of this handle, the link holds an answer to it, which a take gives.
 abbrev pub EveryAnswerIsKept : Type 0
 EveryAnswerIsKept =
     (device : Peer) (first opened span : ℕ) (before later : List Call) (after : LinkState) (h : ℕ) (from : Peer)
-    (bytes : List ℕ) (messages : List Msg) (now : ℕ) (answer : Reception) →
-    0 < span → IsHistory device first opened span (later ++ Receives from bytes (Some messages) now answer ∷ before) after →
+    (bytes : List ℕ) (messages : List Msg) (now : ℕ) (returned : Reception) →
+    0 < span → IsHistory device first opened span (later ++ Receives from bytes (Some messages) now returned ∷ before) after →
     same_peer from device ≡ true → is_untaken h before ≡ true → has_response h messages ≡ true →
     AllByRecursion (TakesNothingOf h) later →
     is_some (answer_under h after.untaken) ≡ true
 
 -- a call of `due` at this moment
-abbrev pub IsDueAt : ℕ → Call → Type 0
-IsDueAt t (GivesOut now answer bytes) = now ≡ t
-IsDueAt t (Submits request now answer) = ⊥
-IsDueAt t (Receives from bytes content now answer) = ⊥
-IsDueAt t (TakesAnswer x answer) = ⊥
+abbrev pub CallsDueAt : ℕ → Call → Type 0
+CallsDueAt t (GivesOut now returned bytes) = now ≡ t
+CallsDueAt t (Submits request now returned) = ⊥
+CallsDueAt t (Receives from bytes content now returned) = ⊥
+CallsDueAt t (TakesAnswer x answer) = ⊥
 
 -- the command of this handle was given out in the call
 abbrev pub is_send_of : ℕ → Due → Bool
@@ -50,21 +51,21 @@ is_send_of h dues.Nothing = false
 is_send_of h dues.Lost = false
 
 abbrev pub is_given_in : ℕ → Call → Bool
-is_given_in h (GivesOut now answer bytes) = is_send_of h answer
-is_given_in h (Submits request now answer) = false
-is_given_in h (Receives from bytes content now answer) = false
+is_given_in h (GivesOut now returned bytes) = is_send_of h returned
+is_given_in h (Submits request now returned) = false
+is_given_in h (Receives from bytes content now returned) = false
 is_given_in h (TakesAnswer x answer) = false
 
 -- the handle stands in the list
 abbrev pub is_among : ℕ → List ℕ → Bool
 is_among h hs = list_any (λ x. x == h) hs
 
--- Where no others than these k handles are due at a moment, each that is due is given out within k calls of `due` at that
--- moment, or the link is lost.
+-- Where no others than these k handles are due at a moment, each that is due is given out within k calls of `due` at
+-- that moment, or the link is lost.
 abbrev pub EveryDueCommandIsGivenOut : Type 0
 EveryDueCommandIsGivenOut =
     (device : Peer) (first opened span : ℕ) (before calls : List Call) (after : LinkState) (now h : ℕ) (due : List ℕ) →
-    0 < span → IsHistory device first opened span (calls ++ before) after → AllByRecursion (IsDueAt now) calls →
+    0 < span → IsHistory device first opened span (calls ++ before) after → AllByRecursion (CallsDueAt now) calls →
     is_due_at device opened (max (clock opened before) now) h before ≡ true →
     ((x : ℕ) → is_due_at device opened (max (clock opened before) now) x before ≡ true → is_among x due ≡ true) →
     length due ≤ length calls →
@@ -72,7 +73,7 @@ EveryDueCommandIsGivenOut =
 
 -- ---- a link that is asked often enough
 
--- `due` answered that no command is left to give out: with a keep-alive, with nothing, or that the link is lost
+-- `due` returned that no command is left to give out: with a keep-alive, with nothing, or that the link is lost
 abbrev pub says_none_left : Due → Bool
 says_none_left (dues.Send h) = false
 says_none_left dues.KeepAlive = true
@@ -82,10 +83,10 @@ says_none_left dues.Lost = true
 -- THE LAST TIME that it did, by the clock, and at first the moment since when the calls are looked at.
 abbrev pub last_asked : ℕ → List Call → ℕ
 last_asked since [] = since
-last_asked since (GivesOut now answer bytes ∷ before) =
-    if says_none_left answer then max (clock since before) now else last_asked since before
-last_asked since (Submits request now answer ∷ before) = last_asked since before
-last_asked since (Receives from bytes content now answer ∷ before) = last_asked since before
+last_asked since (GivesOut now returned bytes ∷ before) =
+    if says_none_left returned then max (clock since before) now else last_asked since before
+last_asked since (Submits request now returned ∷ before) = last_asked since before
+last_asked since (Receives from bytes content now returned ∷ before) = last_asked since before
 last_asked since (TakesAnswer h answer ∷ before) = last_asked since before
 
 -- A link IS ASKED EVERY so many ms: after each of the calls, that was at most so long ago by the clock. So its `due` is
@@ -101,19 +102,19 @@ pub record Waits (device : Peer) (h : ℕ) (calls : List Call) : Type 0 where
   pub unanswered : first_of (answers_to device h calls) ≡ None
   pub not_lost : is_lost calls ≡ false
 
--- Of a command that was submitted at a moment and waits at t: it was given out less than 250 ms and so many ago; or it was
--- never given out, and submitted at most so many ms ago.
+-- Of a command that was submitted at a moment and waits at t: it was given out less than 250 ms and so many ago; or it
+-- was never given out, and submitted at most so many ms ago.
 abbrev pub IsRecent : ℕ → ℕ → ℕ → List Sending → Type 0
 IsRecent ms since t [] = t ≤ since + ms
-IsRecent ms since t (s ∷ before) = t < s.at + (250 + ms)
+IsRecent ms since t (s ∷ before) = t < s.at + (repeat_time + ms)
 
 -- And it does not wait for ever, since it is given out at most 20 times.
 pub record IsGivenOutInTime (ms since t : ℕ) (given : List Sending) : Type 0 where
   pub recent : IsRecent ms since t given
-  pub ends : t ≤ since + ms + 20 * (250 + ms)
+  pub ends : t ≤ since + ms + most_sendings * (repeat_time + ms)
 
--- Where a link is asked every so many ms from the submit of a command on, the command is given out in time as long as it
--- waits.
+-- Where a link is asked every so many ms from the submit of a command on, the command is given out in time as long as
+-- it waits.
 abbrev pub EveryCommandIsGivenOutInTime : Type 0
 EveryCommandIsGivenOutInTime =
     (device : Peer) (first opened span : ℕ) (before later : List Call) (after : LinkState)

@@ -22,15 +22,16 @@ pub record TakesATurn (old new : LinkState) (before after : EndState) : Type 0 w
   pub early : report.turns ≡ 0 → IsTrue after.closed
   pub asked : after.receives < last_u64 → after.receives ≡ before.receives + 1
 
--- So many turns were taken, one after another, and before each no answer was held under the handle and the link was not lost.
+-- So many turns were taken, one after another, and before each no answer was held under the handle and the link was not
+-- lost.
 pub data TakesTurns (h : ℕ) : (turns : ℕ) (old new : LinkState) (before after : EndState) → Type 0 where
   NoneTaken : {l : LinkState} {e : EndState} → TakesTurns h 0 l l e e
   OneTaken : {n : ℕ} {old l new : LinkState} {d e f : EndState} → TakesTurns h n old l d e → answer_under h l.untaken ≡ None → l.lost ≡ false →
       TakesATurn l new e f → TakesTurns h (n + 1) old new d f
 
--- From a link under whose handle an answer is waited for, to the link after it, where so many turns were allowed. An answer is the one
--- that was then held, and is taken. Lost: none is held, and the link is lost. Unanswered: none is held, the link is not lost, and all
--- the turns were taken.
+-- From a link under whose handle an answer is waited for, to the link after it, where so many turns were allowed. An
+-- answer is the one that was then held, and is taken. Lost: none is held, and the link is lost. Unanswered: none is
+-- held, the link is not lost, and all the turns were taken.
 abbrev pub Waits : ℕ → ℕ → LinkState → Outcome → LinkState → EndState → EndState → Type 0
 Waits h turns old (outcomes.Answered a) new before after =
     (l : LinkState) × (n : ℕ) × (n ≤ turns) × TakesTurns h n old l before after × (answer_under h l.untaken ≡ Some (answer_fields a)) × (new ≡ taken h l)
@@ -40,7 +41,8 @@ Waits h turns old outcomes.Lost new before after =
 Waits h turns old outcomes.Unanswered new before after =
     TakesTurns h turns old new before after × (answer_under h new.untaken ≡ None) × (new.lost ≡ false)
 
--- How often the end was asked, where so many turns were allowed: at most so often, and just so often where no answer came.
+-- How often the end was asked, where so many turns were allowed: at most so often, and just so often where no answer
+-- came.
 abbrev pub AsksEnd : ℕ → Outcome → ℕ → ℕ → Type 0
 AsksEnd turns (outcomes.Answered a) before after = after ≤ before + turns
 AsksEnd turns (outcomes.Refused fault) before after = after ≡ before
@@ -54,8 +56,8 @@ refused_by faults.HandlesSpent = outcomes.Refused faults.HandlesSpent
 refused_by faults.SpanFull = outcomes.Refused faults.SpanFull
 refused_by faults.TooLong = outcomes.Refused faults.TooLong
 
--- The command under this handle was submitted and all that was due given out, both at the link's own moment (moment 0 counts as that),
--- and then its answer was waited for.
+-- The command under this handle was submitted and all that was due given out, both at the link's own moment (moment 0
+-- counts as that), and then its answer was waited for.
 pub record GivesOutAndWaits (request : RequestFields) (turns h : ℕ) (old : LinkState) (outcome : Outcome) (new : LinkState) (before after : EndState) : Type 0 where
   pub link : LinkState
   pub end_then : EndState

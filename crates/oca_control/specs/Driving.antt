@@ -62,7 +62,7 @@ all_given_to device decisions = flat_map (given_to device) decisions
 
 -- What is heard of a delivery: a datagram of at most 1,472 bytes is one for the link, and nothing else is.
 pub record HearsDatagram (from : Peer) (bytes : List ℕ) (now : ℕ) (old new : LinkState) (answered : ℕ) : Type 0 where
-  pub short : length bytes ≤ largest_datagram → (answer : Reception) × ReceivesDatagram from bytes now old answer new × (answered ≡ answered_by answer)
+  pub short : length bytes ≤ largest_datagram → (returned : Reception) × ReceivesDatagram from bytes now old returned new × (answered ≡ answered_by returned)
   pub long : largest_datagram < length bytes → (new ≡ old) × (answered ≡ 0)
 
 abbrev pub Hears : Delivery → LinkState → LinkState → ℕ → Type 0
@@ -109,9 +109,9 @@ report_of deliveries decisions answered failed_sends =
       lost = list_any is_lost decisions;
     }
 
--- A LINK WAS DRIVEN OVER AN END: there are deliveries of which the turns are what was done and reported, and the report counts the
--- calls of the end that failed. Where the end tells, these deliveries are what it delivered, and it took what was given out but for
--- the failed sends.
+-- A LINK WAS DRIVEN OVER AN END: there are deliveries of which the turns are what was done and reported, and the report
+-- counts the calls of the end that failed. Where the end tells, these deliveries are what it delivered, and it took
+-- what was given out but for the failed sends.
 pub record DrivesEnd (old new : LinkState) (before after : EndState) (report : DriveReport) : Type 0 where
   pub deliveries : List Delivery
   pub decisions : List Decision
@@ -120,8 +120,8 @@ pub record DrivesEnd (old new : LinkState) (before after : EndState) (report : D
   pub reported : report ≡ report_of deliveries decisions answered report.failed_sends
   pub runs : Runs deliveries (all_given_to old.device decisions) report.failed_receives report.failed_sends before after
 
--- WHAT WAS DUE at a moment, in so many calls of `due`, WAS GIVEN OUT: it was handed to the end, for the device, and the report counts it
--- and the sends that failed. No turn was taken.
+-- WHAT WAS DUE at a moment, in so many calls of `due`, WAS GIVEN OUT: it was handed to the end, for the device, and the
+-- report counts it and the sends that failed. No turn was taken.
 pub record GivesOut (now calls : ℕ) (old new : LinkState) (before after : EndState) (report : DriveReport) : Type 0 where
   pub link : new ≡ link_from now calls old
   pub device : new.device ≡ old.device

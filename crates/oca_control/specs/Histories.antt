@@ -1,6 +1,6 @@
--- THE LAW OF A LINK over whole histories of its calls (profile). Of calls, commands and sendings the LATEST STANDS FIRST, so that what
--- stands after a member (`before`) came before it. Messages and answers stand in order, the first one first. Moments are in
--- milliseconds.
+-- THE LAW OF A LINK over whole histories of its calls (profile). Of calls, commands and sendings the LATEST STANDS
+-- FIRST, so that what stands after a member (`before`) came before it. Messages and answers stand in order, the first
+-- one first. Moments are in milliseconds.
 use Rattle.std.specs.Prelude.{◌≡◌, ◌⊎◌, ℕ, ◌+◌, ◌-◌, ◌==◌, ◌<◌, ◌≤◌, nat_le, max, Bool, true, false, not, ◌&&◌, ◌||◌, ⊤, if◌then◌else◌, List, [], ◌∷◌, ◌++◌, length, Option, Some, None, is_none, is_some, Result, Ok, Err}
 use Rattle.std.specs.List.{AllByRecursion}
 use Rattle.oca_types.specs.declared.words.Peer.{Peer}
@@ -17,22 +17,24 @@ use Rattle.oca_control.specs.declared.reception.Reception.{Reception}
 use Rattle.oca_control.specs.Answers.{AnswerFields, answer_in}
 use Rattle.oca_control.specs.Contents.{IsContent}
 use Rattle.oca_control.specs.Untaken.{answer_under, first_answered}
+use Rattle.oca_types.specs.Sizes.{most_command_parameter_bytes}
+use Rattle.oca_control.specs.Limits.{repeat_time, most_sendings, keep_alive_time, last_handle}
 use Rattle.oca_control.specs.Links.{LinkState, Request, new_link, command_under, submission, submitted, decision, due_answer, due_bytes, gone_on, reception, received, taken}
 
 -- ---- what happened to a link
 
 -- A CALL of a link: what it was given, and what it answered. Of a datagram the content stands beside its bytes.
 pub data Call : Type 0 where
-  Submits : (request : Request) (now : ℕ) (answer : Result Handle ControlFault) → Call
-  GivesOut : (now : ℕ) (answer : Due) (bytes : List ℕ) → Call
-  Receives : (from : Peer) (bytes : List ℕ) (content : Option (List Msg)) (now : ℕ) (answer : Reception) → Call
+  Submits : (request : Request) (now : ℕ) (returned : Result Handle ControlFault) → Call
+  GivesOut : (now : ℕ) (returned : Due) (bytes : List ℕ) → Call
+  Receives : (from : Peer) (bytes : List ℕ) (content : Option (List Msg)) (now : ℕ) (returned : Reception) → Call
   TakesAnswer : (handle : ℕ) (answer : Option AnswerFields) → Call
 
 -- The call of a link makes another of it: just what the clauses of `submit`, `due`, `datagram` and `take` say.
 abbrev pub IsCall : LinkState → Call → LinkState → Type 0
-IsCall l (Submits request now answer) after = (answer ≡ submission request l) × (after ≡ submitted request now l)
-IsCall l (GivesOut now answer bytes) after = (answer ≡ due_answer (decision now l)) × (bytes ≡ due_bytes (decision now l)) × (after ≡ gone_on now l)
-IsCall l (Receives from bytes content now answer) after = IsContent content bytes × (answer ≡ reception from content l) × (after ≡ received from content now l)
+IsCall l (Submits request now returned) after = (returned ≡ submission request l) × (after ≡ submitted request now l)
+IsCall l (GivesOut now returned bytes) after = (returned ≡ due_answer (decision now l)) × (bytes ≡ due_bytes (decision now l)) × (after ≡ gone_on now l)
+IsCall l (Receives from bytes content now returned) after = IsContent content bytes × (returned ≡ reception from content l) × (after ≡ received from content now l)
 IsCall l (TakesAnswer h answer) after = (answer ≡ answer_under h l.untaken) × (after ≡ taken h l)
 
 -- A HISTORY: a link that is new at a moment becomes this one by these calls.
@@ -47,8 +49,8 @@ abbrev pub clock : ℕ → List Call → ℕ
 clock opened [] = opened
 clock opened (Submits request now (Ok h) ∷ before) = max (clock opened before) now
 clock opened (Submits request now (Err fault) ∷ before) = clock opened before
-clock opened (GivesOut now answer bytes ∷ before) = max (clock opened before) now
-clock opened (Receives from bytes content now answer ∷ before) = max (clock opened before) now
+clock opened (GivesOut now returned bytes ∷ before) = max (clock opened before) now
+clock opened (Receives from bytes content now returned ∷ before) = max (clock opened before) now
 clock opened (TakesAnswer h answer ∷ before) = clock opened before
 
 -- THE ACCEPTED COMMANDS, the latest first.
@@ -56,8 +58,8 @@ abbrev pub commands : List Call → List CommandFields
 commands [] = []
 commands (Submits request now (Ok h) ∷ before) = command_under h.0 request ∷ commands before
 commands (Submits request now (Err fault) ∷ before) = commands before
-commands (GivesOut now answer bytes ∷ before) = commands before
-commands (Receives from bytes content now answer ∷ before) = commands before
+commands (GivesOut now returned bytes ∷ before) = commands before
+commands (Receives from bytes content now returned ∷ before) = commands before
 commands (TakesAnswer h answer ∷ before) = commands before
 
 -- the command that was accepted under a handle
@@ -78,10 +80,10 @@ sending_of h other s before = before
 -- THE SENDINGS of the command under a handle, the latest first.
 abbrev pub sendings : ℕ → ℕ → List Call → List Sending
 sendings opened h [] = []
-sendings opened h (GivesOut now answer bytes ∷ before) =
-    sending_of h answer (record { at = max (clock opened before) now; bytes = bytes }) (sendings opened h before)
-sendings opened h (Submits request now answer ∷ before) = sendings opened h before
-sendings opened h (Receives from bytes content now answer ∷ before) = sendings opened h before
+sendings opened h (GivesOut now returned bytes ∷ before) =
+    sending_of h returned (record { at = max (clock opened before) now; bytes = bytes }) (sendings opened h before)
+sendings opened h (Submits request now returned ∷ before) = sendings opened h before
+sendings opened h (Receives from bytes content now returned ∷ before) = sendings opened h before
 sendings opened h (TakesAnswer handle answer ∷ before) = sendings opened h before
 
 -- what the responses among messages answer under a handle, in order
@@ -101,8 +103,8 @@ abbrev pub answers_to : Peer → ℕ → List Call → List AnswerFields
 answers_to device h [] = []
 answers_to device h (Submits request now (Ok x) ∷ before) = if h == x.0 then [] else answers_to device h before
 answers_to device h (Submits request now (Err fault) ∷ before) = answers_to device h before
-answers_to device h (GivesOut now answer bytes ∷ before) = answers_to device h before
-answers_to device h (Receives from bytes content now answer ∷ before) =
+answers_to device h (GivesOut now returned bytes ∷ before) = answers_to device h before
+answers_to device h (Receives from bytes content now returned ∷ before) =
     answers_to device h before ++ (if same_peer from device then answers_of h content else [])
 answers_to device h (TakesAnswer x answer ∷ before) = answers_to device h before
 
@@ -115,15 +117,15 @@ abbrev pub is_untaken : ℕ → List Call → Bool
 is_untaken h [] = false
 is_untaken h (Submits request now (Ok x) ∷ before) = is_untaken h before || (x.0 == h)
 is_untaken h (Submits request now (Err fault) ∷ before) = is_untaken h before
-is_untaken h (GivesOut now answer bytes ∷ before) = is_untaken h before
-is_untaken h (Receives from bytes content now answer ∷ before) = is_untaken h before
+is_untaken h (GivesOut now returned bytes ∷ before) = is_untaken h before
+is_untaken h (Receives from bytes content now returned ∷ before) = is_untaken h before
 is_untaken h (TakesAnswer x (Some answer) ∷ before) = not (x == h) && is_untaken h before
 is_untaken h (TakesAnswer x None ∷ before) = is_untaken h before
 
 -- a command has rested where it was never given out, or last 250 ms before t or earlier
 abbrev pub has_rested : ℕ → List Sending → Bool
 has_rested t [] = true
-has_rested t (s ∷ before) = nat_le 250 (t - s.at)
+has_rested t (s ∷ before) = nat_le repeat_time (t - s.at)
 
 -- A handle is DUE at t while it is untaken, no answer came to it, and its command has rested.
 abbrev pub is_due_at : Peer → ℕ → ℕ → ℕ → List Call → Bool
@@ -140,18 +142,18 @@ given_at t dues.Lost last = last
 -- THE LAST MOMENT when a command or a keep-alive was given out, and at first that of the opening.
 abbrev pub last_given : ℕ → List Call → ℕ
 last_given opened [] = opened
-last_given opened (GivesOut now answer bytes ∷ before) = given_at (max (clock opened before) now) answer (last_given opened before)
-last_given opened (Submits request now answer ∷ before) = last_given opened before
-last_given opened (Receives from bytes content now answer ∷ before) = last_given opened before
+last_given opened (GivesOut now returned bytes ∷ before) = given_at (max (clock opened before) now) returned (last_given opened before)
+last_given opened (Submits request now returned ∷ before) = last_given opened before
+last_given opened (Receives from bytes content now returned ∷ before) = last_given opened before
 last_given opened (TakesAnswer h answer ∷ before) = last_given opened before
 
 -- THE LAST TIME that a well-formed datagram came from the device, and at first that of the opening.
 abbrev pub last_heard : Peer → ℕ → List Call → ℕ
 last_heard device opened [] = opened
-last_heard device opened (Receives from bytes content now answer ∷ before) =
+last_heard device opened (Receives from bytes content now returned ∷ before) =
     if same_peer from device && is_some content then max (clock opened before) now else last_heard device opened before
-last_heard device opened (Submits request now answer ∷ before) = last_heard device opened before
-last_heard device opened (GivesOut now answer bytes ∷ before) = last_heard device opened before
+last_heard device opened (Submits request now returned ∷ before) = last_heard device opened before
+last_heard device opened (GivesOut now returned bytes ∷ before) = last_heard device opened before
 last_heard device opened (TakesAnswer h answer ∷ before) = last_heard device opened before
 
 -- A handle is ANSWERED from the first answer to it until it is taken.
@@ -167,9 +169,9 @@ says_lost dues.Lost = true
 -- A link is LOST once it answered so.
 abbrev pub is_lost : List Call → Bool
 is_lost [] = false
-is_lost (GivesOut now answer bytes ∷ before) = says_lost answer || is_lost before
-is_lost (Submits request now answer ∷ before) = is_lost before
-is_lost (Receives from bytes content now answer ∷ before) = is_lost before
+is_lost (GivesOut now returned bytes ∷ before) = says_lost returned || is_lost before
+is_lost (Submits request now returned ∷ before) = is_lost before
+is_lost (Receives from bytes content now returned ∷ before) = is_lost before
 is_lost (TakesAnswer h answer ∷ before) = is_lost before
 
 -- ---- THE LAW
@@ -186,25 +188,26 @@ HasRoom span n before = (x : ℕ) → is_untaken x before ≡ true → n < x + s
 abbrev pub IsFull : ℕ → ℕ → List Call → Type 0
 IsFull span n before = (x : ℕ) × (is_untaken x before ≡ true) × (x + span ≤ n)
 
--- What `submit` answers, n being the next handle and k the number of parameter bytes: the handle; or that the link is lost; or that no
--- handle is left; or that the span is full; or that the parameters are too long.
+-- What `submit` returns, n being the next handle and k the number of parameter bytes: the handle; or that the link is
+-- lost; or that no handle is left; or that the span is full; or that the parameters are too long.
 abbrev pub IsSubmitAnswer : ℕ → ℕ → ℕ → List Call → Result Handle ControlFault → Type 0
-IsSubmitAnswer span n k before (Ok h) = (is_lost before ≡ false) × (h.0 ≡ n) × (n ≤ 4294967295) × HasRoom span n before × (k ≤ 1445)
+IsSubmitAnswer span n k before (Ok h) = (is_lost before ≡ false) × (h.0 ≡ n) × (n ≤ last_handle) × HasRoom span n before × (k ≤ most_command_parameter_bytes)
 IsSubmitAnswer span n k before (Err faults.Lost) = is_lost before ≡ true
-IsSubmitAnswer span n k before (Err faults.HandlesSpent) = (is_lost before ≡ false) × (4294967295 < n)
-IsSubmitAnswer span n k before (Err faults.SpanFull) = (is_lost before ≡ false) × (n ≤ 4294967295) × IsFull span n before
-IsSubmitAnswer span n k before (Err faults.TooLong) = (is_lost before ≡ false) × (n ≤ 4294967295) × HasRoom span n before × (1445 < k)
+IsSubmitAnswer span n k before (Err faults.HandlesSpent) = (is_lost before ≡ false) × (last_handle < n)
+IsSubmitAnswer span n k before (Err faults.SpanFull) = (is_lost before ≡ false) × (n ≤ last_handle) × IsFull span n before
+IsSubmitAnswer span n k before (Err faults.TooLong) = (is_lost before ≡ false) × (n ≤ last_handle) × HasRoom span n before × (most_command_parameter_bytes < k)
 
 -- EACH SUBMIT answers that.
 abbrev pub AnswersSubmits : ℕ → ℕ → List Call → Type 0
 AnswersSubmits first span [] = ⊤
-AnswersSubmits first span (Submits request now answer ∷ before) =
-    IsSubmitAnswer span (first + length (commands before)) (length request.params) before answer × AnswersSubmits first span before
-AnswersSubmits first span (GivesOut now answer bytes ∷ before) = AnswersSubmits first span before
-AnswersSubmits first span (Receives from bytes content now answer ∷ before) = AnswersSubmits first span before
+AnswersSubmits first span (Submits request now returned ∷ before) =
+    IsSubmitAnswer span (first + length (commands before)) (length request.params) before returned × AnswersSubmits first span before
+AnswersSubmits first span (GivesOut now returned bytes ∷ before) = AnswersSubmits first span before
+AnswersSubmits first span (Receives from bytes content now returned ∷ before) = AnswersSubmits first span before
 AnswersSubmits first span (TakesAnswer h answer ∷ before) = AnswersSubmits first span before
 
--- A COPY: bytes that are a PDU of type 1 with the command of the handle alone (AES70-3). So all copies of a handle are the same.
+-- A COPY: bytes that are a PDU of type 1 with the command of the handle alone (AES70-3). So all copies of a handle are
+-- the same.
 pub record IsCopy (h : ℕ) (accepted : List CommandFields) (bytes : List ℕ) : Type 0 where
   pub command : CommandFields
   pub accepted_under : command_of h accepted ≡ Some command
@@ -214,16 +217,17 @@ pub record IsCopy (h : ℕ) (accepted : List CommandFields) (bytes : List ℕ) :
 abbrev pub AreApart : List Sending → Type 0
 AreApart [] = ⊤
 AreApart (s ∷ []) = ⊤
-AreApart (s ∷ r ∷ before) = (r.at + 250 ≤ s.at) × AreApart (r ∷ before)
+AreApart (s ∷ r ∷ before) = (r.at + repeat_time ≤ s.at) × AreApart (r ∷ before)
 
--- EACH TAKE of an untaken handle gives the first answer that came to it, where one came. Of another handle it gives nothing.
+-- EACH TAKE of an untaken handle gives the first answer that came to it, where one came. Of another handle it gives
+-- nothing.
 abbrev pub TakesTheFirst : Peer → List Call → Type 0
 TakesTheFirst device [] = ⊤
 TakesTheFirst device (TakesAnswer h answer ∷ before) =
     (answer ≡ (if is_untaken h before then first_of (answers_to device h before) else None)) × TakesTheFirst device before
-TakesTheFirst device (Submits request now answer ∷ before) = TakesTheFirst device before
-TakesTheFirst device (GivesOut now answer bytes ∷ before) = TakesTheFirst device before
-TakesTheFirst device (Receives from bytes content now answer ∷ before) = TakesTheFirst device before
+TakesTheFirst device (Submits request now returned ∷ before) = TakesTheFirst device before
+TakesTheFirst device (GivesOut now returned bytes ∷ before) = TakesTheFirst device before
+TakesTheFirst device (Receives from bytes content now returned ∷ before) = TakesTheFirst device before
 
 -- the lowest handle that is due at t
 pub record IsLowestDue (device : Peer) (opened t h : ℕ) (before : List Call) : Type 0 where
@@ -235,39 +239,41 @@ NoneIsDue device opened t before = (x : ℕ) → is_due_at device opened t x bef
 
 -- the lowest due command was given out 20 times
 abbrev pub IsLostNow : Peer → ℕ → ℕ → List Call → Type 0
-IsLostNow device opened t before = (h : ℕ) × IsLowestDue device opened t h before × (length (sendings opened h before) ≡ 20)
+IsLostNow device opened t before = (h : ℕ) × IsLowestDue device opened t h before × (length (sendings opened h before) ≡ most_sendings)
 
--- What `due` answers at t. A command: the lowest due one, which was given out less than 20 times. A keep-alive of 5 seconds: none is
--- due, and nothing was given out for 2,500 ms. Nothing: none is due. Lost: the link is lost now, or it was.
+-- What `due` returns at t. A command: the lowest due one, which was given out less than 20 times. A keep-alive of 5
+-- seconds: none is due, and nothing was given out for 2,500 ms. Nothing: none is due. Lost: the link is lost now, or it
+-- was.
 abbrev pub IsDueAnswer : Peer → ℕ → ℕ → List ℕ → List Call → Due → Type 0
 IsDueAnswer device opened t bytes before (dues.Send h) =
-    (is_lost before ≡ false) × IsLowestDue device opened t h.0 before × (length (sendings opened h.0 before) < 20)
+    (is_lost before ≡ false) × IsLowestDue device opened t h.0 before × (length (sendings opened h.0 before) < most_sendings)
 IsDueAnswer device opened t bytes before dues.KeepAlive =
-    (is_lost before ≡ false) × NoneIsDue device opened t before × (last_given opened before + 2500 ≤ t) × (bytes ≡ pdu_encoding (OneKeepAlive (Seconds 5)))
+    (is_lost before ≡ false) × NoneIsDue device opened t before × (last_given opened before + keep_alive_time ≤ t) × (bytes ≡ pdu_encoding (OneKeepAlive (Seconds 5)))
 IsDueAnswer device opened t bytes before dues.Nothing =
-    (is_lost before ≡ false) × NoneIsDue device opened t before × (t < last_given opened before + 2500) × (bytes ≡ [])
+    (is_lost before ≡ false) × NoneIsDue device opened t before × (t < last_given opened before + keep_alive_time) × (bytes ≡ [])
 IsDueAnswer device opened t bytes before dues.Lost = ((is_lost before ≡ true) ⊎ IsLostNow device opened t before) × (bytes ≡ [])
 
 -- EACH DUE gives that, at the clock.
 abbrev pub GivesWhatIsDue : Peer → ℕ → List Call → Type 0
 GivesWhatIsDue device opened [] = ⊤
-GivesWhatIsDue device opened (GivesOut now answer bytes ∷ before) =
-    IsDueAnswer device opened (max (clock opened before) now) bytes before answer × GivesWhatIsDue device opened before
-GivesWhatIsDue device opened (Submits request now answer ∷ before) = GivesWhatIsDue device opened before
-GivesWhatIsDue device opened (Receives from bytes content now answer ∷ before) = GivesWhatIsDue device opened before
+GivesWhatIsDue device opened (GivesOut now returned bytes ∷ before) =
+    IsDueAnswer device opened (max (clock opened before) now) bytes before returned × GivesWhatIsDue device opened before
+GivesWhatIsDue device opened (Submits request now returned ∷ before) = GivesWhatIsDue device opened before
+GivesWhatIsDue device opened (Receives from bytes content now returned ∷ before) = GivesWhatIsDue device opened before
 GivesWhatIsDue device opened (TakesAnswer h answer ∷ before) = GivesWhatIsDue device opened before
 
 -- THE CALLS of a link to a device that was opened at a moment, with a first handle and a span.
 pub record IsLawful (device : Peer) (first opened span : ℕ) (calls : List Call) : Type 0 where
   pub handles : RiseFrom first (commands calls)
   -- each first handle has 32 bits
-  pub submits_are : first ≤ 4294967295 → AnswersSubmits first span calls
+  pub submits_are : first ≤ last_handle → AnswersSubmits first span calls
   pub copies : (h : ℕ) → AllByRecursion (λ s. IsCopy h (commands calls) s.bytes) (sendings opened h calls)
-  pub at_most_20 : (h : ℕ) → length (sendings opened h calls) ≤ 20
+  pub at_most_20 : (h : ℕ) → length (sendings opened h calls) ≤ most_sendings
   pub apart : (h : ℕ) → AreApart (sendings opened h calls)
   pub dues_are : GivesWhatIsDue device opened calls
   pub answers : TakesTheFirst device calls
-  -- the next handle, which is the first one plus the number of accepted commands, lies within the span above each untaken one
+  -- the next handle, which is the first one plus the number of accepted commands, lies within the span above each
+  -- untaken one
   pub within_span : (h : ℕ) → is_untaken h calls ≡ true → first + length (commands calls) ≤ h + span
 
 -- THE LAW holds of every history of a link whose span is not 0, as no span is.

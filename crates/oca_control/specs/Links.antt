@@ -13,10 +13,12 @@ use Rattle.oca_control.specs.declared.due.Due.{Due}
 use Rattle.oca_control.specs.declared.due.Due.TheVariants as dues
 use Rattle.oca_control.specs.declared.reception.Reception.{Reception}
 use Rattle.oca_control.specs.declared.reception.Reception.TheVariants as receptions
+use Rattle.oca_control.specs.Limits.{most_sendings, keep_alive_time, last_handle}
 use Rattle.oca_control.specs.Untaken.{Untaken, new_untaken, has_room, first_due, given_out, hears_all, answers_by_all, answer_under, without_handle}
 
--- The device's address, the present moment, the handle of the next command or none, the moment when something was given out
--- last, that of the last well-formed datagram from the device, whether the link is lost, its span, and the untaken commands.
+-- The device's address, the present moment, the handle of the next command or none, the moment when something was given
+-- out last, that of the last well-formed datagram from the device, whether the link is lost, its span, and the untaken
+-- commands.
 pub record LinkState : Type 0 where
   pub device : Peer
   pub moment : ℕ
@@ -41,24 +43,24 @@ abbrev pub command_under : ℕ → RequestFields → CommandFields
 command_under h r =
     record { handle = h; target = r.target; level = r.level; index = r.index; count = r.count; params = r.params }
 
--- the same under another name
+-- what is submitted: `RequestFields`, which stand for a request as `oca_types` has it, before it has a handle
 abbrev pub Request : Type 0
 Request = RequestFields
 
--- the answer where this is the next handle, or none is left
+-- what `submit` returns where this is the next handle, or none is left
 abbrev pub submission_under : RequestFields → Option ℕ → LinkState → Result Handle ControlFault
 submission_under r None l = Err faults.HandlesSpent
 submission_under r (Some h) l =
     if has_room l.span h l.untaken then (if nat_lt most_command_parameter_bytes (length r.params) then Err faults.TooLong else Ok (record { 0 = h }))
     else Err faults.SpanFull
 
--- what `submit` answers
+-- what `submit` returns
 abbrev pub submission : RequestFields → LinkState → Result Handle ControlFault
 submission r l = if l.lost then Err faults.Lost else submission_under r l.next l
 
 -- After 4294967295 no handle is left.
 abbrev pub handle_after : ℕ → Option ℕ
-handle_after h = if h == 4294967295 then None else Some (h + 1)
+handle_after h = if h == last_handle then None else Some (h + 1)
 
 -- the link after it: a refusal changes nothing, and keeps no moment
 abbrev pub after_submission : Result Handle ControlFault → RequestFields → ℕ → LinkState → LinkState
@@ -79,14 +81,14 @@ pub data Decision : Type 0 where
 -- The due command with the lowest handle decides: if it was given out 20 times already, the link is lost. With none, a
 -- keep-alive is given out 2,500 ms after anything was.
 abbrev pub decision_among : ℕ → ℕ → Option Untaken → Decision
-decision_among now sent None = if nat_le 2500 (now - sent) then GivesKeepAlive else GivesNothing
-decision_among now sent (Some u) = if nat_lt u.times 20 then GivesCommand u.command else IsLost
+decision_among now sent None = if nat_le keep_alive_time (now - sent) then GivesKeepAlive else GivesNothing
+decision_among now sent (Some u) = if nat_lt u.times most_sendings then GivesCommand u.command else IsLost
 
 -- what is decided; a link that is lost stays lost
 abbrev pub decision : ℕ → LinkState → Decision
 decision now l = if l.lost then IsLost else decision_among (present now l) l.sent (first_due (present now l) l.untaken)
 
--- what `due` answers
+-- what `due` returns
 abbrev pub due_answer : Decision → Due
 due_answer (GivesCommand c) = dues.Send (record { 0 = c.handle })
 due_answer GivesKeepAlive = dues.KeepAlive
@@ -120,16 +122,16 @@ pub record IsNextDue (l : LinkState) (t : ℕ) : Type 0 where
 pub record NeverIsDue (l : LinkState) : Type 0 where
   pub never : (s : ℕ) → l.moment ≤ s → s < 2 ^ 64 → decision s l ≡ GivesNothing
 
--- DATAGRAM. What it answers where so many commands were answered.
+-- DATAGRAM. What it returns where so many commands were answered.
 abbrev pub reception_counted : ℕ → Reception
 reception_counted n = if n == 0 then receptions.NothingNew else receptions.Answered n
 
--- what it answers of messages, or of bytes that are no datagram
+-- what it returns of messages, or of bytes that are no datagram
 abbrev pub reception_of : Option (List Msg) → List Untaken → Reception
 reception_of None us = receptions.Malformed
 reception_of (Some messages) us = reception_counted (answers_by_all messages us)
 
--- what `datagram` answers: the address is looked at first
+-- what `datagram` returns: the address is looked at first
 abbrev pub reception : Peer → Option (List Msg) → LinkState → Reception
 reception from content l = if same_peer from l.device then reception_of content l.untaken else receptions.Stranger
 
@@ -137,7 +139,8 @@ abbrev pub hears_content : Option (List Msg) → List Untaken → List Untaken
 hears_content None us = us
 hears_content (Some messages) us = hears_all messages us
 
--- the link after it: it keeps the moment, whatever it answers; it was heard from where the device sent a well-formed datagram
+-- the link after it: it keeps the moment, whatever it answers; it was heard from where the device sent a well-formed
+-- datagram
 abbrev pub received : Peer → Option (List Msg) → ℕ → LinkState → LinkState
 received from content now l =
     record l { moment = present now l; heard = if same_peer from l.device && is_some content then present now l else l.heard; untaken = if same_peer from l.device then hears_content content l.untaken else l.untaken }

@@ -1,55 +1,57 @@
--- For private contracts: where the untaken commands lie in memory. The command of the handle h lies in the slot number h modulo
--- 32, and the handle itself is not stored.
+-- For private contracts: where the untaken commands lie in memory. The command of the handle h lies in the slot number
+-- h modulo 32, and the handle itself is not stored.
 use Rattle.std.specs.Prelude.{◌≡◌, ℕ, zero, suc, ◌+◌, ◌-◌, ◌%◌, ◌<◌, ◌≤◌, ◌==◌, nat_lt, nat_le, Bool, true, false, ◌&&◌, ◌||◌, if◌then◌else◌, List, [], ◌∷◌, ◌++◌, map, length, Option, Some, None, is_none, is_some, min, ◌^◌, slice_index_or}
 use Rattle.std.specs.List.{AllByRecursion}
 use Rattle.std.specs.Option.{option_map}
 use Rattle.oca_pdu.specs.Messages.{Msg, Command, Response, KeepAlive}
 use Rattle.oca_control.specs.Answers.{AnswerFields}
+use Rattle.oca_types.specs.Sizes.{most_parameter_bytes}
+use Rattle.oca_control.specs.Limits.{repeat_time, most_sendings}
 use Rattle.oca_control.specs.Untaken.{Untaken, first_due, given_out}
 use Rattle.oca_control.specs.Links.{Request, command_under, due_bytes, Decision, GivesCommand, GivesKeepAlive, GivesNothing, IsLost}
 
 -- what a slot holds of a command
-pub record Kept : Type 0 where
+pub record Held : Type 0 where
   pub request : Request
   pub times : ℕ
   pub last : ℕ
   pub answer : Option AnswerFields
 
-abbrev pub new_kept : Request → Kept
-new_kept r = record { request = r; times = 0; last = 0; answer = None }
+abbrev pub new_held : Request → Held
+new_held r = record { request = r; times = 0; last = 0; answer = None }
 
-abbrev pub kept_is_due : ℕ → Option Kept → Bool
-kept_is_due now None = false
-kept_is_due now (Some k) = is_none k.answer && (k.times == 0 || nat_le 250 (now - k.last))
+abbrev pub held_is_due : ℕ → Option Held → Bool
+held_is_due now None = false
+held_is_due now (Some k) = is_none k.answer && (k.times == 0 || nat_le repeat_time (now - k.last))
 
-abbrev pub kept_waits : Option Kept → Bool
-kept_waits None = false
-kept_waits (Some k) = is_none k.answer
+abbrev pub held_waits : Option Held → Bool
+held_waits None = false
+held_waits (Some k) = is_none k.answer
 
-abbrev pub kept_answer : Option Kept → Option AnswerFields
-kept_answer None = None
-kept_answer (Some k) = k.answer
+abbrev pub held_answer : Option Held → Option AnswerFields
+held_answer None = None
+held_answer (Some k) = k.answer
 
 -- given out once more
-abbrev pub kept_given : ℕ → Kept → Kept
-kept_given now k = record { request = k.request; times = k.times + 1; last = now; answer = k.answer }
+abbrev pub held_given : ℕ → Held → Held
+held_given now k = record { request = k.request; times = k.times + 1; last = now; answer = k.answer }
 
-abbrev pub kept_answered : AnswerFields → Kept → Kept
-kept_answered answer k = record { request = k.request; times = k.times; last = k.last; answer = Some answer }
+abbrev pub held_answered : AnswerFields → Held → Held
+held_answered answer k = record { request = k.request; times = k.times; last = k.last; answer = Some answer }
 
 -- the command of the handle, where its slot holds one
-abbrev pub untaken_at : ℕ → Option Kept → List Untaken
+abbrev pub untaken_at : ℕ → Option Held → List Untaken
 untaken_at h None = []
 untaken_at h (Some k) = (record { command = command_under h k.request; times = k.times; last = k.last; answer = k.answer }) ∷ []
 
 -- the slot of the handle
-abbrev pub kept_at : ℕ → List (Option Kept) → Option Kept
-kept_at h slots = slice_index_or slots (h % 32) None
+abbrev pub held_at : ℕ → List (Option Held) → Option Held
+held_at h slots = slice_index_or slots (h % 32) None
 
 -- the commands of n handles from lo on
-unfoldable pub untaken_from : ℕ → ℕ → List (Option Kept) → List Untaken
+unfoldable pub untaken_from : ℕ → ℕ → List (Option Held) → List Untaken
 untaken_from lo zero slots = []
-untaken_from lo (suc n) slots = untaken_at lo (kept_at lo slots) ++ untaken_from (lo + 1) n slots
+untaken_from lo (suc n) slots = untaken_at lo (held_at lo slots) ++ untaken_from (lo + 1) n slots
 
 -- the handle of the next command, 4294967296 where none is left, and the untaken commands
 pub record TableState : Type 0 where
@@ -57,12 +59,12 @@ pub record TableState : Type 0 where
   pub untaken : List Untaken
 
 -- The lowest untaken handle is low, or nothing is untaken and it is the next. All that is untaken lies in 32 handles.
-pub record IsTable (low next : ℕ) (slots : List (Option Kept)) : Type 0 where
+pub record IsTable (low next : ℕ) (slots : List (Option Held)) : Type 0 where
   pub ordered : low ≤ next
   pub near : next ≤ low + 32
   pub last : next ≤ 4294967296
   pub all : length slots ≡ 32
-  pub lowest : low < next → kept_at low slots ≡ None → ⊥
+  pub lowest : low < next → held_at low slots ≡ None → ⊥
 
 -- the next handle, where one is left
 abbrev pub handle_left : ℕ → Option ℕ
@@ -70,7 +72,7 @@ handle_left next = if nat_lt next 4294967296 then Some next else None
 
 -- what the first due command decides, where there is one
 abbrev pub decided : Untaken → Decision
-decided u = if nat_lt u.times 20 then GivesCommand u.command else IsLost
+decided u = if nat_lt u.times most_sendings then GivesCommand u.command else IsLost
 
 abbrev pub first_decided : ℕ → List Untaken → Option Decision
 first_decided now us = option_map decided (first_due now us)
@@ -88,21 +90,10 @@ bytes_decided None = []
 bytes_decided (Some d) = due_bytes d
 
 -- The handle is the lowest due one from low on and below next; or none of them is due.
-abbrev pub IsLowestDue : ℕ → List (Option Kept) → ℕ → ℕ → Option ℕ → Type 0
+abbrev pub IsLowestDue : ℕ → List (Option Held) → ℕ → ℕ → Option ℕ → Type 0
 IsLowestDue now slots low next None = first_due now (untaken_from low (next - low) slots) ≡ None
-IsLowestDue now slots low next (Some h) = (low ≤ h) × (h < next) × (kept_is_due now (kept_at h slots) ≡ true)
-    × (first_due now (untaken_from low (next - low) slots) ≡ first_due now (untaken_at h (kept_at h slots)))
-
--- a test of moments that holds from this one on, and not before; or at none of 64 bits
-abbrev pub HoldsFrom : (ℕ → Bool) → Option ℕ → Type 0
-HoldsFrom test None = (s : ℕ) → s < 2 ^ 64 → test s ≡ false
-HoldsFrom test (Some m) = (s : ℕ) → s < 2 ^ 64 → test s ≡ nat_le m s
-
--- the earlier of two moments
-abbrev pub sooner : Option ℕ → Option ℕ → Option ℕ
-sooner None b = b
-sooner (Some m) None = Some m
-sooner (Some m) (Some n) = Some (min m n)
+IsLowestDue now slots low next (Some h) = (low ≤ h) × (h < next) × (held_is_due now (held_at h slots) ≡ true)
+    × (first_due now (untaken_from low (next - low) slots) ≡ first_due now (untaken_at h (held_at h slots)))
 
 -- a command is due
 abbrev pub some_due : List Untaken → ℕ → Bool
@@ -116,7 +107,7 @@ IsPlaceOf h low next (Some place) = (low ≤ h) × (h < next) × (place ≡ h % 
 -- The parameters of a response in a datagram have at most 1,452 bytes.
 abbrev pub IsShort : Msg → Type 0
 IsShort (Command respond c) = Unit {0}
-IsShort (Response r) = length r.params ≤ 1452
+IsShort (Response r) = length r.params ≤ most_parameter_bytes
 IsShort (KeepAlive form) = Unit {0}
 
 abbrev pub AreShort : List Msg → Type 0

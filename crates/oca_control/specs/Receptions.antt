@@ -33,7 +33,7 @@ pub record AnswersOfDevice (device from : Peer) (content : Option (List Msg)) (b
   pub content_is : content ≡ Some messages
   pub answers : AnswersSoMany device messages before n
 
--- What `datagram` answers: by the sender, then by the bytes, then by how many untaken commands it answered first.
+-- What `datagram` returns: by the sender, then by the bytes, then by how many untaken commands it answered first.
 abbrev pub IsReception : Peer → Peer → Option (List Msg) → List Call → Reception → Type 0
 IsReception device from content before receptions.Stranger = same_peer from device ≡ false
 IsReception device from content before receptions.Malformed = (same_peer from device ≡ true) × (content ≡ None)
@@ -43,9 +43,9 @@ IsReception device from content before (receptions.Answered n) = AnswersOfDevice
 -- EACH DATAGRAM is answered so.
 abbrev pub AnswersDatagrams : Peer → List Call → Type 0
 AnswersDatagrams device [] = ⊤
-AnswersDatagrams device (Receives from bytes content now answer ∷ before) = IsReception device from content before answer × AnswersDatagrams device before
-AnswersDatagrams device (Submits request now answer ∷ before) = AnswersDatagrams device before
-AnswersDatagrams device (GivesOut now answer bytes ∷ before) = AnswersDatagrams device before
+AnswersDatagrams device (Receives from bytes content now returned ∷ before) = IsReception device from content before returned × AnswersDatagrams device before
+AnswersDatagrams device (Submits request now returned ∷ before) = AnswersDatagrams device before
+AnswersDatagrams device (GivesOut now returned bytes ∷ before) = AnswersDatagrams device before
 AnswersDatagrams device (TakesAnswer h answer ∷ before) = AnswersDatagrams device before
 
 abbrev pub EveryDatagramIsCounted : Type 0

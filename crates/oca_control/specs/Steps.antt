@@ -6,9 +6,9 @@ use Rattle.oca_control.specs.declared.reception.Reception.{Reception}
 use Rattle.oca_control.specs.Contents.{IsContent}
 use Rattle.oca_control.specs.Links.{LinkState, reception, received}
 
--- The bytes have a content, and the answer and the link after it follow from that.
-pub record ReceivesDatagram (from : Peer) (bytes : List ℕ) (now : ℕ) (old : LinkState) (answer : Reception) (new : LinkState) : Type 0 where
+-- The bytes have a content, and what is returned and the link after it follow from that.
+pub record ReceivesDatagram (from : Peer) (bytes : List ℕ) (now : ℕ) (old : LinkState) (returned : Reception) (new : LinkState) : Type 0 where
   pub content : Option (List Msg)
   pub holds : IsContent content bytes
-  pub answer_is : answer ≡ reception from content old
+  pub answer_is : returned ≡ reception from content old
   pub link_is : new ≡ received from content now old

@@ -3,10 +3,11 @@ use Rattle.std.specs.Prelude.{ℕ, ◌+◌, ◌-◌, ◌==◌, nat_lt, nat_le, B
 use Rattle.std.specs.List.{list_any, list_all}
 use Rattle.oca_types.specs.Peers.{CommandFields}
 use Rattle.oca_pdu.specs.Messages.{Msg, Command, Response, KeepAlive}
+use Rattle.oca_control.specs.Limits.{repeat_time}
 use Rattle.oca_control.specs.Answers.{AnswerFields, answer_in}
 
--- A command, how often and when last it was given out, and its answer where one came. Moments are in milliseconds; the last
--- one of a command that was never given out says nothing.
+-- A command, how often and when last it was given out, and its answer where one came. Moments are in milliseconds; the
+-- last one of a command that was never given out says nothing.
 pub record Untaken : Type 0 where
   pub command : CommandFields
   pub times : ℕ
@@ -23,7 +24,7 @@ has_room s h us = list_all (λ u. nat_lt h (u.command.handle + s)) us
 
 -- A command is due while it is unanswered, and was never given out or was given out 250 ms ago or earlier.
 abbrev pub is_due : ℕ → Untaken → Bool
-is_due now u = is_none u.answer && (u.times == 0 || nat_le 250 (now - u.last))
+is_due now u = is_none u.answer && (u.times == 0 || nat_le repeat_time (now - u.last))
 
 -- the due command with the lowest handle
 abbrev pub first_due : ℕ → List Untaken → Option Untaken

@@ -1,7 +1,8 @@
 //! What a device answered.
 use oca_types::Params;
 
-/// What a device answered to a command (AES70-3): the number of the status, ParamCount, and the bytes of the parameters.
+/// What a device answered to a command (AES70-3): the number of the status, ParamCount, and the bytes of the
+/// parameters.
 #[derive(Debug, Drop)]
 pub struct Answer {
     /// The number of the status.

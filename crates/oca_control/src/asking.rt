@@ -13,13 +13,14 @@ use crate::outcome::Outcome;
 use oca_net::End;
 use oca_types::{Handle, Request};
 
-/// Submits a command, hands it to the end at once, and waits for its answer at most so many turns, of at most 50 ms each at a
-/// socket.
+/// Submits a command, hands it to the end at once, and waits for its answer at most so many turns, of at most 50 ms
+/// each at a socket.
 ///
-/// The command is submitted and given out at the link's own moment, the greatest that it was told: where the end was not asked
-/// for 250 ms or longer, the first turn may give it out once more. All else that is due at that moment is given out with it. What
-/// the link refuses changes nothing and asks the end nothing: `Lost` where the link is lost, else `Refused`. Then it is as
-/// [`wait_for`] says; a command that got no answer stays in the link, and can be waited for again.
+/// The command is submitted and given out at the link's own moment, the greatest that it was told: where the end was
+/// not asked for 250 ms or longer, the first turn may give it out once more. All else that is due at that moment is
+/// given out with it. What the link refuses changes nothing and asks the end nothing: `Lost` where the link is lost,
+/// else `Refused`. Then it is as [`wait_for`] says; a command that got no answer stays in the link, and can be waited
+/// for again.
 pub fn ask<E: End>(link: &mut Link, end: &mut E, request: Request<'_>, turns: u32) -> Outcome
     ensures asks { Asks (request_of request.entry) turns (submission (request_of request.entry) link.old) link.old result link.new (E.state end.old) (E.state end.new) }
     ensures receives { (E.state end.new).receives < last_u64 → AsksEnd turns result (E.state end.old).receives (E.state end.new).receives }
@@ -41,8 +42,9 @@ pub fn ask<E: End>(link: &mut Link, end: &mut E, request: Request<'_>, turns: u3
 
 /// Waits for the answer under this handle, and takes it: looks for it first, then drives the link a turn at a time.
 ///
-/// `Answered` as soon as the answer is there; `Lost` as soon as the link is lost and no answer is there; `Unanswered` after so
-/// many turns, each of which receives once (at a closed end too). A handle that the link does not hold is waited for in vain.
+/// `Answered` as soon as the answer is there; `Lost` as soon as the link is lost and no answer is there; `Unanswered`
+/// after so many turns, each of which receives once (at a closed end too). A handle that the link does not hold is
+/// waited for in vain.
 pub fn wait_for<E: End>(link: &mut Link, end: &mut E, handle: Handle, turns: u32) -> Outcome
     ensures waits { Waits handle.0 turns link.old result link.new (E.state end.old) (E.state end.new) }
     ensures receives { (E.state end.new).receives < last_u64 → AsksEnd turns result (E.state end.old).receives (E.state end.new).receives }

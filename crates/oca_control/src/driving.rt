@@ -12,12 +12,13 @@ use crate::report::DriveReport;
 use oca_net::{End, Heard};
 use oca_types::{Packet, Peer};
 
-/// Drives a link over an end for at most so many turns, and answers what was done.
+/// Drives a link over an end for at most so many turns, and returns what was done.
 ///
-/// A turn receives once. A datagram goes to the link. Then, at a datagram, at silence and at an oversize datagram, what is
-/// due is handed to the end, for the device, until `due` answers `Nothing` or `Lost`, and at most once more than the span
-/// has handles; where a send fails, it is counted. A failed receive does nothing else. The loop ends at Closed, which is no turn
-/// and after which it receives nothing, after a turn in which `due` answers `Lost`, or after the turns.
+/// A turn receives once. A datagram goes to the link. Then, at a datagram, at silence and at an oversize datagram, what
+/// is due is handed to the end, for the device, until `due` returns `Nothing` or `Lost`, and at most once more than the
+/// span has handles; where a send fails, it is counted. A failed receive does nothing else. The loop ends at Closed,
+/// which is no turn and after which it receives nothing, after a turn in which `due` returns `Lost`, or after the
+/// turns.
 pub fn drive<E: End>(link: &mut Link, end: &mut E, turns: u32) -> DriveReport
     ensures driven { DrivesEnd link.old link.new (E.state end.old) (E.state end.new) result }
     ensures turns { result.turns ≤ turns }
@@ -41,10 +42,11 @@ pub fn drive<E: End>(link: &mut Link, end: &mut E, turns: u32) -> DriveReport
     report
 }
 
-/// Hands the end all that is due at this moment, for the device, and answers what was handed over; `turns` is 0.
+/// Hands the end all that is due at this moment, for the device, and returns what was handed over; `turns` is 0.
 ///
-/// `due` is called at this moment until it answers `Nothing` or `Lost`, and at most once more than the span has handles. Where a
-/// send fails, it is counted. Nothing is received. A moment that is earlier than one already seen counts as the one already seen.
+/// `due` is called at this moment until it returns `Nothing` or `Lost`, and at most once more than the span has
+/// handles. Where a send fails, it is counted. Nothing is received. A moment that is earlier than one already seen
+/// counts as the one already seen.
 pub fn give_out<E: End>(link: &mut Link, end: &mut E, now: u64) -> DriveReport
     ensures { GivesOut now (link.old.span + 1) link.old link.new (E.state end.old) (E.state end.new) result }
 {
@@ -52,7 +54,7 @@ pub fn give_out<E: End>(link: &mut Link, end: &mut E, now: u64) -> DriveReport
     give_all(link, end, &mut packet, now)
 }
 
-/// Receives once, and does what there is to do. Answers what it did, or nothing at Closed.
+/// Receives once, and does what there is to do. Returns what it did, or nothing at Closed.
 fn take_turn<E: End>(link: &mut Link, end: &mut E, packet: &mut Packet) -> Option<DriveReport>
     ensures turn { TakesTurn link.old link.new (E.state end.old) (E.state end.new) result }
     ensures fits { IfSome result (IsWithin 4294967295) }
@@ -95,7 +97,7 @@ fn count_of(reception: Reception) -> u64
     }
 }
 
-/// Hands what is due at this moment to the end, for the device, and answers what was handed over.
+/// Hands what is due at this moment to the end, for the device, and returns what was handed over.
 fn give_all<E: End>(link: &mut Link, end: &mut E, packet: &mut Packet, now: u64) -> DriveReport
     ensures gives { GivesOut now (link.old.span + 1) link.old link.new (E.state end.old) (E.state end.new) result }
     ensures fits { IsWithin 4294967295 result }
@@ -112,8 +114,8 @@ fn give_all<E: End>(link: &mut Link, end: &mut E, packet: &mut Packet, now: u64)
     report
 }
 
-/// Calls `due` once, and hands what it gives to the end, for the device. Answers whether it gave anything, and what was handed
-/// over.
+/// Calls `due` once, and hands what it gives to the end, for the device. Returns whether it gave anything, and what was
+/// handed over.
 fn give_one<E: End>(
     link: &mut Link,
     end: &mut E,
@@ -152,7 +154,7 @@ fn give_one<E: End>(
     }
 }
 
-/// Sends a datagram, and answers how many sends failed.
+/// Sends a datagram, and returns how many sends failed.
 fn send<E: End>(end: &mut E, to: Peer, packet: &Packet) -> u64
     ensures sends { SendsAllBut result (E.state end.old) (E.state end.new) ((record { to = to; bytes = packet.now.items }) ∷ []) }
     ensures few { result ≤ 1 }

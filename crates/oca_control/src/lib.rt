@@ -1,9 +1,9 @@
-//! The controller's link to a device: commands with their handles, their repeats and their answers, and keep-alives, over
-//! the datagrams of OCP.1 (AES70-3).
+//! The controller's link to a device: commands with their handles, their repeats and their answers, and keep-alives,
+//! over the datagrams of OCP.1 (AES70-3).
 //!
-//! Begin with [`Link`], which opens no socket and reads no clock: it is given datagrams and moments, and gives out datagrams.
-//! Over an end of a network [`ask`] sends a command and waits for its answer, [`give_out`] sends what is due, and [`drive`] runs the
-//! link for many turns. Nothing here takes memory.
+//! Begin with [`Link`], which opens no socket and reads no clock: it is given datagrams and moments, and gives out
+//! datagrams. Over an end of a network [`ask`] sends a command and waits for its answer, [`give_out`] sends what is
+//! due, and [`drive`] runs the link for many turns. Nothing here takes memory.
 #![tactic(auto)]
 
 mod answer;

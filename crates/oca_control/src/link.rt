@@ -4,6 +4,7 @@ ghost use Rattle.std.specs.Option.{option_map};
 ghost use Rattle.oca_types.specs.Peers.{RequestFields};
 ghost use Rattle.oca_types.specs.Sizes.{span_size};
 ghost use Rattle.oca_pdu.specs.Messages.{Msg, msg_of};
+ghost use Rattle.oca_pdu.specs.Limits.{most_messages};
 ghost use Rattle.oca_pdu.specs.Datagrams.{messages_left};
 ghost use Rattle.oca_control.specs.Answers.{answer_fields};
 ghost use Rattle.oca_control.specs.Contents.{IsContent};
@@ -15,11 +16,13 @@ ghost use Rattle.oca_control.specs.PrivateSlots.{AreShort, IsShort};
 use crate::answer::Answer;
 use crate::due::Due;
 use crate::fault::ControlFault;
-use crate::moments::{later, latest, sooner};
+use crate::moments::{later, latest};
 use crate::reception::Reception;
 use crate::table::Table;
 use oca_pdu::{Form, Message, Messages, check, write_keepalive};
-use oca_types::{Handle, MOST_COMMAND_PARAMETER_BYTES, MethodId, Ono, Packet, Peer, Request, Span};
+use oca_types::{
+    Handle, MOST_COMMAND_PARAMETER_BYTES, MethodId, Ono, Packet, Peer, Request, Span, sooner,
+};
 use std::marker::Model;
 
 /// A keep-alive is given out after so many milliseconds without anything.
@@ -27,10 +30,11 @@ const KEEP_ALIVE_MS: u64 = 2500;
 
 /// A controller's link to one device.
 ///
-/// Commands are submitted and get handles that rise by one. What is due is given out, a command again each 250 ms until its
-/// answer comes, and keep-alives in silence. Answers come in with the device's datagrams, and are taken by handle. A command
-/// that got no answer to 20 sendings loses the link. Moments are in milliseconds; one that is earlier than a moment already
-/// seen counts as the one already seen. No call takes memory: the commands, at most 32, lie in the link itself.
+/// Commands are submitted and get handles that rise by one. What is due is given out, a command again each 250 ms until
+/// its answer comes, and keep-alives in silence. Answers come in with the device's datagrams, and are taken by handle.
+/// A command that got no answer to 20 sendings loses the link. Moments are in milliseconds; one that is earlier than a
+/// moment already seen counts as the one already seen. No call takes memory: the commands, at most 32, lie in the link
+/// itself.
 #[derive(Drop)]
 pub struct Link {
     device: Peer,
@@ -78,11 +82,11 @@ impl Link {
         }
     }
 
-    /// Submits a command, to be given out when it is due, and answers its handle (AES70-3). `count` is ParamCount.
+    /// Submits a command, to be given out when it is due, and returns its handle (AES70-3). `count` is ParamCount.
     ///
-    /// Refusals, in this order, each of which changes nothing and keeps no moment: `Lost`; `HandlesSpent`, after the handle
-    /// 4294967295; `SpanFull`, where the next handle is not below the lowest untaken one plus the span; `TooLong`, above
-    /// 1,445 bytes of parameters.
+    /// Refusals, in this order, each of which changes nothing and keeps no moment: `Lost`; `HandlesSpent`, after the
+    /// handle 4294967295; `SpanFull`, where the next handle is not below the lowest untaken one plus the span;
+    /// `TooLong`, above 1,445 bytes of parameters.
     pub fn submit(
         &mut self,
         target: Ono,
@@ -118,9 +122,9 @@ impl Link {
         Ok(handle)
     }
 
-    /// Gives out what is due into the packet, which it empties first: the due command with the lowest handle, with unchanged
-    /// bytes, or a keep-alive of 5 seconds where nothing was given out for 2,500 ms. A command is due while it is unanswered,
-    /// and was never given out or was given out 250 ms ago or earlier.
+    /// Gives out what is due into the packet, which it empties first: the due command with the lowest handle, with
+    /// unchanged bytes, or a keep-alive of 5 seconds where nothing was given out for 2,500 ms. A command is due while
+    /// it is unanswered, and was never given out or was given out 250 ms ago or earlier.
     ///
     /// `Lost` where that command was given out 20 times, and from then on. The packet is empty at `Nothing` and `Lost`.
     pub fn due(&mut self, now: u64, packet: &mut Packet) -> Due
@@ -153,9 +157,9 @@ impl Link {
         }
     }
 
-    /// Takes a datagram that came from this address, and answers what became of it. The address is looked at first, then
-    /// the grammar (AES70-3); the responses are taken in order. A response is stored where its handle is that of an untaken
-    /// command without an answer; commands and keep-alives are ignored. The moment is kept in all cases.
+    /// Takes a datagram that came from this address, and returns what became of it. The address is looked at first,
+    /// then the grammar (AES70-3); the responses are taken in order. A response is stored where its handle is that of
+    /// an untaken command without an answer; commands and keep-alives are ignored. The moment is kept in all cases.
     pub fn datagram(&mut self, from: Peer, bytes: &[u8], now: u64) -> Reception
         ensures receives { ReceivesDatagram from bytes.now now self.old result self.new }
         ensures answer { (content : Option (List Msg)) → IsContent content bytes.now → result ≡ reception from content self.old }
@@ -174,7 +178,8 @@ impl Link {
         }
     }
 
-    /// Takes the answer under this handle, and the command with it. `None` where there is no answer, which changes nothing.
+    /// Takes the answer under this handle, and the command with it. `None` where there is no answer, which changes
+    /// nothing.
     pub fn take(&mut self, handle: Handle) -> Option<Answer>
         ensures answer { option_map answer_fields result ≡ answer_under handle.0 self.old.untaken }
         ensures link { self.new ≡ taken handle.0 self.old }
@@ -182,8 +187,8 @@ impl Link {
         self.table.take(handle)
     }
 
-    /// The earliest moment, not before the link's own, at which [`due`](Link::due) answers anything but `Nothing`: a loop may wait
-    /// until then. `None` where that lies beyond 64 bits.
+    /// The earliest moment, not before the link's own, at which [`due`](Link::due) returns anything but `Nothing`: a
+    /// loop may wait until then. `None` where that lies beyond 64 bits.
     pub fn next_due(&self) -> Option<u64>
         ensures { MatchOption result (NeverIsDue self.now) (λ t. IsNextDue self.now t) }
     {
@@ -203,17 +208,17 @@ impl Link {
         self.table.answered()
     }
 
-    /// The moment at which the last well-formed datagram came from the device, and at first that of the link's making. A datagram
-    /// from another address does not move it, nor one that is not well-formed. A device echoes each keep-alive, so at a device that
-    /// is there it lags by little more than 2,500 ms while the link is driven.
+    /// The moment at which the last well-formed datagram came from the device, and at first that of the link's making.
+    /// A datagram from another address does not move it, nor one that is not well-formed. A device echoes each
+    /// keep-alive, so at a device that is there it lags by little more than 2,500 ms while the link is driven.
     pub fn last_heard(&self) -> u64
         ensures { result ≡ self.now.heard }
     {
         self.heard
     }
 
-    /// Whether the link is lost: a command got no answer to 20 sendings. It stays so, and gives nothing out any more; answers that
-    /// still come are taken as before.
+    /// Whether the link is lost: a command got no answer to 20 sendings. It stays so, and gives nothing out any more;
+    /// answers that still come are taken as before.
     pub fn is_lost(&self) -> bool
         ensures { result ≡ self.now.lost }
     {
@@ -248,9 +253,9 @@ fn counted(answered: u32) -> Reception
     }
 }
 
-/// Takes the responses among the messages in, and answers how many commands they answer.
+/// Takes the responses among the messages in, and returns how many commands they answer.
 fn hear_all(table: &mut Table, messages: Messages<'_>) -> u32
-    requires few { length (messages_left messages) ≤ 146 }
+    requires few { length (messages_left messages) ≤ most_messages }
     requires short { AreShort (messages_left messages) }
     ensures answered { result ≡ answers_by_all (messages_left messages.entry) table.old.untaken }
     ensures table { table.new ≡ record { next = table.old.next; untaken = hears_all (messages_left messages.entry) table.old.untaken } }
@@ -264,7 +269,7 @@ fn hear_all(table: &mut Table, messages: Messages<'_>) -> u32
     answered
 }
 
-/// Takes a message in, and answers whether it is a response that a command waited for.
+/// Takes a message in, and returns whether it is a response that a command waited for.
 fn hear(table: &mut Table, message: Message<'_>) -> bool
     requires { IsShort (msg_of message) }
     ensures answered { (if result then 1 else 0) ≡ answers_by (msg_of message.entry) table.old.untaken }

@@ -1,6 +1,6 @@
 //! Moments from which on something is due, in milliseconds.
 ghost use Rattle.std.specs.Prelude.{◌≡◌, ◌-◌, ◌<◌, ◌^◌, max, nat_le};
-ghost use Rattle.oca_control.specs.PrivateSlots.{HoldsFrom};
+ghost use Rattle.oca_types.specs.Moments.{HoldsFrom};
 
 /// So many milliseconds after a moment; nothing where that lies beyond 64 bits.
 pub fn later(moment: u64, by: u64) -> Option<u64>
@@ -16,15 +16,4 @@ pub fn latest(a: u64, b: u64) -> u64
     ensures fits { result < 2 ^ 64 }
 {
     a.max(b)
-}
-
-/// The earlier of two moments.
-pub fn sooner(a: Option<u64>, b: Option<u64>) -> Option<u64>
-    ensures { result ≡ Rattle.oca_control.specs.PrivateSlots.sooner a b }
-{
-    match (a, b) {
-        (Some(m), Some(n)) => Some(m.min(n)),
-        (Some(m), None) => Some(m),
-        (None, b) => b,
-    }
 }

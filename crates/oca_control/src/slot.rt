@@ -3,11 +3,13 @@ ghost use Rattle.std.specs.Prelude.{◌≡◌, ◌<◌, ◌≤◌, [], ◌∷◌
 ghost use Rattle.std.specs.Option.{option_map};
 ghost use Rattle.oca_types.specs.Peers.{request_of};
 ghost use Rattle.oca_types.specs.Sizes.{most_command_parameter_bytes, most_parameter_bytes};
+ghost use Rattle.oca_types.specs.Moments.{HoldsFrom};
 ghost use Rattle.oca_pdu.specs.Messages.{Commands};
 ghost use Rattle.oca_pdu.specs.Encoding.{pdu_encoding};
+ghost use Rattle.oca_control.specs.Limits.{most_sendings};
 ghost use Rattle.oca_control.specs.Answers.{answer_fields};
 ghost use Rattle.oca_control.specs.Links.{command_under};
-ghost use Rattle.oca_control.specs.PrivateSlots.{new_kept, kept_is_due, kept_waits, kept_answer, kept_given, kept_answered, HoldsFrom};
+ghost use Rattle.oca_control.specs.PrivateSlots.{new_held, held_is_due, held_waits, held_answer, held_given, held_answered};
 
 use crate::answer::Answer;
 use crate::moments::later;
@@ -41,9 +43,9 @@ pub struct Slot {
 impl Model for Slot {
     ghost use Rattle.std.specs.Prelude.{Option, Some, None, if◌then◌else◌};
     ghost use Rattle.oca_control.specs.Answers.{answer_fields};
-    ghost use Rattle.oca_control.specs.PrivateSlots.{Kept};
+    ghost use Rattle.oca_control.specs.PrivateSlots.{Held};
 
-    ghost Value = { Option Kept };
+    ghost Value = { Option Held };
 
     ghost view = { λ s. if s.held then Some (record {
       request = record { target = s.target.0; level = s.method.level; index = s.method.index; count = s.count; params = s.params.items };
@@ -84,17 +86,17 @@ impl Slot {
 
     /// Whether a command is held and due.
     pub fn is_due(&self, now: u64) -> bool
-        ensures { result ≡ kept_is_due now self.now }
+        ensures { result ≡ held_is_due now self.now }
     {
         self.held
             && !self.answered
             && (self.times == 0 || now.saturating_sub(self.last) >= REPEAT_MS)
     }
 
-    /// From which moment on the command is due: from the first on where it was never given out, else 250 ms after it last was.
-    /// Nothing where that lies beyond 64 bits, or no command waits.
+    /// From which moment on the command is due: from the first on where it was never given out, else 250 ms after it
+    /// last was. Nothing where that lies beyond 64 bits, or no command waits.
     pub fn due_from(&self) -> Option<u64>
-        ensures { HoldsFrom (λ s. kept_is_due s self.now) result }
+        ensures { HoldsFrom (λ s. held_is_due s self.now) result }
     {
         if !self.waits() {
             return None;
@@ -107,21 +109,21 @@ impl Slot {
 
     /// Whether the command has its answer.
     pub fn is_answered(&self) -> bool
-        ensures { result ≡ is_some (kept_answer self.now) }
+        ensures { result ≡ is_some (held_answer self.now) }
     {
         self.held && self.answered
     }
 
     /// Whether a command is held and has no answer.
     pub fn waits(&self) -> bool
-        ensures { result ≡ kept_waits self.now }
+        ensures { result ≡ held_waits self.now }
     {
         self.held && !self.answered
     }
 
     /// Whether the command may be given out once more.
     pub fn may_repeat(&self) -> bool
-        ensures { IfSome self.now (λ k. result ≡ nat_lt k.times 20) }
+        ensures { IfSome self.now (λ k. result ≡ nat_lt k.times most_sendings) }
     {
         self.times < MOST_SENDINGS
     }
@@ -129,7 +131,7 @@ impl Slot {
     /// Puts a command in.
     pub fn put(&mut self, request: Request<'_>)
         requires { length request.params.now ≤ most_command_parameter_bytes }
-        ensures { self.new ≡ Some (new_kept (request_of request.entry)) }
+        ensures { self.new ≡ Some (new_held (request_of request.entry)) }
     {
         self.held = true;
         self.answered = false;
@@ -144,10 +146,10 @@ impl Slot {
 
     /// Gives the command out once more, under its handle.
     pub fn give_out(&mut self, handle: Handle, now: u64, packet: &mut Packet)
-        requires few { IsSomeAnd self.old (λ k. k.times < 20) }
+        requires few { IsSomeAnd self.old (λ k. k.times < most_sendings) }
         requires empty { packet.old.items ≡ [] }
         ensures packet { IfSome self.old (λ k. packet.new.items ≡ pdu_encoding (Commands true (command_under handle.0 k.request ∷ []))) }
-        ensures slot { self.new ≡ option_map (kept_given now) self.old }
+        ensures slot { self.new ≡ option_map (held_given now) self.old }
     {
         let command = Command {
             handle,
@@ -164,7 +166,7 @@ impl Slot {
     /// Stores the answer.
     pub fn store(&mut self, status: u8, count: u8, params: &[u8])
         requires { length params.now ≤ most_parameter_bytes }
-        ensures { self.new ≡ option_map (kept_answered (record { status = status; count = count; params = params.now })) self.old }
+        ensures { self.new ≡ option_map (held_answered (record { status = status; count = count; params = params.now })) self.old }
     {
         self.answered = true;
         self.answer.status = status;
@@ -175,8 +177,8 @@ impl Slot {
 
     /// Takes the answer, where there is one, and the command with it.
     pub fn take(&mut self) -> Option<Answer>
-        ensures answer { option_map answer_fields result ≡ kept_answer self.old }
-        ensures slot { self.new ≡ (if is_some (kept_answer self.old) then None else self.old) }
+        ensures answer { option_map answer_fields result ≡ held_answer self.old }
+        ensures slot { self.new ≡ (if is_some (held_answer self.old) then None else self.old) }
     {
         if !self.is_answered() {
             return None;

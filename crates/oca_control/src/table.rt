@@ -4,21 +4,21 @@ ghost use Rattle.std.specs.List.{list_any};
 ghost use Rattle.std.specs.Option.{option_map};
 ghost use Rattle.oca_types.specs.Peers.{request_of};
 ghost use Rattle.oca_types.specs.Sizes.{most_command_parameter_bytes, most_parameter_bytes};
+ghost use Rattle.oca_types.specs.Moments.{HoldsFrom};
 ghost use Rattle.oca_control.specs.Answers.{answer_fields};
 ghost use Rattle.oca_control.specs.Untaken.{new_untaken, has_room, first_due, waits, answered, first_answered, answer_under, without_handle};
 ghost use Rattle.oca_control.specs.Links.{command_under, due_answer};
-ghost use Rattle.oca_control.specs.PrivateSlots.{IsTable, untaken_from, untaken_at, kept_at, kept_is_due, some_due, HoldsFrom, handle_left, first_decided, after_decision, bytes_decided, IsLowestDue, IsPlaceOf};
+ghost use Rattle.oca_control.specs.PrivateSlots.{IsTable, untaken_from, untaken_at, held_at, held_is_due, some_due, handle_left, first_decided, after_decision, bytes_decided, IsLowestDue, IsPlaceOf};
 
 use crate::answer::Answer;
 use crate::due::Due;
-use crate::moments::sooner;
 use crate::slot::Slot;
-use oca_types::{Handle, Packet, Request};
+use oca_types::{Handle, Packet, Request, sooner};
 use std::marker::Model;
 
-/// The untaken commands of a link. They have handles from `low` on and below `next`, at most 32 of them, and the command
-/// of a handle lies in the slot of this handle modulo 32: it is found by its place. `next` is 4294967296 where no handle
-/// is left.
+/// The untaken commands of a link. They have handles from `low` on and below `next`, at most 32 of them, and the
+/// command of a handle lies in the slot of this handle modulo 32: it is found by its place. `next` is 4294967296 where
+/// no handle is left.
 #[derive(Drop)]
 pub struct Table {
     low: u64,
@@ -77,7 +77,7 @@ impl Table {
         self.next += 1;
     }
 
-    /// Gives the due command with the lowest handle out, or answers that it was given out 20 times. Nothing where no
+    /// Gives the due command with the lowest handle out, or says that it was given out 20 times. Nothing where no
     /// command is due.
     pub fn give_first(&mut self, now: u64, packet: &mut Packet) -> Option<Due>
         requires { packet.old.items ≡ [] }
@@ -114,7 +114,7 @@ impl Table {
         }
     }
 
-    /// Stores an answer, and answers whether a command waited for it.
+    /// Stores an answer, and returns whether a command waited for it.
     pub fn answer(&mut self, handle: Handle, status: u8, count: u8, params: &[u8]) -> bool
         requires { length params.now ≤ most_parameter_bytes }
         ensures new { result ≡ list_any (waits handle.0) self.old.untaken }
@@ -145,7 +145,8 @@ impl Table {
     }
 }
 
-/// From which moment on a command is due of those from `low` on and below `next`, where there is such a moment.
+/// Apart from the method, since a loop over the slots leaves the table closed: from which moment on a command is due of
+/// those from `low` on and below `next`, where there is such a moment.
 fn due_from(slots: &[Slot; 32], low: u64, next: u64) -> Option<u64>
     requires { low ≤ next }
     ensures { HoldsFrom (some_due (untaken_from low (next - low) slots.now)) result }
@@ -209,7 +210,7 @@ fn lowest_held(slots: &[Slot; 32], low: u64, next: u64) -> u64
     requires { low ≤ next }
     ensures above { low ≤ result }
     ensures below { result ≤ next }
-    ensures held { result < next → kept_at result slots.now ≡ None → ⊥ }
+    ensures held { result < next → held_at result slots.now ≡ None → ⊥ }
     ensures same { untaken_from result (next - result) slots.now ≡ untaken_from low (next - low) slots.now }
 {
     for handle in low..next {

@@ -1,7 +1,7 @@
 -- Groups of answers, and their packets.
 use Rattle.std.proofs.Common.{◌≡◌, ℕ, ◌+◌, ◌≤◌, ◌<◌, Bool, true, false, cond, List, [], ◌∷◌, ◌++◌, length, refl, sym, ap, ◌∙◌, subst, arith}
 use Rattle.std.specs.Prelude.{map, nat_le, ◌-◌, ◌↔◌, slice_index_or, slice_set, take, Result, Ok, Err, IsOk, OnOk, OnErr, is_ok}
-use Rattle.std.proofs.lemmas.Bool.Decides.{nat_tests}
+use Rattle.std.proofs.lemmas.Bool.{le-leb, leb-true}
 use Rattle.std.proofs.lemmas.List.{append_assoc, take_more, length-append, map-append}
 use Rattle.std.proofs.lemmas.Grind.{take-set_at}
 use Rattle.oca_pdu.specs.declared.message.Form.{Form}
@@ -77,18 +77,12 @@ ended (p ∷ groups) (y ∷ xs) x e =
 
 -- ---- a response joins a packet of responses, or begins one
 
-at_most : (n : ℕ) → n ≤ 1472 → nat_le n 1472 ≡ true
-at_most n h = grind (arith, nat_tests)
-
-is_at_most : (n : ℕ) → nat_le n 1472 ≡ true → n ≤ 1472
-is_at_most n h = grind (arith, nat_tests)
-
 module _ {X Y : Type 0} (rs : List ResponseFields) (r : ResponseFields) (old new : List ℕ) where
   pub extended : (result : Result X Y) → (IsOk result ↔ (responses_size (rs ++ r ∷ []) ≤ 1472)) → OnOk result (IsResponses (rs ++ r ∷ []) new) → OnErr result (new ≡ old) →
       Joins (is_ok result) (Responses rs) (Response r) old new
   extended (Ok x) size ok err = (
     Responses (rs ++ r ∷ []),
-    ap (λ b. cond b (Responses (rs ++ r ∷ []) ∷ []) (Responses rs ∷ Responses (r ∷ []) ∷ [])) (at_most (responses_size (rs ++ r ∷ [])) (size.0 refl)),
+    ap (λ b. cond b (Responses (rs ++ r ∷ []) ∷ []) (Responses rs ∷ Responses (r ∷ []) ∷ [])) (le-leb (responses_size (rs ++ r ∷ [])) 1472 (size.0 refl)),
     ok,
   )
   extended (Err x) size ok err = (by (nat_le (responses_size (rs ++ r ∷ [])) 1472) refl, err)
@@ -98,7 +92,7 @@ module _ {X Y : Type 0} (rs : List ResponseFields) (r : ResponseFields) (old new
 
       by : (b : Bool) → nat_le (responses_size (rs ++ r ∷ [])) 1472 ≡ b →
           cond b (Responses (rs ++ r ∷ []) ∷ []) (Responses rs ∷ Responses (r ∷ []) ∷ []) ≡ Responses rs ∷ Responses (r ∷ []) ∷ []
-      by true e = absurd (never (size.1 (is_at_most (responses_size (rs ++ r ∷ [])) e)))
+      by true e = absurd (never (size.1 (leb-true (responses_size (rs ++ r ∷ [])) 1472 e)))
       by false e = refl
 
 -- the last of some packets, and what it is set to

@@ -4,7 +4,7 @@ use Rattle.std.specs.Prelude.{nat_le, not, ◌||◌, map, filter, is_some}
 use Rattle.std.specs.List.{list_any, slice_get}
 use Rattle.std.specs.Option.{option_and_then}
 use Rattle.std.proofs.lemmas.List.Sums.{sum_by-cons}
-use Rattle.std.proofs.lemmas.Bool.Decides.{nat_tests}
+use Rattle.std.proofs.lemmas.Bool.{le-leb, lt-leb}
 use Rattle.oca_types.specs.declared.words.Peer.{Peer}
 use Rattle.oca_types.specs.Peers.{same_peer}
 use Rattle.oca_types.specs.Sizes.{DeviceSizes}
@@ -12,7 +12,9 @@ use Rattle.oca_tree.specs.declared.object.Object.{Object}
 use Rattle.oca_tree.specs.declared.object.Lock.{Lock}
 use Rattle.oca_tree.specs.Locks.{is_held_by, without_lock_of, released, lock_of_one, lock_count}
 use Rattle.oca_session.specs.Table.{Session, Table, stays, staying, lapsed}
-use Rattle.oca_session.specs.Lapses.{HoldsFrom, forgets, lapses}
+use Rattle.oca_types.specs.Moments.{HoldsFrom}
+use Rattle.oca_types.proofs.MomentTests.{same_test}
+use Rattle.oca_session.specs.Lapses.{forgets, lapses}
 use Rattle.oca_device.specs.States.{State, released_all, lapsed_at, moved_to}
 use Rattle.oca_device.specs.Devices.{table_of}
 use Rattle.oca_device.specs.Lapses.{TickKeeps, IsNextLapse, NeverLapses}
@@ -140,10 +142,6 @@ releases_more ss t tree i within = ap (λ (n : ℕ). releases (take n tree) ss t
     after : (n : ℕ) → n + 1 ≡ suc n
     after n = omega arith
 
-same_test : (f g : ℕ → Bool) (o : Option ℕ) → ((t : ℕ) → g t ≡ f t) → HoldsFrom f o → HoldsFrom g o
-same_test f g None same p = λ t below. same t ∙ p t below
-same_test f g (Some m) same p = λ t below. same t ∙ p t below
-
 pub lock_there : (tree : List Object) (ss : List Session) (i : ℕ) (l : Lock) (o : Option ℕ) → i < length tree → Some l ≡ lock_in tree i →
     HoldsFrom (λ t. releases (take i tree) ss t || lapses l.holder ss t) o → HoldsFrom (releases (take (i + 1) tree) ss) o
 lock_there tree ss i l o within e h =
@@ -239,17 +237,11 @@ module _ (w : DeviceSizes) (s : State) where
       differs : true ≡ false → ⊥
       differs e = cc
 
-  reached : (m t : ℕ) → m ≤ t → nat_le m t ≡ true
-  reached m t le = grind (arith, nat_tests)
-
-  unreached : (m t : ℕ) → t < m → nat_le m t ≡ false
-  unreached m t lt = grind (arith, nat_tests)
-
   some_lapse : (first t : ℕ) → HoldsFrom changes_at (Some first) → t ≡ max first s.moment → t < 2 ^ 64 → IsNextLapse w s t
   some_lapse first t h e fits = record {
     own = omega arith;
-    changes = alters t (omega arith) (h t fits ∙ reached first t (omega arith));
-    earlier = λ u own below. keeps u own (h u (omega arith) ∙ unreached first u (omega arith));
+    changes = alters t (omega arith) (h t fits ∙ le-leb first t (omega arith));
+    earlier = λ u own below. keeps u own (h u (omega arith) ∙ lt-leb first u (omega arith));
   }
 
   no_lapse : HoldsFrom changes_at None → NeverLapses w s

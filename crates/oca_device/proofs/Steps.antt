@@ -1,7 +1,7 @@
 -- Noted each step of serving does to a device that is in a state.
 use Rattle.std.proofs.Common.{◌≡◌, ℕ, ◌+◌, ◌≤◌, ◌<◌, Bool, true, false, cond, List, [], ◌∷◌, ◌++◌, length, refl, sym, ap, ◌∙◌, subst, arith}
 use Rattle.std.specs.Prelude.{min, max, nat_lt, ◌||◌, IfSome, Option, Some, None, IsSome, Result, Ok}
-use Rattle.std.proofs.lemmas.Bool.Decides.{nat_tests}
+use Rattle.std.proofs.lemmas.Bool.{lt-ltb, le-ltb}
 use Rattle.std.proofs.lemmas.List.{append_assoc, append-nil, length-map, map-append}
 use Rattle.oca_types.specs.declared.words.Peer.{Peer}
 use Rattle.oca_types.specs.Sizes.{DeviceSizes}
@@ -84,12 +84,6 @@ admitted_new : (w : DeviceSizes) (s : State) (p : Peer) (ms : List Msg) → is_k
     with_moment_and_sessions (table_of w s) s.moment ((table_of w s).sessions ++ opened_session w.window p s.moment ∷ []) ≡ table_of w (noted p (Admitted ms) s)
 admitted_new w s p ms k = ap (table_at w s.moment) (table_opened w s p ms k)
 
-room : (a n : ℕ) → a < n → nat_lt a n ≡ true
-room a n h = grind (arith, nat_tests)
-
-no_room : (a n : ℕ) → n ≤ a → nat_lt a n ≡ false
-no_room a n h = grind (arith, nat_tests)
-
 count_known : (w : DeviceSizes) (s : State) (old : Table) → old ≡ table_of w s → length old.sessions ≡ length (known s.moment s.notes)
 count_known w s old was = ap (λ (x : Table). length x.sessions) was ∙ length-map (known s.moment s.notes) (session_for w s.notes)
 
@@ -121,7 +115,7 @@ hears_opened w s p t old new was now h =
     let k = new_there w s p old was h.0 in
     let few : length (known s.moment s.notes) < w.peers =
     subst (λ (n : ℕ). n < w.peers) (count_known w s old was) (subst (λ (n : ℕ). length old.sessions < n) (ap (λ (x : Table). x.sizes.peers) was) h.1) in (
-      sym (ap (λ b. b || nat_lt (length (known s.moment s.notes)) w.peers) k ∙ room (length (known s.moment s.notes)) w.peers few),
+      sym (ap (λ b. b || nat_lt (length (known s.moment s.notes)) w.peers) k ∙ lt-ltb (length (known s.moment s.notes)) w.peers few),
       λ ms. h.2 ∙ ap (λ (u : ℕ). with_moment_and_sessions old u (old.sessions ++ opened_session old.sizes.window p u ∷ [])) now
           ∙ ap (λ (x : Table). with_moment_and_sessions x s.moment (x.sessions ++ opened_session x.sizes.window p s.moment ∷ [])) was
           ∙ admitted_new w s p ms k,
@@ -133,7 +127,7 @@ hears_no_room w s p t old new was now h =
     let k = new_there w s p old was h.0 in
     let many : w.peers ≤ length (known s.moment s.notes) =
     subst (λ (n : ℕ). w.peers ≤ n) (count_known w s old was) (subst (λ (n : ℕ). n ≤ length old.sessions) (ap (λ (x : Table). x.sizes.peers) was) h.1) in (
-      sym (ap (λ b. b || nat_lt (length (known s.moment s.notes)) w.peers) k ∙ no_room (length (known s.moment s.notes)) w.peers many),
+      sym (ap (λ b. b || nat_lt (length (known s.moment s.notes)) w.peers) k ∙ le-ltb (length (known s.moment s.notes)) w.peers many),
       h.2 ∙ ap (λ (u : ℕ). with_moment_and_sessions old u old.sessions) now ∙ ap (λ (x : Table). with_moment_and_sessions x s.moment x.sessions) was,
     )
 

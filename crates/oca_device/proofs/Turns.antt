@@ -1,7 +1,7 @@
 -- Deliveries, replies and reports of one turn and of several.
 use Rattle.std.proofs.Common.{◌≡◌, ℕ, ◌+◌, ◌≤◌, ◌<◌, Bool, true, false, cond, List, [], ◌∷◌, ◌++◌, length, refl, sym, ap, ◌∙◌, subst, arith, length-append}
 use Rattle.std.specs.Prelude.{nat_lt, nat_le, take, slice_index_or, IsTrue}
-use Rattle.std.proofs.lemmas.Bool.Decides.{nat_tests}
+use Rattle.std.proofs.lemmas.Bool.{lt-ltb, le-ltb, le-leb, lt-leb}
 use Rattle.std.proofs.lemmas.List.{append_assoc, append-nil, map-append, take_more, get_or-map, length-map, take_all}
 use Rattle.arrayvec.specs.ArrayVec.{ArrayVec}
 use Rattle.oca_types.specs.declared.words.Peer.{Peer}
@@ -9,10 +9,11 @@ use Rattle.oca_types.specs.Sizes.{DeviceSizes}
 use Rattle.oca_net.specs.declared.end.Heard.{Heard}
 use Rattle.oca_net.specs.declared.end.Heard.TheVariants as heard
 use Rattle.oca_net.specs.Deliveries.{Delivery, Datagram, Quiet, Failed, Sent}
-use Rattle.oca_net.specs.Ends.{one_more, last_u64, is_failed, TakesAllBut}
+use Rattle.oca_net.specs.Ends.{is_failed, largest_datagram, TakesAllBut}
 use Rattle.oca_net.specs.EndStates.{EndState, Receives, Sends, SendsAllBut}
 use Rattle.oca_net.proofs.Sending.{takes_none, takes_more, sends_none, sends_more, sends_one}
 use Rattle.oca_net.proofs.Hearing.{oversize_heard}
+use Rattle.oca_net.proofs.Running.{Delivered, delivered_none, delivered_more, delivered_one, delivered_closed}
 use Rattle.oca_tree.specs.declared.object.Object.{Object}
 use Rattle.oca_device.specs.declared.report.Report.{Report}
 use Rattle.oca_device.specs.declared.verdict.Verdict.{Verdict}
@@ -120,47 +121,51 @@ later_handed w tree (d ∷ ds) es events =
     ap (λ (xs : List Followed). handed_of w tree events d ++ xs) (later_handed w tree ds es (events_after d events))
     ∙ sym (append_assoc (handed_of w tree events d) (handed w tree (events_after d events) ds) (handed w tree (events_after_all ds (events_after d events)) es))
 
+-- what was delivered, and what failed
+delivered_of : {a b : DeviceState} {e f : EndState} {r : Report} → (x : ServesEnd a b e f r) → Delivered x.deliveries r.failed_receives r.failed_sends e f
+delivered_of x = record { telling = x.telling; grew = x.delivered; failures = x.failures }
+
 -- no turns
 turns_none : (d : DeviceState) (e : EndState) → ServesEnd d d e e no_turns
-turns_none d e = record {
-  deliveries = [];
-  serves = nothing_served d;
-  telling = refl;
-  delivered = λ _. sym (append-nil e.delivered);
-  replied = λ _ w tree events h. takes_none e.taken e.taken refl;
-  failures = λ _. omega arith;
-}
+turns_none d e =
+    let ends = delivered_none e in
+    record {
+      deliveries = [];
+      serves = nothing_served d;
+      telling = ends.telling;
+      delivered = ends.grew;
+      replied = λ _ w tree events h. takes_none e.taken e.taken refl;
+      failures = ends.failures;
+    }
 
 -- one turn more
 turns_more : {a b c : DeviceState} {e f g : EndState} {r s : Report} → ServesEnd a b e f r → ServesEnd b c f g s → ServesEnd a c e g (added r s)
-turns_more {a} {b} {c} {e} {f} {g} {r} {s} x y = record {
-  deliveries = x.deliveries ++ y.deliveries;
-  serves = serves_more a b c x.deliveries y.deliveries r s x.serves y.serves;
-  telling = y.telling ∙ x.telling;
-  delivered = λ told. y.delivered (x.telling ∙ told) ∙ ap (λ xs. xs ++ y.deliveries) (x.delivered told) ∙ append_assoc e.delivered x.deliveries y.deliveries;
-  replied = λ told w tree events h.
-      subst (λ (xs : List Sent). TakesAllBut (r.failed_sends + s.failed_sends) e.taken g.taken xs) (sym (later_replies w tree x.deliveries y.deliveries events))
-      (takes_more (x.replied told w tree events h) (y.replied (x.telling ∙ told) w tree (events_after_all x.deliveries events) (x.serves.represents w tree events h)));
-  failures = failures_so_far e.failures f.failures g.failures r.failed_receives r.failed_sends s.failed_receives s.failed_sends x.failures y.failures;
-}
-  where
-    failures_so_far : (a b c fr fs tr ts : ℕ) → (b < last_u64 → b ≡ a + (fr + fs)) → (c < last_u64 → c ≡ b + (tr + ts)) → c < last_u64 → c ≡ a + (fr + tr + (fs + ts))
-    failures_so_far a b c fr fs tr ts h k below =
-        let now = k below in
-        let before : b < last_u64 = omega arith in
-        omega (arith, h before, now)
+turns_more {a} {b} {c} {e} {f} {g} {r} {s} x y =
+    let ends = delivered_more (delivered_of x) (delivered_of y) in
+    record {
+      deliveries = x.deliveries ++ y.deliveries;
+      serves = serves_more a b c x.deliveries y.deliveries r s x.serves y.serves;
+      telling = ends.telling;
+      delivered = ends.grew;
+      replied = λ told w tree events h.
+          subst (λ (xs : List Sent). TakesAllBut (r.failed_sends + s.failed_sends) e.taken g.taken xs) (sym (later_replies w tree x.deliveries y.deliveries events))
+          (takes_more (x.replied told w tree events h) (y.replied (x.telling ∙ told) w tree (events_after_all x.deliveries events) (x.serves.represents w tree events h)));
+      failures = ends.failures;
+    }
 
 -- and then Closed
 turns_closed : {a b c : DeviceState} {e f g : EndState} {k l : ElectronicsState} {r : Report} → ServesEnd a b e f r → IsClosed b c f g k l → ServesEnd a c e g r
-turns_closed {a} {b} {c} {e} {f} {g} {r = r} x y = record {
-  deliveries = x.deliveries;
-  serves = subst (λ (d : DeviceState). Serves x.deliveries a d r) (sym y.device) x.serves;
-  telling = y.received.telling ∙ x.telling;
-  delivered = λ told. y.received.delivered (x.telling ∙ told) ∙ x.delivered told;
-  replied = λ told w tree events h.
-      subst (λ (t : List Sent). TakesAllBut r.failed_sends e.taken t (replies w tree events x.deliveries)) (sym (y.received.taken (x.telling ∙ told))) (x.replied told w tree events h);
-  failures = subst (λ (n : ℕ). n < last_u64 → n ≡ e.failures + (r.failed_receives + r.failed_sends)) (sym y.received.failures) x.failures;
-}
+turns_closed {a} {b} {c} {e} {f} {g} {r = r} x y =
+    let ends = delivered_closed (delivered_of x) y.received in
+    record {
+      deliveries = x.deliveries;
+      serves = subst (λ (d : DeviceState). Serves x.deliveries a d r) (sym y.device) x.serves;
+      telling = ends.telling;
+      delivered = ends.grew;
+      replied = λ told w tree events h.
+          subst (λ (t : List Sent). TakesAllBut r.failed_sends e.taken t (replies w tree events x.deliveries)) (sym (y.received.taken (x.telling ∙ told))) (x.replied told w tree events h);
+      failures = ends.failures;
+    }
 
 -- the same with electronics
 pub with_none : (d : DeviceState) (e : EndState) (x : ElectronicsState) → ServesEndWith d d e e x x no_turns
@@ -227,12 +232,6 @@ all_sent p k i xs packets {a} {b} h e f =
 
 -- ---- one turn
 
-within : (n : ℕ) → n ≤ 1472 → nat_le n 1472 ≡ true
-within n h = grind (arith, nat_tests)
-
-beyond : (n : ℕ) → 1472 < n → nat_le n 1472 ≡ false
-beyond n h = grind (arith, nat_tests)
-
 -- a verdict is that of one turn, in which no receive failed
 verdict_one : (v : Verdict) → ((verdict_turn v).turns ≡ 1) × ((verdict_turn v).failed_receives ≡ 0)
 verdict_one (verdicts.Served n k o r) = (refl, refl)
@@ -250,15 +249,16 @@ heard_one : (x : Delivery) {h : Heard} {bytes : List ℕ} {all : List Sent} {old
     (IsTrue idle.tells → (w : DeviceSizes) (tree : List Object) (events : List Event) → Represents w old tree events → moved.followed ≡ idle.followed ++ handed_of w tree events x) →
     ServesTurn old new before after idle moved r
 heard_one x {h} {bytes} {all} {old} {new} {before} {mid} {after} {idle} {moved} {r} heard sent grew failed one represents reported replies_are telling followed =
+    let ends = delivered_one x heard sent grew failed in
     let served : ServesEnd old new before after r = record {
       deliveries = x ∷ [];
       serves = one_served x old new r one represents reported;
-      telling = sent.telling ∙ heard.telling;
-      delivered = λ told. sent.delivered (heard.telling ∙ told) ∙ grew told;
+      telling = ends.telling;
+      delivered = ends.grew;
       replied = λ told w tree events rep.
           subst (λ (xs : List Sent). TakesAllBut r.failed_sends before.taken after.taken xs) (replies_are w tree events rep ∙ sym (append-nil (replies_to w tree events x)))
           (subst (λ (t : List Sent). TakesAllBut r.failed_sends t after.taken all) (heard.taken told) (sent.taken (heard.telling ∙ told)));
-      failures = counted (is_failed h) before.failures mid.failures after.failures r.failed_receives r.failed_sends heard.failures failed sent.failures;
+      failures = ends.failures;
     } in
     record {
       serves = record {
@@ -270,10 +270,6 @@ heard_one x {h} {bytes} {all} {old} {new} {before} {mid} {after} {idle} {moved} 
       one = one;
       receives = sent.receives ∙ heard.receives;
     }
-  where
-    counted : (b : Bool) (x y z fr fs : ℕ) → y ≡ cond b (one_more x) x → fr ≡ cond b 1 0 → (z < last_u64 → z ≡ y + fs) → z < last_u64 → z ≡ x + (fr + fs)
-    counted true x y z fr fs e f h below = let now = h below in omega arith
-    counted false x y z fr fs e f h below = let now = h below in omega arith
 
 -- electronics that were handed nothing
 nothing_handed : {idle : ElectronicsState} → IsTrue idle.tells → (w : DeviceSizes) (tree : List Object) (events : List Event) → idle.followed ≡ idle.followed ++ []
@@ -292,7 +288,7 @@ module _ {old new : DeviceState} {before mid : EndState} {idle : ElectronicsStat
       ServesTurn old new before mid idle idle r
   oversize_turn {now} e h ticks =
       let d = oversize_heard h in
-      let no_datagram = beyond (length d.long) d.above in
+      let no_datagram = lt-leb (length d.long) largest_datagram d.above in
       subst (ServesTurn old new before mid idle idle) (sym e)
       (heard_one (Datagram d.from d.long now) {r = record one_turn { oversize = 1 }} h (sends_none mid) d.grew refl refl
       (λ w tree events rep. subst (λ (b : Bool). Represents w new tree (cond b (event.Datagram d.from d.long now ∷ events) (event.Tick now ∷ events))) (sym no_datagram) (ticks w tree events rep))
@@ -315,7 +311,7 @@ module _ {old new : DeviceState} {before mid : EndState} {idle : ElectronicsStat
       SendsAllBut r.failed_sends mid after (sent_to from out) → tree_now ≡ new.tree → numbers ≡ new.written → Follows tree_now numbers idle moved →
       ServesTurn old new before after idle moved r
   datagram_turn {after} {moved} {tree_now} {numbers} {from} {now} {out} bytes v q e f short same h represents packets_are verdict_is sent tree_is written_is follows =
-      let fits = within (length bytes) short in
+      let fits = le-leb (length bytes) largest_datagram short in
       let one = verdict_one v in
       heard_one (Datagram from bytes now) h sent
       (λ told. h.delivered told ∙ ap (λ (xs : List ℕ). before.delivered ++ Datagram from xs now ∷ []) (sym same))
@@ -349,21 +345,8 @@ more_within m k n a b r e x y le =
 
 -- ---- receives, short of their last value
 
--- one receive a turn
-pub received_further : (a b c k : ℕ) → c ≡ one_more b → (b < last_u64 → b ≡ a + k) → c < last_u64 → c ≡ a + (k + 1)
-received_further a b c k e h below =
-    let stepped : c ≡ b + 1 = omega arith in
-    let before : b < last_u64 = omega arith in
-    omega (arith, h before)
-
 pub fewer_turns : (n m : ℕ) → n < m → receives_of n m ≡ n + 1
-fewer_turns n m h = ap (λ b. cond b (n + 1) n) (is_fewer n m h)
-  where
-    is_fewer : (n m : ℕ) → n < m → nat_lt n m ≡ true
-    is_fewer n m h = grind (arith, nat_tests)
+fewer_turns n m h = ap (λ b. cond b (n + 1) n) (lt-ltb n m h)
 
 pub all_turns : (n m : ℕ) → n ≡ m → receives_of n m ≡ n
-all_turns n m e = ap (λ b. cond b (n + 1) n) (is_not_fewer n m e)
-  where
-    is_not_fewer : (n m : ℕ) → n ≡ m → nat_lt n m ≡ false
-    is_not_fewer n m e = grind (arith, nat_tests)
+all_turns n m e = ap (λ b. cond b (n + 1) n) (le-ltb n m (omega arith))

@@ -1,4 +1,5 @@
--- What a device answers to a datagram, and how it counts the datagram's commands (AES70-3; the profile's window decides).
+-- What a device answers to a datagram, and how it counts the datagram's commands (AES70-3; the profile's window
+-- decides).
 use Rattle.std.specs.Prelude.{ℕ, ◌+◌, max, if◌then◌else◌, List, [], ◌∷◌, ◌++◌, map, Result, Ok, Err}
 use Rattle.oca_types.specs.declared.words.Peer.{Peer}
 use Rattle.oca_types.specs.declared.words.Reply.{Reply}
@@ -24,16 +25,16 @@ use Rattle.oca_device.specs.States.{State, noted, moved_to, admits, judged_in, r
 abbrev pub response : ℕ → Reply → Msg
 response handle reply = Response (record { handle = handle; status = status_number reply.status; count = reply.count; params = reply.params.items })
 
--- A fresh command is answered with the reply of its execution, a duplicate with the reply that is retained, and a command that
--- reuses a handle or is old not at all.
+-- A fresh command is answered with the reply of its execution, a duplicate with the reply that is retained, and a
+-- command that reuses a handle or is old not at all.
 abbrev pub answer_to_command : Judgement → Peer → CommandFields → State → List Msg
 answer_to_command Fresh p c s = response c.handle (reply_of s.tree p c) ∷ []
 answer_to_command (Duplicate reply) p c s = response c.handle reply ∷ []
 answer_to_command Reused p c s = []
 answer_to_command Old p c s = []
 
--- A command that asks for no response gets none. A keep-alive is answered with a keep-alive of the same form and the same
--- time, as it was sent. A response is not answered.
+-- A command that asks for no response gets none. A keep-alive is answered with a keep-alive of the same form and the
+-- same time, as it was sent. A response is not answered.
 abbrev pub answer_to : DeviceSizes → Peer → Msg → State → List Msg
 answer_to w p (Command respond c) s = if respond then answer_to_command (judged_in w s p c) p c s else []
 answer_to w p (KeepAlive form) s = KeepAlive form ∷ []
@@ -59,8 +60,8 @@ answers_in w (Local ono value) s = []
 abbrev pub answers : DeviceSizes → List Object → List Event → Event → List Msg
 answers w tree events e = answers_in w e (state_after w tree events)
 
--- Neighbouring responses leave in one PDU while it has at most 1,472 bytes, and each keep-alive in one of its own. Each PDU is one
--- datagram.
+-- Neighbouring responses leave in one PDU while it has at most 1,472 bytes, and each keep-alive in one of its own. Each
+-- PDU is one datagram.
 abbrev pub packets_of : List Msg → List (List ℕ)
 packets_of messages = encodings (groups_of messages)
 

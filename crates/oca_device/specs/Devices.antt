@@ -10,14 +10,15 @@ use Rattle.oca_device.specs.Notes.{Note, run, known, last_moment, heartbeat_of, 
 use Rattle.oca_device.specs.States.{State, state_after}
 use Rattle.oca_device.specs.Written.{written}
 
--- What a device is: its objects, its clock and sessions, and the numbers of the objects that the last datagram wrote to.
+-- What a device is: its objects, its clock and sessions, and the numbers of the objects that the last datagram wrote
+-- to.
 pub record DeviceState : Type 0 where
   pub tree : List Object
   pub sessions : Table
   pub written : List ℕ
 
--- The session of a peer: the moment of its last datagram, its heartbeat, and what a reply window of its size retains of its
--- accepted commands: the last of them with their replies, and the greatest handle outside these.
+-- The session of a peer: the moment of its last datagram, its heartbeat, and what a reply window of its size retains of
+-- its accepted commands: the last of them with their replies, and the greatest handle outside these.
 abbrev pub session_for : DeviceSizes → List Note → Peer → Session
 session_for w notes p =
     let own = run p notes in

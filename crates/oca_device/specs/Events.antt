@@ -1,5 +1,5 @@
--- What happens to a device: datagrams, of any bytes and from any peer, clock readings, and changes at its own front (profile).
--- Moments are in milliseconds. In a list of events the latest stands first.
+-- What happens to a device: datagrams, of any bytes and from any peer, clock readings, and changes at its own front
+-- (profile). Moments are in milliseconds. In a list of events the latest stands first.
 use Rattle.std.specs.Prelude.{ℕ, max, List, [], ◌∷◌}
 use Rattle.oca_types.specs.declared.words.Peer.{Peer}
 use Rattle.oca_tree.specs.declared.setting.LocalValue.{LocalValue}

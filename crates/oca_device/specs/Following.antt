@@ -19,8 +19,8 @@ pub record Followed : Type 0 where
   pub tree : List Object
   pub written : List ℕ
 
--- Whether electronics tell what they were handed, and all that they were handed, the latest last, which says nothing of electronics that
--- do not tell.
+-- Whether electronics tell what they were handed, and all that they were handed, the latest last, which says nothing of
+-- electronics that do not tell.
 pub record ElectronicsState : Type 0 where
   pub tells : Bool
   pub followed : List Followed
@@ -30,7 +30,8 @@ pub record Follows (tree : List Object) (numbers : List ℕ) (old new : Electron
   pub telling : new.tells ≡ old.tells
   pub followed : IsTrue old.tells → new.followed ≡ old.followed ++ (record { tree = tree; written = numbers }) ∷ []
 
--- what is handed of a delivery, after events: of a datagram of at most 1,472 bytes what it did, and of any other delivery nothing
+-- what is handed of a delivery, after events: of a datagram of at most 1,472 bytes what it did, and of any other
+-- delivery nothing
 abbrev pub handed_of : DeviceSizes → List Object → List Event → Delivery → List Followed
 handed_of w tree events (Datagram from bytes now) =
     let after = event.Datagram from bytes now ∷ events in
@@ -43,7 +44,8 @@ abbrev pub handed : DeviceSizes → List Object → List Event → List Delivery
 handed w tree events [] = []
 handed w tree events (d ∷ deliveries) = handed_of w tree events d ++ handed w tree (events_after d events) deliveries
 
--- A DEVICE SERVED AN END WITH ELECTRONICS: it served the end, and the electronics were handed what each datagram did, in order.
+-- A DEVICE SERVED AN END WITH ELECTRONICS: it served the end, and the electronics were handed what each datagram did,
+-- in order.
 pub record ServesEndWith (old new : DeviceState) (before after : EndState) (idle moved : ElectronicsState) (report : Report) : Type 0 where
   pub serves : ServesEnd old new before after report
   pub telling : moved.tells ≡ idle.tells

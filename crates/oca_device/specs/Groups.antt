@@ -1,7 +1,8 @@
--- How the answers to a datagram are grouped: neighbouring responses leave in one PDU, and a keep-alive in one of its own. Each
--- group is the one PDU of a datagram (profile). In each list the first one stands first.
+-- How the answers to a datagram are grouped: neighbouring responses leave in one PDU, and a keep-alive in one of its
+-- own. Each group is the one PDU of a datagram (profile). In each list the first one stands first.
 use Rattle.std.specs.Prelude.{◌≡◌, ℕ, ◌<◌, ◌≤◌, nat_le, ⊤, if◌then◌else◌, List, [], ◌∷◌, ◌++◌, map, length}
 use Rattle.std.specs.List.{flat_map, AllByRecursion}
+use Rattle.oca_types.specs.Sizes.{most_parameter_bytes}
 use Rattle.oca_net.specs.Ends.{largest_datagram}
 use Rattle.oca_pdu.specs.Messages.{ResponseFields, Msg, Command, Response, KeepAlive, Pdu, Commands, Responses, OneKeepAlive, messages_of}
 use Rattle.oca_pdu.specs.Encoding.{pdu_encoding}
@@ -36,7 +37,7 @@ pub record AreGroups (answers : List Msg) (groups : List Pdu) : Type 0 where
 -- An answer: a keep-alive, or a response with at most 1,452 bytes of parameters, so that it fits into a datagram.
 abbrev pub IsAnswer : Msg → Type 0
 IsAnswer (KeepAlive form) = ⊤
-IsAnswer (Response r) = length r.params ≤ 1452
+IsAnswer (Response r) = length r.params ≤ most_parameter_bytes
 IsAnswer (Command respond c) = ⊥
 
 -- ---- the groups, one answer after the other

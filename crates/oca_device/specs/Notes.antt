@@ -47,8 +47,8 @@ is_known t notes p = is_within t (notes_of p notes)
 abbrev pub peers_except : Peer → List Peer → List Peer
 peers_except p peers = filter (λ q. not (same_peer q p)) peers
 
--- Every peer that was ever noted, in the order in which their latest sessions were opened: a note whose peer was not known
--- opens a session, and moves that peer to the end.
+-- Every peer that was ever noted, in the order in which their latest sessions were opened: a note whose peer was not
+-- known opens a session, and moves that peer to the end.
 abbrev pub opened : List Note → List Peer
 opened [] = []
 opened (n ∷ notes) = if is_known n.at notes n.peer then opened notes else peers_except n.peer (opened notes) ++ n.peer ∷ []

@@ -1,7 +1,8 @@
--- What serving a datagram, its messages or one message makes of a device and its outbox, and how many answers there are at most.
+-- What serving a datagram, its messages or one message makes of a device and its outbox, and how many answers there are
+-- at most.
 use Rattle.std.specs.Prelude.{◌≡◌, ℕ, ◌+◌, ◌≤◌, Bool, true, false, ⊤, List, [], ◌∷◌, ◌++◌, length}
 use Rattle.oca_types.specs.declared.words.Peer.{Peer}
-use Rattle.oca_types.specs.Sizes.{DeviceSizes}
+use Rattle.oca_types.specs.Sizes.{DeviceSizes, most_command_parameter_bytes}
 use Rattle.oca_pdu.specs.Messages.{Msg, Command, Response, KeepAlive, Pdu, Commands, Responses, OneKeepAlive}
 use Rattle.oca_pdu.specs.Encoding.{pdu_encoding}
 use Rattle.oca_pdu.specs.Reading.{read_datagram}
@@ -36,7 +37,7 @@ JoinsLast false m before after = (after ≡ before)
 
 -- a command has at most 1,445 bytes of parameters, as each in a well-formed datagram has
 abbrev pub IsShort : Msg → Type 0
-IsShort (Command respond c) = length c.params ≤ 1445
+IsShort (Command respond c) = length c.params ≤ most_command_parameter_bytes
 IsShort (Response r) = ⊤
 IsShort (KeepAlive form) = ⊤
 

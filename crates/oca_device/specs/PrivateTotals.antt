@@ -1,4 +1,4 @@
--- What a turn answers, and numbers of reports that fit.
+-- What a turn returns, and numbers of reports that fit.
 use Rattle.std.specs.Prelude.{◌≡◌, ℕ, ◌≤◌, [], Option, Some, None}
 use Rattle.oca_net.specs.declared.end.Heard.TheVariants as heard
 use Rattle.oca_net.specs.Ends.{one_more}

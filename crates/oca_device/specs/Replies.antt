@@ -29,8 +29,8 @@ abbrev pub replies : DeviceSizes → List Object → List Event → List Deliver
 replies w tree events [] = []
 replies w tree events (d ∷ deliveries) = replies_to w tree events d ++ replies w tree (events_after d events) deliveries
 
--- A DEVICE SERVED THESE DELIVERIES, one a turn: for each tree and events that it represented, it then represents these with the
--- deliveries' events, and the report is that of the deliveries and of the sends that failed.
+-- A DEVICE SERVED THESE DELIVERIES, one a turn: for each tree and events that it represented, it then represents these
+-- with the deliveries' events, and the report is that of the deliveries and of the sends that failed.
 pub record Serves (deliveries : List Delivery) (old new : DeviceState) (report : Report) : Type 0 where
   pub turns : report.turns ≡ length deliveries
   pub represents : (w : DeviceSizes) (tree : List Object) (events : List Event) → Represents w old tree events →
@@ -38,8 +38,9 @@ pub record Serves (deliveries : List Delivery) (old new : DeviceState) (report :
   pub reported : (w : DeviceSizes) (tree : List Object) (events : List Event) → Represents w old tree events →
       report ≡ record (report_of w tree events deliveries) { failed_sends = report.failed_sends }
 
--- A DEVICE SERVED AN END: there are deliveries that it served, and the report counts the calls of the end that failed. Where the end
--- tells, these deliveries are what it delivered, and it took the replies to them but for those whose send failed.
+-- A DEVICE SERVED AN END: there are deliveries that it served, and the report counts the calls of the end that failed.
+-- Where the end tells, these deliveries are what it delivered, and it took the replies to them but for those whose send
+-- failed.
 pub record ServesEnd (old new : DeviceState) (before after : EndState) (report : Report) : Type 0 where
   pub deliveries : List Delivery
   pub serves : Serves deliveries old new report

@@ -61,8 +61,8 @@ turn_report w tree events (Datagram from bytes now) =
 turn_report w tree events (Quiet now) = record one_turn { quiet = 1 }
 turn_report w tree events Failed = record one_turn { failed_receives = 1 }
 
--- The events after a delivery: a datagram of at most 1,472 bytes is a datagram event, a longer one and silence are clock
--- readings, and a failure is no event.
+-- The events after a delivery: a datagram of at most 1,472 bytes is a datagram event, a longer one and silence are
+-- clock readings, and a failure is no event.
 abbrev pub events_after : Delivery → List Event → List Event
 events_after (Datagram from bytes now) events =
     if nat_le (length bytes) largest_datagram then event.Datagram from bytes now ∷ events else event.Tick now ∷ events
@@ -79,6 +79,7 @@ abbrev pub report_of : DeviceSizes → List Object → List Event → List Deliv
 report_of w tree events [] = no_turns
 report_of w tree events (d ∷ deliveries) = added (turn_report w tree events d) (report_of w tree (events_after d events) deliveries)
 
--- How often a loop of at most `bound` turns receives: once a turn, and once more, which answered Closed, where it took fewer turns.
+-- How often a loop of at most `bound` turns receives: once a turn, and once more, which returned Closed, where it took
+-- fewer turns.
 abbrev pub receives_of : ℕ → ℕ → ℕ
 receives_of turns bound = if nat_lt turns bound then turns + 1 else turns

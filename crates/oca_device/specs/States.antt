@@ -60,8 +60,8 @@ reply_of tree p c =
       params = record { items = (execution tree p c).parameters };
     }
 
--- A command that is fresh is executed, and its reply noted. A duplicate, a command that reuses a handle and an old command
--- change nothing.
+-- A command that is fresh is executed, and its reply noted. A duplicate, a command that reuses a handle and an old
+-- command change nothing.
 abbrev pub after_command : Judgement → Peer → CommandFields → State → State
 after_command Fresh p c s =
     noted p (Executed s.tree c (reply_of s.tree p c))

@@ -42,8 +42,8 @@ abbrev pub written_by_reading : DeviceSizes → Peer → Result (List Msg) PduFa
 written_by_reading w p (Err fault) s = []
 written_by_reading w p (Ok messages) s = if admits w s p then written_by_messages w p messages (noted p (Admitted messages) s) else []
 
--- THE OBJECTS WRITTEN by the last datagram of events: in order, each as often as it was; none before the first. Clock readings and
--- changes at the front leave them.
+-- THE OBJECTS WRITTEN by the last datagram of events: in order, each as often as it was; none before the first. Clock
+-- readings and changes at the front leave them.
 abbrev pub written : DeviceSizes → List Object → List Event → List ℕ
 written w tree [] = []
 written w tree (Datagram from bytes now ∷ events) =

@@ -1,9 +1,10 @@
 //! The device: it takes events, and puts its answers into an outbox.
 ghost use Rattle.std.specs.Prelude.{◌≡◌, ℕ, ◌+◌, ◌<◌, ◌≤◌, List, [], ◌∷◌, ◌++◌, length, max, IfOk, OnErr, MatchOption, IsTrue, IsSome, if◌then◌else◌, Ok, Err};
 ghost use Rattle.oca_types.specs.Peers.{fields_of};
-ghost use Rattle.oca_types.specs.Sizes.{window_size, sizes_of, DeviceSizes};
+ghost use Rattle.oca_types.specs.Sizes.{most_command_parameter_bytes, window_size, sizes_of, DeviceSizes};
 ghost use Rattle.std.specs.List.{AllByRecursion};
 ghost use Rattle.oca_pdu.specs.Messages.{Msg, Command as Commands, msg_of};
+ghost use Rattle.oca_pdu.specs.Limits.{most_answered, most_commands};
 ghost use Rattle.oca_pdu.specs.Datagrams.{messages_left};
 ghost use Rattle.oca_tree.specs.declared.object.Object.{Object};
 ghost use Rattle.oca_session.specs.Table.{session_of};
@@ -22,9 +23,11 @@ use crate::outbox::Outbox;
 use crate::verdict::Verdict;
 use arrayvec::ArrayVec;
 use oca_pdu::{Form, Message, Messages, check};
-use oca_session::{Admission, Judged, Sessions, sooner};
+use oca_session::{Admission, Judged, Sessions};
 use oca_tree::{LocalValue, SetFault, Tree};
-use oca_types::{Command, NoMemory, Ono, Params, Peer, Peers, Reply, Sizes, Status, Window};
+use oca_types::{
+    Command, MOST_PEERS, NoMemory, Ono, Params, Peer, Peers, Reply, Sizes, Status, Window, sooner,
+};
 use std::alloc::Global;
 use std::marker::Model;
 
@@ -33,14 +36,15 @@ const MOST_WRITTEN: usize = 86;
 
 /// A device: a tree of objects, and the sessions of its peers.
 ///
-/// What it is follows from the tree that it was made with and the events that it was given: datagrams, clock
-/// readings and changes at its own front. Moments are in milliseconds; one that is earlier than a moment already seen counts as the one already seen.
+/// What it is follows from the tree that it was made with and the events that it was given: datagrams, clock readings
+/// and changes at its own front. Moments are in milliseconds; one that is earlier than a moment already seen counts as
+/// the one already seen.
 #[derive(Drop)]
 pub struct Device {
     tree: Tree,
     sessions: Sessions,
     /// The peers that had lapsed when the clock moved last: a place for them, which is not made anew at each datagram.
-    lapsed: ArrayVec<Peer, 64>,
+    lapsed: ArrayVec<Peer, MOST_PEERS>,
     /// The room in which a command is executed: its reply is made here once, and read where it is needed.
     reply: Reply,
     /// The objects that the last datagram wrote to.
@@ -61,8 +65,8 @@ impl Device {
     ghost use Rattle.oca_device.specs.Lapses.{IsNextLapse, NeverLapses};
     ghost use Rattle.oca_device.specs.PrivateServing.{Serves, ServesAll, Receives, AreGrouped, IsShort, may_answer, most_answers, commands_in, commands_of, all_commands};
 
-    /// A device of these objects, with reply windows of this size and sessions of at most 16 peers, before any event. Takes
-    /// all the memory that its sessions will need. Refusal: `NoMemory`.
+    /// A device of these objects, with reply windows of this size and sessions of at most 16 peers, before any event.
+    /// Takes all the memory that its sessions will need. Refusal: `NoMemory`.
     pub fn new(alloc: Global, tree: Tree, window: Window) -> Result<Device, NoMemory>
         ensures { IfOk result (λ device. Represents (record { window = window_size window; peers = 16 }) device tree []) }
     {
@@ -76,8 +80,8 @@ impl Device {
         )
     }
 
-    /// A device of these objects, with reply windows and sessions of at most as many peers as these sizes say, before any
-    /// event. Takes all the memory that its sessions will need. Refusal: `NoMemory`.
+    /// A device of these objects, with reply windows and sessions of at most as many peers as these sizes say, before
+    /// any event. Takes all the memory that its sessions will need. Refusal: `NoMemory`.
     pub fn with_sizes(alloc: Global, tree: Tree, sizes: Sizes) -> Result<Device, NoMemory>
         ensures { IfOk result (λ device. Represents (sizes_of sizes) device tree []) }
     {
@@ -95,8 +99,8 @@ impl Device {
         })
     }
 
-    /// Takes a datagram that came from a peer, and returns what became of it. The outbox then holds its answers, all for that
-    /// peer, and nothing else: what it held before is taken out first.
+    /// Takes a datagram that came from a peer, and returns what became of it. The outbox then holds its answers, all
+    /// for that peer, and nothing else: what it held before is taken out first.
     ///
     /// First the clock moves: locks of peers that are silent for more than three heartbeats are released, and
     /// sessions that are silent for more than 120,000 ms forgotten. A malformed datagram, and one that finds no
@@ -120,16 +124,16 @@ impl Device {
         self.receive(from, bytes, now, outbox)
     }
 
-    /// Takes a clock reading: locks of peers that are silent for more than three heartbeats are released, and sessions that
-    /// are silent for more than 120,000 ms forgotten.
+    /// Takes a clock reading: locks of peers that are silent for more than three heartbeats are released, and sessions
+    /// that are silent for more than 120,000 ms forgotten.
     pub fn tick(&mut self, now: u64)
         ensures { (w : DeviceSizes) (T : List Object) (E : List Event) → Represents w self.old T E → Represents w self.new T (Tick now ∷ E) }
     {
         self.move_clock(now);
     }
 
-    /// Sets an object at the device's own front, as the set method of its class sets it at a peer that no lock refuses. A refusal
-    /// changes nothing. Either way the clock stays, and no session is opened.
+    /// Sets an object at the device's own front, as the set method of its class sets it at a peer that no lock refuses.
+    /// A refusal changes nothing. Either way the clock stays, and no session is opened.
     pub fn set(&mut self, ono: Ono, value: LocalValue) -> Result<(), SetFault>
         ensures represents { (w : DeviceSizes) (T : List Object) (E : List Event) → Represents w self.old T E →
             Represents w self.new T (Local ono.0 value ∷ E) }
@@ -253,10 +257,10 @@ impl Device {
     /// Serves the messages of a peer that was let in, in order.
     fn serve_messages(&mut self, from: Peer, messages: Messages<'_>, outbox: &mut Outbox) -> Counts
         requires known { IsSome (session_of from self.old.sessions.sessions) }
-        requires room { length outbox.old + most_answers (messages_left messages) ≤ 122 }
+        requires room { length outbox.old + most_answers (messages_left messages) ≤ most_answered }
         requires groups { AreGrouped outbox.old }
         requires short { AllByRecursion IsShort (messages_left messages) }
-        requires few { all_commands (messages_left messages) ≤ 86 }
+        requires few { all_commands (messages_left messages) ≤ most_commands }
         requires none { self.old.written ≡ [] }
         ensures { (w : DeviceSizes) (s : State) → IsIn w self.old s → last_moment (run from s.notes) ≡ s.moment →
             ServesAll w self.new from (messages_left messages.entry) s outbox.old outbox.new result }
@@ -271,10 +275,10 @@ impl Device {
     /// Serves a message of a peer that was let in, and counts it.
     fn serve(&mut self, from: Peer, message: Message<'_>, outbox: &mut Outbox, counts: &mut Counts)
         requires known { IsSome (session_of from self.old.sessions.sessions) }
-        requires room { length outbox.old + may_answer (msg_of message) ≤ 122 }
+        requires room { length outbox.old + may_answer (msg_of message) ≤ most_answered }
         requires groups { AreGrouped outbox.old }
         requires short { IsShort (msg_of message) }
-        requires few { commands_in counts.now + commands_of (msg_of message) ≤ 86 }
+        requires few { commands_in counts.now + commands_of (msg_of message) ≤ most_commands }
         requires within { length self.old.written ≤ commands_in counts.now }
         ensures serves { (w : DeviceSizes) (s : State) → IsIn w self.old s → last_moment (run from s.notes) ≡ s.moment →
             Serves w self.old self.new from (msg_of message.entry) s outbox.old outbox.new counts.entry.now counts.exit.now }
@@ -306,10 +310,10 @@ impl Device {
         counts: &mut Counts,
     )
         requires known { IsSome (session_of from self.old.sessions.sessions) }
-        requires room { length outbox.old < 122 }
+        requires room { length outbox.old < most_answered }
         requires groups { AreGrouped outbox.old }
-        requires short { length command.now.params.now ≤ 1445 }
-        requires few { commands_in counts.now < 86 }
+        requires short { length command.now.params.now ≤ most_command_parameter_bytes }
+        requires few { commands_in counts.now < most_commands }
         requires within { length self.old.written ≤ commands_in counts.now }
         ensures serves { (w : DeviceSizes) (s : State) → IsIn w self.old s → last_moment (run from s.notes) ≡ s.moment →
             Serves w self.old self.new from (Commands respond (fields_of command.now)) s outbox.old outbox.new counts.entry.now counts.exit.now }
@@ -355,7 +359,9 @@ fn release_all(tree: &mut Tree, peers: &[Peer])
     }
 }
 
-/// Forgets the objects. Clearing is a call that overwrites the cells, so none and a single one are taken out without it.
+/// Forgets the objects. Clearing is a call that overwrites the cells, so none and a single one, the common cases here,
+/// are taken out without it. Each `empty` of the core spares itself the call in the cases that are common where it
+/// stands.
 fn empty(written: &mut ArrayVec<Ono, MOST_WRITTEN>)
     ensures { written.new.items ≡ [] }
 {
@@ -368,7 +374,8 @@ fn empty(written: &mut ArrayVec<Ono, MOST_WRITTEN>)
     }
 }
 
-/// Executes a command of a peer, puts its reply in the place of another, and adds its object to those written where it wrote.
+/// Executes a command of a peer, puts its reply in the place of another, and adds its object to those written where it
+/// wrote.
 fn execute(
     tree: &mut Tree,
     peer: Peer,
@@ -376,7 +383,7 @@ fn execute(
     reply: &mut Reply,
     written: &mut ArrayVec<Ono, MOST_WRITTEN>,
 )
-    requires { length written.old.items < 86 }
+    requires { length written.old.items < most_commands }
     ensures tree { tree.new ≡ (execution tree.old peer (fields_of command.now)).tree }
     ensures reply { reply.new ≡ reply_of tree.old peer (fields_of command.now) }
     ensures written { numbers_of written.new.items ≡ numbers_of written.old.items ++ written_by_execution tree.old peer (fields_of command.now) }

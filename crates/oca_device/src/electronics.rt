@@ -7,13 +7,14 @@ use oca_types::Ono;
 
 /// The electronics of a device, which do what its objects say.
 ///
-/// Where they tell, `followed` of their state is all that they were handed. Of electronics that do not tell, it says nothing.
+/// Where they tell, `followed` of their state is all that they were handed. Of electronics that do not tell, it says
+/// nothing.
 pub trait Electronics {
     /// What the electronics say of themselves.
     ghost state: { Self → ElectronicsState };
 
-    /// Follows a datagram: the tree has the objects as it left them, and `written` are the objects that it wrote to, in order, each as
-    /// often as it was ([`Device::written`](crate::Device::written)).
+    /// Follows a datagram: the tree has the objects as it left them, and `written` are the objects that it wrote to, in
+    /// order, each as often as it was ([`Device::written`](crate::Device::written)).
     fn follow(&mut self, tree: &Tree, written: &[Ono])
         ensures { Follows tree.now (numbers_of written.now) (state self.old) (state self.new) };
 }

@@ -1,9 +1,10 @@
 //! From which moment on locks are released.
-ghost use Rattle.oca_session.specs.Lapses.{HoldsFrom};
+ghost use Rattle.oca_types.specs.Moments.{HoldsFrom};
 ghost use Rattle.oca_device.specs.PrivateLapses.{releases};
 
-use oca_session::{Sessions, sooner};
+use oca_session::Sessions;
 use oca_tree::Tree;
+use oca_types::sooner;
 
 /// From which moment on the holder of some lock is lapsed, where no peer is heard; nothing where no holder has
 /// a session, or where that lies beyond 64 bits. Where no lock is held it looks at no object.

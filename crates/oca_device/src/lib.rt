@@ -1,11 +1,11 @@
-//! The core of an OCA device: what it answers to datagrams and clock readings, how its own front changes it, and the loop that
-//! serves an end of a link.
+//! The core of an OCA device: what it answers to datagrams and clock readings, how its own front changes it, and the
+//! loop that serves an end of a link.
 //!
-//! Begin with [`Device`]. It opens no socket and reads no clock: the caller hands it each datagram with its sender and its
-//! moment, and finds the answers in an [`Outbox`]. [`serve`] does so for any end, and
-//! [`serve_with`] for a device with electronics, which follow what is written. What a device is after a list of events is
-//! a function of its opening tree and of these, and [`law_by_events`] says it by the events alone. All memory is
-//! taken in `Device::new` and `Outbox::new`.
+//! Begin with [`Device`]. It opens no socket and reads no clock: the caller hands it each datagram with its sender and
+//! its moment, and finds the answers in an [`Outbox`]. [`serve`] does so for any end, and [`serve_with`] for a device
+//! with electronics, which follow what is written. What a device is after a list of events is a function of its opening
+//! tree and of these, and [`law_by_events`] says it by the events alone. All memory is taken in `Device::new` and
+//! `Outbox::new`.
 #![tactic(auto)]
 
 mod counts;

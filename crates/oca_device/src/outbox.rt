@@ -2,6 +2,7 @@
 ghost use Rattle.std.specs.Prelude.{◌≡◌, ℕ, ◌+◌, ◌<◌, ◌≤◌, List, [], ◌∷◌, ◌++◌, length, take, IfOk, slice_get, ◌==◌, vec_capacity};
 ghost use Rattle.std.specs.Option.{option_map};
 ghost use Rattle.oca_pdu.specs.Messages.{Msg, KeepAlive, Pdu};
+ghost use Rattle.oca_pdu.specs.Limits.{most_answered};
 ghost use Rattle.oca_pdu.specs.Encoding.{pdu_encoding};
 ghost use Rattle.oca_device.specs.Groups.{pdu_of, with_answer, encodings};
 ghost use Rattle.oca_device.specs.Answers.{response};
@@ -13,8 +14,8 @@ use oca_types::{Handle, NoMemory, Packet, Reply};
 use std::alloc::Global;
 use std::marker::Model;
 
-/// The most packets that one datagram is answered with: a command has 17 bytes and a keep-alive PDU 12, so a datagram of
-/// 1,472 bytes has at most 122 messages that are answered.
+/// The most packets that one datagram is answered with: a command has 17 bytes and a keep-alive PDU 12, so a datagram
+/// of 1,472 bytes has at most 122 messages that are answered.
 const MOST_PACKETS: usize = 122;
 
 /// The packets that answer a datagram, in order, for the peer that sent it. There are at most 122.
@@ -51,7 +52,7 @@ impl Outbox {
     /// The number of packets, at most 122.
     pub fn len(&self) -> usize
         ensures len { result ≡ length self.now }
-        ensures most { result ≤ 122 }
+        ensures most { result ≤ most_answered }
     {
         self.packets().len()
     }
@@ -80,15 +81,16 @@ impl Outbox {
     /// The packets, in order: at most 122.
     pub fn packets(&self) -> &[Packet]
         ensures packets { bytes_of_packets result.now ≡ self.now }
-        ensures most { length result.now ≤ 122 }
+        ensures most { length result.now ≤ most_answered }
     {
         &self.places[..self.count]
     }
 
-    /// Adds a response: to the last packet where that holds responses and has room for it, and else in a packet of its own.
+    /// Adds a response: to the last packet where that holds responses and has room for it, and else in a packet of its
+    /// own.
     #[inline(always)]
     pub(crate) fn respond(&mut self, handle: Handle, reply: &Reply)
-        requires room { length self.old < 122 }
+        requires room { length self.old < most_answered }
         requires groups { AreGrouped self.old }
         ensures { IsGrouped (response handle.0 reply.now) self.old self.new }
     {
@@ -102,7 +104,7 @@ impl Outbox {
 
     /// Adds the packet of a keep-alive.
     pub(crate) fn return_keepalive(&mut self, form: Form)
-        requires room { length self.old < 122 }
+        requires room { length self.old < most_answered }
         requires groups { AreGrouped self.old }
         ensures { IsGrouped (KeepAlive form) self.old self.new }
     {
@@ -112,8 +114,8 @@ impl Outbox {
     }
 }
 
-/// Adds a response to the last of the first `count` packets where that holds responses and has room for it, and answers whether
-/// it did.
+/// Adds a response to the last of the first `count` packets where that holds responses and has room for it, and returns
+/// whether it did.
 #[inline(always)]
 fn join_last(places: &mut Vec<Packet>, count: usize, handle: Handle, reply: &Reply) -> bool
     requires within { count ≤ length places.old.items }
@@ -128,7 +130,7 @@ fn join_last(places: &mut Vec<Packet>, count: usize, handle: Handle, reply: &Rep
     join(&mut places[count - 1], handle, reply)
 }
 
-/// Adds a response to the PDU of a packet where that is of responses and has room for it, and answers whether it did.
+/// Adds a response to the PDU of a packet where that is of responses and has room for it, and returns whether it did.
 #[inline(always)]
 fn join(packet: &mut Packet, handle: Handle, reply: &Reply) -> bool
     requires { (p : Pdu) × (packet.old.items ≡ pdu_encoding p) }
@@ -137,16 +139,16 @@ fn join(packet: &mut Packet, handle: Handle, reply: &Reply) -> bool
     holds_responses(packet) && extend_response(packet, handle, reply).is_ok()
 }
 
-/// Makes a place for one more packet after these, where none is left from earlier datagrams. It lies in memory that was taken
-/// at first.
+/// Makes a place for one more packet after these, where none is left from earlier datagrams. It lies in memory that was
+/// taken at first.
 fn make_place(places: &mut Vec<Packet>, count: usize)
     requires within { count ≤ length places.old.items }
-    requires few { count < 122 }
-    requires most { length places.old.items ≤ 122 }
-    requires room { 122 ≤ vec_capacity places.old }
+    requires few { count < most_answered }
+    requires most { length places.old.items ≤ most_answered }
+    requires room { most_answered ≤ vec_capacity places.old }
     ensures there { count < length places.new.items }
-    ensures most { length places.new.items ≤ 122 }
-    ensures room { 122 ≤ vec_capacity places.new }
+    ensures most { length places.new.items ≤ most_answered }
+    ensures room { most_answered ≤ vec_capacity places.new }
     ensures same { take count places.new.items ≡ take count places.old.items }
 {
     if count == places.len() {

@@ -1,5 +1,6 @@
 //! The loop that serves an end of a link.
 ghost use Rattle.std.specs.Prelude.{◌≡◌, ◌+◌, ◌<◌, ◌≤◌, ◌^◌, [], IsTrue, IfSome, length, ◌-◌, slice_index_or};
+ghost use Rattle.oca_pdu.specs.Limits.{most_answered};
 ghost use Rattle.oca_net.specs.Ends.{last_u64};
 ghost use Rattle.oca_net.specs.EndStates.{Sends, SendsAllBut};
 ghost use Rattle.oca_device.specs.Reports.{added, no_turns, one_turn, verdict_turn, receives_of};
@@ -15,12 +16,12 @@ use crate::verdict::Verdict;
 use oca_net::{End, Heard};
 use oca_types::{Packet, Peer};
 
-/// Serves an end for at most so many turns, with this outbox, and answers what was done.
+/// Serves an end for at most so many turns, with this outbox, and returns what was done.
 ///
 /// A turn receives once. A datagram goes to the device, and its answers are sent to its sender, in order; where a send
 /// fails, it is counted, and the next packet is sent. Silence and an oversize datagram move the clock. A failed receive
-/// does nothing. The loop ends at Closed, which is no turn and after which it receives nothing, or after the turns. The outbox
-/// is emptied at first and after each turn.
+/// does nothing. The loop ends at Closed, which is no turn and after which it receives nothing, or after the turns. The
+/// outbox is emptied at first and after each turn.
 pub fn serve<E: End>(device: &mut Device, end: &mut E, outbox: &mut Outbox, turns: u32) -> Report
     ensures served { ServesEnd device.old device.new (E.state end.old) (E.state end.new) result }
     ensures turns { result.turns ≤ turns }
@@ -63,7 +64,7 @@ pub fn serve_with<E: End, L: Electronics>(
     report
 }
 
-/// Receives once, and does what there is to do. Answers what it did, or nothing at Closed.
+/// Receives once, and does what there is to do. Returns what it did, or nothing at Closed.
 fn take_turn<E: End, L: Electronics>(
     device: &mut Device,
     end: &mut E,
@@ -109,10 +110,10 @@ fn take_turn<E: End, L: Electronics>(
     }
 }
 
-/// Sends the packets to a peer, in order, and answers how many sends failed.
+/// Sends the packets to a peer, in order, and returns how many sends failed.
 fn send_all<E: End>(end: &mut E, to: Peer, outbox: &Outbox) -> u64
     ensures sends { SendsAllBut result (E.state end.old) (E.state end.new) (sent_to to outbox.now) }
-    ensures few { result ≤ 122 }
+    ensures few { result ≤ most_answered }
 {
     let mut failed = 0;
     for packet in outbox.packets() {

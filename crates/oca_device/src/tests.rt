@@ -1,5 +1,5 @@
-//! Examples over the bench device. Expected bytes are those of AES70-3's layouts, written out or put together here, and never
-//! the device's own.
+//! Examples over the bench device. Expected bytes are those of AES70-3's layouts, written out or put together here, and
+//! never the device's own.
 mod blocks;
 mod commands;
 mod grouping;
@@ -222,7 +222,7 @@ impl Bench {
         }
     }
 
-    /// Takes a datagram of A, compares the verdict, and answers the number of replies.
+    /// Takes a datagram of A, compares the verdict, and returns the number of replies.
     fn answers(&mut self, rt: &impl Abort, bytes: &[u8], verdict: Verdict) -> usize {
         self.outbox.clear();
         let outcome = self.device.datagram(peer(A), bytes, 0, &mut self.outbox);

@@ -1,8 +1,8 @@
 //! What a datagram led to.
 use oca_pdu::PduFault;
 
-/// What a device made of a datagram. In all cases the clock moved first: locks of peers that are silent for more than three
-/// heartbeats are released, and sessions that are silent for more than 120,000 ms forgotten.
+/// What a device made of a datagram. In all cases the clock moved first: locks of peers that are silent for more than
+/// three heartbeats are released, and sessions that are silent for more than 120,000 ms forgotten.
 #[derive(Clone, Copy, Debug, PartialEq, Eq)]
 pub enum Verdict {
     /// The datagram was admitted: how many of its commands, with and without response, were served in which way.

@@ -1,5 +1,5 @@
-//! Readers and writers in memory for tests, which cut their bytes and fail where they are told to. Each is also a source or a
-//! sink of a script.
+//! Readers and writers in memory for tests, which cut their bytes and fail where they are told to. Each is also a
+//! source or a sink of a script.
 ghost use Rattle.std.specs.Prelude.{◌<◌, Some, None, false};
 
 use arrayvec::ArrayVec;

@@ -3,7 +3,7 @@ use Rattle.std.proofs.Common.{◌≡◌, ℕ, ◌+◌, ◌<◌, Bool, true, fals
 use Rattle.std.proofs.lemmas.List.{append_assoc, append-nil}
 use Rattle.oca_types.specs.declared.words.Peer.{Peer}
 use Rattle.oca_net.specs.Deliveries.{Sent}
-use Rattle.oca_net.specs.Ends.{last_u64, taken_after, failures_sent, Lacks, none, kept, missing, TakesAllBut}
+use Rattle.oca_net.specs.Ends.{last_u64, taken_after, failures_sent, Lacks, none, both, missing, TakesAllBut}
 use Rattle.oca_net.specs.EndStates.{EndState, Sends, SendsAllBut}
 
 -- ---- what an end took
@@ -13,7 +13,7 @@ lacks_both k j xs ys us vs none b = subst (λ (n : ℕ). Lacks n us vs) (from_ze
   where
     from_zero : (n : ℕ) → n ≡ 0 + n
     from_zero n = omega arith
-lacks_both k j xs ys us vs (kept x a) b = kept x (lacks_both _ j _ _ us vs a b)
+lacks_both k j xs ys us vs (both x a) b = both x (lacks_both _ j _ _ us vs a b)
 lacks_both k j xs ys us vs (missing {k = i} y a) b = subst (λ (n : ℕ). Lacks n (xs ++ us) (ys ++ vs)) (one_later i j) (missing y (lacks_both i j xs _ us vs a b))
   where
     one_later : (i j : ℕ) → i + j + 1 ≡ i + 1 + j
@@ -72,7 +72,7 @@ sends_one {to} {bytes} {was_taken} {a} {b} s = record {
 }
   where
     took : (x : Bool) (t t' : List Sent) → t' ≡ taken_after x to bytes t → TakesAllBut (cond x 0 1) t t' ((record { to = to; bytes = bytes }) ∷ [])
-    took true t t' e = record { sent = (record { to = to; bytes = bytes }) ∷ []; grew = e; part = kept (record { to = to; bytes = bytes }) none }
+    took true t t' e = record { sent = (record { to = to; bytes = bytes }) ∷ []; grew = e; part = both (record { to = to; bytes = bytes }) none }
     took false t t' e = record { sent = []; grew = e ∙ sym (append-nil t); part = missing (record { to = to; bytes = bytes }) none }
 
     counted : (x : Bool) (m n : ℕ) → n ≡ failures_sent x m → n < last_u64 → n ≡ m + cond x 0 1

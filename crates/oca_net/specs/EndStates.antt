@@ -5,9 +5,9 @@ use Rattle.oca_net.specs.declared.end.Heard.{Heard}
 use Rattle.oca_net.specs.Deliveries.{Delivery, Sent}
 use Rattle.oca_net.specs.Ends.{Delivers, HoldsOnlyADatagram, is_closed, failures_after, failures_sent, taken_after, one_more, last_u64, TakesAllBut}
 
--- Whether the end tells what it delivers and takes; what it delivered and what it took (the latest last), which say nothing
--- of an end that does not tell; whether it has answered Closed; how many calls failed, and how often `receive` was called,
--- failed and closed calls too: 64-bit numbers that stay at their last value.
+-- Whether the end tells what it delivers and takes; what it delivered and what it took (the latest last), which say
+-- nothing of an end that does not tell; whether it has returned Closed; how many calls failed, and how often `receive`
+-- was called, failed and closed calls too: 64-bit numbers that stay at their last value.
 pub record EndState : Type 0 where
   pub tells : Bool
   pub delivered : List Delivery
@@ -16,7 +16,7 @@ pub record EndState : Type 0 where
   pub failures : ℕ
   pub receives : ℕ
 
--- A receive answered this, and the packet then held these bytes.
+-- A receive returned this, and the packet then held these bytes.
 pub record Receives (heard : Heard) (bytes : List ℕ) (old new : EndState) : Type 0 where
   pub telling : new.tells ≡ old.tells
   pub delivered : IsTrue old.tells → Delivers heard bytes old.delivered new.delivered
@@ -26,7 +26,7 @@ pub record Receives (heard : Heard) (bytes : List ℕ) (old new : EndState) : Ty
   pub failures : new.failures ≡ failures_after heard old.failures
   pub receives : new.receives ≡ one_more old.receives
 
--- A send of these bytes to a peer answered whether the end took them.
+-- A send of these bytes to a peer returned whether the end took them.
 pub record Sends (was_taken : Bool) (to : Peer) (bytes : List ℕ) (old new : EndState) : Type 0 where
   pub telling : new.tells ≡ old.tells
   pub delivered : IsTrue old.tells → new.delivered ≡ old.delivered
@@ -44,8 +44,8 @@ pub record SendsAllBut (failed : ℕ) (old new : EndState) (all : List Sent) : T
   pub failures : new.failures < last_u64 → new.failures ≡ old.failures + failed
   pub receives : new.receives ≡ old.receives
 
--- These were delivered and these given out, and so many receives and sends failed: where the end tells, it delivered the ones
--- and took the others but for those whose send failed.
+-- These were delivered and these given out, and so many receives and sends failed: where the end tells, it delivered
+-- the ones and took the others but for those whose send failed.
 pub record Runs (deliveries : List Delivery) (all : List Sent) (failed_receives failed_sends : ℕ) (old new : EndState) : Type 0 where
   pub telling : new.tells ≡ old.tells
   pub delivered : IsTrue old.tells → new.delivered ≡ old.delivered ++ deliveries

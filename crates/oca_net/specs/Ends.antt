@@ -1,5 +1,5 @@
--- What the calls of an end do to what it delivered, what it took, whether it is closed and its count of failures (*profile*); and
--- what many sends do to what it took.
+-- What the calls of an end do to what it delivered, what it took, whether it is closed and its count of failures
+-- (*profile*); and what many sends do to what it took.
 use Rattle.std.specs.Prelude.{◌≡◌, ℕ, ◌+◌, ◌<◌, min, Bool, true, false, if◌then◌else◌, List, [], ◌∷◌, ◌++◌, length}
 use Rattle.oca_types.specs.declared.words.Peer.{Peer}
 pub use Rattle.oca_types.specs.Sizes.{largest_datagram}
@@ -7,7 +7,7 @@ use Rattle.oca_net.specs.declared.end.Heard.{Heard}
 use Rattle.oca_net.specs.declared.end.Heard.TheVariants as heard
 use Rattle.oca_net.specs.Deliveries.{Delivery, Datagram, Quiet, Failed, Sent}
 
--- What an end delivered grows by the entry that a receive answers, `bytes` being what the packet then holds:
+-- What an end delivered grows by the entry that a receive returns, `bytes` being what the packet then holds:
 -- for an oversize datagram some datagram of more than 1,472 bytes with that moment, for Closed nothing.
 abbrev pub Delivers : Heard → List ℕ → List Delivery → List Delivery → Type 0
 Delivers (heard.Datagram from now) bytes old new = new ≡ old ++ Datagram from bytes now ∷ []
@@ -25,7 +25,7 @@ HoldsOnlyADatagram (heard.Oversize now) bytes = bytes ≡ []
 HoldsOnlyADatagram heard.Failed bytes = bytes ≡ []
 HoldsOnlyADatagram heard.Closed bytes = bytes ≡ []
 
--- the receive answered Failed
+-- the receive returned Failed
 abbrev pub is_failed : Heard → Bool
 is_failed (heard.Datagram from now) = false
 is_failed (heard.Quiet now) = false
@@ -33,7 +33,7 @@ is_failed (heard.Oversize now) = false
 is_failed heard.Failed = true
 is_failed heard.Closed = false
 
--- the receive answered Closed
+-- the receive returned Closed
 abbrev pub is_closed : Heard → Bool
 is_closed (heard.Datagram from now) = false
 is_closed (heard.Quiet now) = false
@@ -49,7 +49,7 @@ last_u64 = 18446744073709551615
 abbrev pub one_more : ℕ → ℕ
 one_more n = min (n + 1) last_u64
 
--- the count of failures after a receive, and after a send that answered whether the datagram was taken
+-- the count of failures after a receive, and after a send that returned whether the datagram was taken
 abbrev pub failures_after : Heard → ℕ → ℕ
 failures_after h n = if is_failed h then one_more n else n
 
@@ -63,7 +63,7 @@ taken_after was_taken to bytes taken = if was_taken then taken ++ (record { to =
 -- The first list is the second without k of its members.
 pub data Lacks {X : Type 0} : (k : ℕ) (xs ys : List X) → Type 0 where
   none : Lacks 0 [] []
-  kept : {k : ℕ} {xs ys : List X} (x : X) → Lacks k xs ys → Lacks k (x ∷ xs) (x ∷ ys)
+  both : {k : ℕ} {xs ys : List X} (x : X) → Lacks k xs ys → Lacks k (x ∷ xs) (x ∷ ys)
   missing : {k : ℕ} {xs ys : List X} (y : X) → Lacks k xs ys → Lacks (k + 1) xs (y ∷ ys)
 
 -- what an end took grew by these datagrams, but for those whose send failed

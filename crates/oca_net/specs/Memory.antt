@@ -10,9 +10,9 @@ use Rattle.oca_net.specs.Deliveries.{Delivery, Datagram, Quiet, Failed, Sent}
 use Rattle.oca_net.specs.Ends.{largest_datagram, one_more, failures_after, failures_sent, taken_after}
 use Rattle.oca_net.specs.EndStates.{EndState}
 
--- What an end in memory has delivered (the latest last), what it will deliver (the next first), what it took (the latest
--- last) and for how many it has room, the number of the next send and of the one that fails, whether it has answered
--- Closed, and its counts of failures and of receives.
+-- What an end in memory has delivered (the latest last), what it will deliver (the next first), what it took (the
+-- latest last) and for how many it has room, the number of the next send and of the one that fails, whether it has
+-- answered Closed, and its counts of failures and of receives.
 pub record MemoryState : Type 0 where
   pub delivered : List Delivery
   pub to_come : List Delivery
@@ -79,7 +79,7 @@ bytes_of (Datagram from bytes now) = if nat_le (length bytes) largest_datagram t
 bytes_of (Quiet now) = []
 bytes_of Failed = []
 
--- A receive delivers the next entry of the script. Behind the last it answers Closed.
+-- A receive delivers the next entry of the script. Behind the last it returns Closed.
 abbrev pub next_heard : List Delivery → Heard
 next_heard [] = heard.Closed
 next_heard (d ∷ rest) = heard_of d

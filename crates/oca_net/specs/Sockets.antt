@@ -41,7 +41,7 @@ pub record IsBoundAt (ip port : ℕ) (local : Peer) : Type 0 where
   pub address : local.ip ≡ ip
   pub same_port : port ≢ 0 → local.port ≡ port
 
--- the end after a receive that gave this answer, the latest moment being then this one
+-- the end after a receive that returned this, the latest moment being then this one
 abbrev pub after_heard : Heard → ℕ → SocketState → SocketState
 after_heard h moment e =
     record {
@@ -53,7 +53,7 @@ after_heard h moment e =
       send_failed = e.send_failed;
     }
 
--- the moment of an answer, where it has one
+-- the moment of what was heard, where it has one
 abbrev pub SaysMoment : Heard → ℕ → Type 0
 SaysMoment (heard.Datagram from now) moment = now ≡ moment
 SaysMoment (heard.Quiet now) moment = now ≡ moment
@@ -61,7 +61,7 @@ SaysMoment (heard.Oversize now) moment = now ≡ moment
 SaysMoment heard.Failed moment = Unit {0}
 SaysMoment heard.Closed moment = Unit {0}
 
--- the end after a send that gave this answer
+-- the end after a send that returned this
 abbrev pub after_sent : Bool → SocketState → SocketState
 after_sent was_taken e =
     record {

@@ -5,7 +5,7 @@ ghost use Rattle.oca_net.specs.EndStates.{EndState, Receives, Sends};
 
 use oca_types::{Packet, Peer};
 
-/// What a receive answers. Moments are in milliseconds.
+/// What a receive returns. Moments are in milliseconds.
 #[derive(Clone, Copy, Debug, PartialEq, Eq)]
 pub enum Heard {
     /// A datagram of at most 1,472 bytes, which the packet holds.
@@ -23,7 +23,7 @@ pub enum Heard {
 /// An end of a network: it receives and sends datagrams.
 ///
 /// Where an end tells, `delivered` and `taken` of its state are all that it delivered and took. Of an end that does not
-/// tell, these two say nothing; whether it has answered Closed, and its counts, are said of every end.
+/// tell, these two say nothing; whether it has returned Closed, and its counts, are said of every end.
 pub trait End {
     /// What the end says of itself.
     ghost state: { Self → EndState };

@@ -10,7 +10,7 @@ use std::alloc::Global;
 use std::marker::Model;
 
 /// An entry of the script of a [`MemoryEnd`]. Moments are in milliseconds.
-#[derive(Drop)]
+#[derive(Debug, Drop)]
 pub enum Scripted {
     /// A datagram. One of more than 1,472 bytes is heard as oversize.
     Datagram {
@@ -63,8 +63,8 @@ impl Model for MemoryEnd {
 }
 
 impl MemoryEnd {
-    /// An end that will deliver this script and take up to `room` datagrams. The send number `fail_send`, counted from 0,
-    /// fails. Refusal: `NoMemory`.
+    /// An end that will deliver this script and take up to `room` datagrams. The send number `fail_send`, counted from
+    /// 0, fails. Refusal: `NoMemory`.
     pub fn new(
         alloc: Global,
         script: Vec<Scripted>,
@@ -113,7 +113,7 @@ impl MemoryEnd {
 impl End for MemoryEnd {
     ghost state = { state_of_memory };
 
-    /// Delivers the next entry of the script; behind the last it answers `Closed`.
+    /// Delivers the next entry of the script; behind the last it returns `Closed`.
     fn receive(&mut self, packet: &mut Packet) -> Heard
         ensures heard { result ≡ next_heard self.old.to_come }
         ensures packet { packet.new.items ≡ next_bytes self.old.to_come }

@@ -5,8 +5,8 @@ use std::rt::Clock;
 use std::time::{Duration, Instant};
 use std::{io, thread};
 
-/// The milliseconds since a start. None that is told is before one that was told earlier; where the clock can't be read,
-/// the latest one is told again.
+/// The milliseconds since a start. None that is told is before one that was told earlier; where the clock can't be
+/// read, the latest one is told again.
 #[derive(Drop)]
 pub(crate) struct Moments<'a, C: Clock> {
     clock: &'a C,

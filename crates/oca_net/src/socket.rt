@@ -73,12 +73,14 @@ impl Socket {
 }
 
 impl AsFd for Socket {
+    /// The descriptor of the socket, borrowed.
     fn as_fd(&self) -> BorrowedFd<'_> {
         self.socket.as_fd()
     }
 }
 
 impl AsRawFd for Socket {
+    /// The number of the descriptor.
     fn as_raw_fd(&self) -> RawFd {
         self.socket.as_raw_fd()
     }

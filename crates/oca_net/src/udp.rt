@@ -7,7 +7,7 @@ use crate::count::step;
 use crate::end::{End, Heard};
 use crate::moments::Moments;
 use crate::socket::{SEND_MS, Socket};
-use oca_types::{Packet, Peer};
+use oca_types::{MOST_BYTES, Packet, Peer};
 use std::alloc::Global;
 use std::io;
 use std::marker::Model;
@@ -17,7 +17,7 @@ use std::rt::Clock;
 use thiserror::Error;
 
 /// One more than the largest datagram, so that a larger one is seen to be larger.
-const BUFFER: usize = 1473;
+const BUFFER: usize = MOST_BYTES + 1;
 
 /// How long a receive waits, in milliseconds.
 const WAIT_MS: u64 = 50;
@@ -68,14 +68,16 @@ impl BindError {
 
 /// An end at a UDP socket of IPv4.
 ///
-/// A receive waits 50 ms for a datagram, and answers `Quiet` where none has come by then; a signal does not end the wait. Its
-/// moments are the milliseconds since `bind`, and none is before an earlier one. A datagram of more than 1,472 bytes is heard
-/// as `Oversize`. What comes faster than it is received waits in the system's buffer; beyond that the system drops it, and
-/// nothing tells. Whatever else the system answers is `Failed`, once the 50 ms are over, and counts as a failure.
+/// A receive waits 50 ms for a datagram, and returns `Quiet` where none has come by then; a signal does not end the
+/// wait. Its moments are the milliseconds since `bind`, and none is before an earlier one. A datagram of more than
+/// 1,472 bytes is heard as `Oversize`. What comes faster than it is received waits in the system's buffer; beyond that
+/// the system drops it, and nothing tells. Whatever else the system returns is `Failed`, once the 50 ms are over, and
+/// counts as a failure.
 ///
-/// A send waits for room in the system's buffer, which datagrams to a host that does not answer fill: for a millisecond, by the
-/// system's tick (two where signals interrupt it). Then it is `false`, as where a network can't be reached, and counts as a
-/// failure. That a send was taken does not say that the datagram arrives. No call but `bind` takes memory.
+/// A send waits for room in the system's buffer, which datagrams to a host that does not answer fill: for a
+/// millisecond, by the system's tick (two where signals interrupt it). Then it is `false`, as where a network can't be
+/// reached, and counts as a failure. That a send was taken does not say that the datagram arrives. No call but `bind`
+/// takes memory.
 #[derive(Drop)]
 pub struct UdpEnd<'a, C: Clock> {
     moments: Moments<'a, C>,
@@ -105,9 +107,10 @@ impl<'a, C: Clock> Model for UdpEnd<'a, C> {
 }
 
 impl<'a, C: Clock> UdpEnd<'a, C> {
-    /// An end at this address (an IPv4 address as a number, the first byte highest; 0 is every address of the machine, and
-    /// answers may then leave from another one than was asked) and port; at port 0 the system chooses one. Takes the
-    /// receive buffer first, then binds the socket. Refusals: `NoMemory` where the buffer's memory was refused, `Io` where the system refused the socket.
+    /// An end at this address (an IPv4 address as a number, the first byte highest; 0 is every address of the machine,
+    /// and answers may then leave from another one than was asked) and port; at port 0 the system chooses one. Takes
+    /// the receive buffer first, then binds the socket. Refusals: `NoMemory` where the buffer's memory was refused,
+    /// `Io` where the system refused the socket.
     pub fn bind(alloc: Global, rt: &'a C, ip: u32, port: u16) -> Result<UdpEnd<'a, C>, BindFault>
     where
         C: Net,
@@ -160,8 +163,8 @@ impl<'a, C: Clock> UdpEnd<'a, C> {
         self.local
     }
 
-    /// The present moment: the milliseconds since `bind`. It is not before a moment that a receive has answered; where the
-    /// clock can't be read, it is the last of those.
+    /// The present moment: the milliseconds since `bind`. It is not before a moment that a receive has answered; where
+    /// the clock can't be read, it is the last of those.
     pub fn now(&self) -> u64
         ensures { self.now.moment ≤ result }
     {
@@ -182,8 +185,8 @@ impl<'a, C: Clock> UdpEnd<'a, C> {
         self.failed_send
     }
 
-    /// As `receive`, and waits until this moment of its own in place of 50 ms: an hour at most, and not at all where the moment
-    /// is not still to come.
+    /// As `receive`, and waits until this moment of its own in place of 50 ms: an hour at most, and not at all where
+    /// the moment is not still to come.
     pub fn receive_by(&mut self, packet: &mut Packet, moment: u64) -> Heard
         ensures packet { HoldsOnlyADatagram result packet.new.items }
         ensures open { is_closed result ≡ false }
@@ -228,7 +231,7 @@ impl<'a, C: Clock> UdpEnd<'a, C> {
 impl<'a, C: Clock> End for UdpEnd<'a, C> {
     ghost state = { state_of_socket };
 
-    /// Waits up to 50 ms for a datagram. It never answers `Closed`.
+    /// Waits up to 50 ms for a datagram. It never returns `Closed`.
     fn receive(&mut self, packet: &mut Packet) -> Heard
         ensures packet { HoldsOnlyADatagram result packet.new.items }
         ensures open { is_closed result ≡ false }
@@ -270,8 +273,8 @@ impl<'a, C: Clock> AsRawFd for UdpEnd<'a, C> {
     }
 }
 
-/// Waits for a datagram from this moment until that one at most, and answers its length, cut to the buffer's, and its sender;
-/// nothing where none has come. A wait that a signal interrupts goes on for what is left.
+/// Waits for a datagram from this moment until that one at most, and returns its length, cut to the buffer's, and its
+/// sender; nothing where none has come. A wait that a signal interrupts goes on for what is left.
 fn wait<C: Clock>(
     socket: &mut Socket,
     moments: &Moments<'_, C>,

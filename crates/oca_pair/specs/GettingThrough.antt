@@ -1,6 +1,6 @@
--- THE LAW OF GETTING THROUGH (profile), over every schedule: a link that is asked often enough gives each command out to
--- the device until it has the command's answer or is lost; and one copy that arrives, and the one response that comes
--- back, are enough.
+-- THE LAW OF GETTING THROUGH (profile), over every schedule: a link that is asked often enough gives each command out
+-- to the device until it has the command's answer or is lost; and one copy that arrives, and the one response that
+-- comes back, are enough.
 use Rattle.std.specs.Prelude.{◌≡◌, ◌⊎◌, ℕ, ◌+◌, ◌*◌, ◌==◌, ◌<◌, ◌≤◌, max, Bool, true, if◌then◌else◌, List, [], ◌∷◌, ◌++◌, length, Option, Some, None}
 use Rattle.std.specs.List.{slice_get, AllByRecursion, Contains}
 use Rattle.oca_types.specs.declared.words.Peer.{Peer}
@@ -21,8 +21,8 @@ use Rattle.oca_pair.specs.Steps.{Step, Submit, Due, ToDevice, ToLink, Other, Tic
 use Rattle.oca_pair.specs.Premises.{are_apart, StepFits, Fit, KeepsItsSession, ComeFrom}
 use Rattle.oca_pair.specs.RoundTrip.{GotItsAnswer, asked, ComesBack}
 
--- ---- THE CALLS OF A LINK in a schedule: what its steps make of the link of a number. As in a history the latest stands
--- first.
+-- ---- THE CALLS OF A LINK in a schedule: what its steps make of the link of a number. As in a history the latest
+-- stands first.
 
 -- the call of the link, where there is one
 abbrev pub called : (LinkState → Call) → Option PeerLink → List Call
@@ -94,8 +94,8 @@ pub record IsUnderWay (ms since i : ℕ) (c : CommandFields) (p : Peer) (calls :
 abbrev pub GetsThrough : ℕ → ℕ → ℕ → CommandFields → Peer → List Call → Network → Type 0
 GetsThrough ms since i c p calls n = GotItsAnswer i c p n ⊎ (IsLost i n ⊎ IsUnderWay ms since i c p calls n)
 
--- Over every schedule, for all sizes where the window is at least twice the span less one: so it is of each command that
--- the link of a start submitted in a step, where from this step on the link is asked every so many ms.
+-- Over every schedule, for all sizes where the window is at least twice the span less one: so it is of each command
+-- that the link of a start submitted in a step, where from this step on the link is asked every so many ms.
 abbrev pub EveryCommandGetsThrough : Type 0
 EveryCommandGetsThrough =
     (w : DeviceSizes) (s : ℕ) (tree : List Object) (starts : List Start) (before later : List Step) (i : ℕ) (x : Start)

@@ -71,7 +71,8 @@ WasSubmitted p c submitted = let it : SubmittedCommand = record { peer = p; comm
 abbrev pub WasTaken : Peer → ℕ → AnswerFields → List TakenAnswer → Type 0
 WasTaken p h answer taken = let it : TakenAnswer = record { peer = p; handle = h; answer = answer } in Contains taken it
 
--- The execution was of a datagram of the peer that held its command alone, on the objects as the clock left them when it came.
+-- The execution was of a datagram of the peer that held its command alone, on the objects as the clock left them when
+-- it came.
 pub record CameWithADatagram (p : Peer) (x : Execution) (n : Network) : Type 0 where
   pub later : List Event
   pub before : List Event
@@ -79,8 +80,8 @@ pub record CameWithADatagram (p : Peer) (x : Execution) (n : Network) : Type 0 w
   pub events : n.events ≡ later ++ Datagram p (pdu_encoding (Commands true (x.command ∷ []))) now ∷ before
   pub objects : x.objects ≡ law.objects n.tree (changes n.sizes (happenings (Tick now ∷ before)))
 
--- The answer is what an execution gave, of the very command that the peer's link submitted under the handle, for that peer.
--- Where the peer kept its session, it is the only execution for the peer under that handle.
+-- The answer is what an execution gave, of the very command that the peer's link submitted under the handle, for that
+-- peer. Where the peer kept its session, it is the only execution for the peer under that handle.
 pub record IsAnswerOfItsCommand (p : Peer) (h : ℕ) (answer : AnswerFields) (n : Network) : Type 0 where
   pub execution : Execution
   pub executed : Contains (executions_for p n) execution
@@ -101,8 +102,8 @@ AreConsecutive [] = Unit {0}
 AreConsecutive (h ∷ []) = Unit {0}
 AreConsecutive (h ∷ k ∷ more) = (k ≡ h + 1) × AreConsecutive (k ∷ more)
 
--- Of each answer that a link holds, and of each that was taken from it; and each command that it submitted has a handle of its
--- own, the one before it plus one.
+-- Of each answer that a link holds, and of each that was taken from it; and each command that it submitted has a handle
+-- of its own, the one before it plus one.
 pub record AnswersItsCommands (n : Network) : Type 0 where
   pub held : (i : ℕ) (l : PeerLink) (h : ℕ) (answer : AnswerFields) → slice_get n.links i ≡ Some l → answer_under h l.link.untaken ≡ Some answer →
       IsAnswerOfItsCommand l.peer h answer n
@@ -118,8 +119,8 @@ EveryScheduleAnswersItsCommands =
 
 -- ---- THE LAW OF UNTAKEN COMMANDS
 
--- A datagram of the link of this peer carries a command that the link holds untaken: its bytes are those that the link gives out
--- for it, whether for the first time or again.
+-- A datagram of the link of this peer carries a command that the link holds untaken: its bytes are those that the link
+-- gives out for it, whether for the first time or again.
 pub record CarriesUntaken (d : SentDatagram) (l : PeerLink) (c : CommandFields) : Type 0 where
   pub peer : l.peer ≡ d.peer
   pub untaken : Untaken
@@ -140,8 +141,8 @@ WasExecuted k now p x n =
     × (executions_for p (after_step (ToDevice k now) n) ≡ executions_for p n)
     × Contains (executions_for p n) x
 
--- The delivery is answered: the device executes the command now, or did before; and it sends the link one datagram, the response with
--- the reply of that execution.
+-- The delivery is answered: the device executes the command now, or did before; and it sends the link one datagram, the
+-- response with the reply of that execution.
 pub record IsAnswered (k now : ℕ) (n : Network) (d : SentDatagram) (c : CommandFields) : Type 0 where
   pub execution : Execution
   pub command : execution.command ≡ c
@@ -149,8 +150,9 @@ pub record IsAnswered (k now : ℕ) (n : Network) (d : SentDatagram) (c : Comman
   pub sent : (after_step (ToDevice k now) n).to_links
       ≡ n.to_links ++ (record { peer = d.peer; bytes = pdu_encoding (pdu_of (response c.handle execution.reply)) }) ∷ []
 
--- A delivery of a datagram that carries an untaken command is answered, where the link's peer kept its session, this datagram counted,
--- and the datagrams that came to the device came from at most as many peers as the device has room for.
+-- A delivery of a datagram that carries an untaken command is answered, where the link's peer kept its session, this
+-- datagram counted, and the datagrams that came to the device came from at most as many peers as the device has room
+-- for.
 abbrev pub AnswersUntaken : Network → Type 0
 AnswersUntaken n = (k now i : ℕ) (d : SentDatagram) (l : PeerLink) (c : CommandFields) (peers : List Peer) →
     slice_get n.to_device k ≡ Some d → slice_get n.links i ≡ Some l → CarriesUntaken d l c →

@@ -1,6 +1,7 @@
--- Both ends over a network (profile): a device, links to it, each of a peer of its own, and every datagram that was sent between them.
--- No list of a network ever loses a member, so a datagram can be delivered late, again, in any order, or never.
--- Of events the latest stands first; of datagrams, submitted commands and taken answers the latest stands last.
+-- Both ends over a network (profile): a device, links to it, each of a peer of its own, and every datagram that was
+-- sent between them. No list of a network ever loses a member, so a datagram can be delivered late, again, in any
+-- order, or never. Of events the latest stands first; of datagrams, submitted commands and taken answers the latest
+-- stands last.
 use Rattle.std.specs.Prelude.{ℕ, List, [], map}
 use Rattle.oca_types.specs.declared.words.Peer.{Peer}
 use Rattle.oca_types.specs.Peers.{CommandFields}

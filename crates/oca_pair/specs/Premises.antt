@@ -41,8 +41,9 @@ Fit starts steps = AllByRecursion StartFits starts × AllByRecursion StepFits st
 abbrev pub arrivals_of : Peer → List Arrival → List Arrival
 arrivals_of p arrivals = filter (λ a. same_peer a.from p) arrivals
 
--- THE PEER KEEPS ITS SESSION: the session to which its last admitted datagram belongs has all its admitted datagrams. So each of them
--- came at most 120,000 ms after the one before it. (A datagram that found no room was not admitted, and is not counted.)
+-- THE PEER KEEPS ITS SESSION: the session to which its last admitted datagram belongs has all its admitted datagrams.
+-- So each of them came at most 120,000 ms after the one before it. (A datagram that found no room was not admitted, and
+-- is not counted.)
 abbrev pub KeepsItsSession : Peer → Network → Type 0
 KeepsItsSession p n =
     let arrivals = admitted n.sizes (happenings n.events) in

@@ -1,5 +1,5 @@
--- THE LAW OF THE ROUND TRIP (profile), over every schedule: a command that a link holds untaken comes to the device, what the device
--- sends comes to the link, and the link has the command's answer, whatever happens in between.
+-- THE LAW OF THE ROUND TRIP (profile), over every schedule: a command that a link holds untaken comes to the device,
+-- what the device sends comes to the link, and the link has the command's answer, whatever happens in between.
 use Rattle.std.specs.Prelude.{◌≡◌, ◌⊎◌, ℕ, ◌+◌, ◌*◌, ◌<◌, ◌≤◌, true, List, [], ◌∷◌, ◌++◌, length, Some}
 use Rattle.std.specs.List.{slice_get, AllByRecursion, Contains}
 use Rattle.oca_types.specs.declared.words.Peer.{Peer}
@@ -49,7 +49,8 @@ pub record GotItsAnswer (i : ℕ) (c : CommandFields) (p : Peer) (n : Network) :
   pub got : (answer_under c.handle link.link.untaken ≡ Some answer) ⊎ WasTaken p c.handle answer n.taken
   pub is_its : IsAnswerTo c p answer n
 
--- A round trip starts from a network. The network after the step ToDevice, after the steps between, and after the step ToLink:
+-- A round trip starts from a network. The network after the step ToDevice, after the steps between, and after the step
+-- ToLink:
 abbrev pub asked : ℕ → ℕ → Network → Network
 asked k now n = after_step (ToDevice k now) n
 
@@ -59,8 +60,8 @@ meanwhile k now between n = after_steps between (asked k now n)
 abbrev pub come_back : ℕ → ℕ → List Step → ℕ → Network → Network
 come_back k now between later n = after_step (ToLink (length n.to_links) later) (meanwhile k now between n)
 
--- With the step ToDevice the device sends one datagram, to the peer: the response to the command with a reply. That very datagram is
--- the one that the step ToLink delivers.
+-- With the step ToDevice the device sends one datagram, to the peer: the response to the command with a reply. That
+-- very datagram is the one that the step ToLink delivers.
 pub record IsSentBack (k now : ℕ) (between : List Step) (n : Network) (c : CommandFields) (p : Peer) : Type 0 where
   pub datagram : SentDatagram
   pub peer : datagram.peer ≡ p
@@ -80,8 +81,8 @@ pub record ComesBack (k now : ℕ) (between : List Step) (later i : ℕ) (c : Co
   pub carried : KeepsItsSession p (come_back k now between later n) → (answer : AnswerFields) → IsAnswerTo c p answer (come_back k now between later n) →
       answer ≡ answer_of sent_back.reply
 
--- Each delivery of a datagram that carries an untaken command comes back, under the premises of `AnswersUntaken`. Of what happens
--- after that delivery nothing is asked.
+-- Each delivery of a datagram that carries an untaken command comes back, under the premises of `AnswersUntaken`. Of
+-- what happens after that delivery nothing is asked.
 abbrev pub RoundTrips : Network → Type 0
 RoundTrips n = (k now i : ℕ) (d : SentDatagram) (l : PeerLink) (c : CommandFields) (peers : List Peer) (between : List Step) (later : ℕ) →
     slice_get n.to_device k ≡ Some d → slice_get n.links i ≡ Some l → CarriesUntaken d l c →

@@ -25,14 +25,16 @@ step_of (given.Tick now) = Tick now
 step_of (given.Local ono value) = Local ono.0 value
 step_of (given.Take link handle) = Take link handle.0
 
--- The transcript of the steps from a network on: its lists, one outcome for each step, and a device that represents what came to it.
+-- The transcript of the steps from a network on: its lists, one outcome for each step, and a device that represents
+-- what came to it.
 pub record IsTranscript (t : Transcript) (steps : List Step) (n : Network) : Type 0 where
   pub device : let last = after_steps steps n in Represents last.sizes t.device last.tree last.events
   pub to_device : t.to_device.items ≡ (after_steps steps n).to_device
   pub to_links : t.to_links.items ≡ (after_steps steps n).to_links
   pub log : t.log.items ≡ outcomes_of steps n
 
--- SamePeer comes exactly where starts are not apart, and BadStep is exactly the first step that names what is not there.
+-- SamePeer comes exactly where starts are not apart, and BadStep is exactly the first step that names what is not
+-- there.
 abbrev pub IsRunOf : Result Transcript PairFault → List Start → List Step → Network → Type 0
 IsRunOf (Ok t) starts steps n = (are_apart starts ≡ true) × (first_missing steps n ≡ None) × IsTranscript t steps n
 IsRunOf (Err faults.NoMemory) starts steps n = are_apart starts ≡ true

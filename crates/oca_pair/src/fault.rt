@@ -7,8 +7,8 @@ ghost use Rattle.oca_pair.specs.Transcripts.{fault_number};
 pub enum PairFault {
     /// Number 1: memory was refused.
     NoMemory,
-    /// Number 2: the step of this number, from 0, is the first that names a link or a datagram that is not there, or is an `Other`
-    /// from the peer of a link.
+    /// Number 2: the step of this number, from 0, is the first that names a link or a datagram that is not there, or is
+    /// an `Other` from the peer of a link.
     BadStep(usize),
     /// Number 3: two starts have one peer, or one has the device's.
     SamePeer,

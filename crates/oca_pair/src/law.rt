@@ -6,12 +6,14 @@ ghost use Rattle.oca_pair.specs.GettingThrough.{EveryCommandGetsThrough};
 
 use oca_pdu::{law_reading, law_written_is_read_back};
 
-/// Over every schedule and for all sizes of window, peers and span: each answer that a link holds or gave under a handle is what an
-/// execution gave, for that link's peer, of the very command that the link submitted under that handle. What is executed is what the
-/// device's law by events says of what happened. Where the peer kept its session, it is the only execution for the peer under that
-/// handle. The handles of the commands that a link submitted rise by one.
+/// Over every schedule and for all sizes of window, peers and span: each answer that a link holds or gave under a
+/// handle is what an execution gave, for that link's peer, of the very command that the link submitted under that
+/// handle. What is executed is what the device's law by events says of what happened. Where the peer kept its session,
+/// it is the only execution for the peer under that handle. The handles of the commands that a link submitted rise by
+/// one.
 ///
-/// A peer keeps its session where each of its datagrams that the device admitted came at most 120,000 ms after the one before it.
+/// A peer keeps its session where each of its datagrams that the device admitted came at most 120,000 ms after the one
+/// before it.
 pub fn law_answers()
     ensures answers { EveryScheduleAnswersItsCommands }
     ensures happened { TheseHappened }
@@ -20,11 +22,12 @@ pub fn law_answers()
     law_reading();
 }
 
-/// Over every schedule, where the window `w` and the span `s` have `0 < s` and `2 * s <= w + 1`: a delivered datagram with a command
-/// that its link still holds untaken is answered. It is executed now, or its reply is found in the window; it is never too old, never met
-/// without room, and never taken for another command under its handle. This holds where the link's peer kept its session (as
-/// [`law_answers`] says), this datagram counted, and where all datagrams came from at most as many peers as the device has room for. And no
-/// command is executed twice, for all sizes, where its peer kept its session.
+/// Over every schedule, where the window `w` and the span `s` have `0 < s` and `2 * s <= w + 1`: a delivered datagram
+/// with a command that its link still holds untaken is answered. It is executed now, or its reply is found in the
+/// window; it is never too old, never met without room, and never taken for another command under its handle. This
+/// holds where the link's peer kept its session (as [`law_answers`] says), this datagram counted, and where all
+/// datagrams came from at most as many peers as the device has room for. And no command is executed twice, for all
+/// sizes, where its peer kept its session.
 pub fn law_never_old()
     ensures answered { NoUntakenCommandIsTooOld }
     ensures once { EveryCommandIsExecutedOnce }
@@ -32,23 +35,24 @@ pub fn law_never_old()
     law_written_is_read_back();
 }
 
-/// Over every schedule, where `0 < s` and `2 * s <= w + 1`: a delivered datagram with a command that its link still holds untaken
-/// makes the device send one datagram to the link. Whatever happens then, once that datagram is delivered to the link, the link
-/// holds the answer to the command, where it still held the command before; and else its answer was taken earlier. The answer is
-/// the reply of an execution of that very command for that link's peer. The premises are those of `law_never_old`; of what happens
-/// between the two deliveries nothing is asked. Where the peer kept its session till the end, the answer is the reply that this
-/// datagram carried.
+/// Over every schedule, where `0 < s` and `2 * s <= w + 1`: a delivered datagram with a command that its link still
+/// holds untaken makes the device send one datagram to the link. Whatever happens then, once that datagram is delivered
+/// to the link, the link holds the answer to the command, where it still held the command before; and else its answer
+/// was taken earlier. The answer is the reply of an execution of that very command for that link's peer. The premises
+/// are those of `law_never_old`; of what happens between the two deliveries nothing is asked. Where the peer kept its
+/// session till the end, the answer is the reply that this datagram carried.
 pub fn law_round_trip()
     ensures { EveryRoundTripBringsTheAnswer }
 {
     law_written_is_read_back();
 }
 
-/// Over every schedule, where `0 < s` and `2 * s <= w + 1`: a link whose `due` is called at least every `ms` milliseconds, each time until it
-/// gives no command, gives each command that it submitted out to the device, within `ms` of its submit, and again less than
-/// `250 + ms` after each giving out, with the same bytes, until the link has the command's answer, which may have been taken since, or
-/// is lost. One of the two comes within `ms + 20 * (250 + ms)` of the submit. And as long as neither came, one copy that arrives at the
-/// device, and the one response that comes back, are enough: that is a round trip of [`law_round_trip`], under its premises.
+/// Over every schedule, where `0 < s` and `2 * s <= w + 1`: a link whose `due` is called at least every `ms`
+/// milliseconds, each time until it gives no command, gives each command that it submitted out to the device, within
+/// `ms` of its submit, and again less than `250 + ms` after each giving out, with the same bytes, until the link has
+/// the command's answer, which may have been taken since, or is lost. One of the two comes within
+/// `ms + 20 * (250 + ms)` of the submit. And as long as neither came, one copy that arrives at the device, and the one
+/// response that comes back, are enough: that is a round trip of [`law_round_trip`], under its premises.
 ///
 /// What the device, the other links and the network do, and what is lost, doubled or overtaken, is left open.
 pub fn law_getting_through()

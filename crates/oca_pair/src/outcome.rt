@@ -5,7 +5,7 @@ use oca_tree::SetFault;
 use oca_types::Handle;
 
 /// What a step of a network led to.
-#[derive(Drop)]
+#[derive(Debug, Drop)]
 pub enum Outcome {
     /// The link took the command, under this handle.
     Submitted(Handle),

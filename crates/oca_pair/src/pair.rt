@@ -47,12 +47,12 @@ pub fn run_pair(
     run_pair_with_sizes(alloc, tree, Sizes { window, peers }, span, starts, steps)
 }
 
-/// Runs a schedule over a device at 127.0.0.1:65000 with these objects and these sizes, and a link of this span for each start,
-/// made at moment 0.
+/// Runs a schedule over a device at 127.0.0.1:65000 with these objects and these sizes, and a link of this span for
+/// each start, made at moment 0.
 ///
-/// Refusals: `SamePeer`, where two starts have one peer or one has the device's, is looked for first, before memory is taken. Then
-/// the steps are taken in order: `BadStep` is the number of the first one that names a link or a datagram that is not there, or that
-/// is an `Other` from a link's peer; `NoMemory` comes where memory is refused.
+/// Refusals: `SamePeer`, where two starts have one peer or one has the device's, is looked for first, before memory is
+/// taken. Then the steps are taken in order: `BadStep` is the number of the first one that names a link or a datagram
+/// that is not there, or that is an `Other` from a link's peer; `NoMemory` comes where memory is refused.
 pub fn run_pair_with_sizes(
     alloc: Global,
     tree: Tree,

@@ -16,13 +16,13 @@ use oca_control::{Due, Link, Reception};
 use oca_device::{Device, Outbox};
 use oca_pdu::law_reading;
 use oca_tree::{LocalValue, Tree};
-use oca_types::{Handle, MethodId, NoMemory, Ono, Packet, Peer, Sizes, Span};
+use oca_types::{Handle, LOOPBACK, MethodId, NoMemory, Ono, Packet, Peer, Sizes, Span};
 use std::alloc::Global;
 use std::marker::Model;
 
 /// Where the device is: 127.0.0.1:65000.
 pub(crate) const DEVICE: Peer = Peer {
-    ip: 0x7F00_0001,
+    ip: LOOPBACK,
     port: 65000,
 };
 
@@ -163,7 +163,7 @@ impl Running {
         })
     }
 
-    /// Takes a step, and answers what it led to. `Missing` where it names what is not there.
+    /// Takes a step, and returns what it led to. `Missing` where it names what is not there.
     pub(crate) fn take_step(&mut self, step: &Step<'_>) -> Result<Outcome, StepFault>
         ensures { (n : Network) → Shows self.old n → Took result (step_of step.now) n self.new }
     {

@@ -3,7 +3,7 @@ use oca_types::{Packet, Peer};
 use std::marker::Model;
 
 /// A datagram that was sent, from a link to the device or from the device to a link.
-#[derive(Drop)]
+#[derive(Debug, Drop)]
 pub struct Sent {
     /// The peer of the link.
     pub peer: Peer,
@@ -21,10 +21,11 @@ impl Model for Sent {
 
 impl Sent {
     ghost use Rattle.std.specs.Prelude.{◌≡◌, length, ◌≤◌};
+    ghost use Rattle.oca_types.specs.Sizes.{largest_datagram};
 
     /// A datagram of these bytes, with the link of this peer at one end.
     pub(crate) fn new(peer: Peer, bytes: &[u8]) -> Sent
-        requires { length bytes.now ≤ 1472 }
+        requires { length bytes.now ≤ largest_datagram }
         ensures { result ≡ record { peer = peer; bytes = bytes.now } }
     {
         let mut packet = Packet::new();

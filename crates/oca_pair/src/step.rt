@@ -2,9 +2,9 @@
 use oca_tree::LocalValue;
 use oca_types::{Handle, MethodId, Ono, Peer};
 
-/// A step of a schedule. Links and datagrams are named by their number, from 0: links in the order of the starts, datagrams in the
-/// order in which they were sent, to the device and to links apart. Moments are in milliseconds.
-#[derive(Clone, Copy)]
+/// A step of a schedule. Links and datagrams are named by their number, from 0: links in the order of the starts,
+/// datagrams in the order in which they were sent, to the device and to links apart. Moments are in milliseconds.
+#[derive(Clone, Copy, Debug)]
 pub enum Step<'a> {
     /// A command is submitted to a link. `count` is ParamCount, and `params` the bytes of the parameters (AES70-3).
     Submit {

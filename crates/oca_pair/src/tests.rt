@@ -1,4 +1,5 @@
-//! Schedules over the bench device. What is expected is that of the profile's worked examples, and never the program's own output.
+//! Schedules over the bench device. What is expected is that of the profile's worked examples, and never the program's
+//! own output.
 use crate::{
     Outcome, PairFault, Start, Step, Transcript, law_answers, law_getting_through, law_never_old,
     law_round_trip, run_pair, run_pair_with_sizes,
@@ -435,8 +436,8 @@ fn sixteen_overtakes_fifteen(rt: HostRuntime) -> Result<(), Fail> {
 /// What other peers send: a keep-alive of 5 seconds.
 const KEEP_ALIVE: [u8; 12] = [0x3b, 0, 1, 0, 0, 0, 0x0b, 4, 0, 1, 0, 5];
 
-/// A datagram that found no room is executed when it comes again, and its answer is taken: its peer kept its session, since only the
-/// second of its datagrams was admitted.
+/// A datagram that found no room is executed when it comes again, and its answer is taken: its peer kept its session,
+/// since only the second of its datagrams was admitted.
 #[test]
 fn a_datagram_without_room(rt: HostRuntime) -> Result<(), Fail> {
     let alloc = rt.alloc();

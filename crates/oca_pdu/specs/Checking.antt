@@ -1,4 +1,4 @@
--- What a function that checks a part of a datagram answers, beside what reading gives.
+-- What a function that checks a part of a datagram returns, beside what reading gives.
 use Rattle.std.specs.Prelude.{◌≡◌, ℕ, true, List, Result, Ok, Err, is_ok}
 use Rattle.oca_pdu.specs.declared.fault.PduFault.{PduFault}
 use Rattle.oca_pdu.specs.Reading.{◌>>=◌}

@@ -20,13 +20,14 @@ command_head = 17
 abbrev pub response_head : ℕ
 response_head = 10
 
--- a command: CommandSize, which counts all its bytes (17 of the fields and the parameters), handle, target ONo, DefLevel,
--- MethodIndex, ParamCount, parameters
+-- a command: CommandSize, which counts all its bytes (17 of the fields and the parameters), handle, target ONo,
+-- DefLevel, MethodIndex, ParamCount, parameters
 abbrev pub command_encoding : CommandFields → List ℕ
 command_encoding c = unsigned_encoding w32 (command_head + length c.params) ++ unsigned_encoding w32 c.handle ++ unsigned_encoding w32 c.target
     ++ unsigned_encoding w16 c.level ++ unsigned_encoding w16 c.index ++ c.count ∷ c.params
 
--- a response: ResponseSize, which counts all its bytes (10 of the fields and the parameters), handle, status, ParamCount, parameters
+-- a response: ResponseSize, which counts all its bytes (10 of the fields and the parameters), handle, status,
+-- ParamCount, parameters
 abbrev pub response_encoding : ResponseFields → List ℕ
 response_encoding r = unsigned_encoding w32 (response_head + length r.params) ++ unsigned_encoding w32 r.handle ++ r.status ∷ r.count ∷ r.params
 
@@ -35,8 +36,8 @@ abbrev pub keep_alive_encoding : Form → List ℕ
 keep_alive_encoding (Seconds n) = unsigned_encoding w16 n
 keep_alive_encoding (Millis n) = unsigned_encoding w32 n
 
--- a PDU of this PduType, MessageCount and messages: sync, ProtocolVersion 1, PduSize, which counts all bytes but the sync
--- (9 of the header and the messages), PduType, MessageCount, messages
+-- a PDU of this PduType, MessageCount and messages: sync, ProtocolVersion 1, PduSize, which counts all bytes but the
+-- sync (9 of the header and the messages), PduType, MessageCount, messages
 abbrev pub pdu_frame : ℕ → ℕ → List ℕ → List ℕ
 pdu_frame type count body = sync_value ∷ unsigned_encoding w16 1 ++ unsigned_encoding w32 (9 + length body) ++ type ∷ unsigned_encoding w16 count ++ body
 

@@ -1,7 +1,7 @@
--- The first fault of bytes that are no datagram (profile). The checks are made in the order of the rules below: of the whole,
--- then PDU by PDU, and in a PDU message by message. A rule says that its check fails and that those before it hold. A field that
--- is not wholly inside the datagram fails in its turn; after PduSize there is none, since the PDU then lies inside and has at
--- least 12 bytes.
+-- The first fault of bytes that are no datagram (profile). The checks are made in the order of the rules below: of the
+-- whole, then PDU by PDU, and in a PDU message by message. A rule says that its check fails and that those before it
+-- hold. A field that is not wholly inside the datagram fails in its turn; after PduSize there is none, since the PDU
+-- then lies inside and has at least 12 bytes.
 use Rattle.std.specs.Prelude.{◌≡◌, ◌≢◌, ℕ, ◌+◌, ◌<◌, ◌≤◌, ◌^◌, ◌⊎◌, Bool, List, [], ◌∷◌, ◌++◌, length}
 use Rattle.std.specs.List.{flat_map, AllByRecursion}
 use Rattle.std.specs.Int.{w16, w32}
@@ -18,8 +18,8 @@ pub record HoldsUpTo {X : Type 0} (encoding : X → List ℕ) (Fits : X → Type
   pub each : AllByRecursion Fits before
   pub parts : bytes ≡ flat_map encoding before ++ rest
 
--- The messages of the PDU at p fail. They lie in body, from p + 10 to the PDU's end, and are to be `count`; `least` is the least size
--- of one.
+-- The messages of the PDU at p fail. They lie in body, from p + 10 to the PDU's end, and are to be `count`; `least` is
+-- the least size of one.
 pub data MessagesFail {X : Type 0} (encoding : X → List ℕ) (Fits : X → Type 0) (least count p : ℕ) (body : List ℕ) (f : PduFault) : Type 0 where
   -- the PDU ends, and messages are still to come
   MessagesMissing : (end : HoldsUpTo encoding Fits [] body) → length end.before < count
@@ -35,7 +35,8 @@ pub data MessagesFail {X : Type 0} (encoding : X → List ℕ) (Fits : X → Typ
   BytesLeft : (rest : List ℕ) (here : HoldsUpTo encoding Fits rest body) → length here.before ≡ count → 0 < length rest
       → IsFaultAt f Count (p + 8) → MessagesFail encoding Fits least count p body f
 
--- The rest begins with the frame of a PDU: sync, ProtocolVersion and PduSize hold, and the PDU ends within the datagram.
+-- The rest begins with the frame of a PDU: sync, ProtocolVersion and PduSize hold, and the PDU ends within the
+-- datagram.
 pub record BeginsWithFrame (type count : ℕ) (body behind rest : List ℕ) : Type 0 where
   pub parts : rest ≡ pdu_frame type count body ++ behind
   pub count_fits : count < 2 ^ 16

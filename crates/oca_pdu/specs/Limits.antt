@@ -1,5 +1,5 @@
 -- How many messages a datagram has at most, which follows from its 1,472 bytes (profile).
-use Rattle.std.specs.Prelude.{◌≤◌, Bool, true, false, not, List, length, count_by}
+use Rattle.std.specs.Prelude.{ℕ, ◌≤◌, Bool, true, false, not, List, length, count_by}
 use Rattle.oca_pdu.specs.Messages.{Msg, Command, Response, KeepAlive}
 
 abbrev pub is_command : Msg → Bool
@@ -12,9 +12,21 @@ is_response (Command respond fields) = false
 is_response (Response fields) = true
 is_response (KeepAlive form) = false
 
--- At most 146 messages, of which at most 86 are commands.
+-- a datagram has at most so many messages: responses of 10 bytes in one PDU
+abbrev pub most_messages : ℕ
+most_messages = 146
+
+-- of which at most so many are commands: of 17 bytes in one PDU
+abbrev pub most_commands : ℕ
+most_commands = 86
+
+-- and at most so many are commands or keep-alives, which may be answered: keep-alives of 12 bytes
+abbrev pub most_answered : ℕ
+most_answered = 122
+
+-- No more than these.
 pub record IsWithinLimits (ms : List Msg) : Type 0 where
-  pub messages : length ms ≤ 146
-  pub commands : count_by is_command ms ≤ 86
-  -- commands and keep-alives, which may be answered
-  pub no_responses : count_by (λ m. not (is_response m)) ms ≤ 122
+  pub messages : length ms ≤ most_messages
+  pub commands : count_by is_command ms ≤ most_commands
+  -- commands and keep-alives
+  pub no_responses : count_by (λ m. not (is_response m)) ms ≤ most_answered

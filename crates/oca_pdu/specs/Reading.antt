@@ -1,6 +1,7 @@
--- Reading a datagram from left to right: its messages, or its first fault. The code takes the same steps, and so this module,
--- and `messages_left` of Datagrams, which cites it, speak of offsets, as no other definition does. That reading gives what the
--- encodings and the first fault say is the law `ReadingIsExact` of Laws: who reads Encoding and FirstFault needs nothing of this.
+-- Reading a datagram from left to right: its messages, or its first fault. The code takes the same steps, and so this
+-- module, and `messages_left` of Datagrams, which cites it, speak of offsets, as no other definition does. That reading
+-- gives what the encodings and the first fault say is the law `ReadingIsExact` of Laws: who reads Encoding and
+-- FirstFault needs nothing of this.
 use Rattle.std.specs.Prelude.{ℕ, zero, suc, ◌+◌, ◌-◌, Bool, true, false, ◌||◌, not, List, [], ◌∷◌, ◌++◌, length, take, drop, slice_index, Result, Ok, Err, nat_lt, ◌==◌, Option, Some, None, if◌then◌else◌}
 use Rattle.std.specs.Int.{Width, w16, w32, byte_len, from_be_bytes}
 use Rattle.oca_pdu.specs.declared.fault.PduFault.{PduFault}

@@ -1,6 +1,7 @@
 //! Checking a datagram from left to right.
 ghost use Rattle.std.specs.Prelude.{◌≡◌, ◌+◌, ◌≤◌, ◌<◌, List, length, IfOk, IfErr, IsOkAnd, MatchResult, Ok, Err};
 ghost use Rattle.std.specs.List.{flat_map};
+ghost use Rattle.oca_types.specs.Sizes.{largest_datagram};
 ghost use Rattle.oca_pdu.specs.Messages.{Pdu, messages_of};
 ghost use Rattle.oca_pdu.specs.Encoding.{IsDatagram};
 ghost use Rattle.oca_pdu.specs.FirstFault.{IsFirstFault};
@@ -31,9 +32,10 @@ fn check_message(kind: Kind, at: u16, bytes: &[u8]) -> Result<&[u8], PduFault>
     Ok(&bytes[size..])
 }
 
-/// Checks the messages of the PDU at `pdu`, which are to be `count` and all of the bytes. Refusals: `Count`, `MessageSize`.
+/// Checks the messages of the PDU at `pdu`, which are to be `count` and all of the bytes. Refusals: `Count`,
+/// `MessageSize`.
 fn check_messages(kind: Kind, count: u16, pdu: u16, bytes: &[u8]) -> Result<(), PduFault>
-    requires { pdu + 10 + length bytes.now ≤ 1472 }
+    requires { pdu + 10 + length bytes.now ≤ largest_datagram }
     ensures { Agrees result (messages_at kind count pdu (pdu + 10) bytes.now) }
 {
     let wrong_count = PduFaultKind::Count.at(pdu + 8);
@@ -55,7 +57,7 @@ fn check_messages(kind: Kind, count: u16, pdu: u16, bytes: &[u8]) -> Result<(), 
 /// Checks the keep-alive of the PDU at `pdu`, which is all of the bytes. Refusal: `MessageSize`.
 #[tactic(auto, unfolding(crate::specs::Reading::keep_alive_at))]
 fn check_keep_alive(pdu: u16, bytes: &[u8]) -> Result<(), PduFault>
-    requires { pdu + 10 ≤ 1472 }
+    requires { pdu + 10 ≤ largest_datagram }
     ensures { Agrees result (keep_alive_at pdu bytes.now) }
 {
     match bytes.len() {
@@ -68,7 +70,7 @@ fn check_keep_alive(pdu: u16, bytes: &[u8]) -> Result<(), PduFault>
 #[tactic(auto, unfolding(crate::specs::Reading::inside_at, crate::specs::Reading::content_at))]
 fn check_inside(pdu: u16, bytes: &[u8]) -> Result<(), PduFault>
     requires least { 12 ≤ length bytes.now }
-    requires fits { pdu + length bytes.now ≤ 1472 }
+    requires fits { pdu + length bytes.now ≤ largest_datagram }
     ensures { Agrees result (inside_at pdu bytes.now) }
 {
     let Some(content) = fields::content(bytes[7]) else {
@@ -89,7 +91,7 @@ fn check_inside(pdu: u16, bytes: &[u8]) -> Result<(), PduFault>
 #[tactic(auto, unfolding(crate::specs::Reading::pdu_at), using(crate::proofs::Agreeing::passes_on))]
 fn check_pdu(pdu: u16, bytes: &[u8]) -> Result<&[u8], PduFault>
     requires some { 0 < length bytes.now }
-    requires fits { pdu + length bytes.now ≤ 1472 }
+    requires fits { pdu + length bytes.now ≤ largest_datagram }
     ensures exact { Leaves (λ x. x.now) result (pdu_at pdu bytes.now) }
     ensures shorter { IfOk result (λ x. length x.now < length bytes.now) }
 {
@@ -120,7 +122,7 @@ fn check_pdu(pdu: u16, bytes: &[u8]) -> Result<&[u8], PduFault>
 /// Checks the PDUs that are all of the bytes, from left to right. Each has a byte at least, so that they end before the
 /// loop does.
 fn check_pdus(bytes: &[u8]) -> Result<(), PduFault>
-    requires { length bytes.now ≤ 1472 }
+    requires { length bytes.now ≤ largest_datagram }
     ensures { Agrees result (pdus_at (length bytes.now) 0 bytes.now) }
 {
     let mut rest = bytes;
@@ -148,9 +150,10 @@ fn check_all(bytes: &[u8]) -> Result<(), PduFault>
     check_pdus(bytes)
 }
 
-/// Checks that the bytes are a well-formed datagram: one or more PDUs (AES70-3), of at most 1,472 bytes together (profile).
-/// Refuses any other bytes, and names the first check that fails and its offset. The order of the checks is: the number
-/// of bytes; in each PDU sync, ProtocolVersion, PduSize, PduType and MessageCount; then the sizes of its messages.
+/// Checks that the bytes are a well-formed datagram: one or more PDUs (AES70-3), of at most 1,472 bytes together
+/// (profile). Refuses any other bytes, and names the first check that fails and its offset. The order of the checks is:
+/// the number of bytes; in each PDU sync, ProtocolVersion, PduSize, PduType and MessageCount; then the sizes of its
+/// messages.
 pub fn check(bytes: &[u8]) -> Result<Datagram<'_>, PduFault>
     ensures found { IfOk result (λ d. (ps : List Pdu) × IsDatagram ps bytes.now × (datagram_messages d ≡ flat_map messages_of ps)) }
     ensures only { (ps : List Pdu) → IsDatagram ps bytes.now → IsOkAnd result (λ d. datagram_messages d ≡ flat_map messages_of ps) }

@@ -5,7 +5,7 @@ ghost use Rattle.oca_pdu.specs.Reading.{read_datagram};
 use crate::messages::Messages;
 
 /// The bytes of a well-formed datagram, seen as its messages.
-#[derive(Clone, Copy)]
+#[derive(Clone, Copy, Debug)]
 pub struct Datagram<'a> {
     pub(crate) bytes: &'a [u8],
     ghost well_formed: { IsTrue (is_ok (read_datagram bytes.now)) },
@@ -16,8 +16,8 @@ impl<'a> Datagram<'a> {
     ghost use Rattle.oca_pdu.specs.Datagrams.{datagram_messages, messages_left};
     ghost use Rattle.oca_pdu.specs.Limits.{IsWithinLimits};
 
-    /// The messages in order. Their parameters are slices of the datagram. There are at most 146, of which at most 86 are
-    /// commands and at most 122 are commands or keep-alives.
+    /// The messages in order. Their parameters are slices of the datagram. There are at most 146, of which at most 86
+    /// are commands and at most 122 are commands or keep-alives.
     pub fn messages(&self) -> Messages<'a>
         ensures all { messages_left result ≡ datagram_messages self.now }
         ensures limits { IsWithinLimits (messages_left result) }

@@ -7,7 +7,7 @@ ghost use Rattle.oca_pdu.specs.Reading.{least_size, message_in, content_of, keep
 use crate::message::{COMMAND_BYTES, Content, Form, Kind, Message, RESPONSE_BYTES};
 use oca_types::{Command, Handle, MethodId, Ono};
 
-/// The number in two bytes, the highest first.
+/// The number in two bytes, the highest first. A `Cursor` would look once more whether there are two.
 pub fn u16_in(bytes: &[u8]) -> u16
     requires { length bytes.now ≡ 2 }
     ensures { result ≡ from_be_bytes w16 bytes.now }
@@ -15,7 +15,7 @@ pub fn u16_in(bytes: &[u8]) -> u16
     u16::from_be_bytes([bytes[0], bytes[1]])
 }
 
-/// The number in four bytes, the highest first.
+/// The number in four bytes, the highest first. A `Cursor` would look once more whether there are four.
 pub fn u32_in(bytes: &[u8]) -> u32
     requires { length bytes.now ≡ 4 }
     ensures { result ≡ from_be_bytes w32 bytes.now }

@@ -1,10 +1,11 @@
 //! Datagrams of OCP.1 over UDP (AES70-3): lists of PDUs with commands, responses or keep-alives.
 //!
-//! Begin with [`check`], which says whether bytes are a well-formed datagram and, where they are not, which check failed
-//! first and where. A [`Datagram`] that it gives hands out its messages in order; their parameters are slices of the
-//! bytes. The `write_` calls append a PDU of one message to a packet, [`extend_response`] adds a response to a packet's PDU
-//! where [`holds_responses`] says that it is of responses, and [`replace_response`] writes one over what a packet held. Nothing
-//! here takes memory, opens a socket or reads a clock, and what a command asks for is the matter of other crates.
+//! Begin with [`check`], which says whether bytes are a well-formed datagram and, where they are not, which check
+//! failed first and where. A [`Datagram`] that it gives hands out its messages in order; their parameters are slices of
+//! the bytes. The `write_` calls append a PDU of one message to a packet, [`extend_response`] adds a response to a
+//! packet's PDU where [`holds_responses`] says that it is of responses, and [`replace_response`] writes one over what a
+//! packet held. Nothing here takes memory, opens a socket or reads a clock, and what a command asks for is the matter
+//! of other crates.
 #![tactic(auto)]
 
 mod checking;

@@ -11,7 +11,7 @@ pub enum Form {
 }
 
 /// A message of a datagram (AES70-3). The parameters are a slice of the datagram.
-#[derive(Clone, Copy)]
+#[derive(Clone, Copy, Debug)]
 pub enum Message<'a> {
     /// A command, and whether it asks for a response.
     Command {
@@ -51,7 +51,7 @@ pub const COMMAND_BYTES: usize = 17;
 pub const RESPONSE_BYTES: usize = 10;
 
 /// What the messages of a PDU are, other than a keep-alive.
-#[derive(Clone, Copy)]
+#[derive(Clone, Copy, Debug)]
 pub enum Kind {
     /// Commands that ask for no response, PduType 0.
     Command,

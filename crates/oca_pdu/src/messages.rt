@@ -5,9 +5,9 @@ ghost use Rattle.oca_pdu.specs.Reading.{messages_at, pdus_at};
 use crate::fields;
 use crate::message::{Content, Form, Kind, Message};
 
-/// The messages of a datagram that are still to come: those of the PDU that was begun, and the PDUs after it. No check is
-/// made again.
-#[derive(Drop)]
+/// The messages of a datagram that are still to come: those of the PDU that was begun, and the PDUs after it. No check
+/// is made again.
+#[derive(Debug, Drop)]
 pub struct Messages<'a> {
     kind: Kind,
     left: u16,
@@ -39,7 +39,7 @@ impl<'a> Messages<'a> {
         }
     }
 
-    /// Begins the next PDU. Of messages none is taken yet; a keep-alive is passed, and its time is the answer.
+    /// Begins the next PDU. Of messages none is taken yet; a keep-alive is passed, and its time is returned.
     fn begin(&mut self) -> Option<Form>
         requires ended { self.old.left ≡ 0 }
         requires some { 0 < length self.old.rest.now }

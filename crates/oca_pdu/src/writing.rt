@@ -4,6 +4,7 @@ ghost use Rattle.std.specs.Int.{w16, w32};
 ghost use Rattle.arrayvec.specs.ArrayVec.{array_vec_len};
 ghost use Rattle.oca_types.specs.Numbers.{unsigned_encoding};
 ghost use Rattle.oca_types.specs.Peers.{fields_of};
+ghost use Rattle.oca_types.specs.Sizes.{largest_datagram};
 ghost use Rattle.oca_pdu.specs.Messages.{ResponseFields, Pdu, Commands, Responses, OneKeepAlive, response_with};
 ghost use Rattle.oca_pdu.specs.Encoding.{response_encoding, pdu_encoding, CommandFits, ResponseFits, FormFits, IsDatagram};
 ghost use Rattle.oca_pdu.specs.Reading.{number_at};
@@ -12,7 +13,7 @@ ghost use Rattle.oca_pdu.specs.Writing.{AddsPdu, IsResponses, HoldsResponses, is
 use crate::fault::WriteFault;
 use crate::fields;
 use crate::message::{COMMAND_BYTES, Form, HEADER_BYTES, RESPONSE_BYTES, SYNC};
-use oca_types::{Command, Handle, MOST_BYTES, Packet, Reply};
+use oca_types::{Command, Handle, MOST_BYTES, Packet, Reply, write_over};
 
 /// Where a PDU has its PduType (AES70-3).
 const PDU_TYPE_AT: usize = 7;
@@ -22,7 +23,7 @@ const RESPONSES: u8 = 3;
 
 /// Appends bytes for which there is room. A single one is written without a call.
 fn put(packet: &mut Packet, bytes: &[u8])
-    requires { array_vec_len packet.old + length bytes.now ≤ 1472 }
+    requires { array_vec_len packet.old + length bytes.now ≤ largest_datagram }
     ensures { packet.new.items ≡ packet.old.items ++ bytes.now }
 {
     if bytes.len() == 1 {
@@ -32,15 +33,15 @@ fn put(packet: &mut Packet, bytes: &[u8])
     }
 }
 
-/// Appends a PDU of one command (AES70-3), of type 1 where it asks for a response. Refusal: `TooLong` where the packet would
-/// pass 1,472 bytes, and the packet is unchanged.
+/// Appends a PDU of one command (AES70-3), of type 1 where it asks for a response. Refusal: `TooLong` where the packet
+/// would pass 1,472 bytes, and the packet is unchanged.
 pub fn write_command(
     packet: &mut Packet,
     respond: bool,
     command: &Command,
 ) -> Result<(), WriteFault>
     ensures room { let pdu = Commands respond (fields_of command.now ∷ []) in
-        IsOk result ↔ (length packet.old.items + length (pdu_encoding pdu) ≤ 1472) }
+        IsOk result ↔ (length packet.old.items + length (pdu_encoding pdu) ≤ largest_datagram) }
     ensures ok { let pdu = Commands respond (fields_of command.now ∷ []) in
         OnOk result (packet.new.items ≡ packet.old.items ++ pdu_encoding pdu) }
     ensures adds { let pdu = Commands respond (fields_of command.now ∷ []) in
@@ -59,7 +60,7 @@ pub fn write_command(
 
 /// The header of a PDU of this command, and the command up to its parameters.
 fn command_front(respond: bool, command: &Command) -> [u8; 27]
-    requires { length command.now.params.now ≤ 1472 }
+    requires { length command.now.params.now ≤ largest_datagram }
     ensures bytes { result ++ command.now.params.now ≡ pdu_encoding (Commands respond (fields_of command.now ∷ [])) }
     ensures fits { CommandFits (fields_of command.now) }
 {
@@ -79,11 +80,11 @@ fn command_front(respond: bool, command: &Command) -> [u8; 27]
     front
 }
 
-/// Appends a PDU of one response (AES70-3). Refusal: `TooLong` where the packet would pass 1,472 bytes, and the packet is
-/// unchanged.
+/// Appends a PDU of one response (AES70-3). Refusal: `TooLong` where the packet would pass 1,472 bytes, and the packet
+/// is unchanged.
 pub fn write_response(packet: &mut Packet, handle: Handle, reply: &Reply) -> Result<(), WriteFault>
     ensures room { let pdu = Responses (response_with handle reply.now ∷ []) in
-        IsOk result ↔ (length packet.old.items + length (pdu_encoding pdu) ≤ 1472) }
+        IsOk result ↔ (length packet.old.items + length (pdu_encoding pdu) ≤ largest_datagram) }
     ensures ok { let pdu = Responses (response_with handle reply.now ∷ []) in
         OnOk result (packet.new.items ≡ packet.old.items ++ pdu_encoding pdu) }
     ensures adds { let pdu = Responses (response_with handle reply.now ∷ []) in
@@ -101,8 +102,8 @@ pub fn write_response(packet: &mut Packet, handle: Handle, reply: &Reply) -> Res
     Ok(())
 }
 
-/// Writes a PDU of one response (AES70-3) in the place of all that the packet held. It always fits, since a reply has at most
-/// 1,452 bytes of parameters. Where the packet has as many bytes already, they are written over.
+/// Writes a PDU of one response (AES70-3) in the place of all that the packet held. It always fits, since a reply has
+/// at most 1,452 bytes of parameters. Where the packet has as many bytes already, they are written over.
 #[inline(always)]
 pub fn replace_response(packet: &mut Packet, handle: Handle, reply: &Reply)
     ensures bytes { packet.new.items ≡ pdu_encoding (Responses (response_with handle reply.now ∷ [])) }
@@ -115,8 +116,8 @@ pub fn replace_response(packet: &mut Packet, handle: Handle, reply: &Reply)
     }
 }
 
-/// Writes a PDU of one response in the place of more bytes, or of fewer. It stands apart, since `clear` overwrites what there
-/// was by a call.
+/// Apart from `replace_response`, since `clear` overwrites what there was by a call: writes a PDU of one response in
+/// the place of more bytes, or of fewer.
 #[inline(never)]
 fn write_anew(packet: &mut Packet, handle: Handle, reply: &Reply)
     ensures fits { ResponseFits (response_with handle reply.now) }
@@ -136,18 +137,6 @@ fn write_over_response(pdu: &mut [u8], handle: Handle, reply: &Reply)
     let (front, params) = pdu.split_at_mut(HEADER_BYTES + RESPONSE_BYTES);
     front.copy_from_slice(&response_front(handle, reply));
     write_over(params, reply.params.as_slice());
-}
-
-/// Writes bytes over as many others. None, or a single one, needs no call.
-fn write_over(room: &mut [u8], bytes: &[u8])
-    requires { length room.old ≡ length bytes.now }
-    ensures { room.new ≡ bytes.now }
-{
-    if bytes.len() == 1 {
-        room[0] = bytes[0];
-    } else if bytes.len() > 1 {
-        room.copy_from_slice(bytes);
-    }
 }
 
 /// A response up to its parameters.
@@ -204,9 +193,9 @@ pub fn holds_responses(packet: &Packet) -> bool
 #[inline(always)]
 pub fn extend_response(packet: &mut Packet, handle: Handle, reply: &Reply) -> Result<(), WriteFault>
     requires { HoldsResponses packet.old.items }
-    ensures room { IsOk result ↔ (length packet.old.items + length (response_encoding (response_with handle reply.now)) ≤ 1472) }
+    ensures room { IsOk result ↔ (length packet.old.items + length (response_encoding (response_with handle reply.now)) ≤ largest_datagram) }
     ensures size { (rs : List ResponseFields) → IsResponses rs packet.old.items →
-        (IsOk result ↔ (responses_size (rs ++ response_with handle reply.now ∷ []) ≤ 1472)) }
+        (IsOk result ↔ (responses_size (rs ++ response_with handle reply.now ∷ []) ≤ largest_datagram)) }
     ensures ok { (rs : List ResponseFields) → IsResponses rs packet.old.items →
         OnOk result (IsResponses (rs ++ response_with handle reply.now ∷ []) packet.new.items) }
     ensures adds { (rs : List ResponseFields) → IsDatagram (Responses rs ∷ []) packet.old.items →
@@ -225,10 +214,10 @@ pub fn extend_response(packet: &mut Packet, handle: Handle, reply: &Reply) -> Re
     Ok(())
 }
 
-/// Appends a PDU of one keep-alive (AES70-3). Refusal: `TooLong` where the packet would pass 1,472 bytes, and the packet is
-/// unchanged.
+/// Appends a PDU of one keep-alive (AES70-3). Refusal: `TooLong` where the packet would pass 1,472 bytes, and the
+/// packet is unchanged.
 pub fn write_keepalive(packet: &mut Packet, form: Form) -> Result<(), WriteFault>
-    ensures room { IsOk result ↔ (length packet.old.items + length (pdu_encoding (OneKeepAlive form)) ≤ 1472) }
+    ensures room { IsOk result ↔ (length packet.old.items + length (pdu_encoding (OneKeepAlive form)) ≤ largest_datagram) }
     ensures ok { OnOk result (packet.new.items ≡ packet.old.items ++ pdu_encoding (OneKeepAlive form)) }
     ensures adds { OnOk result (AddsPdu (OneKeepAlive form) packet.old.items packet.new.items) }
     ensures err { OnErr result (packet.new ≡ packet.old) }
@@ -241,7 +230,7 @@ pub fn write_keepalive(packet: &mut Packet, form: Form) -> Result<(), WriteFault
 
 /// Appends bytes. Refusal: `TooLong` where the packet would pass 1,472 bytes, and the packet is unchanged.
 fn append(packet: &mut Packet, bytes: &[u8]) -> Result<(), WriteFault>
-    ensures room { IsOk result ↔ (length packet.old.items + length bytes.now ≤ 1472) }
+    ensures room { IsOk result ↔ (length packet.old.items + length bytes.now ≤ largest_datagram) }
     ensures ok { OnOk result (packet.new.items ≡ packet.old.items ++ bytes.now) }
     ensures err { OnErr result (packet.new ≡ packet.old) }
 {

@@ -57,7 +57,8 @@ impl RunFault {
     }
 }
 
-/// Why a run fails, and what more is known of it, where there is something: its first line is printed before the fault's.
+/// Why a run fails, and what more is known of it, where there is something: its first line is printed before the
+/// fault's.
 #[derive(Drop)]
 pub struct Failure {
     pub fault: RunFault,
@@ -87,8 +88,9 @@ impl Failure {
     }
 }
 
-/// Prints why a run fails, and hands it on: a line that begins with `note: ` where more is known (one of more than 1,000 bytes is left
-/// out), and then the fault's own, which is the last. Returns the exit status, also where that can't be written.
+/// Prints why a run fails, and hands it on: a line that begins with `note: ` where more is known (one of more than
+/// 1,000 bytes is left out), and then the fault's own, which is the last. Returns the exit status, also where that
+/// can't be written.
 pub fn report<F: Sink>(failure: &Failure, faults: &mut Printer<F>) -> u8
     ensures status { result ≡ fault_status failure.now.fault }
     ensures lines { (written : Result Unit Failed) × WritesOut written faults.old faults.new (failure_text failure.now) }
@@ -97,8 +99,8 @@ pub fn report<F: Sink>(failure: &Failure, faults: &mut Printer<F>) -> u8
     failure.fault.status()
 }
 
-/// Prints a line that begins with `note: `, the first of the text, and hands it on, as far as the writes go. One of more than 1,000
-/// bytes is left out.
+/// Prints a line that begins with `note: `, the first of the text, and hands it on, as far as the writes go. One of
+/// more than 1,000 bytes is left out.
 pub fn print_note<F: Sink>(note: &str, faults: &mut Printer<F>)
     ensures { (written : Result Unit Failed) × WritesOut written faults.old faults.new (note_text note.now) }
 {

@@ -28,7 +28,8 @@ pub fn text_of<'a>(words: &ArgMatches<'a>, name: &str) -> Option<&'a str>
     words.get_str(name)
 }
 
-/// The number of 1 to `most` digits, at most `largest`, that an option gives. `None` where it is not given, or not of this form.
+/// The number of 1 to `most` digits, at most `largest`, that an option gives. `None` where it is not given, or not of
+/// this form.
 pub fn number_in(words: &ArgMatches<'_>, name: &str, most: usize, largest: u64) -> Option<u64>
     ensures value { result ≡ read_as (number_of most largest) (given words.now name.now) }
     ensures bound { IfSome result (λ n. n ≤ largest) }

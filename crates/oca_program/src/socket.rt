@@ -11,8 +11,8 @@ use std::io;
 use std::net::Net;
 use std::rt::Clock;
 
-/// An end at this address and port; at port 0 the system chooses one. A refusal is `Socket`, with the system's reason as its
-/// note where there is memory for that, or `NoMemory`.
+/// An end at this address and port; at port 0 the system chooses one. A refusal is `Socket`, with the system's reason
+/// as its note where there is memory for that, or `NoMemory`.
 pub fn bind<N: Net + Clock>(
     alloc: Global,
     system: &N,

@@ -3,8 +3,8 @@ use super::fault::RunFault;
 use std::env::{self, Env};
 use std::io;
 
-/// The words of the command line, the program's name first. Refusals: `NoMemory` where memory was refused, `BadWords` where a
-/// word is not UTF-8.
+/// The words of the command line, the program's name first. Refusals: `NoMemory` where memory was refused, `BadWords`
+/// where a word is not UTF-8.
 pub fn words_of<R: Env + AllocGlobal>(rt: &R) -> Result<Vec<String>, RunFault> {
     let args = match env::args(rt) {
         Ok(args) => args,

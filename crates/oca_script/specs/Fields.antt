@@ -36,8 +36,8 @@ abbrev pub then_in : {A B : Type 0} → Option A → (A → Option B) → Option
 then_in None f = None
 then_in (Some x) f = f x
 
--- what the text before the first separator writes, and what stands after that separator; nothing where there is no separator,
--- or where the text before it writes nothing
+-- what the text before the first separator writes, and what stands after that separator; nothing where there is no
+-- separator, or where the text before it writes nothing
 abbrev pub read_before : {A : Type 0} → (List ℕ → Option A) → ℕ → List ℕ → Option (A × List ℕ)
 read_before written separator text = then_in (split_at separator text) (λ p. option_map (λ x. (x, p.1)) (written p.0))
 

@@ -48,7 +48,8 @@ pub record Performs {S R : Type 0} (asked : List (List ℕ) → Result R LineFau
   pub prints : PrintedAtEnd result was is text
   pub ends : Ends result (script asked given) requests
 
--- there are bytes, those that the source gave where it tells them, and the script of these and of what it has left was performed
+-- there are bytes, those that the source gave where it tells them, and the script of these and of what it has left was
+-- performed
 abbrev pub Performance : {S R : Type 0} → (List (List ℕ) → Result R LineFault) → (S → R → S → List ℕ → Type 0) → S → S → Output → Output → Input → Input → Result Unit ReplayFault → Type 0
 Performance asked serves old new was is had has result = (taken : List ℕ) × Reads had has result taken × Performs asked serves old new was is result (taken ++ known_bytes has.remaining)
 

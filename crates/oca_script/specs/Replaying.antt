@@ -83,6 +83,7 @@ pub record Reads (had has : Input) (result : Result Unit ReplayFault) (taken : L
   pub ended : OnOk result (IsAtEnd has.remaining)
   pub failed : ReadFails result had.failed has.failed
 
--- There are bytes, those that the source gave where it tells them, and the script of these and of what it has left was replayed.
+-- There are bytes, those that the source gave where it tells them, and the script of these and of what it has left was
+-- replayed.
 abbrev pub Outcome : {S R : Type 0} → (List (List ℕ) → Result R LineFault) → (S → R → S → List ℕ → Type 0) → S → S → Output → Output → Input → Input → Result Unit ReplayFault → Type 0
 Outcome asked serves old new was is had has result = (taken : List ℕ) × Reads had has result taken × Replays asked serves old new was is result (taken ++ known_bytes has.remaining)

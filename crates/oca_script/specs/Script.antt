@@ -9,6 +9,10 @@ use Rattle.oca_script.specs.declared.fault.ReplayFault.TheVariants.{Line, TooMuc
 
 -- ---- one line
 
+-- a line has at most so many bytes
+abbrev pub longest_line : ℕ
+longest_line = 4096
+
 -- empty, or a comment
 abbrev pub is_skipped : List ℕ → Bool
 is_skipped [] = true
@@ -17,10 +21,11 @@ is_skipped (b ∷ bs) = b == 35
 abbrev pub is_ascii : List ℕ → Bool
 is_ascii line = list_all (λ b. nat_lt b 128) line
 
--- whether a line asks for something; a line that is skipped does not, and some lines have a fault whatever their fields are
+-- whether a line asks for something; a line that is skipped does not, and some lines have a fault whatever their fields
+-- are
 unfoldable pub asks : List ℕ → Result Bool LineFault
 asks line =
-    if nat_lt 4096 (length line) then Err TooLong
+    if nat_lt longest_line (length line) then Err TooLong
     else if is_skipped line then Ok false
     else if is_ascii line then Ok true
     else Err Form
@@ -37,15 +42,15 @@ parsed asked line = parsed_by (asks line) (asked (fields line))
 
 -- ---- lines
 
--- the lines of a text: what stands between its line feeds. The last has none, and where it is empty it is skipped like any
--- empty line.
+-- the lines of a text: what stands between its line feeds. The last has none, and where it is empty it is skipped like
+-- any empty line.
 abbrev pub lines : List ℕ → List (List ℕ)
 lines text = split_on 10 text
 
 -- The lines that count where more bytes follow: those that a line feed ends, and the last where it is too long already.
 abbrev pub counted : List (List ℕ) → List (List ℕ)
 counted [] = []
-counted (line ∷ []) = if nat_lt 4096 (length line) then line ∷ [] else []
+counted (line ∷ []) = if nat_lt longest_line (length line) then line ∷ [] else []
 counted (line ∷ next ∷ more) = line ∷ counted (next ∷ more)
 
 -- ---- the whole script
@@ -74,7 +79,8 @@ abbrev pub script_of : {R : Type 0} → (List (List ℕ) → Result R LineFault)
 script_of asked number [] ending = ends_by ending
 script_of asked number (line ∷ lines) ending = line_then number (parsed asked line) (script_of asked (number + 1) lines ending)
 
--- What a script asks for, by its lines, which are numbered from 1. Of more than 16,777,216 bytes only the first 16,777,216 count.
+-- What a script asks for, by its lines, which are numbered from 1. Of more than 16,777,216 bytes only the first
+-- 16,777,216 count.
 unfoldable pub script : {R : Type 0} → (List (List ℕ) → Result R LineFault) → List ℕ → Script R
 script asked bytes =
     if nat_le (length bytes) 16777216 then script_of asked 1 (lines bytes) (Ok tt)

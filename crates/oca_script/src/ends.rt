@@ -15,8 +15,8 @@ pub trait Source {
     // Whether a read has failed.
     ghost failed: { Self → Bool };
 
-    /// Puts the next bytes at the front of the buffer and answers how many there are: none only at the end, or where the
-    /// buffer has no room. `ReadFailed` where nothing can be read.
+    /// Puts the next bytes at the front of the buffer and returns how many there are: none only at the end, or where
+    /// the buffer has no room. `ReadFailed` where nothing can be read.
     fn read(&mut self, buf: &mut [u8]) -> Result<usize, ReadFailed>
         ensures within { ReadsAtMost result buf.new }
         ensures bytes { ReadConsumes (remaining self.old) (remaining self.new) result buf.new }
@@ -31,8 +31,8 @@ pub trait Sink {
     // Whether a write has failed.
     ghost failed: { Self → Bool };
 
-    /// Takes a front of the bytes, and answers how many it took: one or more, where there are any. `WriteFailed` where it
-    /// can take none.
+    /// Takes a front of the bytes, and returns how many it took: one or more, where there are any. `WriteFailed` where
+    /// it can take none.
     fn write(&mut self, bytes: &[u8]) -> Result<usize, WriteFailed>
         ensures within { WritesAtMost result bytes.now }
         ensures some { IfOk result (λ n. 0 < length bytes.now → 0 < n) }
@@ -40,8 +40,8 @@ pub trait Sink {
         ensures failed { Remembers result (failed self.old) (failed self.new) };
 }
 
-/// Any reader, with whether a read of it has failed. That the flag is raised only where the reader failed is shown by tests:
-/// the standard library's readers have no word for a failure.
+/// Any reader, with whether a read of it has failed. That the flag is raised only where the reader failed is shown by
+/// tests: the standard library's readers have no word for a failure.
 pub struct FromReader<R> {
     reader: R,
     failed: bool,
@@ -87,8 +87,8 @@ impl<R: Read> Source for FromReader<R> {
     }
 }
 
-/// Any writer, with whether a write to it has failed. A write that takes nothing has. That the flag is raised only there is
-/// shown by tests: the standard library's writers have no word for a failure.
+/// Any writer, with whether a write to it has failed. A write that takes nothing has. That the flag is raised only
+/// there is shown by tests: the standard library's writers have no word for a failure.
 pub struct ToWriter<W> {
     writer: W,
     failed: bool,

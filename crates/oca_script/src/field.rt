@@ -34,8 +34,8 @@ pub fn number(digits: &[u8], most: usize, largest: u64) -> Option<u64>
     if value <= largest { Some(value) } else { None }
 }
 
-/// The number of one to `most` digits, at most `largest`, that stands before the first byte `end`, and what stands after that
-/// byte. `None` where there is no byte `end`, or what stands before the first is no such number.
+/// The number of one to `most` digits, at most `largest`, that stands before the first byte `end`, and what stands
+/// after that byte. `None` where there is no byte `end`, or what stands before the first is no such number.
 #[tactic(auto, using(crate::proofs::NumberLemmas::number_before_rules))]
 pub fn number_before(text: &[u8], end: u8, most: usize, largest: u64) -> Option<(u64, &[u8])>
     requires { (end < 48) ⊎ (57 < end) }
@@ -140,8 +140,8 @@ pub fn address(text: &[u8]) -> Option<u32>
     Some((((a * 256 + b) * 256 + c) * 256 + d) as u32)
 }
 
-/// The address that stands before the first byte `end`, and what stands after that byte. `None` where there is no byte `end`, or
-/// what stands before the first is no address.
+/// The address that stands before the first byte `end`, and what stands after that byte. `None` where there is no byte
+/// `end`, or what stands before the first is no address.
 #[inline(always)]
 #[tactic(auto, using(crate::proofs::AddressLemmas::address_rules))]
 fn address_before(text: &[u8], end: u8) -> Option<(u64, &[u8])>
@@ -171,8 +171,8 @@ pub fn peer(text: &[u8]) -> Option<Peer>
     })
 }
 
-/// The peer that stands before the first space, and what stands after that space. `None` where there is no space, or what stands before
-/// it is no peer.
+/// The peer that stands before the first space, and what stands after that space. `None` where there is no space, or
+/// what stands before it is no peer.
 #[tactic(auto, using(crate::proofs::AddressLemmas::peer_rules))]
 pub fn peer_before(text: &[u8]) -> Option<(Peer, &[u8])>
     ensures value { read_view result ≡ read_before peer_of 32 text.now }

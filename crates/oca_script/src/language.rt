@@ -1,6 +1,7 @@
 //! What the lines of a script ask for.
 ghost use Rattle.std.specs.Prelude.{◌≡◌, ◌≤◌, ℕ, List, Result, length};
 ghost use Rattle.oca_script.specs.Fields.{fields};
+ghost use Rattle.oca_script.specs.Script.{longest_line};
 ghost use Rattle.oca_script.specs.Replaying.{ServesLine};
 ghost use Rattle.oca_script.specs.declared.fault.LineFault.{LineFault};
 
@@ -15,7 +16,7 @@ pub trait Language {
     /// Room for serving a request. What it holds between requests does not matter.
     type Room;
 
-    // What a line can ask for.
+    // What a line can ask for: an event of a device, a call of a link or a command.
     ghost Request: { Type 0 };
 
     // What the fields of a line ask for, or their fault.
@@ -24,9 +25,9 @@ pub trait Language {
     // From a state a request leads to a state, and prints a text.
     ghost serves: { Self.State → Self.Request → Self.State → List ℕ → Type 0 };
 
-    /// Serves what the line asks for and prints its text; or returns the fault of its fields, and
-    /// then does nothing. Lines that are skipped or are not ASCII do not come here. `more` tells whether further bytes of lines
-    /// are at hand: where there are none, the next line may be long in coming.
+    /// Serves what the line asks for and prints its text; or returns the fault of its fields, and then does nothing.
+    /// Lines that are skipped or are not ASCII do not come here. `more` tells whether further bytes of lines are at
+    /// hand: where there are none, the next line may be long in coming.
     fn serve_line<W: Sink>(
         state: &mut Self::State,
         room: &mut Self::Room,
@@ -34,6 +35,6 @@ pub trait Language {
         more: bool,
         printer: &mut Printer<W>,
     ) -> Result<(), Stop>
-        requires { length line.now ≤ 4096 }
+        requires { length line.now ≤ longest_line }
         ensures { ServesLine (asked (fields line.now)) serves state.old state.new result printer.old printer.new };
 }

@@ -1,10 +1,11 @@
-//! Lines in, lines out: the lines of a source are read in any pieces, served one after another, and what they print is written.
+//! Lines in, lines out: the lines of a source are read in any pieces, served one after another, and what they print is
+//! written.
 ghost use Rattle.std.specs.Prelude.{◌≡◌, ◌+◌, ◌<◌, ◌≤◌, ◌++◌, [], ℕ, List, length, IsTrue, OnOk, OnErr, IfOk, IfErr, IfSome};
 ghost use Rattle.std.specs.Prelude.{true, Ok as ok};
 ghost use Rattle.std.specs.Io.KnownBytes.{Consumes, Keeps, IsAtEnd};
 ghost use Rattle.oca_script.specs.Ends.{input, Remembers};
 ghost use Rattle.oca_script.specs.Fields.{fields};
-ghost use Rattle.oca_script.specs.Script.{Script, is_skipped as skipped_line, is_ascii as ascii_line, asks, parsed, parsed_by, line_then};
+ghost use Rattle.oca_script.specs.Script.{longest_line, Script, is_skipped as skipped_line, is_ascii as ascii_line, asks, parsed, parsed_by, line_then};
 ghost use Rattle.oca_script.specs.PrivateScript.{script_from};
 ghost use Rattle.oca_script.specs.Replaying.{Outcome, Replays};
 ghost use Rattle.oca_script.specs.PrivateSteps.{Step, Performance, is_end_failure};
@@ -39,13 +40,13 @@ fn is_ascii(bytes: &[u8]) -> bool
     bytes.is_ascii()
 }
 
-/// Whether the line asks for something, or its fault where that does not depend on its fields. `ascii` tells that each byte is
-/// known to be below 128.
+/// Whether the line asks for something, or its fault where that does not depend on its fields. `ascii` tells that each
+/// byte is known to be below 128.
 #[tactic(auto, unfolding(crate::specs::Script::asks))]
 fn line_asks(line: &[u8], ascii: bool) -> Result<bool, LineFault>
     requires { IsTrue ascii → ascii_line line.now ≡ true }
     ensures value { result ≡ asks line.now }
-    ensures within { OnOk result (length line.now ≤ 4096) }
+    ensures within { OnOk result (length line.now ≤ longest_line) }
 {
     if line.len() > LONGEST_LINE {
         return Err(LineFault::TooLong);
@@ -69,7 +70,7 @@ fn serve_asking<L: Language, W: Sink>(
     more: bool,
     printer: &mut Printer<W>,
 ) -> Result<(), ReplayFault>
-    requires { length line.now ≤ 4096 }
+    requires { length line.now ≤ longest_line }
     ensures { Step L.serves state.old state.new printer.old printer.new result
         (λ (s : Script L.Request). line_then number (parsed_by (ok true) (L.asked (fields line.now))) s) (λ s. s) }
 {
@@ -80,7 +81,8 @@ fn serve_asking<L: Language, W: Sink>(
     }
 }
 
-/// Serves a line. `ascii` tells that each of its bytes is known to be below 128, `more` whether further bytes are at hand.
+/// Serves a line. `ascii` tells that each of its bytes is known to be below 128, `more` whether further bytes are at
+/// hand.
 fn serve_line<L: Language, W: Sink>(
     state: &mut L::State,
     room: &mut L::Room,
@@ -105,7 +107,7 @@ fn serve_line<L: Language, W: Sink>(
 fn keep(progress: &mut Progress, bytes: &[u8]) -> Result<(), ReplayFault>
     ensures number { progress.new.number ≡ progress.old.number }
     ensures ok { OnOk result (progress.new.line ≡ progress.old.line ++ bytes.now) }
-    ensures err { OnErr result (4096 < length (progress.old.line ++ bytes.now)) }
+    ensures err { OnErr result (longest_line < length (progress.old.line ++ bytes.now)) }
     ensures fault { IfErr result (λ e. e ≡ ReplayFault.Line progress.old.number LineFault.TooLong) }
 {
     if bytes.len() > LONGEST_LINE - progress.line.len() {
@@ -115,8 +117,8 @@ fn keep(progress: &mut Progress, bytes: &[u8]) -> Result<(), ReplayFault>
     Ok(())
 }
 
-/// Serves the line whose last bytes these are. `ascii` tells that each of them is known to be below 128, `more` whether further
-/// bytes are at hand.
+/// Serves the line whose last bytes these are. `ascii` tells that each of them is known to be below 128, `more` whether
+/// further bytes are at hand.
 fn serve_ended<L: Language, W: Sink>(
     state: &mut L::State,
     room: &mut L::Room,
@@ -166,18 +168,19 @@ fn serve_piece<L: Language, W: Sink>(
 }
 
 /// Serves the lines that the source has to give, by the rules of a language: the lines are counted from 1, and the text
-/// of the requests before the first bad line is written, and before it what the printer held. Faults: `Line` with the first
-/// bad line and its fault; `TooMuch` beyond 16,777,216 bytes where no line within them is bad; `Read` and `Write` where a
-/// read or a write of ends that had not failed before failed in this call, and nowhere else: some first requests were
-/// served then, and their text was written, or at `Write` a front of it. (The form of a script is the profile's.)
+/// of the requests before the first bad line is written, and before it what the printer held. Faults: `Line` with the
+/// first bad line and its fault; `TooMuch` beyond 16,777,216 bytes where no line within them is bad; `Read` and `Write`
+/// where a read or a write of ends that had not failed before failed in this call, and nowhere else: some first
+/// requests were served then, and their text was written, or at `Write` a front of it. (The form of a script is the
+/// profile's.)
 pub fn serve_lines<L: Language, R: Source, W: Sink>(
     state: &mut L::State,
     room: &mut L::Room,
     reader: &mut R,
     printer: &mut Printer<W>,
 ) -> Result<(), ReplayFault>
-    // Whatever source: there are bytes, those that it gave where it tells them, and the rest of what it had, and their script was
-    // replayed.
+    // Whatever source: there are bytes, those that it gave where it tells them, and the rest of what it had, and their
+    // script was replayed.
     ensures reads { Outcome L.asked L.serves state.old state.new printer.old printer.new
         (input (R.remaining reader.old) (R.failed reader.old)) (input (R.remaining reader.new) (R.failed reader.new)) result }
     // Where the bytes that it had are known, their script was.
@@ -228,7 +231,7 @@ fn read_script<L: Language, R: Source, W: Sink>(
     let mut left = LONGEST_SCRIPT;
     let mut buffer = [0u8; PIECE];
     while left > 0 {
-        let most = left.min(4096) as usize;
+        let most = left.min(PIECE as u64) as usize;
         let Ok(()) = printer.flush() else {
             return Err(ReplayFault::Write);
         };

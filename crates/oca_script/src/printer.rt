@@ -52,8 +52,8 @@ impl<W: Sink> Printer<W> {
         &self.sink
     }
 
-    /// Hands what is held to the sink. `WriteFailed` where a write failed: a front of it was written, and what is held then is not
-    /// said.
+    /// Hands what is held to the sink. `WriteFailed` where a write failed: a front of it was written, and what is held
+    /// then is not said.
     pub fn flush(&mut self) -> Result<(), WriteFailed>
         ensures prints { Prints result self.old self.new [] }
         ensures empty { OnOk result (self.new.held ≡ []) }
@@ -61,7 +61,8 @@ impl<W: Sink> Printer<W> {
         hand_on(&mut self.sink, &mut self.held)
     }
 
-    /// Makes room for so many bytes: where fewer are free, what is held is handed to the sink. `WriteFailed` as for `flush`.
+    /// Makes room for so many bytes: where fewer are free, what is held is handed to the sink. `WriteFailed` as for
+    /// `flush`.
     pub fn make_room(&mut self, room: usize) -> Result<(), WriteFailed>
         requires { room ≤ 8192 }
         ensures prints { Prints result self.old self.new [] }
@@ -70,8 +71,8 @@ impl<W: Sink> Printer<W> {
         free(&mut self.sink, &mut self.held, room)
     }
 
-    /// Prints the bytes: they are held then, or handed to the sink. `WriteFailed` where a write failed: a front of what was held
-    /// and of the bytes was written, and what is held then is not said.
+    /// Prints the bytes: they are held then, or handed to the sink. `WriteFailed` where a write failed: a front of what
+    /// was held and of the bytes was written, and what is held then is not said.
     pub fn print(&mut self, bytes: &[u8]) -> Result<(), WriteFailed>
         ensures { Prints result self.old self.new bytes.now }
     {
@@ -117,7 +118,7 @@ pub fn write_bytes<W: Sink>(sink: &mut W, bytes: &[u8]) -> Result<(), WriteFaile
     Ok(())
 }
 
-/// Hands what is held to the sink.
+/// `flush` over the fields, whose goals are then ordinary ones: hands what is held to the sink.
 fn hand_on<W: Sink>(sink: &mut W, held: &mut Buffer<CAPACITY>) -> Result<(), WriteFailed>
     ensures prints { Prints result (output (W.contents sink.old) held.old (W.failed sink.old)) (output (W.contents sink.new) held.new (W.failed sink.new)) [] }
     ensures empty { OnOk result (held.new ≡ []) }
@@ -127,7 +128,7 @@ fn hand_on<W: Sink>(sink: &mut W, held: &mut Buffer<CAPACITY>) -> Result<(), Wri
     Ok(())
 }
 
-/// Makes room for so many bytes.
+/// `make_room` over the fields, likewise: makes room for so many bytes.
 fn free<W: Sink>(sink: &mut W, held: &mut Buffer<CAPACITY>, room: usize) -> Result<(), WriteFailed>
     requires { room ≤ 8192 }
     ensures prints { Prints result (output (W.contents sink.old) held.old (W.failed sink.old)) (output (W.contents sink.new) held.new (W.failed sink.new)) [] }
@@ -139,7 +140,7 @@ fn free<W: Sink>(sink: &mut W, held: &mut Buffer<CAPACITY>, room: usize) -> Resu
     Ok(())
 }
 
-/// Holds the bytes, or hands them to the sink where they are too many.
+/// `print` over the fields, likewise: holds the bytes, or hands them to the sink where they are too many.
 #[tactic(auto, using(crate::proofs::PrintLemmas::print_rules))]
 fn hold_or_write<W: Sink>(
     sink: &mut W,
@@ -160,7 +161,7 @@ fn hold_or_write<W: Sink>(
     write_bytes(sink, bytes)
 }
 
-/// Appends the number in decimal digits.
+/// `put_number` over the buffer, likewise: appends the number in decimal digits.
 #[tactic(auto, using(crate::proofs::TextLemmas::digit_rules))]
 fn put_decimal(held: &mut Buffer<CAPACITY>, n: u64)
     requires { length held.old ≤ 8172 }
@@ -175,7 +176,7 @@ fn put_decimal(held: &mut Buffer<CAPACITY>, n: u64)
     held.put(digits.format(n).as_bytes());
 }
 
-/// Appends the bytes in lower case hexadecimal, `-` for none.
+/// `put_hex` over the buffer, likewise: appends the bytes in lower case hexadecimal, `-` for none.
 #[tactic(auto, using(crate::proofs::TextLemmas::hex_rules))]
 fn put_digits(held: &mut Buffer<CAPACITY>, bytes: &[u8])
     requires { length held.old + 2 * length bytes.now + 1 ≤ 8192 }

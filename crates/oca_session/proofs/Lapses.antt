@@ -8,15 +8,13 @@ use Rattle.std.proofs.lemmas.List.Quantifiers.{position-Some}
 use Rattle.oca_types.specs.declared.words.Peer.{Peer}
 use Rattle.oca_types.specs.Peers.{same_peer}
 use Rattle.oca_session.specs.Table.{Session, is_of, is_lapsed, stays}
-use Rattle.oca_session.specs.Lapses.{HoldsFrom, forgets, lapses}
+use Rattle.oca_types.specs.Moments.{HoldsFrom}
+use Rattle.oca_types.proofs.MomentTests.{same_test}
+use Rattle.oca_session.specs.Lapses.{forgets, lapses}
 use Rattle.oca_session.specs.Sound.{IsOnePerPeer}
 use Rattle.oca_session.proofs.Tables.{other_peer, other_peer', IsOnePerPeer-head, IsOnePerPeer-tail, All-tail, none_known, all_others}
 
 -- ---- tests of moments
-
-pub same_test : (f g : ℕ → Bool) (o : Option ℕ) → ((t : ℕ) → g t ≡ f t) → HoldsFrom f o → HoldsFrom g o
-same_test f g None same p = λ t below. same t ∙ p t below
-same_test f g (Some m) same p = λ t below. same t ∙ p t below
 
 -- one session more was looked at
 pub forgets_more : (ss : List Session) (i : ℕ) (d : Session) → i < length ss → (t : ℕ) → forgets (take (i + 1) ss) t ≡ (forgets (take i ss) t || not (stays t (get_or ss i d)))

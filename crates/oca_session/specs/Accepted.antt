@@ -1,5 +1,5 @@
--- The accepted commands of a session, a list that is never cut, and what a reply window of size w retains of them (profile).
--- In each list of commands the latest stands last.
+-- The accepted commands of a session, a list that is never cut, and what a reply window of size w retains of them
+-- (profile). In each list of commands the latest stands last.
 use Rattle.std.specs.Prelude.{◌≡◌, ℕ, ◌-◌, ◌==◌, nat_eq, nat_lt, max, Bool, not, ◌&&◌, if◌then◌else◌, List, [], ◌∷◌, take, drop, length, Option, Some, None}
 use Rattle.std.specs.List.{list_any, list_all, find}
 use Rattle.std.specs.Cmp.Lexicographic.{pointwise}
@@ -36,22 +36,24 @@ accepts w A h = not (list_any (has_handle h) A) && list_all (is_below h) (outsid
 abbrev pub entry_under : ℕ → List Entry → Option Entry
 entry_under h A = find (has_handle h) A
 
--- The two commands ask the same: of one object (ONo), one method (DefLevel and MethodIndex), with one ParamCount and the same
--- parameter bytes. Neither their handles nor their types are compared (profile).
+-- The two commands ask the same: of one object (ONo), one method (DefLevel and MethodIndex), with one ParamCount and
+-- the same parameter bytes. Neither their handles nor their types are compared (profile).
 abbrev pub asks_the_same : CommandFields → CommandFields → Bool
 asks_the_same c d =
     (c.target == d.target) && (c.level == d.level) && (c.index == d.index) && (c.count == d.count)
     && pointwise nat_eq c.params d.params
 
--- What the accepted commands say of a command: it is fresh; or a duplicate of one in the window, which has that one's reply;
--- or its handle is reused, where the one in the window under its handle asks something else; or it is old (profile).
+-- What the accepted commands say of a command: it is fresh; or a duplicate of one in the window, which has that one's
+-- reply; or its handle is reused, where the one in the window under its handle asks something else; or it is old
+-- (profile).
 pub data Judgement : Type 0 where
   Fresh : Judgement
   Duplicate : (reply : Reply) → Judgement
   Reused : Judgement
   Old : Judgement
 
--- a command under the handle of an accepted one: a duplicate where it asks the same, else its handle is reused (profile)
+-- a command under the handle of an accepted one: a duplicate where it asks the same, else its handle is reused
+-- (profile)
 abbrev pub duplicate_or_reused : Entry → CommandFields → Judgement
 duplicate_or_reused e c = if asks_the_same e.command c then Duplicate e.reply else Reused
 

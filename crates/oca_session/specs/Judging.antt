@@ -1,16 +1,17 @@
--- How a command is judged, and one added, where only what the window retains is known (profile). The latest command stands last.
+-- How a command is judged, and one added, where only what the window retains is known (profile). The latest command
+-- stands last.
 use Rattle.std.specs.Prelude.{ℕ, nat_lt, Bool, true, if◌then◌else◌, [], ◌∷◌, ◌++◌, Option, Some, None}
 use Rattle.oca_types.specs.Peers.{CommandFields}
 use Rattle.oca_session.specs.declared.window.Judged.{Judged}
-use Rattle.oca_session.specs.declared.window.Judged.TheVariants as answer
+use Rattle.oca_session.specs.declared.window.Judged.TheVariants as judged
 use Rattle.oca_session.specs.Accepted.{Entry, Judgement, Fresh, Duplicate, Reused, Old, Retained, duplicate_or_reused, entry_under, window, outside, higher_of, greatest}
 
--- the judgement that the answer of `judge` tells (profile)
+-- the judgement that the result of `judge` tells (profile)
 abbrev pub as_judgement : Judged → Judgement
-as_judgement answer.Fresh = Fresh
-as_judgement (answer.Kept reply) = Duplicate reply.now
-as_judgement answer.Reused = Reused
-as_judgement answer.Old = Old
+as_judgement judged.Fresh = Fresh
+as_judgement (judged.Kept reply) = Duplicate reply.now
+as_judgement judged.Reused = Reused
+as_judgement judged.Old = Old
 
 -- the handle is above the floor, as each is where there is none (profile)
 abbrev pub is_above : Option ℕ → ℕ → Bool
@@ -22,8 +23,8 @@ abbrev pub judge_entry : Option Entry → Bool → CommandFields → Judgement
 judge_entry (Some e) above c = duplicate_or_reused e c
 judge_entry None above c = if above then Fresh else Old
 
--- A command under a handle that is retained is a duplicate or reuses it; another is fresh where its handle is above the floor,
--- and else old (profile).
+-- A command under a handle that is retained is a duplicate or reuses it; another is fresh where its handle is above the
+-- floor, and else old (profile).
 abbrev pub judgement_by_window : Retained → CommandFields → Judgement
 judgement_by_window k c = judge_entry (entry_under c.handle k.entries) (is_above k.floor c.handle) c
 

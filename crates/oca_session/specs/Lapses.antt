@@ -1,14 +1,9 @@
 -- From which moment on silence passes a limit, where nobody is heard (profile). Moments are in milliseconds.
-use Rattle.std.specs.Prelude.{◌≡◌, ℕ, ◌<◌, ◌^◌, nat_le, Bool, false, not, List, Option, Some, None}
+use Rattle.std.specs.Prelude.{ℕ, Bool, not, List}
 use Rattle.std.specs.List.{list_any}
 use Rattle.oca_types.specs.declared.words.Peer.{Peer}
 use Rattle.oca_types.specs.Peers.{same_peer}
 use Rattle.oca_session.specs.Table.{Session, stays, lapsed}
-
--- A test of moments holds from this one on, and not before; or at none of 64 bits.
-abbrev pub HoldsFrom : (ℕ → Bool) → Option ℕ → Type 0
-HoldsFrom test None = (t : ℕ) → t < 2 ^ 64 → test t ≡ false
-HoldsFrom test (Some m) = (t : ℕ) → t < 2 ^ 64 → test t ≡ nat_le m t
 
 -- some session does not stay (profile)
 abbrev pub forgets : List Session → ℕ → Bool

@@ -5,7 +5,8 @@ use Rattle.std.specs.Prelude.{ℕ, max, min}
 abbrev pub longest_silence : ℕ
 longest_silence = 120000
 
--- the heartbeat of a session is the first one until a keep-alive sets another, which lies between the least and the greatest
+-- the heartbeat of a session is the first one until a keep-alive sets another, which lies between the least and the
+-- greatest
 abbrev pub first_heartbeat : ℕ
 first_heartbeat = 5000
 

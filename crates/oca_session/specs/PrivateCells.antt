@@ -26,7 +26,8 @@ is_under h g = g.handle.0 == h
 abbrev pub AreApart : Held → Held → Type 0
 AreApart g h = (is_under h.handle.0 g ≡ false) × ((g.cell == h.cell) ≡ false)
 
--- There are as many cells as commands are held, each has a cell of its own, and its handle is another's nowhere and below this number (profile).
+-- There are as many cells as commands are held, each has a cell of its own, and its handle is another's nowhere and
+-- below this number (profile).
 abbrev pub AreHeld : List Held → List Cell → ℕ → Type 0
 AreHeld hs cs above =
     (length cs ≡ length hs) × All (λ g. g.cell < length cs) hs × AllPairs AreApart hs × All (λ g. g.handle.0 < above) hs

@@ -1,11 +1,12 @@
--- The sessions in order of opening, the latest last, and what each call makes of them (profile). Moments and times are in milliseconds.
+-- The sessions in order of opening, the latest last, and what each call makes of them (profile). Moments and times are
+-- in milliseconds.
 use Rattle.std.specs.Prelude.{◌≡◌, ℕ, ◌*◌, ◌-◌, ◌<◌, ◌≤◌, nat_lt, nat_le, max, Bool, not, if◌then◌else◌, List, [], ◌∷◌, ◌++◌, map, filter, length, Option, None, IfSome, IsSome}
 use Rattle.std.specs.List.{find}
 use Rattle.oca_types.specs.declared.words.Peer.{Peer}
 use Rattle.oca_types.specs.Peers.{same_peer}
 use Rattle.oca_types.specs.Sizes.{DeviceSizes}
 use Rattle.oca_session.specs.declared.sessions.Admission.{Admission}
-use Rattle.oca_session.specs.declared.sessions.Admission.TheVariants as answer
+use Rattle.oca_session.specs.declared.sessions.Admission.TheVariants as admissions
 use Rattle.oca_session.specs.Accepted.{Entry, Retained, retained_of, Agrees}
 use Rattle.oca_session.specs.Judging.{retained_after}
 use Rattle.oca_session.specs.Limits.{longest_silence, first_heartbeat, within_heartbeats}
@@ -94,21 +95,22 @@ staying moment ss = filter (stays moment) ss
 abbrev pub forgotten : ℕ → List Session → List Session
 forgotten moment ss = filter (λ s. not (stays moment s)) ss
 
--- What hearing a peer at the present moment answers, and what it makes of the table; all three answers keep that moment (profile).
+-- What hearing a peer at the present moment returns, and what it makes of the table; each of the three results keeps
+-- that moment (profile).
 abbrev pub Hears : Peer → ℕ → Table → Admission → Table → Type 0
-Hears p moment old answer.Known new =
+Hears p moment old admissions.Known new =
     IsSome (session_of p old.sessions) × (new ≡ with_moment_and_sessions old moment (changed p (heard_at moment) old.sessions))
-Hears p moment old answer.Opened new =
+Hears p moment old admissions.Opened new =
     (session_of p old.sessions ≡ None) × (length old.sessions < old.sizes.peers)
     × (new ≡ with_moment_and_sessions old moment (old.sessions ++ opened_session old.sizes.window p moment ∷ []))
-Hears p moment old answer.NoRoom new =
+Hears p moment old admissions.NoRoom new =
     (session_of p old.sessions ≡ None) × (old.sizes.peers ≤ length old.sessions) × (new ≡ with_moment_and_sessions old moment old.sessions)
 
--- who has a session after an answer (profile)
+-- who has a session after it (profile)
 abbrev pub IsKnownAfter : Admission → Peer → List Session → Type 0
-IsKnownAfter answer.Known p ss = IsSome (session_of p ss)
-IsKnownAfter answer.Opened p ss = IsSome (session_of p ss)
-IsKnownAfter answer.NoRoom p ss = session_of p ss ≡ None
+IsKnownAfter admissions.Known p ss = IsSome (session_of p ss)
+IsKnownAfter admissions.Opened p ss = IsSome (session_of p ss)
+IsKnownAfter admissions.NoRoom p ss = session_of p ss ≡ None
 
 -- the session of the peer retains what is that of the accepted commands A (profile)
 abbrev pub AgreesAt : Peer → ℕ → List Entry → List Session → Type 0

@@ -2,14 +2,12 @@
 ghost use Rattle.std.specs.Prelude.{◌≡◌, ◌≤◌, length, nat_eq};
 ghost use Rattle.std.specs.Cmp.Lexicographic.{pointwise};
 ghost use Rattle.oca_types.specs.Peers.{fields_of};
+ghost use Rattle.oca_types.specs.Sizes.{most_command_parameter_bytes};
 ghost use Rattle.oca_session.specs.Accepted.{asks_the_same};
 ghost use Rattle.oca_session.specs.PrivateCells.{entry_in};
 
 use arrayvec::ArrayVec;
-use oca_types::{Command, MethodId, Ono, Params, Reply};
-
-/// The most parameter bytes that a command has: what a datagram of 1,472 bytes leaves beside the rest of its one PDU.
-const COMMAND_BYTES: usize = 1_445;
+use oca_types::{Command, MOST_COMMAND_PARAMETER_BYTES, MethodId, Ono, Params, Reply, write_over};
 
 /// An accepted command but for its handle, and the reply that it got.
 #[derive(Drop)]
@@ -17,14 +15,14 @@ pub struct Cell {
     target: Ono,
     method: MethodId,
     count: u8,
-    params: ArrayVec<u8, COMMAND_BYTES>,
+    params: ArrayVec<u8, MOST_COMMAND_PARAMETER_BYTES>,
     reply: Reply,
 }
 
 impl Cell {
     /// A cell that holds this command and its reply.
     pub fn new(command: &Command<'_>, reply: &Reply) -> Cell
-        requires { length command.now.params.now ≤ 1445 }
+        requires { length command.now.params.now ≤ most_command_parameter_bytes }
         ensures { entry_in command.now.handle result ≡ record { command = fields_of command.now; reply = reply.now } }
     {
         let mut cell = Cell {
@@ -45,7 +43,7 @@ impl Cell {
 
     /// Writes a command and its reply over those that the cell held. Parameters over as many are written here.
     pub fn set(&mut self, command: &Command<'_>, reply: &Reply)
-        requires { length command.now.params.now ≤ 1445 }
+        requires { length command.now.params.now ≤ most_command_parameter_bytes }
         ensures { entry_in command.now.handle self.new ≡ record { command = fields_of command.now; reply = reply.now } }
     {
         let params = reply.params.as_slice();
@@ -64,11 +62,11 @@ impl Cell {
         write_over(self.params.as_mut_slice(), command.params);
     }
 
-    /// Writes a command and its reply over those that the cell held, whatever their lengths. It stands apart from `set`,
-    /// since its calls would leave the callers of `set` few registers.
+    /// Apart from `set`, since its calls would leave the callers of `set` few registers: writes a command and its reply
+    /// over those that the cell held, whatever their lengths.
     #[inline(never)]
     fn set_other(&mut self, command: &Command<'_>, reply: &Reply)
-        requires { length command.now.params.now ≤ 1445 }
+        requires { length command.now.params.now ≤ most_command_parameter_bytes }
         ensures { entry_in command.now.handle self.new ≡ record { command = fields_of command.now; reply = reply.now } }
     {
         self.target = command.target;
@@ -119,20 +117,5 @@ fn copy_bytes<const N: usize>(room: &mut ArrayVec<u8, N>, bytes: &[u8])
     write_over(room.as_mut_slice(), front);
     if !rest.is_empty() {
         let _ = room.try_extend_from_slice(rest);
-    }
-}
-
-/// Writes bytes over as many others. One or none are written without a call.
-fn write_over(room: &mut [u8], bytes: &[u8])
-    requires { length room.old ≡ length bytes.now }
-    ensures { room.new ≡ bytes.now }
-{
-    if bytes.is_empty() {
-        return;
-    }
-    if bytes.len() == 1 {
-        room[0] = bytes[0];
-    } else {
-        room.copy_from_slice(bytes);
     }
 }

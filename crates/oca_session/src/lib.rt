@@ -1,5 +1,5 @@
-//! Sessions of as many peers over UDP as were chosen, 1 to 64 (profile): who was heard when, which heartbeat each set, and for
-//! each session a reply window, which tells a fresh command from a duplicate, from another command under a
+//! Sessions of as many peers over UDP as were chosen, 1 to 64 (profile): who was heard when, which heartbeat each set,
+//! and for each session a reply window, which tells a fresh command from a duplicate, from another command under a
 //! handle that it retains, and from one that is too old.
 //!
 //! Begin with [`Sessions`]. No call reads a clock: moments are `u64` milliseconds that the caller hands
@@ -17,7 +17,7 @@ mod sessions;
 mod slot;
 mod window;
 
-pub use moments::sooner;
+pub use oca_types::sooner;
 pub use sessions::{Admission, Sessions};
 pub use window::Judged;
 

@@ -2,19 +2,19 @@
 ghost use Rattle.std.specs.Prelude.{◌≡◌, ℕ, ◌<◌, ◌≤◌, List, [], ◌∷◌, ◌++◌, length, IfOk, IsSome, IfSome, is_some, Some, vec_len, take, position, All, Contains, ◌==◌};
 ghost use Rattle.oca_types.specs.declared.words.Peer.{Peer};
 ghost use Rattle.oca_types.specs.Peers.{fields_of};
-ghost use Rattle.oca_types.specs.Sizes.{window_size, sizes_of};
+ghost use Rattle.oca_types.specs.Sizes.{most_command_parameter_bytes, window_size, sizes_of};
 ghost use Rattle.oca_session.specs.Accepted.{Entry, judgement, Fresh};
 ghost use Rattle.oca_session.specs.Judging.{as_judgement, judgement_by_window};
 ghost use Rattle.oca_session.specs.Table.{is_of, session_of, peers_of, lapsed, staying, forgotten};
-ghost use Rattle.oca_session.specs.Lapses.{HoldsFrom, forgets, lapses};
+ghost use Rattle.oca_types.specs.Moments.{HoldsFrom};
+ghost use Rattle.oca_session.specs.Lapses.{forgets, lapses};
 ghost use Rattle.oca_session.specs.Sound.{IsSession, IsOnePerPeer};
 ghost use Rattle.oca_session.specs.PrivateQuiet.{IsQuietUntil};
 
-use crate::moments::sooner;
 use crate::slot::Slot;
 use crate::window::Judged;
 use arrayvec::ArrayVec;
-use oca_types::{Command, NoMemory, Peer, Peers, Reply, Sizes, Window};
+use oca_types::{Command, MOST_PEERS, NoMemory, Peer, Peers, Reply, Sizes, Window, sooner};
 use std::alloc::{AllocError, Global};
 use std::marker::Model;
 
@@ -68,7 +68,7 @@ impl Sessions {
     ghost use Rattle.oca_session.specs.Sound.{IsTable};
 
     /// No session, at the moment 0, with room for 16. Each session will have a reply window of this size, for as long
-    /// as there are these sessions. Takes all the memory that they will need, and answers `NoMemory` where that is
+    /// as there are these sessions. Takes all the memory that they will need, and returns `NoMemory` where that is
     /// refused.
     pub fn new(alloc: Global, window: Window) -> Result<Sessions, NoMemory>
         ensures { IfOk result (λ t. t ≡ record { sizes = record { window = window_size window; peers = 16 }; moment = 0; sessions = [] }) }
@@ -83,7 +83,7 @@ impl Sessions {
     }
 
     /// No session, at the moment 0, with room for as many as these sizes say, each with a reply window of their size.
-    /// Takes all the memory that they will need, and answers `NoMemory` where that is refused.
+    /// Takes all the memory that they will need, and returns `NoMemory` where that is refused.
     pub fn with_sizes(alloc: Global, sizes: Sizes) -> Result<Sessions, NoMemory>
         ensures { IfOk result (λ t. t ≡ record { sizes = sizes_of sizes; moment = 0; sessions = [] }) }
     {
@@ -129,7 +129,7 @@ impl Sessions {
 
     /// Goes on to a moment, in milliseconds; one that is earlier than the present moment counts as the present.
     ///
-    /// Answers, in order of opening, the first 16 of the peers whose silence passes three of their heartbeats (again
+    /// Returns, in order of opening, the first 16 of the peers whose silence passes three of their heartbeats (again
     /// at each later call while they are silent): all of them where at most 16 sessions were chosen. Then forgets each
     /// session whose silence passes 120,000 ms: its peer is one of those whose silence passes three heartbeats.
     pub fn advance(&mut self, now: u64) -> ArrayVec<Peer, 16>
@@ -149,7 +149,7 @@ impl Sessions {
 
     /// Goes on to a moment and forgets, as `advance` does. All peers whose silence passes three heartbeats are put into
     /// `peers`, in order of opening, in the place of what it held.
-    pub fn advance_into(&mut self, now: u64, peers: &mut ArrayVec<Peer, 64>)
+    pub fn advance_into(&mut self, now: u64, peers: &mut ArrayVec<Peer, MOST_PEERS>)
         ensures lapsed { peers.new.items ≡ lapsed (present self.old now) self.old.sessions }
         ensures staying { self.new ≡ with_moment_and_sessions self.old (present self.old now) (staying (present self.old now) self.old.sessions) }
         ensures forgotten { All (Contains peers.new.items) (peers_of (forgotten (present self.old now) self.old.sessions)) }
@@ -162,10 +162,10 @@ impl Sessions {
         empty(peers);
     }
 
-    /// Puts the peers that are lapsed at the present moment into `peers`, in the place of what it held, and then
-    /// forgets. It stands apart so that the quiet case is inlined.
+    /// Apart from `advance_into`, so that the quiet case is inlined: puts the peers that are lapsed at the present
+    /// moment into `peers`, in the place of what it held, and then forgets.
     #[inline(never)]
-    fn lapse(&mut self, peers: &mut ArrayVec<Peer, 64>)
+    fn lapse(&mut self, peers: &mut ArrayVec<Peer, MOST_PEERS>)
         ensures lapsed { peers.new.items ≡ lapsed self.old.moment self.old.sessions }
         ensures staying { self.new ≡ with_sessions self.old (staying self.old.moment self.old.sessions) }
         ensures forgotten { All (Contains peers.new.items) (peers_of (forgotten self.old.moment self.old.sessions)) }
@@ -176,10 +176,10 @@ impl Sessions {
         self.recent = self.recent.min(self.count.saturating_sub(1));
     }
 
-    /// Notes that a peer was heard at a moment, in milliseconds. A known peer's silence ends. For another a
-    /// session is opened, the last in order, with an empty window, no floor and the heartbeat 5,000; but where
-    /// there are as many sessions as were chosen already, no session changes. In all cases the present moment goes on to `now`,
-    /// unless that is earlier.
+    /// Notes that a peer was heard at a moment, in milliseconds. A known peer's silence ends. For another a session is
+    /// opened, the last in order, with an empty window, no floor and the heartbeat 5,000; but where there are as many
+    /// sessions as were chosen already, no session changes. In all cases the present moment goes on to `now`, unless
+    /// that is earlier.
     pub fn hear(&mut self, peer: Peer, now: u64) -> Admission
         ensures hears { Hears peer (present self.old now) self.old result self.new }
         ensures known { IsKnownAfter result peer self.new.sessions }
@@ -243,7 +243,7 @@ impl Sessions {
         }
     }
 
-    /// What the reply window of a known peer says of a command: it answers by the accepted commands of the
+    /// What the reply window of a known peer says of a command: it decides by the accepted commands of the
     /// session, of which it retains the last, as many as its size. A command under a retained handle is a
     /// duplicate where it asks the same (target, DefLevel, MethodIndex, ParamCount and parameter bytes).
     pub fn judge(&self, peer: Peer, command: &Command<'_>) -> Judged<'_>
@@ -261,7 +261,7 @@ impl Sessions {
     pub fn keep(&mut self, peer: Peer, command: &Command<'_>, reply: &Reply)
         requires known { IsSome (session_of peer self.old.sessions) }
         requires fresh { IfSome (session_of peer self.old.sessions) (λ s. judgement_by_window s.retained (fields_of command.now) ≡ Fresh) }
-        requires room { length command.now.params.now ≤ 1445 }
+        requires room { length command.now.params.now ≤ most_command_parameter_bytes }
         ensures retained { self.new ≡ with_sessions self.old
             (changed peer (with_entry (record { command = fields_of command.now; reply = reply.now })) self.old.sessions) }
         ensures accepted { (w : ℕ) (A : List Entry) → AgreesAt peer w A self.old.sessions →
@@ -285,8 +285,8 @@ impl Sessions {
         self.search_known(peer)
     }
 
-    /// Looks in all slots for the session of a known peer. It takes no slice, whose length would be read at each look at
-    /// the recent slot.
+    /// Apart from `index_of_known`, so that the look at the recent slot is inlined: looks in all slots for the session
+    /// of a known peer. It takes no slice, whose length would be read at each such look.
     #[inline(never)]
     fn search_known(&self, peer: Peer) -> usize
         requires { IsSome (session_of peer self.now.sessions) }
@@ -299,11 +299,12 @@ impl Sessions {
         }
     }
 
-    /// Adds a fresh command of a known peer, with its reply.
+    /// Apart from `keep`, which says beside it what follows for the accepted commands and for the peers: adds a fresh
+    /// command of a known peer, with its reply.
     fn put(&mut self, peer: Peer, command: &Command<'_>, reply: &Reply)
         requires known { IsSome (session_of peer self.old.sessions) }
         requires fresh { IfSome (session_of peer self.old.sessions) (λ s. judgement_by_window s.retained (fields_of command.now) ≡ Fresh) }
-        requires room { length command.now.params.now ≤ 1445 }
+        requires room { length command.now.params.now ≤ most_command_parameter_bytes }
         ensures retained { self.new ≡ with_sessions self.old
             (changed peer (with_entry (record { command = fields_of command.now; reply = reply.now })) self.old.sessions) }
         ensures one { IsTable self.old }
@@ -313,7 +314,7 @@ impl Sessions {
     }
 }
 
-/// Where the session of a peer stands. The recent slot is looked at first.
+/// Where the session of a peer stands, which may have none. The recent slot is looked at first.
 fn index_of(slots: &[Slot], recent: usize, peer: Peer) -> Option<usize>
     requires { IsOnePerPeer slots.now }
     ensures { result ≡ position (is_of peer) slots.now }
@@ -324,7 +325,7 @@ fn index_of(slots: &[Slot], recent: usize, peer: Peer) -> Option<usize>
     search(slots, peer)
 }
 
-/// Looks in all slots for the session of a peer.
+/// Apart from `index_of`, so that the look at the recent slot is inlined: looks in all slots for the session of a peer.
 #[inline(never)]
 fn search(slots: &[Slot], peer: Peer) -> Option<usize>
     ensures { result ≡ position (is_of peer) slots.now }
@@ -332,8 +333,9 @@ fn search(slots: &[Slot], peer: Peer) -> Option<usize>
     slots.iter().position(|slot| slot.is_of(peer))
 }
 
-/// Takes all peers out. Clearing is a call that overwrites the cells, so an empty list is left alone.
-fn empty(peers: &mut ArrayVec<Peer, 64>)
+/// Takes all peers out. Clearing is a call that overwrites the cells, so an empty list, the common case here, is left
+/// alone. Each `empty` of the core spares itself the call in the case that is common where it stands.
+fn empty(peers: &mut ArrayVec<Peer, MOST_PEERS>)
     ensures { peers.new.items ≡ [] }
 {
     if !peers.is_empty() {
@@ -343,7 +345,7 @@ fn empty(peers: &mut ArrayVec<Peer, 64>)
 
 /// Puts the peers of the sessions that are lapsed at a moment into `peers`, in their order, in the place of what it
 /// held.
-fn put_lapsed(slots: &[Slot], moment: u64, peers: &mut ArrayVec<Peer, 64>)
+fn put_lapsed(slots: &[Slot], moment: u64, peers: &mut ArrayVec<Peer, MOST_PEERS>)
     requires { length slots.now ≤ 64 }
     ensures { peers.new.items ≡ lapsed moment slots.now }
 {
@@ -366,7 +368,8 @@ fn quiet_until(slots: &[Slot]) -> u64
     until
 }
 
-/// From which moment on one of the sessions is forgotten.
+/// Apart from the method, since a loop over a slice leaves the sessions closed: from which moment on one of them is
+/// forgotten.
 fn forgotten_from(slots: &[Slot]) -> Option<u64>
     ensures { HoldsFrom (forgets slots.now) result }
 {
@@ -377,7 +380,7 @@ fn forgotten_from(slots: &[Slot]) -> Option<u64>
     first
 }
 
-/// Moves the sessions that stay to the front, in their order, and answers how many they are. The slots of
+/// Moves the sessions that stay to the front, in their order, and returns how many they are. The slots of
 /// the others come behind them.
 fn forget(slots: &mut Vec<Slot>, count: usize, moment: u64) -> usize
     requires { count ≤ vec_len slots.old }

@@ -1,11 +1,12 @@
 //! One session.
 ghost use Rattle.std.specs.Prelude.{◌≡◌, ℕ, ◌+◌, ◌*◌, ◌<◌, ◌≤◌, not, List, length, IfOk};
 ghost use Rattle.oca_types.specs.Peers.{fields_of};
+ghost use Rattle.oca_types.specs.Sizes.{most_command_parameter_bytes};
 ghost use Rattle.oca_session.specs.Accepted.{Entry, Agrees, judgement, Fresh};
 ghost use Rattle.oca_session.specs.Judging.{as_judgement, judgement_by_window};
 ghost use Rattle.oca_session.specs.PrivateKeys.{key_of as number_of};
 ghost use Rattle.oca_session.specs.Table.{is_of, is_lapsed, stays, heard_at, with_heartbeat, opened_session, with_entry};
-ghost use Rattle.oca_session.specs.Lapses.{HoldsFrom};
+ghost use Rattle.oca_types.specs.Moments.{HoldsFrom};
 
 use crate::moments::passes_from;
 use crate::window::{Judged, ReplyWindow};
@@ -15,6 +16,15 @@ use std::marker::Model;
 
 /// A heartbeat before any keep-alive, in milliseconds.
 const FIRST_HEARTBEAT: u32 = 5_000;
+
+/// The least heartbeat, in milliseconds.
+const LEAST_HEARTBEAT: u64 = 250;
+
+/// The greatest heartbeat, in milliseconds.
+const GREATEST_HEARTBEAT: u64 = 30_000;
+
+/// A session is forgotten once its silence passes so many milliseconds.
+const LONGEST_SILENCE: u64 = 120_000;
 
 /// The slot of a session: of the session that has it, or of the last that had it.
 #[derive(Drop)]
@@ -98,7 +108,7 @@ impl Slot {
     pub fn stays(&self, moment: u64) -> bool
         ensures { result ≡ stays moment self.now }
     {
-        moment.saturating_sub(self.heard) <= 120_000
+        moment.saturating_sub(self.heard) <= LONGEST_SILENCE
     }
 
     /// From which moment on the silence passes three heartbeats; nothing where that lies beyond 64 bits.
@@ -112,7 +122,7 @@ impl Slot {
     pub fn forgotten_from(&self) -> Option<u64>
         ensures { HoldsFrom (λ t. not (stays t self.now)) result }
     {
-        passes_from(self.heard, 120_000)
+        passes_from(self.heard, LONGEST_SILENCE)
     }
 
     /// Ends the silence.
@@ -126,7 +136,7 @@ impl Slot {
     pub fn set_heartbeat(&mut self, ms: u64)
         ensures { self.new ≡ with_heartbeat ms self.old }
     {
-        self.heartbeat = ms.min(30_000).max(250) as u32;
+        self.heartbeat = ms.min(GREATEST_HEARTBEAT).max(LEAST_HEARTBEAT) as u32;
     }
 
     /// What its window says of a command.
@@ -141,7 +151,7 @@ impl Slot {
     /// Retains a fresh command with its reply.
     pub fn keep(&mut self, command: &Command<'_>, reply: &Reply)
         requires fresh { judgement_by_window self.old.retained (fields_of command.now) ≡ Fresh }
-        requires room { length command.now.params.now ≤ 1445 }
+        requires room { length command.now.params.now ≤ most_command_parameter_bytes }
         ensures { self.new ≡ with_entry (record { command = fields_of command.now; reply = reply.now }) self.old }
     {
         self.window.keep(command, reply);

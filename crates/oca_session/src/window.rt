@@ -2,6 +2,7 @@
 ghost use Rattle.std.specs.Prelude.{◌≡◌, ℕ, ◌+◌, ◌<◌, ◌≤◌, max, vec_len, vec_capacity, List, [], ◌∷◌, ◌++◌, length, option_map, option_copied, IfOk, MatchOption, AllPairs, find};
 ghost use Rattle.circular_buffer.specs.Buffer.{buffer};
 ghost use Rattle.oca_types.specs.Peers.{CommandFields, fields_of};
+ghost use Rattle.oca_types.specs.Sizes.{most_command_parameter_bytes};
 ghost use Rattle.oca_session.specs.Accepted.{Entry, retained_of, Agrees, judgement, Fresh, entry_under, duplicate_or_reused};
 ghost use Rattle.oca_session.specs.Judging.{as_judgement, judgement_by_window, retained_after};
 ghost use Rattle.oca_session.specs.PrivateCells.{is_under, held_in, judge_cell, AreApart, IsCellOfOldest, AddsCell};
@@ -13,11 +14,11 @@ use std::alloc::{AllocError, Global};
 use std::marker::Model;
 
 /// What the reply window of a session says of a command.
-#[derive(Clone, Copy)]
+#[derive(Clone, Copy, Debug)]
 pub enum Judged<'a> {
     /// No accepted command has its handle, which is above all that the window pushed out: execute it.
     Fresh,
-    /// It is a duplicate of a command in the window, which got this reply.
+    /// It is a duplicate of a command in the window, which got this reply. What counts these calls them `kept`.
     Kept(&'a Reply),
     /// A command in the window has its handle, and asks something else.
     Reused,
@@ -112,7 +113,7 @@ impl ReplyWindow {
         Some(&self.cells[held.cell as usize])
     }
 
-    /// What the retained commands say of a command. `judge` says beside it what the accepted ones do.
+    /// Apart from `judge`, which says beside it what the accepted commands do: what the retained ones say of a command.
     fn judge_retained(&self, command: &Command<'_>) -> Judged<'_>
         ensures { as_judgement result ≡ judgement_by_window self.now (fields_of command.now) }
     {
@@ -122,8 +123,8 @@ impl ReplyWindow {
         self.judge_accepted(command)
     }
 
-    /// What the retained commands say of a command, by the one under its handle and by the floor. It stands apart, since
-    /// most commands are above each handle that was accepted.
+    /// Apart from `judge_retained`, since most commands are above each handle that was accepted: what the retained
+    /// commands say of a command, by the one under its handle and by the floor.
     #[inline(never)]
     fn judge_accepted(&self, command: &Command<'_>) -> Judged<'_>
         ensures { as_judgement result ≡ judgement_by_window self.now (fields_of command.now) }
@@ -140,7 +141,7 @@ impl ReplyWindow {
     /// Retains a fresh command with its reply. A full window pushes its oldest out.
     pub fn keep(&mut self, command: &Command<'_>, reply: &Reply)
         requires fresh { judgement_by_window self.old (fields_of command.now) ≡ Fresh }
-        requires room { length command.now.params.now ≤ 1445 }
+        requires room { length command.now.params.now ≤ most_command_parameter_bytes }
         ensures exact { self.new ≡ retained_after self.old (record { command = fields_of command.now; reply = reply.now }) }
         ensures accepted { (w : ℕ) (A : List Entry) → Agrees w A self.old →
             Agrees w (A ++ record { command = fields_of command.now; reply = reply.now } ∷ []) self.new }
@@ -148,10 +149,11 @@ impl ReplyWindow {
         self.put(command, reply);
     }
 
-    /// Retains a fresh command with its reply. `keep` says beside it of which accepted commands the window is then.
+    /// Apart from `keep`, which says beside it of which accepted commands the window is then: retains a fresh command
+    /// with its reply.
     fn put(&mut self, command: &Command<'_>, reply: &Reply)
         requires fresh { judgement_by_window self.old (fields_of command.now) ≡ Fresh }
-        requires room { length command.now.params.now ≤ 1445 }
+        requires room { length command.now.params.now ≤ most_command_parameter_bytes }
         ensures { self.new ≡ retained_after self.old (record { command = fields_of command.now; reply = reply.now }) }
     {
         raise(&mut self.above, command.handle);
@@ -191,8 +193,8 @@ fn cell_of_oldest(held: &HeapCircularBuffer<Held>) -> Option<u32>
     Some(held.front()?.cell)
 }
 
-/// Adds a command and its reply while there is room, with a cell of its own. It stands apart from `put`, since a local of a
-/// cell's size would be cleared at each call there.
+/// Apart from `put`, since a local of a cell's size would be cleared at each call there: adds a command and its reply
+/// while there is room, with a cell of its own.
 #[inline(never)]
 fn add(
     held: &mut HeapCircularBuffer<Held>,
@@ -200,7 +202,7 @@ fn add(
     command: &Command<'_>,
     reply: &Reply,
 )
-    requires params { length command.now.params.now ≤ 1445 }
+    requires params { length command.now.params.now ≤ most_command_parameter_bytes }
     requires room { (length held.old.items < held.old.capacity) × (held.old.capacity ≤ 64) × (vec_len cells.old < vec_capacity cells.old) }
     ensures capacity { vec_capacity cells.new ≡ vec_capacity cells.old }
     ensures held { held.new ≡ buffer (held.old.items ++ held_in command.now.handle (length held.old.items) ∷ []) held.old.capacity }

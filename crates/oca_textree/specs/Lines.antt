@@ -52,7 +52,8 @@ abbrev pub quoted : Option (List ℕ × List ℕ) → Result Taken ObjectFault
 quoted None = Err fault.Form
 quoted (Some p) = behind_quote p.0 p.1
 
--- The next field of what is left: one that begins with a quote goes up to the next quote, and any other up to the next space.
+-- The next field of what is left: one that begins with a quote goes up to the next quote, and any other up to the next
+-- space.
 unfoldable pub field_at : Option (List ℕ) → Result Taken ObjectFault
 field_at None = Err fault.Form
 field_at (Some []) = Ok ([], None)
@@ -145,7 +146,8 @@ abbrev pub place_of : List ℕ → List (List ℕ) → Option ℕ
 place_of name [] = None
 place_of name (n ∷ names) = if bytes_eq n name then Some 0 else option_map (λ n. 1 + n) (place_of name names)
 
--- the names of a switch's positions between commas, and that of the current one: its number, the names, and what is left
+-- the names of a switch's positions between commas, and that of the current one: its number, the names, and what is
+-- left
 unfoldable pub positions_of : Option (List ℕ) → Result (ℕ × List (List ℕ) × Option (List ℕ)) ObjectFault
 positions_of rest =
     then_by (field_at rest) (λ a. then_by (names_after [] (split_on 44 a.0)) (λ names.

@@ -17,6 +17,7 @@ abbrev pub after_lines : ℕ → List Object → List (List ℕ) → Result (Lis
 after_lines number tree [] = Ok tree
 after_lines number tree (line ∷ more) = go_on (after_line tree line) number (λ t. after_lines (number + 1) t more)
 
--- THE OBJECTS OF A TEXT: the root and those of its lines, in order, or the first line with a fault. A line ends at a line feed.
+-- THE OBJECTS OF A TEXT: the root and those of its lines, in order, or the first line with a fault. A line ends at a
+-- line feed.
 unfoldable pub objects_of_text : List ℕ → Result (List Object) TreeFault
 objects_of_text text = after_lines 1 (root ∷ []) (split_on 10 text)

@@ -5,8 +5,8 @@ ghost use Rattle.oca_textree.specs.Faults.{fault_word, fault_of};
 use oca_tree::AddFault;
 use thiserror::Error;
 
-/// What is wrong with a line: what is found first from its left, and where all its fields can be read why its object is not
-/// added.
+/// What is wrong with a line: what is found first from its left, and where all its fields can be read why its object is
+/// not added.
 #[derive(Clone, Copy, PartialEq, Eq, Debug, Error)]
 pub enum ObjectFault {
     /// A field is missing or too many, a quote is left open, or there is a control character.

@@ -11,8 +11,8 @@ use oca_script::field::{number, split_at_byte};
 use oca_types::Class;
 use std::str::from_utf8;
 
-/// The next field of what is left of a line, and what is left behind it. A field that begins with a quote goes up to the next
-/// quote, and any other up to the next space.
+/// The next field of what is left of a line, and what is left behind it. A field that begins with a quote goes up to
+/// the next quote, and any other up to the next space.
 #[tactic(auto, unfolding(crate::specs::Lines::field_at))]
 pub fn field<'a>(rest: Option<&'a [u8]>) -> Result<(&'a [u8], Option<&'a [u8]>), ObjectFault>
     ensures { field_view result ≡ field_at (option_copied rest.entry) }

@@ -6,11 +6,11 @@
 //! NUMBER CONTAINER CLASS .. LOCKABLE ROLE
 //! ```
 //!
-//! with single spaces; a field with spaces stands in quotes. `CLASS` is `block`, `mute`, `polarity`, `switch`, `boolean`, `int8` to
-//! `int64` or `uint8` to `uint64`. Behind it stands what an object of the class is set to: nothing for a block; `muted` or
-//! `unmuted`; `non-inverted` or `inverted`; for a switch the names of its positions between commas and that of the current one;
-//! `on` or `off`; for an integer the least, the greatest and the setting. `LOCKABLE` is `lockable` or `no-lock`. Empty lines and
-//! lines that begin with `#` are skipped.
+//! with single spaces; a field with spaces stands in quotes. `CLASS` is `block`, `mute`, `polarity`, `switch`,
+//! `boolean`, `int8` to `int64` or `uint8` to `uint64`. Behind it stands what an object of the class is set to: nothing
+//! for a block; `muted` or `unmuted`; `non-inverted` or `inverted`; for a switch the names of its positions between
+//! commas and that of the current one; `on` or `off`; for an integer the least, the greatest and the setting.
+//! `LOCKABLE` is `lockable` or `no-lock`. Empty lines and lines that begin with `#` are skipped.
 #![tactic(auto)]
 
 mod fault;

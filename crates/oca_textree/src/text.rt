@@ -16,9 +16,9 @@ use std::alloc::Global;
 /// For how many objects there is room, the root counted.
 const MOST_OBJECTS: u16 = 4096;
 
-/// The tree of a text: the root, which is there without a line, and the objects of its lines in order. Refusals: `Line` with
-/// the number of the first line that has a fault, counted from 1, and the first fault of that line; `NoMemory`, where the
-/// room of 4,096 objects was refused. (The text's form is the profile's; [`crate`] has it.)
+/// The tree of a text: the root, which is there without a line, and the objects of its lines in order. Refusals: `Line`
+/// with the number of the first line that has a fault, counted from 1, and the first fault of that line; `NoMemory`,
+/// where the room of 4,096 objects was refused. (The text's form is the profile's; [`crate`] has it.)
 pub fn tree_from_text(alloc: Global, text: &[u8]) -> Result<Tree, TreeFault>
     ensures ok { IfOk result (λ tree. objects_of_text text.now ≡ ok tree) }
     ensures err { IfErr result (λ e. (e ≡ NoMemory) ⊎ (objects_of_text text.now ≡ err e)) }

@@ -70,7 +70,7 @@ const _: () = prove!(AddFault::BadRange as u8 == 7);
 const _: () = prove!(AddFault::NoMemory as u8 == 8);
 
 /// What an object is to be at first.
-#[derive(Clone, Copy)]
+#[derive(Clone, Copy, Debug)]
 pub struct Spec<'a> {
     /// Its role, 1 to 64 bytes.
     pub role: &'a str,
@@ -81,7 +81,7 @@ pub struct Spec<'a> {
 }
 
 /// The class of an object with its settings at first.
-#[derive(Clone, Copy)]
+#[derive(Clone, Copy, Debug)]
 pub enum Kind<'a> {
     /// OcaBlock.
     Block,

@@ -13,7 +13,7 @@ use thiserror::Error;
 /// What was stored of an object: what peers may set of it and [`Spec`](crate::Spec) does not say. The setting and the
 /// names of positions are part of `Spec`, and locks end with the sessions of their holders. The default is what an
 /// object is without it: an empty label, enabled, and all positions enabled.
-#[derive(Clone, Copy)]
+#[derive(Clone, Copy, Debug)]
 pub struct Start<'a> {
     /// Its label (AES70-2, OcaWorker), at most 64 bytes.
     pub label: &'a str,

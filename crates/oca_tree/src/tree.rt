@@ -33,7 +33,7 @@ pub struct Done {
 }
 
 /// What an object is.
-#[derive(Drop)]
+#[derive(Debug, Drop)]
 pub struct ObjectInfo {
     /// Its number.
     pub ono: Ono,

@@ -8,6 +8,7 @@ pub mod Status
 pub mod Peers
 pub mod Addresses
 pub mod Sizes
+pub mod Moments
 pub mod Classes
 pub mod Methods
 pub mod PrivateMethods

@@ -12,8 +12,9 @@ use crate::fault::ReadFault;
 use crate::text::{Text, chars_at};
 use std::alloc::AllocError;
 
-/// What is left of a slice. Each take answers the value whose encoding is at the front (AES70-3) and
+/// What is left of a slice. Each take returns the value whose encoding is at the front (AES70-3) and
 /// goes past exactly that encoding; after a refusal the cursor is as it was.
+#[derive(Debug)]
 pub struct Cursor<'a> {
     rest: &'a [u8],
 }
@@ -167,7 +168,8 @@ impl<'a> Cursor<'a> {
         ]))
     }
 
-    /// An OcaBoolean (AES70-3): 0 is false and any other byte is true (*profile*). Refusal: `Short`, and the cursor is unchanged.
+    /// An OcaBoolean (AES70-3): 0 is false and any other byte is true (*profile*). Refusal: `Short`, and the cursor is
+    /// unchanged.
     #[tactic(auto, using(crate::proofs::Fixed::short_bool))]
     pub fn take_bool(&mut self) -> Result<bool, ReadFault>
         ensures found { IfOk result (λ v. Takes IsBoolEncoding v (bytes_left self.old) (bytes_left self.new)) }

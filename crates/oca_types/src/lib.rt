@@ -5,9 +5,11 @@
 //! which append them to parameters. Nothing here takes memory, and nothing reads a clock.
 #![tactic(auto)]
 
+mod bytes;
 mod class;
 mod cursor;
 mod fault;
+mod moments;
 mod peer;
 mod put;
 mod sizes;
@@ -17,17 +19,19 @@ mod tests;
 mod text;
 mod words;
 
+pub use bytes::write_over;
 pub use class::{Access, Class, Method, MethodKind, access_of, class_fields, method_id, method_of};
 pub use cursor::Cursor;
 pub use fault::{PutFault, ReadFault};
+pub use moments::sooner;
 pub use put::{
     put_bool, put_class_identification, put_i8, put_i16, put_i32, put_i64, put_text, put_u8,
     put_u16, put_u32, put_u64,
 };
-pub use sizes::{Peers, Sizes, Span, Window};
+pub use sizes::{MOST_PEERS, Peers, Sizes, Span, Window};
 pub use status::Status;
 pub use text::Text;
 pub use words::{
-    Command, Handle, MOST_BYTES, MOST_COMMAND_PARAMETER_BYTES, MOST_PARAMETER_BYTES, MethodId,
-    NoMemory, Ono, Packet, Params, Peer, Reply, Request,
+    Command, Handle, LOOPBACK, MOST_BYTES, MOST_COMMAND_PARAMETER_BYTES, MOST_PARAMETER_BYTES,
+    MethodId, NoMemory, Ono, Packet, Params, Peer, Reply, Request,
 };

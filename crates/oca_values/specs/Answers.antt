@@ -1,4 +1,5 @@
--- What answers say of an object beside its value: its class, its members, the names of its positions (AES70-2, AES70-3).
+-- What answers say of an object beside its value: its class, its members, the names of its positions (AES70-2,
+-- AES70-3).
 use Rattle.std.specs.Prelude.{ℕ, ◌==◌, List, [], ◌∷◌, nat_lt, if◌then◌else◌, Option, Some, None, codes, find}
 use Rattle.std.specs.Str.{bytes_eq}
 use Rattle.std.specs.Option.{option_map, option_and_then}
@@ -13,7 +14,8 @@ use Rattle.oca_tree.specs.Parameters.{whole, pair_at, items_at}
 abbrev pub list_of_most : {X : Type 0} → ℕ → (List ℕ → Option (X × List ℕ)) → List ℕ → Option (List X × List ℕ)
 list_of_most most item bytes = option_and_then (λ n. if nat_lt most n.0 then None else items_at item n.0 n.1) (unsigned_at w16 bytes)
 
--- OcaClassIdentification: the fields of the identifier, of which there are at most 16, and the version, which may be any
+-- OcaClassIdentification: the fields of the identifier, of which there are at most 16, and the version, which may be
+-- any
 unfoldable pub class_id_at : List ℕ → Option (List ℕ × List ℕ)
 class_id_at bytes = option_map (λ x. (x.0.0, x.1)) (pair_at (list_of_most 16 (unsigned_at w16)) (unsigned_at w16) bytes)
 

@@ -78,8 +78,8 @@ abbrev pub IsUnderstood : Type 0
 IsUnderstood = (value : Value) (request : Request) (handle target : ℕ) (o : Object) → IsOfItsType value → SetsTo value request → class_of o.value ≡ class_of_value value
     → let c = command_of handle target request in request_at (Some o) (kind_at (Some o) c) c ≡ Some (request_for (local_of value))
 
--- Executing it, where no lock refuses it, sets the object as the device's own front would: to that value, or not at all where it is
--- out of range.
+-- Executing it, where no lock refuses it, sets the object as the device's own front would: to that value, or not at all
+-- where it is out of range.
 abbrev pub IsCarriedOut : Type 0
 IsCarriedOut = (value : Value) (request : Request) (handle : ℕ) (tree : List Object) (peer : Peer) (target : ℕ) (o : Object) → IsOfItsType value → SetsTo value request
     → object_of tree target ≡ Some o → class_of o.value ≡ class_of_value value

@@ -95,7 +95,8 @@ polarity_of n = if n == 1 then Some (Polarity NonInverted) else (if n == 2 then 
 abbrev pub with_limits : {X : Type 0} → (List ℕ → Option (X × List ℕ)) → List ℕ → Option X
 with_limits number bytes = option_map (λ x. x.0) (whole (pair_at number (pair_at number number) bytes))
 
--- the value that an answer's parameters give of an object of the class, where they are such an answer; a block gives none
+-- the value that an answer's parameters give of an object of the class, where they are such an answer; a block gives
+-- none
 unfoldable pub value_in : Class → List ℕ → Option Value
 value_in class.Block bytes = None
 value_in class.Mute bytes = option_and_then mute_of (whole (unsigned_at w8 bytes))

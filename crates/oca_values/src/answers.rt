@@ -60,8 +60,8 @@ fn take_class_id(cursor: &mut Cursor<'_>) -> Option<ClassFields>
     Some(fields)
 }
 
-/// The fields of the class's identifier that the parameters of the answer to GetClassIdentification give (AES70-2), at most 16.
-/// The version of the class may be any. Nothing where they are not such an answer.
+/// The fields of the class's identifier that the parameters of the answer to GetClassIdentification give (AES70-2), at
+/// most 16. The version of the class may be any. Nothing where they are not such an answer.
 pub fn read_class_fields(params: &[u8]) -> Option<ClassFields>
     ensures { option_map (λ v. v.items) result ≡ class_id_in params.now }
 {
@@ -78,7 +78,8 @@ fn has_fields(class: Class, fields: &[u16]) -> bool
     class_fields(class).as_slice() == fields
 }
 
-/// The class whose identifier has these fields, of those that have values here, and of a block; nothing where there is none.
+/// The class whose identifier has these fields, of those that have values here, and of a block; nothing where there is
+/// none.
 #[tactic(auto, unfolding(crate::specs::Answers::class_with))]
 pub fn class_with(fields: &[u16]) -> Option<Class>
     ensures { result ≡ class_with fields.now }
@@ -125,8 +126,8 @@ pub fn class_with(fields: &[u16]) -> Option<Class>
     None
 }
 
-/// The class that the parameters of the answer to GetClassIdentification name. Nothing where they are not such an answer, or name
-/// another class than those of this crate's values and OcaBlock.
+/// The class that the parameters of the answer to GetClassIdentification name. Nothing where they are not such an
+/// answer, or name another class than those of this crate's values and OcaBlock.
 pub fn read_class(params: &[u8]) -> Option<Class>
     ensures { result ≡ class_in params.now }
 {
@@ -134,8 +135,8 @@ pub fn read_class(params: &[u8]) -> Option<Class>
     class_with(fields.as_slice())
 }
 
-/// The text that is all of the parameters, as in the answers to GetRole, GetLabel and GetPositionName. Nothing where they are
-/// none, or a text of more than 64 bytes.
+/// The text that is all of the parameters, as in the answers to GetRole, GetLabel and GetPositionName. Nothing where
+/// they are none, or a text of more than 64 bytes.
 pub fn read_text(params: &[u8]) -> Option<Text>
     ensures { result ≡ whole (text_at params.now) }
 {
@@ -160,8 +161,8 @@ fn take_names(cursor: &mut Cursor<'_>, number: usize) -> Option<Names>
     Some(names)
 }
 
-/// The names that the parameters of the answer to GetPositionNames give, in the order of the positions, at most 16. Nothing where
-/// they are not such an answer.
+/// The names that the parameters of the answer to GetPositionNames give, in the order of the positions, at most 16.
+/// Nothing where they are not such an answer.
 pub fn read_names(params: &[u8]) -> Option<Names>
     ensures { option_map (λ v. v.items) result ≡ names_in params.now }
 {
@@ -200,8 +201,8 @@ fn take_members(cursor: &mut Cursor<'_>, number: usize) -> Option<Members>
     Some(members)
 }
 
-/// The numbers of the members that the parameters of the answer to GetMembers give, in their order, at most 181. Nothing where
-/// they are not such an answer.
+/// The numbers of the members that the parameters of the answer to GetMembers give, in their order, at most 181.
+/// Nothing where they are not such an answer.
 pub fn read_members(params: &[u8]) -> Option<Members>
     ensures { option_map (λ v. v.items) result ≡ members_in params.now }
 {

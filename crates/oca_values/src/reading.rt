@@ -147,9 +147,9 @@ fn u64_with_limits(params: &[u8]) -> Option<u64>
     Some(setting)
 }
 
-/// The value that the parameters of the answer to [`get_request`](crate::get_request) give of an object of this class; of a switch
-/// and of an integer its least and its greatest stand behind it (AES70-2). Nothing where they are not such an answer, and for a
-/// block.
+/// The value that the parameters of the answer to [`get_request`](crate::get_request) give of an object of this class;
+/// of a switch and of an integer its least and its greatest stand behind it (AES70-2). Nothing where they are not such
+/// an answer, and for a block.
 #[tactic(auto, unfolding(crate::specs::Values::value_in))]
 pub fn read_value(class: Class, params: &[u8]) -> Option<Value>
     ensures { result ≡ value_in class params.now }

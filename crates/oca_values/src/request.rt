@@ -6,7 +6,8 @@ use crate::value::Value;
 use arrayvec::ArrayVec;
 use oca_types::{Class, Method, MethodId, Ono, method_id};
 
-/// What is asked of an object: a command without its handle and its target.
+/// What is asked of an object: a command without its handle and its target. [`Request::of`] puts the target to it,
+/// which gives a request as `oca_types` has it.
 #[derive(Debug, Drop)]
 pub struct Request {
     /// The method.
@@ -89,7 +90,8 @@ fn encoding(value: Value) -> ArrayVec<u8, 8>
     }
 }
 
-/// What sets an object of the value's class to the value: the class's own set method with the value as its one parameter.
+/// What sets an object of the value's class to the value: the class's own set method with the value as its one
+/// parameter.
 pub fn set_request(value: Value) -> Request
     ensures { Asks (class_of_value value) (set_method value) result 1 (value_encoding value) }
 {
@@ -103,8 +105,8 @@ pub fn set_request(value: Value) -> Request
     }
 }
 
-/// What reads how an object of the class is set: the class's own get method, which has no parameters. Nothing for a block, which
-/// has no setting.
+/// What reads how an object of the class is set: the class's own get method, which has no parameters. Nothing for a
+/// block, which has no setting.
 pub fn get_request(class: Class) -> Option<Request>
     ensures { AsksFor (get_method class) class result }
 {

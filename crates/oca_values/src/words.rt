@@ -51,8 +51,8 @@ pub fn word_of(value: Value) -> Text
     }
 }
 
-/// The value of an object of this class that a word names: one of the class's words, or an integer of its type in decimal digits
-/// with an optional sign. Nothing for any other word, and for a block.
+/// The value of an object of this class that a word names: one of the class's words, or an integer of its type in
+/// decimal digits with an optional sign. Nothing for any other word, and for a block.
 #[tactic(auto, unfolding(crate::specs::Words::IsRead, crate::specs::Words::word_of))]
 pub fn value_from_word(class: Class, word: &str) -> Option<Value>
     ensures { IsRead class word.now result }

@@ -12,7 +12,7 @@ ghost use Rattle.oca_control.specs.Asking.{refused_by};
 ghost use Rattle.ocactl.specs.PrivateExchanges.{AwaitsAndPrints, SendsAndPrints, ServesAndPrints, GoesOn, is_write_failure, line_in, line_asked};
 
 use super::exchange::print_outcome;
-use super::request::{MOST_BYTES, command_by};
+use super::request::{PARAMS_ROOM, command_by};
 use super::session::Session;
 use oca_control::{ControlFault, Outcome};
 use oca_net::End;
@@ -35,7 +35,7 @@ pub struct Commands<E>(PhantomData<E>);
 impl<E: End> Language for Commands<E> {
     type State = Session<E>;
 
-    type Room = [u8; MOST_BYTES];
+    type Room = [u8; PARAMS_ROOM];
 
     ghost Request = { LineAsked };
 
@@ -46,7 +46,7 @@ impl<E: End> Language for Commands<E> {
     /// Reads what the line asks for, does it, and prints how commands fared.
     fn serve_line<W: Sink>(
         session: &mut Session<E>,
-        room: &mut [u8; MOST_BYTES],
+        room: &mut [u8; PARAMS_ROOM],
         line: &[u8],
         more: bool,
         printer: &mut Printer<W>,
@@ -81,7 +81,7 @@ fn is_wait(line: &[u8]) -> bool
 
 /// What the line asks for. The bytes of a command's parameters are put into `room`.
 #[tactic(auto, unfolding(crate::specs::Requests::asked_line))]
-fn asked_by<'a>(line: &[u8], room: &'a mut [u8; MOST_BYTES]) -> Result<Asked<'a>, LineFault>
+fn asked_by<'a>(line: &[u8], room: &'a mut [u8; PARAMS_ROOM]) -> Result<Asked<'a>, LineFault>
     requires { length line.now ≤ 4096 }
     ensures { line_asked result ≡ asked_line (fields line.now) }
 {
@@ -198,7 +198,7 @@ pub fn send_all<E: End, R: Source, W: Sink>(
 ) -> Result<(), ReplayFault>
     ensures { SendsLines session.old session.new printer.old printer.new (input (R.remaining reader.old) (R.failed reader.old)) (input (R.remaining reader.new) (R.failed reader.new)) result }
 {
-    let mut room = [0; MOST_BYTES];
+    let mut room = [0; PARAMS_ROOM];
     let ended = serve_lines::<Commands<E>, R, W>(session, &mut room, reader, printer);
     if is_unwritten(ended) {
         return ended;

@@ -8,7 +8,7 @@ ghost use Rattle.ocactl.specs.Replaying.{Serves, ServesAndPrints};
 ghost use Rattle.ocactl.specs.PrivateRequests.{call_in};
 
 use super::line::{Line, print_line};
-use super::request::{Call, MOST_BYTES, call_by};
+use super::request::{Call, PARAMS_ROOM, call_by};
 use oca_control::Link;
 use oca_script::lines::serve_lines;
 use oca_script::{Language, Printer, ReplayFault, Sink, Source, Stop, WriteFailed};
@@ -21,7 +21,7 @@ pub struct LinkScript;
 #[derive(Drop)]
 pub struct LinkRoom {
     packet: Packet,
-    bytes: [u8; MOST_BYTES],
+    bytes: [u8; PARAMS_ROOM],
 }
 
 impl LinkRoom {
@@ -29,7 +29,7 @@ impl LinkRoom {
     pub fn new() -> LinkRoom {
         LinkRoom {
             packet: Packet::new(),
-            bytes: [0; MOST_BYTES],
+            bytes: [0; PARAMS_ROOM],
         }
     }
 }

@@ -11,7 +11,7 @@ use oca_script::field::{first_field, hex_bytes, peer};
 use oca_types::{Handle, MethodId, Ono, Peer, Request};
 
 /// Room for the bytes of a field.
-pub const MOST_BYTES: usize = 2048;
+pub const PARAMS_ROOM: usize = 2048;
 
 /// What a line asks for. Moments are in milliseconds.
 #[derive(Clone, Copy)]
@@ -114,7 +114,7 @@ fn command_in<'a>(texts: Texts<'_>, room: &'a mut [u8]) -> Result<Request<'a>, L
 fn submit<'a>(
     now: &[u8],
     rest: Option<&[u8]>,
-    room: &'a mut [u8; MOST_BYTES],
+    room: &'a mut [u8; PARAMS_ROOM],
 ) -> Result<Call<'a>, LineFault>
     requires { IfSome rest (λ text. length text.now ≤ 4096) }
     ensures { call_asked result ≡ submit_of now.now (fields_after (option_copied rest.entry)) }
@@ -162,7 +162,7 @@ fn datagram<'a>(
 fn from<'a>(
     now: &[u8],
     rest: Option<&[u8]>,
-    room: &'a mut [u8; MOST_BYTES],
+    room: &'a mut [u8; PARAMS_ROOM],
 ) -> Result<Call<'a>, LineFault>
     requires { IfSome rest (λ text. length text.now ≤ 4096) }
     ensures { call_asked result ≡ from_of now.now (fields_after (option_copied rest.entry)) }
@@ -190,7 +190,7 @@ fn take<'a>(rest: Option<&[u8]>) -> Result<Call<'a>, LineFault>
 fn timed<'a>(
     now: &[u8],
     rest: Option<&[u8]>,
-    room: &'a mut [u8; MOST_BYTES],
+    room: &'a mut [u8; PARAMS_ROOM],
 ) -> Result<Call<'a>, LineFault>
     requires { IfSome rest (λ text. length text.now ≤ 4096) }
     ensures { call_asked result ≡ timed_of now.now (fields_after (option_copied rest.entry)) }
@@ -212,7 +212,7 @@ fn timed<'a>(
 }
 
 /// What the fields of the line ask for. Bytes are put into `room`.
-pub fn call_by<'a>(line: &[u8], room: &'a mut [u8; MOST_BYTES]) -> Result<Call<'a>, LineFault>
+pub fn call_by<'a>(line: &[u8], room: &'a mut [u8; PARAMS_ROOM]) -> Result<Call<'a>, LineFault>
     requires { length line.now ≤ 4096 }
     ensures { call_asked result ≡ asked_call (fields line.now) }
 {
@@ -224,7 +224,10 @@ pub fn call_by<'a>(line: &[u8], room: &'a mut [u8; MOST_BYTES]) -> Result<Call<'
 }
 
 /// What the fields of the line of a command ask for. The bytes of its parameters are put into `room`.
-pub fn command_by<'a>(line: &[u8], room: &'a mut [u8; MOST_BYTES]) -> Result<Request<'a>, LineFault>
+pub fn command_by<'a>(
+    line: &[u8],
+    room: &'a mut [u8; PARAMS_ROOM],
+) -> Result<Request<'a>, LineFault>
     requires { length line.now ≤ 4096 }
     ensures { request_asked result ≡ asked_command (fields line.now) }
 {

@@ -18,8 +18,8 @@ use Rattle.oca_script.specs.Ends.{Input, Output}
 use Rattle.oca_script.specs.Printing.{Prints, PrintsAll, PrintsPart, WritesWhole}
 use Rattle.oca_script.specs.Script.{Script}
 use Rattle.oca_script.specs.Replaying.{Runs, ServesLine, Writes, BeginsWith, known_bytes, Replays as ReplaysScript, Outcome as ScriptOutcome}
-use Rattle.ocadev.specs.declared.request.Request.{Request}
-use Rattle.ocadev.specs.declared.request.Request.TheVariants as asks
+use Rattle.ocadev.specs.declared.request.ScriptEvent.{ScriptEvent}
+use Rattle.ocadev.specs.declared.request.ScriptEvent.TheVariants as asks
 use Rattle.oca_script.proofs.PrintLemmas.{prints-then, prints-less}
 use Rattle.ocadev.specs.Requests.{asked_event}
 use Rattle.ocadev.specs.PrivateRequests.{event_of}
@@ -28,12 +28,12 @@ use Rattle.ocadev.specs.Replaying.{Serves, ServesAndPrints, Whole, Part, Replays
 
 -- ---- an event
 
-pub tick-served : (a b : DeviceState) (now : ℕ) (request : Request) (r : Result Unit WriteFailed) (u v : Output) → request ≡ asks.Tick now
+pub tick-served : (a b : DeviceState) (now : ℕ) (request : ScriptEvent) (r : Result Unit WriteFailed) (u v : Output) → request ≡ asks.Tick now
     → ((w : DeviceSizes) (tree : List Object) (events : List Event) → Represents w a tree events → Represents w b tree (Tick now ∷ events))
     → Prints r u v (codes "quiet\n") → ServesAndPrints a (event_of request) b r u v
 unfolding event_text
 tick-served a b now request r u v e h prints =
-    subst (λ (x : Request). ServesAndPrints a (event_of x) b r u v) (sym e)
+    subst (λ (x : ScriptEvent). ServesAndPrints a (event_of x) b r u v) (sym e)
     (record {
       text = codes "quiet\n";
       serves = record { represents = h; prints = λ w tree events at_a. refl };
@@ -79,13 +79,13 @@ datagram-cut a b from bytes now v ps r x k l h sent said is first = record {
 
 -- ---- a line
 
-pub line-served : (a b : DeviceState) (r : Result Unit WriteFailed) (u : Unit {0}) (was is : Output) (x : Result Event LineFault) (request : Request)
+pub line-served : (a b : DeviceState) (r : Result Unit WriteFailed) (u : Unit {0}) (was is : Output) (x : Result Event LineFault) (request : ScriptEvent)
     → r ≡ Ok u → Ok (event_of request) ≡ x → ServesAndPrints a (event_of request) b r was is → ServesLine x Serves a b (Ok tt) was is
 line-served a b r u was is x request e asked h =
     subst (λ (z : Result Event LineFault). ServesLine z Serves a b (Ok tt) was is) asked
     (record { text = h.text; serves_it = h.serves; prints = subst (λ (z : Result Unit WriteFailed). Prints z was is h.text) e h.prints })
 
-pub line-failed : (a b : DeviceState) (r : Result Unit WriteFailed) (f : WriteFailed) (was is : Output) (x : Result Event LineFault) (request : Request)
+pub line-failed : (a b : DeviceState) (r : Result Unit WriteFailed) (f : WriteFailed) (was is : Output) (x : Result Event LineFault) (request : ScriptEvent)
     → r ≡ Err f → Ok (event_of request) ≡ x → ServesAndPrints a (event_of request) b r was is → ServesLine x Serves a b (Err stop.Write) was is
 line-failed a b r f was is x request e asked h =
     subst (λ (z : Result Event LineFault). ServesLine z Serves a b (Err stop.Write) was is) asked

@@ -6,7 +6,8 @@ use Rattle.oca_textree.specs.Texts.{objects_of_text}
 use Rattle.ocadev.specs.declared.words.Objects.{Objects}
 use Rattle.ocadev.specs.declared.words.Objects.TheVariants.{Bench, Listed}
 
--- These are the bench's with so many channel strips, or those of some text, that of the file: what a file gives, no contract can say.
+-- These are the bench's with so many channel strips, or those of some text, that of the file: what a file gives, no
+-- contract can say.
 abbrev pub AreObjects : Objects → List Object → Type 0
 AreObjects (Bench channels) tree = tree ≡ bench_with channels
 AreObjects (Listed path) tree = (text : List ℕ) × (objects_of_text text ≡ Ok tree)

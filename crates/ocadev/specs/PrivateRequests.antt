@@ -11,14 +11,14 @@ use Rattle.oca_program.specs.Fields.{needs}
 use Rattle.ocadev.specs.Requests.{asked_event}
 use Rattle.ocadev.specs.declared.request.Fields.{Fields}
 use Rattle.ocadev.specs.declared.request.Fields.TheVariants as fields
-use Rattle.ocadev.specs.declared.request.Request.{Request}
-use Rattle.ocadev.specs.declared.request.Request.TheVariants as request
+use Rattle.ocadev.specs.declared.request.ScriptEvent.{ScriptEvent}
+use Rattle.ocadev.specs.declared.request.ScriptEvent.TheVariants as events
 
-abbrev pub event_of : Request → Event
-event_of (request.Tick now) = Tick now
-event_of (request.Datagram now from bytes) = Datagram from bytes.now now
+abbrev pub event_of : ScriptEvent → Event
+event_of (events.Tick now) = Tick now
+event_of (events.Datagram now from bytes) = Datagram from bytes.now now
 
-abbrev pub event_asked : Result Request LineFault → Result Event LineFault
+abbrev pub event_asked : Result ScriptEvent LineFault → Result Event LineFault
 event_asked (Ok r) = Ok (event_of r)
 event_asked (Err fault) = Err fault
 

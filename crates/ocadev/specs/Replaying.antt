@@ -56,6 +56,7 @@ Replays w tree events new was is (Err Read) given = Part w tree events new was i
 Replays w tree events new was is (Err Write) given = Part w tree events new was is (Err Write) given
 Replays w tree events new was is (Err TooMuch) given = Whole w tree events new was is (Err TooMuch) given
 
--- There are bytes, those that the source gave where it tells them, and the script of these and of what it has left was replayed.
+-- There are bytes, those that the source gave where it tells them, and the script of these and of what it has left was
+-- replayed.
 abbrev pub Outcome : DeviceSizes → List Object → List Event → DeviceState → Output → Output → Input → Input → Result Unit ReplayFault → Type 0
 Outcome w tree events new was is had has result = (taken : List ℕ) × Reads had has result taken × Replays w tree events new was is result (taken ++ known_bytes has.remaining)

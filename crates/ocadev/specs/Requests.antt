@@ -21,7 +21,8 @@ datagram_of moment peer bytes =
     needs Peer (peer_of peer) (λ from.
     needs Hex (hex_of bytes) (λ sent. Ok (Datagram from sent now))))
 
--- The event that the fields of a line ask for. Where the second field is `quiet` it is a clock reading, and a datagram else.
+-- The event that the fields of a line ask for. Where the second field is `quiet` it is a clock reading, and a datagram
+-- else.
 abbrev pub asked_event : List (List ℕ) → Result Event LineFault
 asked_event [] = Err Form
 asked_event (moment ∷ []) = Err Form

@@ -1,6 +1,7 @@
 //! The lines that are printed for an event.
 ghost use Rattle.std.specs.Prelude.{◌≡◌, ◌+◌, ◌++◌, ◌≤◌, length};
 ghost use Rattle.std.specs.List.{flat_map};
+ghost use Rattle.oca_types.specs.Sizes.{largest_datagram};
 ghost use Rattle.oca_script.specs.Ends.{output};
 ghost use Rattle.oca_script.specs.Printing.{Prints};
 ghost use Rattle.ocadev.specs.Printing.{verdict_text, reused_text, packet_text};
@@ -38,7 +39,7 @@ pub fn print_packets<W: Sink>(outbox: &Outbox, printer: &mut Printer<W>) -> Resu
 
 /// Prints a packet.
 fn print_packet<W: Sink>(packet: &[u8], printer: &mut Printer<W>) -> Result<(), WriteFailed>
-    requires { length packet.now ≤ 1472 }
+    requires { length packet.now ≤ largest_datagram }
     ensures { Prints result printer.old printer.new (packet_text packet.now) }
 {
     printer.make_room(PACKET_ROOM)?;
@@ -91,7 +92,7 @@ fn put_reused<W: Sink>(printer: &mut Printer<W>, reused: u32)
 
 /// Holds the line of a packet.
 fn put_packet<W: Sink>(printer: &mut Printer<W>, packet: &[u8])
-    requires few { length packet.now ≤ 1472 }
+    requires few { length packet.now ≤ largest_datagram }
     requires room { length printer.old.held + 2960 ≤ 8192 }
     ensures { printer.new ≡ output printer.old.contents (printer.old.held ++ packet_text packet.now) printer.old.failed }
 {

@@ -19,9 +19,10 @@ use std::fs;
 use std::rt::Files;
 
 /// The most bytes of a file that lists objects.
-const MOST_BYTES: usize = 16_777_216;
+const LARGEST_TEXT: usize = 16_777_216;
 
-/// The device of these objects and sizes, before any event, and an outbox. Refusals: those of the objects, and `NoMemory`.
+/// The device of these objects and sizes, before any event, and an outbox. Refusals: those of the objects, and
+/// `NoMemory`.
 pub fn make<F: Files>(
     alloc: Global,
     files: &F,
@@ -48,8 +49,8 @@ fn made(alloc: Global, tree: Tree, sizes: Sizes) -> Result<(Device, Outbox), Run
     Ok((device, outbox))
 }
 
-/// The objects of a device. Refusals: `NoMemory`; of a file `Read` where it can't be read, `TooMuch` above 16,777,216 bytes, and
-/// `Object` with its first line that has a fault.
+/// The objects of a device. Refusals: `NoMemory`; of a file `Read` where it can't be read, `TooMuch` above 16,777,216
+/// bytes, and `Object` with its first line that has a fault.
 pub fn objects<F: Files>(alloc: Global, files: &F, objects: Objects<'_>) -> Result<Tree, Failure>
     ensures { IfOk result (AreObjects objects.entry) }
 {
@@ -93,12 +94,12 @@ fn listed<F: Files>(alloc: Global, files: &F, path: &str) -> Result<Tree, Failur
 fn whole<R: Source>(alloc: Global, reader: &mut R) -> Result<Vec<u8>, RunFault> {
     let mut text = Vec::new(alloc);
     let mut piece = [0u8; 4096];
-    for _ in 0..=MOST_BYTES {
+    for _ in 0..=LARGEST_TEXT {
         let count = reader.read(&mut piece).map_err(|_| RunFault::Read)?;
         if count == 0 {
             return Ok(text);
         }
-        if count > MOST_BYTES - text.len().min(MOST_BYTES) {
+        if count > LARGEST_TEXT - text.len().min(LARGEST_TEXT) {
             return Err(RunFault::TooMuch);
         }
         text.extend_from_slice(&piece[..count])

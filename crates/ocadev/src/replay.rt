@@ -10,16 +10,17 @@ ghost use Rattle.ocadev.specs.Replaying.{Serves, ServesAndPrints, Outcome, Repla
 ghost use Rattle.ocadev.specs.PrivateRequests.{event_of};
 
 use super::answer::{print_packets, print_verdict};
-use super::request::{MOST_BYTES, Request, asked_by};
+use super::request::{DATAGRAM_ROOM, ScriptEvent, asked_by};
 use oca_device::{Device, Outbox};
 use oca_script::lines::serve_lines;
 use oca_script::{Language, Printer, ReplayFault, Sink, Source, Stop, WriteFailed};
 use oca_types::Peer;
 
-/// The language of the device's scripts, in which a line is a datagram or a clock reading, and the room for serving one.
+/// The language of the device's scripts, in which a line is a datagram or a clock reading, and the room for serving
+/// one.
 pub struct DeviceScript<'a> {
     outbox: &'a mut Outbox,
-    bytes: [u8; MOST_BYTES],
+    bytes: [u8; DATAGRAM_ROOM],
 }
 
 impl Drop for DeviceScript<'_> {
@@ -65,17 +66,17 @@ impl<'a> Language for DeviceScript<'a> {
 fn serve<W: Sink>(
     device: &mut Device,
     outbox: &mut Outbox,
-    request: Request<'_>,
+    request: ScriptEvent<'_>,
     printer: &mut Printer<W>,
 ) -> Result<(), WriteFailed>
     ensures { ServesAndPrints device.old (event_of request.entry) device.new result printer.old printer.new }
 {
     match request {
-        Request::Tick { now } => {
+        ScriptEvent::Tick { now } => {
             device.tick(now);
             printer.print(b"quiet\n")
         }
-        Request::Datagram { now, from, bytes } => {
+        ScriptEvent::Datagram { now, from, bytes } => {
             datagram(device, outbox, from, bytes, now, printer)
         }
     }
@@ -98,13 +99,14 @@ fn datagram<W: Sink>(
     print_packets(outbox, printer)
 }
 
-/// Replays the script that the source has to give on the device, and writes what that prints, after what the printer held.
+/// Replays the script that the source has to give on the device, and writes what that prints, after what the printer
+/// held.
 ///
-/// A line `N P HEX` is a datagram of the peer P at the moment N in milliseconds, and a line `N quiet` a clock reading. The
-/// outbox is emptied before each datagram, and what it held at first does not matter. Faults: `Line` with the number of
-/// the first bad line, counted from 1; `TooMuch` beyond 16,777,216 bytes; `Read` and `Write` where a read or a write of ends
-/// that had not failed before failed in this call, and nowhere else. What the lines before printed is written in each case, as
-/// far as the writes went. Takes no memory. (The script's form is the profile's.)
+/// A line `N P HEX` is a datagram of the peer P at the moment N in milliseconds, and a line `N quiet` a clock reading.
+/// The outbox is emptied before each datagram, and what it held at first does not matter. Faults: `Line` with the
+/// number of the first bad line, counted from 1; `TooMuch` beyond 16,777,216 bytes; `Read` and `Write` where a read or
+/// a write of ends that had not failed before failed in this call, and nowhere else. What the lines before printed is
+/// written in each case, as far as the writes went. Takes no memory. (The script's form is the profile's.)
 pub fn replay<R: Source, W: Sink>(
     device: &mut Device,
     outbox: &mut Outbox,
@@ -115,15 +117,15 @@ pub fn replay<R: Source, W: Sink>(
     ensures known { (w : DeviceSizes) (tree : List Object) (events : List Event) → Represents w device.old tree events →
         IfSome (R.remaining reader.old) (λ given.
         Replays w tree events device.new printer.old printer.new result given) }
-    // Whatever source: there are bytes, those that it gave where it tells them, and the rest of what it had, and their script was
-    // replayed.
+    // Whatever source: there are bytes, those that it gave where it tells them, and the rest of what it had, and their
+    // script was replayed.
     ensures reads { (w : DeviceSizes) (tree : List Object) (events : List Event) → Represents w device.old tree events →
         Outcome w tree events device.new printer.old printer.new
         (input (R.remaining reader.old) (R.failed reader.old)) (input (R.remaining reader.new) (R.failed reader.new)) result }
 {
     let mut room = DeviceScript {
         outbox,
-        bytes: [0; MOST_BYTES],
+        bytes: [0; DATAGRAM_ROOM],
     };
     serve_lines::<DeviceScript<'_>, R, W>(device, &mut room, reader, printer)
 }

@@ -2,6 +2,7 @@
 ghost use Rattle.std.specs.Prelude.{◌≡◌, ℕ, ◌≤◌, ◌*◌, IfSome, length, None, Err};
 ghost use Rattle.oca_types.specs.declared.words.Peer.{Peer as PeerFields};
 ghost use Rattle.oca_script.specs.Fields.{fields, hex_of};
+ghost use Rattle.oca_script.specs.Script.{longest_line};
 ghost use Rattle.ocadev.specs.Requests.{is_quiet as quiet_word, tick_of, datagram_of, asked_event};
 ghost use Rattle.ocadev.specs.PrivateRequests.{AreFields, FieldsWithin, begun, moment_and_peer_of, datagram_after, event_asked};
 
@@ -11,11 +12,11 @@ use oca_script::field::{first_field, hex_bytes, number_before, peer, peer_before
 use oca_types::Peer;
 
 /// Room for the bytes of a datagram in a script.
-pub const MOST_BYTES: usize = 2048;
+pub const DATAGRAM_ROOM: usize = 2048;
 
 /// What a line asks for.
 #[derive(Clone, Copy)]
-pub enum Request<'a> {
+pub enum ScriptEvent<'a> {
     Tick {
         now: u64,
     },
@@ -63,11 +64,11 @@ fn is_quiet(word: &[u8]) -> bool
 
 /// A clock reading at this moment.
 #[tactic(auto, unfolding(crate::specs::Requests::tick_of))]
-fn tick<'a>(now: &[u8]) -> Result<Request<'a>, LineFault>
+fn tick<'a>(now: &[u8]) -> Result<ScriptEvent<'a>, LineFault>
     ensures { event_asked result ≡ tick_of now.now }
 {
     let now = moment(now)?;
-    Ok(Request::Tick { now })
+    Ok(ScriptEvent::Tick { now })
 }
 
 /// A datagram: its moment, its sender and its bytes, looked at in this order.
@@ -77,7 +78,7 @@ fn datagram<'a>(
     sender: &[u8],
     text: &[u8],
     room: &'a mut [u8],
-) -> Result<Request<'a>, LineFault>
+) -> Result<ScriptEvent<'a>, LineFault>
     requires { length text.now ≤ 2 * length room.old }
     ensures { event_asked result ≡ datagram_of now.now sender.now text.now }
 {
@@ -86,11 +87,11 @@ fn datagram<'a>(
     let Some(bytes) = hex_bytes(text, room) else {
         return Err(LineFault::Hex);
     };
-    Ok(Request::Datagram { now, from, bytes })
+    Ok(ScriptEvent::Datagram { now, from, bytes })
 }
 
-/// The moment and the peer of a datagram's line, and what stands after them, read in one pass. `None` where the line does not
-/// begin with both, each before a space.
+/// The moment and the peer of a datagram's line, and what stands after them, read in one pass. `None` where the line
+/// does not begin with both, each before a space.
 fn moment_and_peer(line: &[u8]) -> Option<(u64, Peer, &[u8])>
     ensures read { begun result ≡ moment_and_peer_of line.now }
     ensures value { IfSome result (λ p. asked_event (fields line.now) ≡ datagram_after p.0 p.1 (fields p.2.now)) }
@@ -101,19 +102,19 @@ fn moment_and_peer(line: &[u8]) -> Option<(u64, Peer, &[u8])>
     Some((now, from, rest))
 }
 
-/// The datagram of which the moment and the peer are read: its bytes are the one field that is left. Bytes that can be read
-/// are one field, so only a line with a fault is searched for a space.
+/// The datagram of which the moment and the peer are read: its bytes are the one field that is left. Bytes that can be
+/// read are one field, so only a line with a fault is searched for a space.
 fn bytes_after<'a>(
     now: u64,
     from: Peer,
     rest: &[u8],
     room: &'a mut [u8],
-) -> Result<Request<'a>, LineFault>
+) -> Result<ScriptEvent<'a>, LineFault>
     requires { length rest.now ≤ 2 * length room.old }
     ensures { event_asked result ≡ datagram_after now from (fields rest.now) }
 {
     match hex_bytes(rest, room) {
-        Some(bytes) => Ok(Request::Datagram { now, from, bytes }),
+        Some(bytes) => Ok(ScriptEvent::Datagram { now, from, bytes }),
         None => Err(fault_after_peer(rest)),
     }
 }
@@ -131,8 +132,11 @@ fn fault_after_peer(rest: &[u8]) -> LineFault
 }
 
 /// What the fields of the line ask for. The bytes of a datagram are put into `room`.
-pub fn asked_by<'a>(line: &[u8], room: &'a mut [u8; MOST_BYTES]) -> Result<Request<'a>, LineFault>
-    requires { length line.now ≤ 4096 }
+pub fn asked_by<'a>(
+    line: &[u8],
+    room: &'a mut [u8; DATAGRAM_ROOM],
+) -> Result<ScriptEvent<'a>, LineFault>
+    requires { length line.now ≤ longest_line }
     ensures { event_asked result ≡ asked_event (fields line.now) }
 {
     match moment_and_peer(line) {
@@ -145,9 +149,9 @@ pub fn asked_by<'a>(line: &[u8], room: &'a mut [u8; MOST_BYTES]) -> Result<Reque
 #[inline(never)]
 fn asked_by_fields<'a>(
     line: &[u8],
-    room: &'a mut [u8; MOST_BYTES],
-) -> Result<Request<'a>, LineFault>
-    requires { length line.now ≤ 4096 }
+    room: &'a mut [u8; DATAGRAM_ROOM],
+) -> Result<ScriptEvent<'a>, LineFault>
+    requires { length line.now ≤ longest_line }
     ensures { event_asked result ≡ asked_event (fields line.now) }
 {
     match fields_of(line) {

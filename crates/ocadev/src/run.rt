@@ -19,9 +19,9 @@ use std::rt::{Clock, Files};
 const EVERY_ADDRESS: &str =
     "0.0.0.0 is every address of this machine: answers may leave from another one than was asked, and links drop those";
 
-/// Runs the program on the words of its command line, its name first, and returns its exit status: 0, 2 where the words or
-/// a line are bad, and 1 where something could not be done. A fault is printed on `faults` as one line, behind one that begins with
-/// `note: ` where more is known; and so is where the device listens.
+/// Runs the program on the words of its command line, its name first, and returns its exit status: 0, 2 where the words
+/// or a line are bad, and 1 where something could not be done. A fault is printed on `faults` as one line, behind one
+/// that begins with `note: ` where more is known; and so is where the device listens.
 pub fn run<N: Net + Clock + Files, S: AsStr, R: Source, W: Sink, F: Sink>(
     alloc: Global,
     system: &N,
@@ -60,8 +60,8 @@ fn served<N: Net + Clock + Files, S: AsStr, R: Source, W: Sink, F: Sink>(
     Ok(())
 }
 
-/// Serves the bench device at a socket, and prints what was done. Where it listens is printed on `faults` at first; that
-/// this can't be written is no fault.
+/// Serves the bench device at a socket, and prints what was done. Where it listens is printed on `faults` at first;
+/// that this can't be written is no fault.
 fn serve_socket<N: Net + Clock + Files, W: Sink, F: Sink>(
     alloc: Global,
     system: &N,

@@ -30,8 +30,8 @@ pub fn serve_on<E: End>(device: &mut Device, end: &mut E, outbox: &mut Outbox) -
     report
 }
 
-/// Serves an end for so many turns, or until it is closed, and prints a line for each datagram. That this can't be written
-/// is no fault.
+/// Serves an end for so many turns, or until it is closed, and prints a line for each datagram. That this can't be
+/// written is no fault.
 pub fn serve_traced<E: End, F: Sink>(
     device: &mut Device,
     end: &mut Watched<E>,

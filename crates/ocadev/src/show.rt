@@ -3,8 +3,8 @@ use oca_script::{Printer, Sink, WriteFailed};
 use oca_tree::{ObjectInfo, Tree};
 use oca_types::class_fields;
 
-/// Prints a line for each object, in order of adding: its ONo, its class identifier, the ONo of its container (0 for the
-/// root), and its role.
+/// Prints a line for each object, in order of adding: its ONo, its class identifier, the ONo of its container (0 for
+/// the root), and its role.
 pub fn show<W: Sink>(tree: &Tree, printer: &mut Printer<W>) -> Result<(), WriteFailed> {
     for i in 0..tree.len() {
         let Some(object) = tree.object_at(i) else {

@@ -57,8 +57,8 @@ impl<E: End> End for Watched<E> {
     }
 }
 
-/// Prints a line for the datagram of a turn, where one came: its sender, what became of it, the objects that it wrote to, and how many
-/// answers could not be sent.
+/// Prints a line for the datagram of a turn, where one came: its sender, what became of it, the objects that it wrote
+/// to, and how many answers could not be sent.
 pub fn print_turn<E: End, F: Sink>(
     watched: &Watched<E>,
     turn: &Report,

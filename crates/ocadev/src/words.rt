@@ -10,12 +10,9 @@ use oca_program::options::{
 };
 use oca_program::{Failure, RunFault};
 use oca_script::field::number;
-use oca_types::{Peers, Sizes, Window};
+use oca_types::{LOOPBACK, Peers, Sizes, Window};
 use std::alloc::{AllocError, Global};
 use std::convert::AsStr;
-
-/// Where the device is served unless the words say otherwise: 127.0.0.1.
-const LOOPBACK: u32 = 0x7f00_0001;
 
 /// What the words ask for.
 #[derive(Drop)]

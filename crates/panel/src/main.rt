@@ -1,7 +1,8 @@
 //! A panel for the two-channel amplifier: an example of embedding a controller.
 //!
-//! `panel [PORT]` opens channel 1 of the amplifier at 127.0.0.1 and that port, sets its gain to -6 dB, and reads the gain back.
-//! Each command waits for the answer to the one before it. Without a port it asks a port at which nobody listens.
+//! `panel [PORT]` opens channel 1 of the amplifier at 127.0.0.1 and that port, sets its gain to -6 dB, and reads the
+//! gain back. Each command waits for the answer to the one before it. Without a port it asks a port at which nobody
+//! listens.
 #![tactic(auto)]
 
 use oca_control::{Answer, Link, Outcome, ask};
@@ -22,7 +23,8 @@ const MUTE: Ono = Ono(4097);
 
 const GAIN: Ono = Ono(4098);
 
-/// Sets a channel of the device at the port that the words say. Prints why where that fails; the status is 0 in either case.
+/// Sets a channel of the device at the port that the words say. Prints why where that fails; the status is 0 in either
+/// case.
 fn main(rt: HostRuntime) -> ExitCode {
     let device = Peer::loopback(port(&rt));
     let Ok(mut end) = UdpEnd::bind(rt.alloc(), &rt, device.ip, 0) else {

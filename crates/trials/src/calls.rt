@@ -4,7 +4,7 @@ use oca_net::{BindFault, MemoryEnd, Scripted, UdpEnd};
 use oca_pair::{PairFault, Start, Step, run_pair};
 use oca_session::Sessions;
 use oca_tree::{Room, TreeBuilder, bench};
-use oca_types::{Handle, MethodId, Ono, Peer, Peers, Sizes, Span, Window};
+use oca_types::{Handle, LOOPBACK, MethodId, Ono, Peer, Peers, Sizes, Span, Window};
 use std::alloc::Global;
 use std::net::Net;
 use std::rt::Clock;
@@ -96,7 +96,7 @@ fn memory_end_new(alloc: Global) -> Answered {
         return Answered::NoMemory;
     };
     let from = Peer {
-        ip: 0x7f00_0001,
+        ip: LOOPBACK,
         port: 9001,
     };
     let Ok(()) = script.push(Scripted::Datagram {
@@ -111,7 +111,7 @@ fn memory_end_new(alloc: Global) -> Answered {
 
 /// An end at 127.0.0.1 and a port of the system's choice.
 fn udp_end_bind<R: Net + Clock>(alloc: Global, rt: &R) -> Answered {
-    match UdpEnd::bind(alloc, rt, 0x7f00_0001, 0) {
+    match UdpEnd::bind(alloc, rt, LOOPBACK, 0) {
         Ok(_) => Answered::Done,
         Err(BindFault::NoMemory) => Answered::NoMemory,
         Err(BindFault::Io) => Answered::Wrong,
@@ -121,8 +121,8 @@ fn udp_end_bind<R: Net + Clock>(alloc: Global, rt: &R) -> Answered {
 /// How many steps the schedule of `run-pair` has: four times the same eight.
 const STEPS: usize = 32;
 
-/// The step of this number: each of two links submits GetState of 4097, gives it out, it is delivered, and so is the answer. So each
-/// list of a network grows past its first room.
+/// The step of this number: each of two links submits GetState of 4097, gives it out, it is delivered, and so is the
+/// answer. So each list of a network grows past its first room.
 fn paired_step(number: usize) -> Step<'static> {
     let link = number / 4 % 2;
     let k = number / 4;
@@ -146,14 +146,14 @@ fn paired_step(number: usize) -> Step<'static> {
 const STARTS: [Start; 2] = [
     Start {
         peer: Peer {
-            ip: 0x7f00_0001,
+            ip: LOOPBACK,
             port: 9001,
         },
         first_handle: Handle(1),
     },
     Start {
         peer: Peer {
-            ip: 0x7f00_0001,
+            ip: LOOPBACK,
             port: 9002,
         },
         first_handle: Handle(1),

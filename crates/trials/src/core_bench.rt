@@ -3,12 +3,14 @@ use crate::vectors::vector;
 use oca_device::{Device, Outbox};
 use oca_pdu::write_command;
 use oca_tree::{Kind as ObjectKind, MuteState, Room, Spec, Tree, TreeBuilder, bench};
-use oca_types::{Command, Handle, MethodId, NoMemory, Ono, Packet, Peer, Peers, Sizes, Window};
+use oca_types::{
+    Command, Handle, LOOPBACK, MethodId, NoMemory, Ono, Packet, Peer, Peers, Sizes, Window,
+};
 use std::alloc::Global;
 
 /// Who sends.
 const SENDER: Peer = Peer {
-    ip: 0x7f00_0001,
+    ip: LOOPBACK,
     port: 9001,
 };
 
@@ -180,8 +182,8 @@ fn open_sessions(device: &mut Device, outbox: &mut Outbox, sessions: u8) {
     }
 }
 
-/// Makes so many datagrams, and hands each to a device of this size where `served` says so. Answers how many packets came
-/// back.
+/// Makes so many datagrams, and hands each to a device of this size where `served` says so. Returns how many packets
+/// came back.
 pub fn run(
     alloc: Global,
     kind: Kind,

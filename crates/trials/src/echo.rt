@@ -1,4 +1,5 @@
-//! A bare loop at a socket: each datagram is answered by one of fixed bytes. What a device costs beside it is measured with it.
+//! A bare loop at a socket: each datagram is answered by one of fixed bytes. What a device costs beside it is measured
+//! with it.
 use std::io;
 use std::net::{Ipv4Addr, Net, SocketAddrV4, UdpSocket};
 

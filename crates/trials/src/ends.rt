@@ -1,12 +1,12 @@
-//! Failing ends: a device that serves an end on which a receive or a send fails is the device that serves it without that, and a link
-//! that is driven over such an end has the answers that it has without that.
+//! Failing ends: a device that serves an end on which a receive or a send fails is the device that serves it without
+//! that, and a link that is driven over such an end has the answers that it has without that.
 use crate::hostile::{same_objects, same_packets};
 use crate::vectors::vector;
 use oca_control::{DriveReport, Link, drive};
 use oca_device::{Device, Outbox, Report, serve};
 use oca_net::{MemoryEnd, Scripted};
 use oca_tree::bench;
-use oca_types::{Handle, MethodId, NoMemory, Ono, Peer, Span, Window};
+use oca_types::{Handle, LOOPBACK, MethodId, NoMemory, Ono, Peer, Span, Window};
 use std::alloc::Global;
 
 /// The datagrams of the script, by their numbers among the vectors: reads, writes, a duplicate, a reuse, keep-alives.
@@ -38,7 +38,7 @@ const NOWHERE: usize = 1000;
 /// Who sends the datagram of this place: three peers in turn.
 fn sender(place: usize) -> Peer {
     Peer {
-        ip: 0x7f00_0001,
+        ip: LOOPBACK,
         port: 9001 + (place % 3) as u16,
     }
 }
@@ -62,7 +62,8 @@ fn scripted(alloc: Global, from: Peer, number: usize, now: u64) -> Result<Script
     }
 }
 
-/// The script, with a failed receive before the entry of the place `failed`, where there is one. The last entry is silence.
+/// The script, with a failed receive before the entry of the place `failed`, where there is one. The last entry is
+/// silence.
 fn script(alloc: Global, failed: usize) -> Result<Vec<Scripted>, NoMemory> {
     let mut script = Vec::new(alloc);
     for (place, number) in DATAGRAMS.iter().enumerate() {
@@ -150,18 +151,19 @@ fn failing_sends(
 
 /// The device's address, for a link.
 const DEVICE: Peer = Peer {
-    ip: 0x7f00_0001,
+    ip: LOOPBACK,
     port: 65000,
 };
 
-/// What a link is sent, by the numbers among the vectors: answers to 1, again to 1, to 2, a keep-alive, answers to 5 and to 9.
+/// What a link is sent, by the numbers among the vectors: answers to 1, again to 1, to 2, a keep-alive, answers to 5
+/// and to 9.
 const ANSWERS: [usize; 6] = [1, 8, 3, 15, 7, 5];
 
 /// How many commands the link has: the handles from 1 on.
 const COMMANDS: u32 = 9;
 
-/// A script for a link, with a failed receive before the entry of the place `failed`, where there is one: silence, and what it is
-/// sent.
+/// A script for a link, with a failed receive before the entry of the place `failed`, where there is one: silence, and
+/// what it is sent.
 fn link_script(alloc: Global, failed: usize) -> Result<Vec<Scripted>, NoMemory> {
     let mut script = Vec::new(alloc);
     add(&mut script, failed == 0, Scripted::Quiet { now: 0 })?;

@@ -1,12 +1,13 @@
 //! Histories of a device, read as lines, with what the device is after each event.
 //!
-//! `history W PEERS CHANNELS` begins a history of a device over the bench objects, with reply windows of size W, room for PEERS sessions
-//! and CHANNELS channel strips behind the bench's own objects. The lines after it are its events, in order: `N P HEX` is a datagram of the
-//! peer P at the moment N, `N quiet` a clock reading, and `set ONO state|position|truth|number VALUE` a change at the device's own front.
+//! `history W PEERS CHANNELS` begins a history of a device over the bench objects, with reply windows of size W, room
+//! for PEERS sessions and CHANNELS channel strips behind the bench's own objects. The lines after it are its events, in
+//! order: `N P HEX` is a datagram of the peer P at the moment N, `N quiet` a clock reading, and
+//! `set ONO state|position|truth|number VALUE` a change at the device's own front.
 //!
-//! What is printed: `history`, and for each event what the device said of it; its packets, each behind `> `; `written` and the objects that a
-//! datagram wrote to, where there are any; `sessions` and how many it has;
-//! and `objects` with each object that has a setting or a lock: its number, `=`, its setting or `-`, and behind `/t` or `/r` the holder of
+//! What is printed: `history`, and for each event what the device said of it; its packets, each behind `> `; `written`
+//! and the objects that a datagram wrote to, where there are any; `sessions` and how many it has; and `objects` with
+//! each object that has a setting or a lock: its number, `=`, its setting or `-`, and behind `/t` or `/r` the holder of
 //! its total or its read-only lock.
 use crate::fields::{Fields, LineFault};
 use crate::lines::{Full, RunFault, put_bytes, put_peer, put_set_fault, put_verdict};

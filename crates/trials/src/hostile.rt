@@ -4,24 +4,24 @@ use crate::vectors::{COUNT, vector};
 use oca_device::{Device, Outbox, Verdict};
 use oca_pdu::{Message, Messages, PduFault, check, write_command, write_keepalive};
 use oca_tree::bench;
-use oca_types::{NoMemory, Packet, Peer, Window};
+use oca_types::{LOOPBACK, NoMemory, Packet, Peer, Window};
 use std::alloc::Global;
 
 /// Who sends.
 const SENDER: Peer = Peer {
-    ip: 0x7f00_0001,
+    ip: LOOPBACK,
     port: 9001,
 };
 
 /// Who has no session.
 const STRANGER: Peer = Peer {
-    ip: 0x7f00_0001,
+    ip: LOOPBACK,
     port: 9002,
 };
 
 /// Who reads.
 const READER: Peer = Peer {
-    ip: 0x7f00_0001,
+    ip: LOOPBACK,
     port: 9003,
 };
 

@@ -1,10 +1,11 @@
 //! Trials over the built code that would be too long for proved tests, and measurements.
 //!
-//! `trials`: damaged datagrams against a bench device. `trials calls`: the names of the calls that take memory, and `trials
-//! call NAME`: one of them. `trials bench KIND OBJECTS SESSIONS COUNT served|made`: datagrams in memory, handed to a device or only made.
-//! `trials echo COUNT`: so many datagrams answered by a bare loop at a socket. `trials world`: the schedules on standard input, run by
-//! `run_pair`, each with what its steps led to (`schedule` tells their lines). `trials events`: the histories of devices on standard
-//! input, with what each device is after each event (`history` tells their lines).
+//! `trials`: damaged datagrams against a bench device. `trials calls`: the names of the calls that take memory, and
+//! `trials call NAME`: one of them. `trials bench KIND OBJECTS SESSIONS COUNT served|made`: datagrams in memory, handed
+//! to a device or only made. `trials echo COUNT`: so many datagrams answered by a bare loop at a socket.
+//! `trials world`: the schedules on standard input, run by `run_pair`, each with what its steps led to (`schedule`
+//! tells their lines). `trials events`: the histories of devices on standard input, with what each device is after each
+//! event (`history` tells their lines).
 #![tactic(auto)]
 
 mod calls;

@@ -2,7 +2,8 @@
 use oca_pdu::write_command;
 use oca_types::{Command, Handle, MethodId, Ono, Packet};
 
-/// GetEnabled and GetLabel of each object of the bench device, and GetPositionNames and GetPositionEnableds of its switch.
+/// GetEnabled and GetLabel of each object of the bench device, and GetPositionNames and GetPositionEnableds of its
+/// switch.
 const READINGS: [(u32, u16, u16); 18] = [
     (100, 2, 1),
     (100, 2, 8),

@@ -1,15 +1,17 @@
 //! The lines of a list of schedules: what begins one, and its steps.
 //!
-//! `schedule W S P/H ..` begins a schedule over a device with windows of size W and room for 16 peers, and links of span S, one for each
-//! `P/H`: the link of the peer P whose first handle is H. Between S and the links a number of peers may stand, for which there is room then. The lines after it are its steps, in order, with N a moment, LINK the number of a link and K
-//! that of a datagram, both from 0; the other fields are those of the scripts.
+//! `schedule W S P/H ..` begins a schedule over a device with windows of size W and room for 16 peers, and links of
+//! span S, one for each `P/H`: the link of the peer P whose first handle is H. Between S and the links a number of
+//! peers may stand, for which there is room then. The lines after it are its steps, in order, with N a moment, LINK the
+//! number of a link and K that of a datagram, both from 0; the other fields are those of the scripts.
 //!
 //!     N submit LINK ONO LEVEL INDEX COUNT HEX      N due LINK
 //!     N to-device K                                N to-link K
 //!     N other P HEX                                N tick
 //!     take LINK H                                  set ONO state|position|truth|number VALUE
 //!
-//! The last sets an object at the device's own front: VALUE is the number of a state, a position, 0 or 1, or an integer.
+//! The last sets an object at the device's own front: VALUE is the number of a state, a position, 0 or 1, or an
+//! integer.
 use crate::fields::{Fields, LineFault, number_32};
 use oca_pair::{Start, Step};
 use oca_script::field::{moment, number, peer};

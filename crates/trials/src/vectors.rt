@@ -7,7 +7,8 @@ pub const GET_STATE: &[u8] =
 /// How many vectors there are.
 pub const COUNT: usize = 16;
 
-/// The vector of this number, counted from 0: commands of all sizes, responses, keep-alives of both forms, two commands in a PDU.
+/// The vector of this number, counted from 0: commands of all sizes, responses, keep-alives of both forms, two commands
+/// in a PDU.
 pub fn vector(number: usize) -> &'static [u8] {
     match number {
         0 => GET_STATE,

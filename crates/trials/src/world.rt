@@ -8,8 +8,9 @@ use oca_tree::bench;
 use std::alloc::Global;
 use std::fmt::Write;
 
-/// Runs the schedules that the text has, and prints what each led to: `schedule`, a line for each step, the datagrams that were sent
-/// to the device and to links in order, and how many sessions the device has at the end; or, behind `schedule`, why it does not run.
+/// Runs the schedules that the text has, and prints what each led to: `schedule`, a line for each step, the datagrams
+/// that were sent to the device and to links in order, and how many sessions the device has at the end; or, behind
+/// `schedule`, why it does not run.
 pub fn worlds<R: Print + AllocGlobal>(rt: &R, text: &str) -> Result<(), RunFault> {
     let mut pending = None;
     let mut count = 0u64;

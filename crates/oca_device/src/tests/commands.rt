@@ -89,8 +89,8 @@ fn ignores_malformed_datagrams(rt: HostRuntime) -> Result<(), Fail> {
     Ok(())
 }
 
-/// A locks an object at 0. A malformed datagram of B at 3,001 raises the moment past three heartbeats of A, so that the lock is
-/// off for what B sends after it, though that is marked with an earlier moment.
+/// A locks an object at 0. A malformed datagram of B at 3,001 raises the moment past three heartbeats of A, so that the
+/// lock is off for what B sends after it, though that is marked with an earlier moment.
 #[test]
 fn malformed_datagrams_move_the_clock(rt: HostRuntime) -> Result<(), Fail> {
     let mut bench = Bench::new(rt.alloc())?;

@@ -155,8 +155,8 @@ fn put_command(packet: &mut Packet, handle: u32, target: u32, method: (u8, u8), 
     put(packet, params);
 }
 
-/// Nine times the members of the root with all below (156 bytes of response each), three times the position of the switch (16
-/// each), and the state set (10), under handles 1 to 13: responses of exactly 1,472 bytes with their header.
+/// Nine times the members of the root with all below (156 bytes of response each), three times the position of the
+/// switch (16 each), and the state set (10), under handles 1 to 13: responses of exactly 1,472 bytes with their header.
 fn full_datagram(count: u8, size: [u8; 2]) -> Packet {
     let mut packet = Packet::new();
     put(

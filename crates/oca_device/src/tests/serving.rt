@@ -166,8 +166,8 @@ fn add_peers(
     Ok(())
 }
 
-/// Two commands of A, the first again, another under the second's handle, no bytes, too many bytes, silence, 15 other peers,
-/// and one more.
+/// Two commands of A, the first again, another under the second's handle, no bytes, too many bytes, silence, 15 other
+/// peers, and one more.
 fn all_that_comes(alloc: Global) -> Result<Vec<Scripted>, Fail> {
     let mut script = Vec::new(alloc);
     let commands = [

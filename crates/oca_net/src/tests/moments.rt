@@ -1,5 +1,5 @@
-//! How long a receive waits, and what its moments are. No clause says what a clock tells, so these tests alone refuse an end whose
-//! moments lag or stand still, or that waits longer or shorter than it says.
+//! How long a receive waits, and what its moments are. No clause says what a clock tells, so these tests alone refuse
+//! an end whose moments lag or stand still, or that waits longer or shorter than it says.
 use super::LOCALHOST;
 use crate::moments::Moments;
 use crate::{End, Heard, UdpEnd};

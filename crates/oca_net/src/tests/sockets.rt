@@ -1,6 +1,7 @@
-//! Ends at UDP sockets, two in one process: what is sent lies at the socket until it is received, so no thread is needed.
-//! Each port is the system's choice. No clause says what goes through a socket, so these tests alone refuse an end that
-//! always answers Quiet or Failed, that drops datagrams, that sends nothing and answers true, or that is never bound.
+//! Ends at UDP sockets, two in one process: what is sent lies at the socket until it is received, so no thread is
+//! needed. Each port is the system's choice. No clause says what goes through a socket, so these tests alone refuse an
+//! end that always answers Quiet or Failed, that drops datagrams, that sends nothing and answers true, or that is never
+//! bound.
 
 use super::{A, LARGEST, LOCALHOST};
 use crate::{BindError, BindFault, End, Heard, UdpEnd, fill_standard_descriptors};
@@ -26,7 +27,7 @@ fn plain_socket<R: Net>(rt: &R) -> Result<UdpSocket, Fail> {
     Ok(UdpSocket::bind(rt, (Ipv4Addr::LOCALHOST, 0u16))?)
 }
 
-/// Receives a datagram, and answers its sender and moment.
+/// Receives a datagram, and returns its sender and moment.
 fn datagram<E: End>(end: &mut E, packet: &mut Packet) -> Result<(Peer, u64), Fail> {
     match end.receive(packet) {
         Heard::Datagram { from, now } => Ok((from, now)),

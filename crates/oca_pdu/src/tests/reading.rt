@@ -104,7 +104,8 @@ fn as_many_messages_as_fit(rt: HostRuntime) {
     assert_eq!(rt; messages_in(&both), 3);
 }
 
-/// Of a datagram in which one byte is another, what is accepted as one command or keep-alive is written as the same bytes.
+/// Of a datagram in which one byte is another, what is accepted as one command or keep-alive is written as the same
+/// bytes.
 #[test]
 fn one_byte_changed(rt: HostRuntime) {
     for bytes in SINGLE {

@@ -210,8 +210,8 @@ fn channel_strips(rt: HostRuntime) {
     );
 }
 
-/// Two responses leave in one PDU; a command that asks something else under a kept handle is counted, and its copy of no
-/// response is not answered.
+/// Two responses leave in one PDU; a command that asks something else under a kept handle is counted, and its copy of
+/// no response is not answered.
 #[test]
 fn groups_and_reused_handles(rt: HostRuntime) {
     replays_as(

@@ -27,8 +27,8 @@ fn from(alloc: Global, port: u16, text: &[u8]) -> Result<Scripted, Fail> {
     })
 }
 
-/// SetState of 4097 under 1 and its copy, GetState under 1, two SetStates in one datagram under 40 and 50, an old one; a
-/// damaged datagram, an oversize one, a failure and silence.
+/// SetState of 4097 under 1 and its copy, GetState under 1, two SetStates in one datagram under 40 and 50, an old one;
+/// a damaged datagram, an oversize one, a failure and silence.
 fn script(alloc: Global) -> Result<Vec<Scripted>, Fail> {
     let mut script = Vec::new(alloc);
     let set = b"3b00010000001b010001000000120000000100001001000400020102";

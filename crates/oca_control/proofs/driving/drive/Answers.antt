@@ -1,7 +1,8 @@
 use Rattle.std.proofs.Common.{◌≡◌, ◌+◌, ◌*◌, ℕ, ap, ◌∙◌, sym, refl, subst, arith}
 use Rattle.oca_control.specs.declared.report.DriveReport.{DriveReport}
 use Rattle.oca_control.specs.Driving.{DrivesEnd}
-use Rattle.oca_control.proofs.Turns.{turns_none, turns_more, turns_closed, one_turn_more, none_within, more_within, wider, receives_more, receives_lost, receives_closed, receives_all}
+use Rattle.oca_net.proofs.Running.{received_more}
+use Rattle.oca_control.proofs.Turns.{turns_none, turns_more, turns_closed, one_turn_more, none_within, more_within, wider, receives_lost, receives_closed, receives_all}
 use Rattle.oca_control.proofs.driving.drive.Goals as goal
 
 pub sum-report-requires-clause-a : goal.sum-report-requires-clause-a
@@ -34,7 +35,7 @@ loop-turn-preserved g c =
       going = c.if-report.false;
       turns = count ∙ ap (λ n. n + 1) inv.turns;
       within = more_within (c.loop-turn._turn * 4294967295) 4294967295 _ c.loop-turn.report c.in-Some.turn c.sum-report.result c.sum-report.ensures inv.within c.in-Some.ensures.fits (omega arith);
-      receives = receives_more _ _ _ c.loop-turn.report.turns c.sum-report.result.turns inv.receives one.receives count;
+      receives = received_more _ _ _ c.loop-turn.report.turns c.sum-report.result.turns inv.receives one.receives count;
     }
 
 pub returns-then-report-clause-driven : goal.returns-then-report-clause-driven
@@ -45,7 +46,7 @@ returns-then-report-clause-driven g c =
 pub returns-then-report-clause-receives : goal.returns-then-report-clause-receives
 returns-then-report-clause-receives g c =
     let one = c.in-Some.ensures.turn in
-    λ below. receives_more _ _ _ c.loop-turn.report.turns c.sum-report.result.turns c.loop-turn.invariant.receives one.receives (one_turn_more c.loop-turn.report c.sum-report.result c.sum-report.ensures one) below
+    λ below. received_more _ _ _ c.loop-turn.report.turns c.sum-report.result.turns c.loop-turn.invariant.receives one.receives (one_turn_more c.loop-turn.report c.sum-report.result c.sum-report.ensures one) below
     ∙ ap (λ n. (g.E.End.state c.args.end.now).receives + n) (sym (receives_lost c.sum-report.result c.args.turns c.if-report.true))
 
 pub returns-in-None-clause-driven : goal.returns-in-None-clause-driven
@@ -55,7 +56,7 @@ pub returns-in-None-clause-receives : goal.returns-in-None-clause-receives
 returns-in-None-clause-receives g c =
     let inv = c.loop-turn.invariant in
     λ below.
-    receives_more _ _ _ c.loop-turn.report.turns (c.loop-turn.report.turns + 1) inv.receives c.in-None.ensures.turn.received.receives refl below
+    received_more _ _ _ c.loop-turn.report.turns (c.loop-turn.report.turns + 1) inv.receives c.in-None.ensures.turn.received.receives refl below
     ∙ ap (λ n. (g.E.End.state c.args.end.now).receives + n) (sym (receives_closed c.loop-turn.report c.args.turns inv.going (let t = inv.turns in let i = c.loop-turn-test.true in omega arith)))
 
 pub returns-clause-receives : goal.returns-clause-receives

@@ -1,5 +1,6 @@
-use Rattle.std.proofs.Common.{◌≡◌, ◌+◌, ◌-◌, sym, arith, subst, ℕ}
-use Rattle.oca_control.specs.PrivateSlots.{untaken_from, some_due, HoldsFrom}
+use Rattle.std.proofs.Common.{◌≡◌, ◌-◌, arith, subst, ℕ}
+use Rattle.oca_types.specs.Moments.{HoldsFrom}
+use Rattle.oca_control.specs.PrivateSlots.{untaken_from, some_due}
 use Rattle.oca_control.proofs.Places.{slot_read}
 use Rattle.oca_control.proofs.DueTimes.{none_from, from_more}
 use Rattle.oca_control.proofs.table.due_from.Goals as goal
@@ -11,8 +12,7 @@ pub loop-handle-preserved : goal.loop-handle-preserved
 loop-handle-preserved c =
     let h = c.loop-handle.handle in
     let read = slot_read h c.place.result c.args.slots.now c.index-slots-place.result c.type_inv.slots c.place.ensures.value in
-    subst (HoldsFrom (some_due (untaken_from c.args.low (h + 1 - c.args.low) c.args.slots.now))) (sym c.sooner-first.ensures)
-    (from_more c.args.low h c.args.slots.now _ c.loop-handle.first c.due_from.result (omega arith) read c.loop-handle.invariant c.due_from.ensures)
+    from_more c.args.low h c.args.slots.now _ c.sooner-first.result (omega arith) read (c.sooner-first.ensures _ _ c.loop-handle.invariant c.due_from.ensures)
 
 pub returns : goal.returns
 returns c =

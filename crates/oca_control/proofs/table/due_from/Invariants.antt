@@ -1,5 +1,6 @@
 use Rattle.std.proofs.Common.{◌-◌}
-use Rattle.oca_control.specs.PrivateSlots.{untaken_from, some_due, HoldsFrom}
+use Rattle.oca_types.specs.Moments.{HoldsFrom}
+use Rattle.oca_control.specs.PrivateSlots.{untaken_from, some_due}
 use Rattle.oca_control.proofs.table.due_from.Given as goal
 
 -- of those below

@@ -1,6 +1,6 @@
 use Rattle.std.proofs.Common.{◌≡◌, ◌∙◌, ap, sym, arith, true, false}
 use Rattle.std.specs.Prelude.{is_some}
-use Rattle.oca_control.specs.PrivateSlots.{kept_answer, kept_at}
+use Rattle.oca_control.specs.PrivateSlots.{held_answer, held_at}
 use Rattle.oca_control.proofs.Places.{slot_read}
 use Rattle.oca_control.proofs.DueTimes.{answered_here, not_answered, none_answered}
 use Rattle.oca_control.proofs.table.lowest_answered.Goals as goal
@@ -9,14 +9,14 @@ pub returns-then-is_answered-clause-value : goal.returns-then-is_answered-clause
 returns-then-is_answered-clause-value c =
     let h = c.loop-handle.handle in
     let read = slot_read h c.place.result c.args.slots.now c.index-slots-place.result c.type_inv.slots c.place.ensures.value in
-    let so : is_some (kept_answer (kept_at h c.args.slots.now)) ≡ true = ap (λ o. is_some (kept_answer o)) read ∙ sym c.is_answered.ensures ∙ c.if-is_answered.true in
+    let so : is_some (held_answer (held_at h c.args.slots.now)) ≡ true = ap (λ o. is_some (held_answer o)) read ∙ sym c.is_answered.ensures ∙ c.if-is_answered.true in
     sym (answered_here h c.args.next c.args.slots.now (omega arith) so) ∙ c.loop-handle.invariant
 
 pub loop-handle-preserved : goal.loop-handle-preserved
 loop-handle-preserved c =
     let h = c.loop-handle.handle in
     let read = slot_read h c.place.result c.args.slots.now c.index-slots-place.result c.type_inv.slots c.place.ensures.value in
-    let not_so : is_some (kept_answer (kept_at h c.args.slots.now)) ≡ false = ap (λ o. is_some (kept_answer o)) read ∙ sym c.is_answered.ensures ∙ c.if-is_answered.false in
+    let not_so : is_some (held_answer (held_at h c.args.slots.now)) ≡ false = ap (λ o. is_some (held_answer o)) read ∙ sym c.is_answered.ensures ∙ c.if-is_answered.false in
     sym (not_answered h c.args.next c.args.slots.now (omega arith) not_so) ∙ c.loop-handle.invariant
 
 pub returns-clause-value : goal.returns-clause-value

@@ -1,6 +1,6 @@
 use Rattle.std.proofs.Common.{◌≡◌, ◌∙◌, ap, sym, arith, true, false}
 use Rattle.std.specs.Prelude.{is_some}
-use Rattle.oca_control.specs.PrivateSlots.{kept_at}
+use Rattle.oca_control.specs.PrivateSlots.{held_at}
 use Rattle.oca_control.proofs.Places.{slot_read, not_held, done}
 use Rattle.oca_control.proofs.table.lowest_held.Goals as goal
 
@@ -8,14 +8,14 @@ pub returns-then-is_held-clause-held : goal.returns-then-is_held-clause-held
 returns-then-is_held-clause-held c =
     let h = c.loop-handle.handle in
     let read = slot_read h c.place.result c.args.slots.now c.index-slots-place.result c.type_inv.slots c.place.ensures.value in
-    let held : is_some (kept_at h c.args.slots.now) ≡ true = ap is_some read ∙ sym c.is_held.ensures ∙ c.if-is_held.true in
+    let held : is_some (held_at h c.args.slots.now) ≡ true = ap is_some read ∙ sym c.is_held.ensures ∙ c.if-is_held.true in
     λ below none. let e = ap is_some none in cc
 
 pub loop-handle-preserved : goal.loop-handle-preserved
 loop-handle-preserved c =
     let h = c.loop-handle.handle in
     let read = slot_read h c.place.result c.args.slots.now c.index-slots-place.result c.type_inv.slots c.place.ensures.value in
-    let not_so : is_some (kept_at h c.args.slots.now) ≡ false = ap is_some read ∙ sym c.is_held.ensures ∙ c.if-is_held.false in
+    let not_so : is_some (held_at h c.args.slots.now) ≡ false = ap is_some read ∙ sym c.is_held.ensures ∙ c.if-is_held.false in
     sym (not_held h c.args.next c.args.slots.now (omega arith) not_so) ∙ c.loop-handle.invariant
 
 pub returns-clause-same : goal.returns-clause-same

@@ -1,5 +1,5 @@
 use Rattle.std.proofs.Common.{take}
-use Rattle.oca_session.specs.Lapses.{HoldsFrom}
+use Rattle.oca_types.specs.Moments.{HoldsFrom}
 use Rattle.oca_device.specs.PrivateLapses.{releases}
 use Rattle.oca_device.proofs.lapse.released_from.Given as goal
 

@@ -2,7 +2,8 @@ use Rattle.std.proofs.Common.{◌+◌, sym, ap, ◌∙◌, take}
 use Rattle.std.specs.Prelude.{not, ◌||◌}
 use Rattle.oca_session.specs.Table.{stays}
 use Rattle.oca_session.specs.Lapses.{forgets}
-use Rattle.oca_session.proofs.Lapses.{same_test, forgets_more}
+use Rattle.oca_types.proofs.MomentTests.{same_test}
+use Rattle.oca_session.proofs.Lapses.{forgets_more}
 use Rattle.oca_session.proofs.sessions.forgotten_from.Goals as goal
 
 pub loop-slot-preserved : goal.loop-slot-preserved

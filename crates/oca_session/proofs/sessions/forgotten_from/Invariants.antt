@@ -1,5 +1,6 @@
 use Rattle.std.proofs.Common.{take}
-use Rattle.oca_session.specs.Lapses.{HoldsFrom, forgets}
+use Rattle.oca_types.specs.Moments.{HoldsFrom}
+use Rattle.oca_session.specs.Lapses.{forgets}
 use Rattle.oca_session.proofs.sessions.forgotten_from.Given as goal
 
 -- of the sessions so far

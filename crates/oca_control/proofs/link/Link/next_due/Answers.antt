@@ -1,10 +1,14 @@
+use Rattle.std.specs.Prelude.{◌-◌, nat_le}
+use Rattle.oca_control.specs.PrivateSlots.{some_due}
 use Rattle.oca_control.proofs.DueTimes.{next_some, next_none}
 use Rattle.oca_control.proofs.link.Link.next_due.Goals as goal
 
 pub returns-in-Some : goal.returns-in-Some
 returns-in-Some c =
-    rw (← c.self.view_is)
-    (next_some _ c.if-self.false _ _ _ c.in-Some.first _ c.due_from.ensures c.later.ensures c.sooner.ensures c.in-Some.is c.latest.ensures.value c.latest.ensures.fits)
+    let due = c.sooner.ensures _ _ c.due_from.ensures c.later.ensures in
+    rw (← c.self.view_is) (next_some _ c.if-self.false _ c.in-Some.first _ due c.in-Some.is c.latest.ensures.value c.latest.ensures.fits)
 
 pub returns-in-None : goal.returns-in-None
-returns-in-None c = rw (← c.self.view_is) (next_none _ c.if-self.false _ _ _ c.due_from.ensures c.later.ensures c.sooner.ensures c.in-None.is)
+returns-in-None c =
+    let due = c.sooner.ensures _ _ c.due_from.ensures c.later.ensures in
+    rw (← c.self.view_is) (next_none _ c.if-self.false _ due c.in-None.is)

@@ -1,9 +1,9 @@
 use Rattle.std.proofs.Common.{◌≡◌, ◌-◌, ℕ, ap, ◌∙◌, List, [], Option, arith}
-use Rattle.oca_control.specs.PrivateSlots.{TableState, Kept, untaken_from}
+use Rattle.oca_control.specs.PrivateSlots.{TableState, Held, untaken_from}
 use Rattle.oca_control.proofs.Places.{done}
 use Rattle.oca_control.proofs.table.Table.new.Goals as goal
 
-made : (a b first : ℕ) (slots : List (Option Kept)) → a ≡ first → b ≡ first →
+made : (a b first : ℕ) (slots : List (Option Held)) → a ≡ first → b ≡ first →
     (let t : TableState = record { next = b; untaken = untaken_from a (b - a) slots } in t) ≡ (let t : TableState = record { next = first; untaken = [] } in t)
 made a b first slots e f =
     ap (λ us. let t : TableState = record { next = b; untaken = us } in t) (done a b slots (omega arith))

@@ -1,6 +1,7 @@
 use Rattle.std.proofs.Common.{ap, ◌∙◌, subst, max}
 use Rattle.std.specs.Prelude.{◌||◌}
-use Rattle.oca_session.specs.Lapses.{HoldsFrom, forgets}
+use Rattle.oca_types.specs.Moments.{HoldsFrom}
+use Rattle.oca_session.specs.Lapses.{forgets}
 use Rattle.oca_device.specs.States.{state_after}
 use Rattle.oca_device.specs.PrivateLapses.{releases}
 use Rattle.oca_device.proofs.Lapses.{next_some, next_none}

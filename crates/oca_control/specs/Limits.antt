@@ -1,0 +1,18 @@
+-- The limits of a link (*profile*). Times are in milliseconds.
+use Rattle.std.specs.Prelude.{ℕ}
+
+-- a command is given out again after so long without an answer
+abbrev pub repeat_time : ℕ
+repeat_time = 250
+
+-- and at most so often
+abbrev pub most_sendings : ℕ
+most_sendings = 20
+
+-- a keep-alive is given out so long after anything was
+abbrev pub keep_alive_time : ℕ
+keep_alive_time = 2500
+
+-- the last handle (AES70-3)
+abbrev pub last_handle : ℕ
+last_handle = 4294967295
