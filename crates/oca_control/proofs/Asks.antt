@@ -6,7 +6,7 @@ use Rattle.oca_control.specs.declared.outcome.Outcome.{Outcome}
 use Rattle.oca_control.specs.declared.outcome.Outcome.TheVariants as outcomes
 use Rattle.oca_control.specs.Untaken.{answer_under}
 use Rattle.oca_control.specs.Links.{LinkState}
-use Rattle.oca_control.specs.Asking.{TakesATurn, TakesTurns, NoneTaken, OneTaken, Waits, AsksEnd}
+use Rattle.oca_control.specs.Asking.{TakesATurn, TakesTurns, NoneTaken, OneTaken, Waits, ReceivesSoOften}
 use Rattle.oca_control.specs.PrivateAsking.{Settles}
 
 pub turns_asked : {h n : ℕ} {old new : LinkState} {e f : EndState} → TakesTurns h n old new e f → f.receives < last_u64 → f.receives ≡ e.receives + n
@@ -45,7 +45,7 @@ waits_unsettled {h} {turns} {old} {l} {new} {d} {e} n t all s = (
   ap (λ (k : LinkState). k.lost) s.2 ∙ s.1,
 )
 
-pub waits_asked : (h turns : ℕ) (old new : LinkState) (e f : EndState) (o : Outcome) → Waits h turns old o new e f → f.receives < last_u64 → AsksEnd turns o e.receives f.receives
+pub waits_asked : (h turns : ℕ) (old new : LinkState) (e f : EndState) (o : Outcome) → Waits h turns old o new e f → f.receives < last_u64 → ReceivesSoOften turns o e.receives f.receives
 waits_asked h turns old new e f (outcomes.Answered a) w below = at_most e.receives f.receives w.1 turns (turns_asked w.3 below) w.2
   where
     at_most : (a b n m : ℕ) → b ≡ a + n → n ≤ m → b ≤ a + m

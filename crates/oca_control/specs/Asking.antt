@@ -41,13 +41,12 @@ Waits h turns old outcomes.Lost new before after =
 Waits h turns old outcomes.Unanswered new before after =
     TakesTurns h turns old new before after × (answer_under h new.untaken ≡ None) × (new.lost ≡ false)
 
--- How often the end was asked, where so many turns were allowed: at most so often, and just so often where no answer
--- came.
-abbrev pub AsksEnd : ℕ → Outcome → ℕ → ℕ → Type 0
-AsksEnd turns (outcomes.Answered a) before after = after ≤ before + turns
-AsksEnd turns (outcomes.Refused fault) before after = after ≡ before
-AsksEnd turns outcomes.Lost before after = after ≤ before + turns
-AsksEnd turns outcomes.Unanswered before after = after ≡ before + turns
+-- How often was received, where so many turns were allowed: at most so often, and just so often where no answer came.
+abbrev pub ReceivesSoOften : ℕ → Outcome → ℕ → ℕ → Type 0
+ReceivesSoOften turns (outcomes.Answered a) before after = after ≤ before + turns
+ReceivesSoOften turns (outcomes.Refused fault) before after = after ≡ before
+ReceivesSoOften turns outcomes.Lost before after = after ≤ before + turns
+ReceivesSoOften turns outcomes.Unanswered before after = after ≡ before + turns
 
 -- how a command fares that the link refuses
 abbrev pub refused_by : ControlFault → Outcome

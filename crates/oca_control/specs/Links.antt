@@ -139,7 +139,7 @@ abbrev pub hears_content : Option (List Msg) → List Untaken → List Untaken
 hears_content None us = us
 hears_content (Some messages) us = hears_all messages us
 
--- the link after it: it keeps the moment, whatever it answers; it was heard from where the device sent a well-formed
+-- the link after it: it keeps the moment, whatever it returns; it was heard from where the device sent a well-formed
 -- datagram
 abbrev pub received : Peer → Option (List Msg) → ℕ → LinkState → LinkState
 received from content now l =

@@ -23,7 +23,7 @@ mod table;
 mod tests;
 
 pub use answer::Answer;
-pub use asking::{ask, wait_for};
+pub use asking::{ask, refused, wait_for};
 pub use driving::{drive, give_out};
 pub use due::Due;
 pub use fault::ControlFault;

@@ -15,6 +15,6 @@ pub struct DriveReport {
     pub failed_receives: u64,
     /// The sends that failed.
     pub failed_sends: u64,
-    /// Whether `due` answered `Lost`, which ends the loop.
+    /// Whether `due` returned `Lost`, which ends the loop.
     pub lost: bool,
 }

@@ -21,7 +21,7 @@ use Rattle.oca_tree.specs.declared.object.Object.{Object}
 use Rattle.oca_device.specs.Events.{Event}
 use Rattle.oca_device.specs.Written.{written_by_message, written_by_messages, written_by_reading}
 use Rattle.oca_device.specs.Devices.{DeviceState, session_for, table_of, IsIn, Represents}
-use Rattle.oca_device.specs.PrivateServing.{Serves, ServesAll, Receives}
+use Rattle.oca_device.specs.PrivateServing.{ServesMessage, ServesMessages, TakesDatagram}
 use Rattle.oca_device.proofs.Grouping.{answers_both}
 use Rattle.oca_device.proofs.Runs.{table_moved, lapsed_moved, session_known, table_noted, table_opened, run_goes_on, run_begins}
 
@@ -232,7 +232,7 @@ none_served w p d ms s before h now none = record {
 
 -- after the last
 pub all_served : (w : DeviceSizes) (p : Peer) (d : DeviceState) (rest ms : List Msg) (s : State) (before out : List (List ℕ)) (n : Counts) → rest ≡ [] →
-    IsHalfway w p d rest ms s before out n → ServesAll w d p ms s before out n
+    IsHalfway w p d rest ms s before out n → ServesMessages w d p ms s before out n
 all_served w p d rest ms s before out n over h = record {
   device = subst (λ (x : State). IsIn w d x) (sym (ap (λ xs. after_messages w p xs h.mid) over) ∙ h.state_is) h.device;
   written = sym (append-nil d.written) ∙ sym (ap (λ xs. d.written ++ written_by_messages w p xs h.mid) over) ∙ h.written_are;
@@ -244,7 +244,7 @@ all_served w p d rest ms s before out n over h = record {
 
 pub one_further : (w : DeviceSizes) (p : Peer) (d d' : DeviceState) (m : Msg) (rest rest' ms : List Msg) (s : State) (before out out' : List (List ℕ)) (n n' : Counts) →
     (h : IsHalfway w p d rest ms s before out n) → rest ≡ m ∷ rest' → IsSome (session_of p d.sessions.sessions) →
-    Serves w d d' p m h.mid out out' n n' →
+    ServesMessage w d d' p m h.mid out out' n n' →
     IsHalfway w p d' rest' ms s before out' n'
 one_further w p d d' m rest rest' ms s before out out' n n' h step has t =
     let known = known_there w h.mid p d.sessions h.device.sessions has in
@@ -281,7 +281,7 @@ abbrev admitted_state : Peer → List Msg → State → State
 admitted_state p ms s = noted p (Admitted ms) s
 
 pub refused_whole : (w : DeviceSizes) (d : DeviceState) (p : Peer) (bytes : List ℕ) (ms : List Msg) (s : State) (after : List (List ℕ)) →
-    read_datagram bytes ≡ Ok ms → admits w s p ≡ false → IsIn w d s → d.written ≡ [] → after ≡ [] → Receives w d p bytes s after verdicts.NoRoom
+    read_datagram bytes ≡ Ok ms → admits w s p ≡ false → IsIn w d s → d.written ≡ [] → after ≡ [] → TakesDatagram w d p bytes s after verdicts.NoRoom
 refused_whole w d p bytes ms s after reads out h unwritten none =
     record {
       written = unwritten ∙ sym (ap (λ (r : Result (List Msg) PduFault). written_by_reading w p r s) reads
@@ -295,8 +295,8 @@ refused_whole w d p bytes ms s after reads out h unwritten none =
     }
 
 pub taken_whole : (w : DeviceSizes) (d : DeviceState) (p : Peer) (bytes : List ℕ) (ms : List Msg) (s : State) (before after : List (List ℕ)) (n : Counts) →
-    read_datagram bytes ≡ Ok ms → admits w s p ≡ true → before ≡ [] → ServesAll w d p ms (admitted_state p ms s) before after n →
-    Receives w d p bytes s after (verdicts.Served n.executed n.kept n.old n.reused)
+    read_datagram bytes ≡ Ok ms → admits w s p ≡ true → before ≡ [] → ServesMessages w d p ms (admitted_state p ms s) before after n →
+    TakesDatagram w d p bytes s after (verdicts.Served n.executed n.kept n.old n.reused)
 taken_whole w d p bytes ms s before after n reads let_in none t =
     let all = admitted_state p ms s in
     record {

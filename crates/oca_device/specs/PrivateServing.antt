@@ -56,21 +56,21 @@ abbrev pub commands_in : Counts → ℕ
 commands_in n = n.executed + n.kept + n.old + n.reused
 
 -- one message, where so many commands were counted before
-pub record Serves (w : DeviceSizes) (old new : DeviceState) (p : Peer) (m : Msg) (s : State) (before after : List (List ℕ)) (so_far n : Counts) : Type 0 where
+pub record ServesMessage (w : DeviceSizes) (old new : DeviceState) (p : Peer) (m : Msg) (s : State) (before after : List (List ℕ)) (so_far n : Counts) : Type 0 where
   pub device : IsIn w new (after_message w p m s)
   pub written : new.written ≡ old.written ++ written_by_message w p m s
   pub packets : (groups : List Pdu) → before ≡ encodings groups → after ≡ encodings (with_answers groups (answer_to w p m s))
   pub counts : n ≡ plus so_far (count_of w p m s)
 
 -- several messages, where nothing was written before
-pub record ServesAll (w : DeviceSizes) (new : DeviceState) (p : Peer) (ms : List Msg) (s : State) (before after : List (List ℕ)) (n : Counts) : Type 0 where
+pub record ServesMessages (w : DeviceSizes) (new : DeviceState) (p : Peer) (ms : List Msg) (s : State) (before after : List (List ℕ)) (n : Counts) : Type 0 where
   pub device : IsIn w new (after_messages w p ms s)
   pub written : new.written ≡ written_by_messages w p ms s
   pub packets : (groups : List Pdu) → before ≡ encodings groups → after ≡ encodings (with_answers groups (answers_to_messages w p ms s))
   pub counts : n ≡ counts_of_messages w p ms s
 
 -- a datagram, when the clock has moved and nothing is written
-pub record Receives (w : DeviceSizes) (new : DeviceState) (p : Peer) (bytes : List ℕ) (s : State) (after : List (List ℕ)) (verdict : Verdict) : Type 0 where
+pub record TakesDatagram (w : DeviceSizes) (new : DeviceState) (p : Peer) (bytes : List ℕ) (s : State) (after : List (List ℕ)) (verdict : Verdict) : Type 0 where
   pub device : IsIn w new (after_reading w p (read_datagram bytes) s)
   pub written : new.written ≡ written_by_reading w p (read_datagram bytes) s
   pub packets : after ≡ packets_of (answers_to_reading w p (read_datagram bytes) s)

@@ -63,7 +63,7 @@ impl Model for Device {
 impl Device {
     ghost use Rattle.oca_device.specs.Devices.{Represents, IsIn};
     ghost use Rattle.oca_device.specs.Lapses.{IsNextLapse, NeverLapses};
-    ghost use Rattle.oca_device.specs.PrivateServing.{Serves, ServesAll, Receives, AreGrouped, IsShort, may_answer, most_answers, commands_in, commands_of, all_commands};
+    ghost use Rattle.oca_device.specs.PrivateServing.{ServesMessage, ServesMessages, TakesDatagram, AreGrouped, IsShort, may_answer, most_answers, commands_in, commands_of, all_commands};
 
     /// A device of these objects, with reply windows of this size and sessions of at most 16 peers, before any event.
     /// Takes all the memory that its sessions will need. Refusal: `NoMemory`.
@@ -218,7 +218,7 @@ impl Device {
         requires moment { now ≤ self.old.sessions.moment }
         requires empty { outbox.old ≡ [] }
         requires none { self.old.written ≡ [] }
-        ensures { (w : DeviceSizes) (s : State) → IsIn w self.old s → Receives w self.new from bytes.now s outbox.new result }
+        ensures { (w : DeviceSizes) (s : State) → IsIn w self.old s → TakesDatagram w self.new from bytes.now s outbox.new result }
     {
         match check(bytes) {
             Ok(datagram) => {
@@ -263,7 +263,7 @@ impl Device {
         requires few { all_commands (messages_left messages) ≤ most_commands }
         requires none { self.old.written ≡ [] }
         ensures { (w : DeviceSizes) (s : State) → IsIn w self.old s → last_moment (run from s.notes) ≡ s.moment →
-            ServesAll w self.new from (messages_left messages.entry) s outbox.old outbox.new result }
+            ServesMessages w self.new from (messages_left messages.entry) s outbox.old outbox.new result }
     {
         let mut counts = NONE;
         for message in messages {
@@ -281,7 +281,7 @@ impl Device {
         requires few { commands_in counts.now + commands_of (msg_of message) ≤ most_commands }
         requires within { length self.old.written ≤ commands_in counts.now }
         ensures serves { (w : DeviceSizes) (s : State) → IsIn w self.old s → last_moment (run from s.notes) ≡ s.moment →
-            Serves w self.old self.new from (msg_of message.entry) s outbox.old outbox.new counts.entry.now counts.exit.now }
+            ServesMessage w self.old self.new from (msg_of message.entry) s outbox.old outbox.new counts.entry.now counts.exit.now }
         ensures known { IsSome (session_of from self.new.sessions.sessions) }
         ensures packets { length outbox.new ≤ length outbox.old + may_answer (msg_of message.entry) }
         ensures groups { AreGrouped outbox.new }
@@ -316,7 +316,7 @@ impl Device {
         requires few { commands_in counts.now < most_commands }
         requires within { length self.old.written ≤ commands_in counts.now }
         ensures serves { (w : DeviceSizes) (s : State) → IsIn w self.old s → last_moment (run from s.notes) ≡ s.moment →
-            Serves w self.old self.new from (Commands respond (fields_of command.now)) s outbox.old outbox.new counts.entry.now counts.exit.now }
+            ServesMessage w self.old self.new from (Commands respond (fields_of command.now)) s outbox.old outbox.new counts.entry.now counts.exit.now }
         ensures known { IsSome (session_of from self.new.sessions.sessions) }
         ensures packets { length outbox.new ≤ length outbox.old + 1 }
         ensures groups { AreGrouped outbox.new }

@@ -12,7 +12,7 @@ use Rattle.oca_net.specs.EndStates.{EndState}
 
 -- What an end in memory has delivered (the latest last), what it will deliver (the next first), what it took (the
 -- latest last) and for how many it has room, the number of the next send and of the one that fails, whether it has
--- answered Closed, and its counts of failures and of receives.
+-- returned Closed, and its counts of failures and of receives.
 pub record MemoryState : Type 0 where
   pub delivered : List Delivery
   pub to_come : List Delivery

@@ -163,7 +163,7 @@ impl<'a, C: Clock> UdpEnd<'a, C> {
         self.local
     }
 
-    /// The present moment: the milliseconds since `bind`. It is not before a moment that a receive has answered; where
+    /// The present moment: the milliseconds since `bind`. It is not before a moment that a receive has returned; where
     /// the clock can't be read, it is the last of those.
     pub fn now(&self) -> u64
         ensures { self.now.moment ≤ result }

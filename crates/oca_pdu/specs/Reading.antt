@@ -1,5 +1,5 @@
 -- Reading a datagram from left to right: its messages, or its first fault. The code takes the same steps, and so this
--- module, and `messages_left` of Datagrams, which cites it, speak of offsets, as no other definition does. That reading
+-- module, and `messages_left` of Datagrams, which cites it, read by offsets, as no other definition does. That reading
 -- gives what the encodings and the first fault say is the law `ReadingIsExact` of Laws: who reads Encoding and
 -- FirstFault needs nothing of this.
 use Rattle.std.specs.Prelude.{ℕ, zero, suc, ◌+◌, ◌-◌, Bool, true, false, ◌||◌, not, List, [], ◌∷◌, ◌++◌, length, take, drop, slice_index, Result, Ok, Err, nat_lt, ◌==◌, Option, Some, None, if◌then◌else◌}
@@ -97,7 +97,7 @@ pdu_at p bytes =
     else (if nat_lt (length bytes) (1 + number_at w32 3 bytes) then fault Truncated (p + 3)
     else (inside_at p (take (1 + number_at w32 3 bytes) bytes) >>= λ ms. Ok (ms, drop (1 + number_at w32 3 bytes) bytes)))))))
 
--- at most n PDUs from p on, which are all of the bytes
+-- the PDUs from p on, which are all of the bytes, where n is at least their number; n only makes it end
 unfoldable pub pdus_at : ℕ → ℕ → List ℕ → Result (List Msg) PduFault
 pdus_at zero p bytes = Ok []
 pdus_at (suc n) p bytes = if length bytes == 0 then Ok []

@@ -7,6 +7,7 @@ use Rattle.oca_types.specs.declared.status.Status.{Status}
 use Rattle.oca_types.specs.declared.status.Status.TheVariants as status
 use Rattle.oca_types.specs.declared.class.MethodKind.{MethodKind}
 use Rattle.oca_types.specs.declared.class.MethodKind.TheVariants.{Known, LeftOut, Unknown}
+use Rattle.oca_types.specs.Sizes.{most_parameter_bytes}
 use Rattle.oca_types.specs.Numbers.{unsigned_encoding, bool_encoding}
 use Rattle.oca_types.specs.Texts.{text_encoding}
 use Rattle.oca_types.specs.Classes.{class_identification_encoding}
@@ -210,7 +211,7 @@ status_lines tree peer o method request =
     ∷ (is_none request, status.ParameterError)
     ∷ (on_both (λ o r. is_out_of_range o.value r) o request, status.ParameterOutOfRange)
     ∷ (on_both (λ o r. is_invalid o.lockable o.lock r) o request, status.InvalidRequest)
-    ∷ (on_both (λ o r. nat_lt 1452 (length (answer tree o r))) o request, status.BufferOverflow)
+    ∷ (on_both (λ o r. nat_lt most_parameter_bytes (length (answer tree o r))) o request, status.BufferOverflow)
     ∷ []
 
 abbrev pub status_of : List Object → Peer → Option Object → CommandFields → Status

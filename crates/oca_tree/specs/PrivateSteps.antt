@@ -7,6 +7,7 @@ use Rattle.oca_types.specs.declared.class.Access.{Access}
 use Rattle.oca_types.specs.declared.class.Access.TheVariants.{Read}
 use Rattle.oca_types.specs.declared.class.Method.{Method}
 use Rattle.oca_types.specs.declared.class.MethodKind.TheVariants.{Known}
+use Rattle.oca_types.specs.Sizes.{most_parameter_bytes}
 use Rattle.oca_types.specs.Methods.{access}
 use Rattle.oca_types.specs.declared.status.Status.{Status}
 use Rattle.oca_types.specs.declared.status.Status.TheVariants as status
@@ -76,7 +77,7 @@ counted_as count (Err _) = Err status.BufferOverflow
 -- All parameters were appended, and there are so many of them; or there is no room for them.
 abbrev pub PutsAll : Result ℕ Status → List ℕ → List ℕ → List (List ℕ) → Type 0
 PutsAll (Ok count) old new parameters = (new ≡ old ++ joined parameters) × (count ≡ length parameters)
-PutsAll (Err s) old new parameters = (s ≡ status.BufferOverflow) × (1452 < length old + length (joined parameters))
+PutsAll (Err s) old new parameters = (s ≡ status.BufferOverflow) × (most_parameter_bytes < length old + length (joined parameters))
 
 -- whether a method of this access only reads
 abbrev pub only_reads : Access → Bool
@@ -104,7 +105,7 @@ abbrev pub IsRequestFor : Result Request Status → Object → Peer → CommandF
 IsRequestFor (Ok r) o peer c =
     (request_at (Some o) (kind_at (Some o) c) c ≡ Some r)
     × (is_out_of_range o.value r ≡ false) × (is_invalid o.lockable o.lock r ≡ false)
-    × ((tree : List Object) → status_of tree peer (Some o) c ≡ (if nat_lt 1452 (length (answer tree o r)) then status.BufferOverflow else status.Ok))
+    × ((tree : List Object) → status_of tree peer (Some o) c ≡ (if nat_lt most_parameter_bytes (length (answer tree o r)) then status.BufferOverflow else status.Ok))
 IsRequestFor (Err s) o peer c = IsRefusedAt s o peer c × (is_ok s ≡ false)
 
 -- A command was carried out, or refused with nothing changed, as its execution says.

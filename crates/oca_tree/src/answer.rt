@@ -37,52 +37,52 @@ fn put_item(out: &mut Params, object: &Object, deep: bool) -> Result<(), PutFaul
     Ok(())
 }
 
-/// Whether the object at index `at` is a member of the block at index `block`.
-fn is_member(objects: &Objects, at: usize, block: usize) -> bool
+/// Whether the object at index `at` is a member of the block at index `place`.
+fn is_member(objects: &Objects, at: usize, place: usize) -> bool
     requires tree { IsTree objects.now.list }
     requires within { at < length objects.now.list }
-    requires block { block < length objects.now.list }
-    ensures { (d : AnObject) → result ≡ is_listed objects.now.list (slice_index_or objects.now.list block d).ono.0 false (slice_index_or objects.now.list at d) }
+    requires block { place < length objects.now.list }
+    ensures { (d : AnObject) → result ≡ is_listed objects.now.list (slice_index_or objects.now.list place d).ono.0 false (slice_index_or objects.now.list at d) }
 {
     match objects.container_at(at) {
-        Some(container) => container == block,
+        Some(container) => container == place,
         None => false,
     }
 }
 
-/// Whether the object at index `at` lies in the block at index `block`, however deep: the block is among the containers
+/// Whether the object at index `at` lies in the block at index `place`, however deep: the block is among the containers
 /// above it. Since a container stands before what it contains, none above the first that stands before the block is it.
-fn lies_in(objects: &Objects, at: usize, block: usize) -> bool
+fn lies_in(objects: &Objects, at: usize, place: usize) -> bool
     requires tree { IsTree objects.now.list }
     requires within { at < length objects.now.list }
-    requires block { block < length objects.now.list }
-    ensures { (d : AnObject) → result ≡ is_listed objects.now.list (slice_index_or objects.now.list block d).ono.0 true (slice_index_or objects.now.list at d) }
+    requires block { place < length objects.now.list }
+    ensures { (d : AnObject) → result ≡ is_listed objects.now.list (slice_index_or objects.now.list place d).ono.0 true (slice_index_or objects.now.list at d) }
 {
     let mut current = at;
     for _ in 0..objects.len() {
         let Some(container) = objects.container_at(current) else {
             return false;
         };
-        if container <= block {
-            return container == block;
+        if container <= place {
+            return container == place;
         }
         current = container;
     }
     false
 }
 
-/// Whether the object at index `at` is listed for the block at index `block`: as a member of it, or where all are listed
+/// Whether the object at index `at` is listed for the block at index `place`: as a member of it, or where all are listed
 /// as one that lies in it.
-fn is_listed(objects: &Objects, at: usize, block: usize, deep: bool) -> bool
+fn is_listed(objects: &Objects, at: usize, place: usize, deep: bool) -> bool
     requires tree { IsTree objects.now.list }
     requires within { at < length objects.now.list }
-    requires block { block < length objects.now.list }
-    ensures { (d : AnObject) → result ≡ is_listed objects.now.list (slice_index_or objects.now.list block d).ono.0 deep (slice_index_or objects.now.list at d) }
+    requires block { place < length objects.now.list }
+    ensures { (d : AnObject) → result ≡ is_listed objects.now.list (slice_index_or objects.now.list place d).ono.0 deep (slice_index_or objects.now.list at d) }
 {
     if deep {
-        lies_in(objects, at, block)
+        lies_in(objects, at, place)
     } else {
-        is_member(objects, at, block)
+        is_member(objects, at, place)
     }
 }
 
@@ -304,9 +304,8 @@ fn put_setting(out: &mut Params, value: &Value) -> Result<u8, Status>
     }
 }
 
-/// Appends the parameters of the answer of the object, which stands at index `place`, and says how many they are, unless it is
-/// too long. Inlined, it is one jump
-/// table with the one that made the request.
+/// Appends the parameters of the answer of the object, which stands at index `place`, and says how many they are, unless
+/// it is too long. Inlined, it is one jump table with the one that made the request.
 #[inline(always)]
 #[tactic(auto, unfolding(crate::specs::Execution::parameters))]
 pub(crate) fn put_answer(

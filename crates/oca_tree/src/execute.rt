@@ -17,7 +17,10 @@ use crate::object::Object;
 use crate::objects::Objects;
 use crate::place::index_from;
 use crate::request::Request;
-use oca_types::{Access, Command, Method, MethodKind, Params, Peer, Status, access_of, method_of};
+use oca_types::{
+    Access, Command, MOST_PARAMETER_BYTES, Method, MethodKind, Params, Peer, Status, access_of,
+    method_of,
+};
 
 /// The method that a command calls, or why the peer cannot call it.
 fn method_for(object: &Object, peer: Peer, command: &Command<'_>) -> Result<Method, Status>
@@ -80,7 +83,7 @@ fn carry_out_at(
     let object = objects.object_at(at);
     let request = check_request(object, command, method)?;
     let count = put_answer(out, objects, object, at, &request)?;
-    prove!(out.len() <= 1452);
+    prove!(out.len() <= MOST_PARAMETER_BYTES);
     objects.change_at(at, marks, peer, request);
     Ok(count)
 }
@@ -121,7 +124,7 @@ pub(crate) fn carry_out(
         && let Some(request) = Request::plain(method)
     {
         let answered = put_answer(out, objects, object, at, &request);
-        prove!(out.len() <= 1452);
+        prove!(out.len() <= MOST_PARAMETER_BYTES);
         *writes = false;
         return answered;
     }

@@ -1,4 +1,5 @@
-//! How long the answers are that list what is in a block, so that one that is too long is refused at once.
+//! How many bytes the items take of answers that list what is in a block, so that an answer that is too long is refused
+//! at once.
 ghost use Rattle.std.specs.Prelude.{◌≡◌, ◌<◌, ◌≤◌, ◌+◌, ℕ, [], ◌∷◌, ◌++◌, length, vec_len, vec_capacity};
 ghost use Rattle.std.specs.Int.{w32};
 ghost use Rattle.oca_types.specs.Numbers.{unsigned_encoding};

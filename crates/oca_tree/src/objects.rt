@@ -22,8 +22,8 @@ use oca_types::{Ono, Peer};
 use std::alloc::{AllocError, Global};
 use std::marker::Model;
 
-/// Objects, each with the index of its container and with how long the answers are that list what is in it. Contracts
-/// see the list of them in order of adding, and for how many there is room.
+/// Objects, each with the index of its container and with how many bytes the items take that are listed of it.
+/// Contracts see the list of them in order of adding, and for how many there is room.
 #[derive(Drop)]
 pub(crate) struct Objects {
     map: IndexMap<Ono, Object>,

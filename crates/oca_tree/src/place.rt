@@ -10,7 +10,8 @@ use crate::marks::Marks;
 use crate::objects::Objects;
 use oca_types::Ono;
 
-/// The index of the object with this number, counted from 0 in order of adding.
+/// As `index_of` of `Objects`, with what follows for the object there: the index of the object with this number, counted
+/// from 0 in order of adding.
 pub(crate) fn index_of(objects: &Objects, ono: Ono) -> Option<usize>
     ensures index { result ≡ position (has_number ono.0) objects.now.list }
     ensures within { IfSome result (λ at. at < length objects.now.list) }

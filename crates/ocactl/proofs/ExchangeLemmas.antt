@@ -17,7 +17,7 @@ use Rattle.oca_control.specs.Links.{LinkState, submission, submitted, after_subm
 use Rattle.oca_control.specs.declared.report.DriveReport.{DriveReport}
 use Rattle.oca_control.specs.Driving.{GivesOut}
 use Rattle.oca_net.specs.Ends.{last_u64}
-use Rattle.oca_control.specs.Asking.{refused_by, Waits, AsksEnd}
+use Rattle.oca_control.specs.Asking.{refused_by, Waits, ReceivesSoOften}
 use Rattle.ocactl.specs.Requests.{LineAsked, Send}
 use Rattle.ocactl.specs.Exchanges.{SessionState, AwaitsFirst, Awaits, NoneAwaited, OneAwaited, AwaitsUntil, Submits, Sends, Serves, Concludes, Finishes, ended_by, most_turns, outcome_text, outcome_status, WritesOutcome}
 use Rattle.ocactl.specs.PrivateExchanges.{GoesOn, AwaitsAndPrints, SendsAndPrints, ServesAndPrints, Submitted, is_write_failure}
@@ -92,7 +92,7 @@ pub awaited : (left : ℕ) (r s : SessionState) (w v : Result Unit WriteFailed) 
 awaited left r s w v a b h few = record { text = h.0; awaits = (h.1, few); prints = h.2 }
 
 pub first-awaited : (old new : SessionState) (h : ℕ) (o : Outcome) → old.under_way ≡ h ∷ new.under_way → Waits h most_turns old.link o new.link old.end_state new.end_state
-    → (new.end_state.receives < last_u64 → AsksEnd most_turns o old.end_state.receives new.end_state.receives) → new.ahead ≡ old.ahead
+    → (new.end_state.receives < last_u64 → ReceivesSoOften most_turns o old.end_state.receives new.end_state.receives) → new.ahead ≡ old.ahead
     → new.unanswered ≡ (old.unanswered || outcome_status o == 3) → AwaitsFirst old new o
 first-awaited old new h o first waits asks ahead unanswered =
     record { handle = h; first = first; waits = waits; asks = asks; ahead = ahead; unanswered = unanswered }

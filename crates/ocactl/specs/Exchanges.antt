@@ -11,7 +11,7 @@ use Rattle.oca_control.specs.declared.report.DriveReport.{DriveReport}
 use Rattle.oca_control.specs.Answers.{answer_fields}
 use Rattle.oca_control.specs.Links.{LinkState, submission, submitted}
 use Rattle.oca_control.specs.Driving.{GivesOut}
-use Rattle.oca_control.specs.Asking.{Waits, AsksEnd, Asks, refused_by}
+use Rattle.oca_control.specs.Asking.{Waits, ReceivesSoOften, Asks, refused_by}
 use Rattle.oca_script.specs.declared.fault.ReplayFault.{ReplayFault}
 use Rattle.oca_script.specs.declared.fault.ReplayFault.TheVariants.{Line, Read, Write, TooMuch}
 use Rattle.oca_script.specs.declared.fault.WriteFailed.{WriteFailed}
@@ -66,7 +66,7 @@ pub record AwaitsFirst (old new : SessionState) (outcome : Outcome) : Type 0 whe
   pub handle : ℕ
   pub first : old.under_way ≡ handle ∷ new.under_way
   pub waits : Waits handle most_turns old.link outcome new.link old.end_state new.end_state
-  pub asks : new.end_state.receives < last_u64 → AsksEnd most_turns outcome old.end_state.receives new.end_state.receives
+  pub asks : new.end_state.receives < last_u64 → ReceivesSoOften most_turns outcome old.end_state.receives new.end_state.receives
   pub ahead : new.ahead ≡ old.ahead
   pub unanswered : new.unanswered ≡ (old.unanswered || outcome_status outcome == 3)
 

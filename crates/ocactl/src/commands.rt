@@ -8,13 +8,12 @@ ghost use Rattle.oca_types.specs.Peers.{request_of};
 ghost use Rattle.oca_control.specs.Links.{submission};
 ghost use Rattle.ocactl.specs.Requests.{LineAsked, asked_line, is_wait as wait_line};
 ghost use Rattle.ocactl.specs.Exchanges.{Serves, SendsLines, outcome_text};
-ghost use Rattle.oca_control.specs.Asking.{refused_by};
 ghost use Rattle.ocactl.specs.PrivateExchanges.{AwaitsAndPrints, SendsAndPrints, ServesAndPrints, GoesOn, is_write_failure, line_in, line_asked};
 
 use super::exchange::print_outcome;
 use super::request::{PARAMS_ROOM, command_by};
 use super::session::Session;
-use oca_control::{ControlFault, Outcome};
+use oca_control::{Outcome, refused};
 use oca_net::End;
 use oca_script::field::first_field;
 use oca_script::lines::serve_lines;
@@ -134,18 +133,6 @@ fn send<E: End, W: Sink>(
             session.refuse();
             print_next(&refused(fault), written, printer)
         }
-    }
-}
-
-/// How a command fares that the link refuses.
-pub fn refused(fault: ControlFault) -> Outcome
-    ensures { result ≡ refused_by fault }
-{
-    match fault {
-        ControlFault::Lost => Outcome::Lost,
-        ControlFault::HandlesSpent => Outcome::Refused(ControlFault::HandlesSpent),
-        ControlFault::SpanFull => Outcome::Refused(ControlFault::SpanFull),
-        ControlFault::TooLong => Outcome::Refused(ControlFault::TooLong),
     }
 }
 

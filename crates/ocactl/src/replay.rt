@@ -45,7 +45,7 @@ impl Language for LinkScript {
 
     ghost serves = { Serves };
 
-    /// Reads the call of the line, makes it, and prints what it answers.
+    /// Reads the call of the line, makes it, and prints what it returns.
     fn serve_line<W: Sink>(
         link: &mut Link,
         room: &mut LinkRoom,
@@ -63,7 +63,7 @@ impl Language for LinkScript {
     }
 }
 
-/// Calls the link, and prints what it answers.
+/// Calls the link, and prints what it returns.
 fn serve<W: Sink>(
     link: &mut Link,
     packet: &mut Packet,

@@ -8,8 +8,9 @@ use super::talk::Talk;
 use super::tasks::Task;
 use super::walk::walk;
 use super::words::{Asked, Reach, Sending, asked_for};
-use oca_net::{BindError, End, UdpEnd};
-use oca_program::{Failure, RunFault, print_note, report};
+use oca_net::{End, UdpEnd};
+use oca_program::socket::bind;
+use oca_program::{Failure, print_note, report};
 use oca_script::{Printer, Sink, Source};
 use std::alloc::Global;
 use std::convert::AsStr;
@@ -27,7 +28,9 @@ const HANDLES: u64 = 2_147_483_648;
 ///
 /// `replay` runs a link over the script that the source has to give. `send` sends a command and prints its answer: 0 for an
 /// answer with the status 0, 4 for another, 3 where the link is lost or no answer came. `run` sends the commands that the
-/// source has to give, and prints the answer of each, or why there is none, in the order of their lines: 3 where one got none. Else 0
+/// source has to give, and prints the answer of each, or why there is none, in the order of their lines: 3 where one got none. `tree`,
+/// `get`, `set`, `lock` and `unlock` print a line for each object: 4 where one was refused, 3 where an answer did not come, and of `set`
+/// 2 where a word is for no value of its object. Else 0
 /// where all was done, 2 where the words or a line are bad, and 1 where something could not be done. A fault is printed on `faults` as one
 /// line, behind one that begins with `note: ` where more is known; such a line also says why a send failed where no answer came.
 pub fn run<N: Net + Clock, S: AsStr, R: Source, W: Sink, F: Sink>(
@@ -114,31 +117,6 @@ fn handle_now<C: Clock>(clock: &C) -> u32 {
     };
     let seconds = since.as_secs() % HANDLES;
     ((seconds * 100_000 + u64::from(since.subsec_micros()) / 10) % HANDLES) as u32
-}
-
-/// An end at this address and port; a refusal has the system's reason as its note.
-fn bind<N: Net + Clock>(
-    alloc: Global,
-    system: &N,
-    ip: u32,
-    port: u16,
-) -> Result<UdpEnd<'_, N>, Failure> {
-    match UdpEnd::bind_with_reason(alloc, system, ip, port) {
-        Ok(end) => Ok(end),
-        Err(error) => Err(refused(alloc, &error)),
-    }
-}
-
-/// Why a run fails that got no socket.
-fn refused(alloc: Global, error: &BindError) -> Failure {
-    let fault = RunFault::from(error.fault());
-    match error {
-        BindError::NoMemory => Failure::from(fault),
-        BindError::Io(reason) => match format!(in alloc; "{reason}") {
-            Ok(note) => Failure::noted(fault, note),
-            Err(_) => Failure::from(fault),
-        },
-    }
 }
 
 /// An end at the port that the words give; else at the program's own, or where that is in use at one of the system's choice.

@@ -1,4 +1,4 @@
-//! A conversation with a device: one command after another, and what its answers say.
+//! A conversation with a device: commands, one at a time or several under way, and what their answers say.
 ghost use Rattle.std.specs.Prelude.{◌≡◌, ◌<◌, IfSome, length};
 ghost use Rattle.ocactl.specs.Hands.{on_ok, said, carried_out, fields_said, class_said, value_said, text_said, members_said, position_said, found_position};
 ghost use Rattle.std.specs.List.{position};

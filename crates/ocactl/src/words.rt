@@ -15,15 +15,11 @@ use oca_program::options::{
 };
 use oca_program::{Failure, RunFault};
 use oca_script::field::{hex_bytes, number};
-use oca_types::{Handle, MethodId, Ono, Peer, Request, Span};
+use oca_types::{
+    Handle, LOOPBACK, MOST_COMMAND_PARAMETER_BYTES, MethodId, Ono, Peer, Request, Span,
+};
 use std::alloc::{AllocError, Global};
 use std::convert::AsStr;
-
-/// The most bytes of a command's parameters.
-const MOST_PARAMS: usize = 1445;
-
-/// The address of this machine within itself.
-const LOCALHOST: u32 = 0x7f00_0001;
 
 /// How many turns `send` takes, unless it is said.
 const TURNS: u64 = 200;
@@ -72,7 +68,7 @@ pub struct Sending {
     pub target: Ono,
     pub method: MethodId,
     pub count: u8,
-    pub params: ArrayVec<u8, MOST_PARAMS>,
+    pub params: ArrayVec<u8, MOST_COMMAND_PARAMETER_BYTES>,
     pub turns: u32,
 }
 
@@ -209,7 +205,7 @@ fn send_command<'a>(alloc: Global) -> Result<Command<'a>, AllocError> {
             alloc,
             "port",
             "PORT",
-            "The local port [one of the system's choice unless given: a session of its own at the device for each call, of which there are 16, so give a port for many calls in a row]",
+            "The local port [one of the system's choice unless given: a session of its own at the device for each call, of which there are 16 unless its maker chose otherwise, so give a port for many calls in a row]",
         ))
 }
 
@@ -252,7 +248,7 @@ pub fn asked_for<S: AsStr>(alloc: Global, words: &[S]) -> Result<Asked, Failure>
     match matches_of(alloc, words) {
         Ok(matches) => match asked_in(&matches) {
             Some(asked) => Ok(asked),
-            None => done_by(alloc, &matches),
+            None => task_asked(alloc, &matches),
         },
         Err(error) => Ok(Asked::Help(help_or_failure(alloc, &error)?)),
     }
@@ -273,7 +269,7 @@ fn asked_in(matches: &ArgMatches<'_>) -> Option<Asked> {
 }
 
 /// What the options and the words of a command for hands say.
-fn done_by(alloc: Global, matches: &ArgMatches<'_>) -> Result<Asked, Failure> {
+fn task_asked(alloc: Global, matches: &ArgMatches<'_>) -> Result<Asked, Failure> {
     let bad = Failure::told(
         alloc,
         RunFault::BadWords,
@@ -354,7 +350,7 @@ fn address_for(device: Peer) -> u32
     ensures { result ≡ own_address device }
 {
     if device.ip / 16_777_216 == 127 {
-        LOCALHOST
+        LOOPBACK
     } else {
         0
     }
@@ -444,11 +440,11 @@ fn sending_of(words: &ArgMatches<'_>) -> Option<Sending>
 }
 
 /// The parameters that a text says: at most 2,890 hexadecimal digits, or `-`.
-fn params_of(text: &[u8]) -> Option<ArrayVec<u8, MOST_PARAMS>>
+fn params_of(text: &[u8]) -> Option<ArrayVec<u8, MOST_COMMAND_PARAMETER_BYTES>>
     ensures { option_map array_items result ≡ params_said text.now }
 {
-    let mut room = [0u8; MOST_PARAMS];
-    if text.len() > 2 * MOST_PARAMS {
+    let mut room = [0u8; MOST_COMMAND_PARAMETER_BYTES];
+    if text.len() > 2 * MOST_COMMAND_PARAMETER_BYTES {
         return None;
     }
     let bytes = hex_bytes(text, &mut room)?;
@@ -458,7 +454,7 @@ fn params_of(text: &[u8]) -> Option<ArrayVec<u8, MOST_PARAMS>>
 }
 
 /// The parameters that the options give, none where they are not given.
-fn params_in(words: &ArgMatches<'_>) -> Option<ArrayVec<u8, MOST_PARAMS>>
+fn params_in(words: &ArgMatches<'_>) -> Option<ArrayVec<u8, MOST_COMMAND_PARAMETER_BYTES>>
     ensures { option_map array_items result ≡ params_given words.now }
 {
     match text_of(words, "params") {

@@ -7,7 +7,7 @@ use Rattle.oca_tree.proofs.answer.lies_in.Given as goal
 abbrev pub invariant-loop : goal.invariant-loop
 invariant-loop l = record {
   within : l.current < length l.objects.list;
-  same : (d : Object) → is_listed l.objects.list (get_or l.objects.list l.block d).ono.0 true (get_or l.objects.list l.current d)
-      ≡ is_listed l.objects.list (get_or l.objects.list l.block d).ono.0 true (get_or l.objects.list l.fn.at d);
+  same : (d : Object) → is_listed l.objects.list (get_or l.objects.list l.place d).ono.0 true (get_or l.objects.list l.current d)
+      ≡ is_listed l.objects.list (get_or l.objects.list l.place d).ono.0 true (get_or l.objects.list l.fn.at d);
   earlier : l.counter + l.current ≤ l.fn.at;
 }

@@ -5,7 +5,7 @@ use Rattle.oca_pdu.specs.Datagrams.{datagram_messages, messages_left}
 use Rattle.oca_device.specs.Notes.{Admitted}
 use Rattle.oca_device.specs.States.{noted}
 use Rattle.oca_device.specs.Devices.{IsIn}
-use Rattle.oca_device.specs.PrivateServing.{ServesAll, IsShort}
+use Rattle.oca_device.specs.PrivateServing.{ServesMessages, IsShort}
 use Rattle.oca_device.proofs.Bounds.{answers_counted, commands_counted, all_short}
 use Rattle.oca_device.proofs.Steps.{refused_whole, taken_whole, admitted_now}
 use Rattle.oca_device.proofs.device.Device.receive.Goals as goal
@@ -44,5 +44,5 @@ returns-then-admit c = λ w s h.
     let serves = c.serve_messages-counts.ensures w (noted p (Admitted ms) s) inside (admitted_now s p ms) in
     taken_whole w c.serve_messages-counts.new.self p c.args.bytes.now ms s c.args.outbox.now c.serve_messages-counts.new.outbox c.serve_messages-counts.result
     c.in-Ok.ensures.reads let_in c.requires.empty
-    (subst (λ (xs : List Msg). ServesAll w c.serve_messages-counts.new.self p xs (noted p (Admitted ms) s) c.args.outbox.now c.serve_messages-counts.new.outbox c.serve_messages-counts.result)
+    (subst (λ (xs : List Msg). ServesMessages w c.serve_messages-counts.new.self p xs (noted p (Admitted ms) s) c.args.outbox.now c.serve_messages-counts.new.outbox c.serve_messages-counts.result)
     c.messages.ensures.all serves)

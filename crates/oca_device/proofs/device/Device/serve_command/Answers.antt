@@ -18,7 +18,7 @@ use Rattle.oca_device.specs.States.{State, judged_in, after_command, reply_of}
 use Rattle.oca_device.specs.Answers.{response, answer_to_command, counts, plus, count_of_command}
 use Rattle.oca_device.specs.Written.{numbers_of, written_by_execution, written_by_command}
 use Rattle.oca_device.specs.Devices.{DeviceState, IsIn}
-use Rattle.oca_device.specs.PrivateServing.{Serves}
+use Rattle.oca_device.specs.PrivateServing.{ServesMessage}
 use Rattle.oca_device.proofs.Opened.{device_with, parts_in, written_in}
 use Rattle.oca_device.proofs.Steps.{executed_there, agrees_there, known_there, one_executed, one_kept, one_old, one_reused}
 use Rattle.oca_device.proofs.device.Device.serve_command.Goals as goal
@@ -37,7 +37,7 @@ answered false before after ms h k = λ groups is. k refl ∙ is
 by_judgement : (w : DeviceSizes) (s : State) (p : Peer) (command : CommandFields) (respond : Bool) (old new : DeviceState) (before after : List (List ℕ)) (n m : Counts)
     (j : Judgement) → j ≡ judged_in w s p command → IsIn w new (after_command j p command s) → new.written ≡ old.written ++ written_by_command j p command s →
     (respond ≡ true → Answered before after (answer_to_command j p command s)) → (respond ≡ false → after ≡ before) →
-    m ≡ plus n (count_of_command j) → Serves w old new p (Command respond command) s before after n m
+    m ≡ plus n (count_of_command j) → ServesMessage w old new p (Command respond command) s before after n m
 by_judgement w s p command respond old new before after n m j is device written with_response without counted = record {
   written = written ∙ ap (λ (x : Judgement). old.written ++ written_by_command x p command s) is;
   device = subst (λ (x : Judgement). IsIn w new (after_command x p command s)) is device;
