@@ -1,4 +1,4 @@
--- Deliveries, replies and reports of one turn and of several.
+-- Deliveries, what is sent for them, and reports of one turn and of several.
 use Rattle.std.proofs.Common.{◌≡◌, ℕ, ◌+◌, ◌≤◌, ◌<◌, Bool, true, false, cond, List, [], ◌∷◌, ◌++◌, length, refl, sym, ap, ◌∙◌, subst, arith, length-append}
 use Rattle.std.specs.Prelude.{nat_lt, nat_le, take, slice_index_or, IsTrue}
 use Rattle.std.proofs.lemmas.Bool.{lt-ltb, le-ltb, le-leb, lt-leb}
@@ -23,7 +23,7 @@ use Rattle.oca_device.specs.Events as event
 use Rattle.oca_device.specs.Answers.{packets, verdict}
 use Rattle.oca_device.specs.Devices.{DeviceState, Represents}
 use Rattle.oca_device.specs.Reports.{no_turns, one_turn, verdict_turn, added, turn_report, events_after, events_after_all, report_of, receives_of}
-use Rattle.oca_device.specs.Replies.{Serves, ServesEnd, replies, replies_to, sent_to}
+use Rattle.oca_device.specs.Replies.{Serves, ServesEnd, sent_in_all, sent_for, sent_to}
 use Rattle.oca_device.specs.Outboxes.{bytes_of_packets}
 use Rattle.oca_device.specs.States.{state_after}
 use Rattle.oca_device.specs.Written as effects
@@ -67,12 +67,12 @@ later_events [] es events = refl
 later_events (d ∷ ds) es events = later_events ds es (events_after d events)
 
 module _ (w : DeviceSizes) (tree : List Object) where
-  later_replies : (ds es : List Delivery) (events : List Event) →
-      replies w tree events (ds ++ es) ≡ replies w tree events ds ++ replies w tree (events_after_all ds events) es
-  later_replies [] es events = refl
-  later_replies (d ∷ ds) es events =
-      ap (λ xs. replies_to w tree events d ++ xs) (later_replies ds es (events_after d events))
-      ∙ sym (append_assoc (replies_to w tree events d) (replies w tree (events_after d events) ds) (replies w tree (events_after_all ds (events_after d events)) es))
+  later_sent : (ds es : List Delivery) (events : List Event) →
+      sent_in_all w tree events (ds ++ es) ≡ sent_in_all w tree events ds ++ sent_in_all w tree (events_after_all ds events) es
+  later_sent [] es events = refl
+  later_sent (d ∷ ds) es events =
+      ap (λ xs. sent_for w tree events d ++ xs) (later_sent ds es (events_after d events))
+      ∙ sym (append_assoc (sent_for w tree events d) (sent_in_all w tree (events_after d events) ds) (sent_in_all w tree (events_after_all ds (events_after d events)) es))
 
   later_reports : (ds es : List Delivery) (events : List Event) →
       report_of w tree events (ds ++ es) ≡ added (report_of w tree events ds) (report_of w tree (events_after_all ds events) es)
@@ -134,7 +134,7 @@ turns_none d e =
       serves = nothing_served d;
       telling = ends.telling;
       delivered = ends.grew;
-      replied = λ _ w tree events h. takes_none e.taken e.taken refl;
+      sent = λ _ w tree events h. takes_none e.taken e.taken refl;
       failures = ends.failures;
     }
 
@@ -147,9 +147,9 @@ turns_more {a} {b} {c} {e} {f} {g} {r} {s} x y =
       serves = serves_more a b c x.deliveries y.deliveries r s x.serves y.serves;
       telling = ends.telling;
       delivered = ends.grew;
-      replied = λ told w tree events h.
-          subst (λ (xs : List Sent). TakesAllBut (r.failed_sends + s.failed_sends) e.taken g.taken xs) (sym (later_replies w tree x.deliveries y.deliveries events))
-          (takes_more (x.replied told w tree events h) (y.replied (x.telling ∙ told) w tree (events_after_all x.deliveries events) (x.serves.represents w tree events h)));
+      sent = λ told w tree events h.
+          subst (λ (xs : List Sent). TakesAllBut (r.failed_sends + s.failed_sends) e.taken g.taken xs) (sym (later_sent w tree x.deliveries y.deliveries events))
+          (takes_more (x.sent told w tree events h) (y.sent (x.telling ∙ told) w tree (events_after_all x.deliveries events) (x.serves.represents w tree events h)));
       failures = ends.failures;
     }
 
@@ -162,8 +162,8 @@ turns_closed {a} {b} {c} {e} {f} {g} {r = r} x y =
       serves = subst (λ (d : DeviceState). Serves x.deliveries a d r) (sym y.device) x.serves;
       telling = ends.telling;
       delivered = ends.grew;
-      replied = λ told w tree events h.
-          subst (λ (t : List Sent). TakesAllBut r.failed_sends e.taken t (replies w tree events x.deliveries)) (sym (y.received.taken (x.telling ∙ told))) (x.replied told w tree events h);
+      sent = λ told w tree events h.
+          subst (λ (t : List Sent). TakesAllBut r.failed_sends e.taken t (sent_in_all w tree events x.deliveries)) (sym (y.received.taken (x.telling ∙ told))) (x.sent told w tree events h);
       failures = ends.failures;
     }
 
@@ -238,13 +238,13 @@ verdict_one (verdicts.Served n k o r) = (refl, refl)
 verdict_one (verdicts.Malformed fault) = (refl, refl)
 verdict_one verdicts.NoRoom = (refl, refl)
 
--- a turn: one delivery was heard, and the replies to it were sent
+-- a turn: one delivery was heard, and what it asks for was sent
 heard_one : (x : Delivery) {h : Heard} {bytes : List ℕ} {all : List Sent} {old new : DeviceState} {before mid after : EndState} {idle moved : ElectronicsState} {r : Report} →
     Receives h bytes before mid → SendsAllBut r.failed_sends mid after all →
     (IsTrue before.tells → mid.delivered ≡ before.delivered ++ x ∷ []) → r.failed_receives ≡ cond (is_failed h) 1 0 → r.turns ≡ 1 →
     ((w : DeviceSizes) (tree : List Object) (events : List Event) → Represents w old tree events → Represents w new tree (events_after x events)) →
     ((w : DeviceSizes) (tree : List Object) (events : List Event) → Represents w old tree events → r ≡ record (turn_report w tree events x) { failed_sends = r.failed_sends }) →
-    ((w : DeviceSizes) (tree : List Object) (events : List Event) → Represents w old tree events → all ≡ replies_to w tree events x) →
+    ((w : DeviceSizes) (tree : List Object) (events : List Event) → Represents w old tree events → all ≡ sent_for w tree events x) →
     moved.tells ≡ idle.tells →
     (IsTrue idle.tells → (w : DeviceSizes) (tree : List Object) (events : List Event) → Represents w old tree events → moved.followed ≡ idle.followed ++ handed_of w tree events x) →
     ServesTurn old new before after idle moved r
@@ -255,8 +255,8 @@ heard_one x {h} {bytes} {all} {old} {new} {before} {mid} {after} {idle} {moved} 
       serves = one_served x old new r one represents reported;
       telling = ends.telling;
       delivered = ends.grew;
-      replied = λ told w tree events rep.
-          subst (λ (xs : List Sent). TakesAllBut r.failed_sends before.taken after.taken xs) (replies_are w tree events rep ∙ sym (append-nil (replies_to w tree events x)))
+      sent = λ told w tree events rep.
+          subst (λ (xs : List Sent). TakesAllBut r.failed_sends before.taken after.taken xs) (replies_are w tree events rep ∙ sym (append-nil (sent_for w tree events x)))
           (subst (λ (t : List Sent). TakesAllBut r.failed_sends t after.taken all) (heard.taken told) (sent.taken (heard.telling ∙ told)));
       failures = ends.failures;
     } in

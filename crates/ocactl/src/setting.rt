@@ -4,12 +4,11 @@ ghost use Rattle.oca_types.specs.Sizes.{span_size};
 ghost use Rattle.ocactl.specs.Hands.{SetCommand, BeginsSet, EndsIn, on_ok, said, carried_out};
 ghost use Rattle.ocactl.specs.PrivateHands.{wish_of, command_of, WaitsForFirst, WaitsOn, SetsOn, SetsEachTo};
 
-use super::commands::refused;
 use super::hands::tell_fared;
 use super::talk::{Talk, Trouble, done_in};
 use super::told::graver;
 use arrayvec::ArrayVec;
-use oca_control::{ControlFault, Outcome};
+use oca_control::{ControlFault, Outcome, refused};
 use oca_net::End;
 use oca_script::{Printer, Sink, WriteFailed};
 use oca_types::{Handle, Ono, Span};
