@@ -6,6 +6,7 @@ use Rattle.std.proofs.lemmas.List.{append_assoc, length-append, map-append, leng
 use Rattle.std.proofs.lemmas.List.Sums.{fold-append}
 use Rattle.oca_types.specs.declared.class.Class.{Class}
 use Rattle.oca_types.specs.declared.class.Method.{Method}
+use Rattle.oca_types.specs.declared.words.Ono.{Ono}
 use Rattle.oca_types.specs.Peers.{RequestFields}
 use Rattle.oca_script.specs.declared.fault.WriteFailed.{WriteFailed}
 use Rattle.oca_script.specs.Ends.{Output}
@@ -15,13 +16,15 @@ use Rattle.oca_control.specs.declared.outcome.Outcome.{Outcome}
 use Rattle.oca_values.specs.declared.request.Request.{Request}
 use Rattle.oca_values.specs.Values.{request_to, Asks, AsksFor}
 use Rattle.oca_values.specs.declared.value.Value.{Value}
+use Rattle.oca_values.specs.declared.value.Value.TheVariants as values
+use Rattle.oca_values.specs.Words.{word_of}
 use Rattle.ocactl.specs.declared.hands.Pair.{Pair}
 use Rattle.ocactl.specs.declared.hands.Search.{Search}
 use Rattle.ocactl.specs.declared.setting.Wish.{Wish}
 use Rattle.ocactl.specs.declared.setting.Setting.{Setting}
 use Rattle.ocactl.specs.declared.talk.Trouble.{Trouble}
-use Rattle.ocactl.specs.Hands.{Calls, ReadsWith, ReadsBy, TalkState, FindsValue, FindsAll, NoneSought, OneFound, OneMissed, SetCommand, BeginsSet, EndsIn, SetsUpTo, NoneBegun, OneBegun, OneFared, SetsInTurn, SetsAll, wish_in, fared_by, fared_status, fared_line, fared_lines, graver_of}
-use Rattle.ocactl.specs.PrivateHands.{pair_of, wish_of, command_of, is_none, TellsAll, TellsNext, FindsAllTo, AddsFound, FindsOneTo, SoFar, WaitsOn, SetsOn, WaitsForFirst, SetsEachTo}
+use Rattle.ocactl.specs.Hands.{on_ok, Calls, ReadsWith, ReadsBy, TalkState, FindsValue, FindsAll, NoneSought, OneFound, OneMissed, SetCommand, BeginsSet, EndsIn, SetsUpTo, NoneBegun, OneBegun, OneFared, SetsInTurn, SetsAll, ReadsValue, AsksName, named, TellsValue, Gets, OneAsked, NoneAsked, AsksAll, wish_in, fared_by, fared_status, fared_line, fared_lines, graver_of}
+use Rattle.ocactl.specs.PrivateHands.{number_of, pair_of, wish_of, command_of, is_none, TellsFared, TellsAll, TellsOne, TellsNext, FindsAllTo, AddsFound, FindsOneTo, SoFar, WaitsOn, SetsOn, WaitsForFirst, SetsEachTo}
 use Rattle.ocactl.proofs.TurnLemmas.{middle, in-turn}
 
 module _ {A B : Type 0} (f : A → B) where
@@ -33,19 +36,19 @@ module _ {A B : Type 0} (f : A → B) where
 
 -- ---- what is told
 
-is_none-more : (missed : List (ℕ × Result Value Trouble)) (one : ℕ × Result Value Trouble) → is_none (missed ++ one ∷ []) ≡ false
+is_none-more : (missed : List (ℕ × Result (List ℕ) Trouble)) (one : ℕ × Result (List ℕ) Trouble) → is_none (missed ++ one ∷ []) ≡ false
 is_none-more [] one = refl
 is_none-more (m ∷ missed) one = refl
 
 pub tells-none : (a : Output) → TellsAll [] 0 a a
 tells-none a = record { worst = refl; prints = PrintsAll-nil a }
 
-pub tells-next : (fared : List (ℕ × Result Value Trouble)) (one : ℕ × Result Value Trouble) (status now : ℕ) (a b c : Output)
+pub tells-next : (fared : List (ℕ × Result (List ℕ) Trouble)) (one : ℕ × Result (List ℕ) Trouble) (status now : ℕ) (a b c : Output)
     → TellsAll fared status a b → TellsNext one status now b c → TellsAll (fared ++ one ∷ []) now a c
 tells-next fared one status now a b c h k = record {
   worst =
       k.worst ∙ ap (λ (n : ℕ). graver_of n (fared_status one.1)) h.worst
-      ∙ sym (fold-append (λ (n : ℕ) (f : ℕ × Result Value Trouble). graver_of n (fared_status f.1)) 0 fared (one ∷ []));
+      ∙ sym (fold-append (λ (n : ℕ) (f : ℕ × Result (List ℕ) Trouble). graver_of n (fared_status f.1)) 0 fared (one ∷ []));
   prints = subst (PrintsAll a c) (flat_map_more fared_line [] fared one) (PrintsAll-then a b c (fared_lines fared) (fared_line one) h.prints k.prints);
 }
 
@@ -197,13 +200,25 @@ set-done ahead ws i r s t x left m (Ok n) a b c end so w none =
     subst (λ (xs : List Wish). SetsEachTo ahead (map wish_of xs) n r t a c) (take_all i ws end) (set-all ahead (map wish_of (take i ws)) r s t x left m n a b c so w none)
 set-done ahead ws i r s t x left m (Err e) a b c end so w none = tt
 
+word-set : (value : Value) (done : Result Unit Trouble) → on_ok word_of (on_ok (λ (u : Unit). value) done) ≡ on_ok (λ (u : Unit). word_of value) done
+word-set value (Ok u) = refl
+word-set value (Err why) = refl
+
+pub told-set : (value : Value) (target status own now : ℕ) (done : Result Unit Trouble) (fared : Result Value Trouble) (a b : Output)
+    → fared ≡ on_ok (λ (u : Unit). value) done → TellsFared (target, on_ok word_of fared) own a b → now ≡ graver_of status own
+    → TellsNext (target, on_ok (λ (u : Unit). word_of value) done) status now a b
+told-set value target status own now done fared a b is told worst =
+    let word : on_ok word_of fared ≡ on_ok (λ (u : Unit). word_of value) done = ap (on_ok word_of) is ∙ word-set value done in
+    subst (λ (one : Result (List ℕ) Trouble). TellsNext (target, one) status now a b) word
+    (record { worst = worst ∙ ap (graver_of status) told.0; prints = told.1 })
+
 -- ---- all of it
 
 pub sets-found : (ahead : ℕ) (pairs : List (ℕ × List ℕ)) (wishes : List Wish) (search : Search) (status : ℕ) (r s t : TalkState) (a b c : Output)
     → FindsAllTo pairs wishes search r s a b → search.all ≡ true → SetsEachTo ahead (map wish_of wishes) status s t b c → SetsAll ahead pairs r t status a c
 sets-found ahead pairs wishes search status r s t a b c f all e = found f.missed f.finds (sym f.all ∙ all) f.tells
   where
-    found : (missed : List (ℕ × Result Value Trouble)) → FindsAll pairs (map wish_of wishes) missed r s → is_none missed ≡ true → TellsAll missed search.status a b
+    found : (missed : List (ℕ × Result (List ℕ) Trouble)) → FindsAll pairs (map wish_of wishes) missed r s → is_none missed ≡ true → TellsAll missed search.status a b
         → SetsAll ahead pairs r t status a c
     found [] finds is tells = record {
       wishes = map wish_of wishes;
@@ -224,7 +239,7 @@ pub sets-nothing : (ahead : ℕ) (pairs : List (ℕ × List ℕ)) (wishes : List
     → FindsAllTo pairs wishes search r s a b → search.all ≡ false → SetsAll ahead pairs r s search.status a b
 sets-nothing ahead pairs wishes search r s a b f all = found f.missed f.finds (sym f.all ∙ all) f.tells
   where
-    found : (missed : List (ℕ × Result Value Trouble)) → FindsAll pairs (map wish_of wishes) missed r s → is_none missed ≡ false → TellsAll missed search.status a b
+    found : (missed : List (ℕ × Result (List ℕ) Trouble)) → FindsAll pairs (map wish_of wishes) missed r s → is_none missed ≡ false → TellsAll missed search.status a b
         → SetsAll ahead pairs r s search.status a b
     found [] finds is tells = absurd (not-false is)
       where
@@ -240,6 +255,62 @@ sets-nothing ahead pairs wishes search r s a b f all = found f.missed f.finds (s
       worst = tells.worst;
       prints = tells.prints;
     }
+
+-- ---- objects that are read or locked
+
+module _ (One : ℕ → TalkState → TalkState → Result (List ℕ) Trouble → Type 0) where
+  pub asked-none : (s : TalkState) (a : Output) → AsksAll One [] s s 0 a a
+  asked-none s a = record { fared = []; turns = NoneAsked; worst = refl; prints = PrintsAll-nil a }
+
+  asked-more : (targets : List ℕ) (target status own now : ℕ) (r s t : TalkState) (a b c : Output)
+      → AsksAll One targets r s status a b → TellsOne One target own s t b c → now ≡ graver_of status own → AsksAll One (targets ++ target ∷ []) r t now a c
+  asked-more targets target status own now r s t a b c h k worst =
+      let told : TellsNext (target, k.told) status now b c = record { worst = worst ∙ ap (graver_of status) k.tells.0; prints = k.tells.1 } in
+      let all : TellsAll (h.fared ++ (target, k.told) ∷ []) now a c =
+      tells-next h.fared (target, k.told) status now a b c (record { worst = h.worst; prints = h.prints }) told in
+      record {
+        fared = h.fared ++ (target, k.told) ∷ [];
+        turns = OneAsked target k.told h.turns k.asks;
+        worst = all.worst;
+        prints = all.prints;
+      }
+
+  -- the first objects and the next one
+  pub asked-next : (onos : List Ono) (i : ℕ) (d : Ono) (status own now : ℕ) (r s t : TalkState) (a b c : Output) → i < length onos
+      → AsksAll One (map number_of (take i onos)) r s status a b → TellsOne One (number_of (get_or onos i d)) own s t b c → now ≡ graver_of status own
+      → AsksAll One (map number_of (take (i + 1) onos)) r t now a c
+  asked-next onos i d status own now r s t a b c h x y worst =
+      subst (λ (ns : List ℕ). AsksAll One ns r t now a c) (sym (map-take number_of onos i d h))
+      (asked-more (map number_of (take i onos)) (number_of (get_or onos i d)) status own now r s t a b c x y worst)
+
+-- a value that is no position is told by its word
+plain-value : (value : Value) (target : ℕ) (s : TalkState) → ((n : ℕ) → value ≡ values.Switch n → ⊥) → TellsValue value target s s (Ok (word_of value))
+plain-value (values.Mute v) target s other = (refl, refl)
+plain-value (values.Polarity v) target s other = (refl, refl)
+plain-value (values.Switch v) target s other = absurd (other v refl)
+plain-value (values.Boolean v) target s other = (refl, refl)
+plain-value (values.Int8 v) target s other = (refl, refl)
+plain-value (values.Int16 v) target s other = (refl, refl)
+plain-value (values.Int32 v) target s other = (refl, refl)
+plain-value (values.Int64 v) target s other = (refl, refl)
+plain-value (values.Uint8 v) target s other = (refl, refl)
+plain-value (values.Uint16 v) target s other = (refl, refl)
+plain-value (values.Uint32 v) target s other = (refl, refl)
+plain-value (values.Uint64 v) target s other = (refl, refl)
+
+pub value-told : (value : Value) (target : ℕ) (q : Result ℕ WriteFailed) (s : TalkState) (a b : Output) → ((n : ℕ) → value ≡ values.Switch n → ⊥)
+    → IfOk q (λ n. TellsFared (target, Ok (word_of value)) n a b) → IfOk q (λ n. TellsOne (TellsValue value) target n s s a b)
+value-told value target (Ok n) s a b other h = record { told = Ok (word_of value); asks = plain-value value target s other; tells = h }
+value-told value target (Err e) s a b other h = tt
+
+pub position-told : (n target : ℕ) (name : Result (List ℕ) Trouble) (text : List ℕ) (old new : TalkState) (a b : Output)
+    → AsksName target n old new name → text ≡ named (word_of (values.Switch n)) name → PrintsAll a b (fared_line (target, Ok text)) → TellsOne (TellsValue (values.Switch n)) target 0 old new a b
+position-told n target name text old new a b h is prints = record { told = Ok text; asks = (name, h, ap Ok is); tells = (refl, prints) }
+
+pub not-read : (why : Trouble) (target : ℕ) (q : Result ℕ WriteFailed) (old new : TalkState) (a b : Output)
+    → ReadsValue target old new (Err why) → IfOk q (λ n. TellsFared (target, Err why) n a b) → IfOk q (λ n. TellsOne Gets target n old new a b)
+not-read why target (Ok n) old new a b h told = record { told = Err why; asks = (Err why, new, h, (refl, refl)); tells = told }
+not-read why target (Err e) old new a b h told = tt
 
 -- ---- requests by class
 

@@ -51,12 +51,12 @@ sets-both c o r s t b e = record {
 }
 
 -- all that were submitted were waited for
-record AllFared (begun : List SetCommand) (fared : List (ℕ × Result Value Trouble)) (r s : TalkState) : Type 0 where
+record AllFared (begun : List SetCommand) (fared : List (ℕ × Result (List ℕ) Trouble)) (r s : TalkState) : Type 0 where
   pub same : length begun ≡ length fared
   pub turn : SetsInTurn (map wish_in begun) fared r s
 
 -- all but the last
-record OneOpen (begun : List SetCommand) (fared : List (ℕ × Result Value Trouble)) (r s : TalkState) : Type 0 where
+record OneOpen (begun : List SetCommand) (fared : List (ℕ × Result (List ℕ) Trouble)) (r s : TalkState) : Type 0 where
   pub front : List SetCommand
   pub last : SetCommand
   pub mid : TalkState
@@ -65,7 +65,7 @@ record OneOpen (begun : List SetCommand) (fared : List (ℕ × Result Value Trou
   pub turn : SetsInTurn (map wish_in front) fared r mid
   pub begins : BeginsSet last mid s
 
-begun-more : (begun : List SetCommand) (fared : List (ℕ × Result Value Trouble)) (c : SetCommand) (r s t : TalkState)
+begun-more : (begun : List SetCommand) (fared : List (ℕ × Result (List ℕ) Trouble)) (c : SetCommand) (r s t : TalkState)
     → AllFared begun fared r s ⊎ OneOpen begun fared r s → length begun < length fared + 1 → BeginsSet c s t
     → AllFared (begun ++ c ∷ []) fared r t ⊎ OneOpen (begun ++ c ∷ []) fared r t
 begun-more begun fared c r s t (inl all) few b = inr (record { front = begun; last = c; mid = s; whole = refl; same = all.same; turn = all.turn; begins = b })
@@ -73,7 +73,7 @@ begun-more begun fared c r s t (inr one) few b =
     let size : length begun ≡ length fared + 1 = ap length one.whole ∙ length-append one.front (one.last ∷ []) ∙ ap (λ (n : ℕ). n + 1) one.same in
     absurd (omega (arith, size, few))
 
-fared-more : (begun : List SetCommand) (fared : List (ℕ × Result Value Trouble)) (c : SetCommand) (o : Outcome) (r s t : TalkState)
+fared-more : (begun : List SetCommand) (fared : List (ℕ × Result (List ℕ) Trouble)) (c : SetCommand) (o : Outcome) (r s t : TalkState)
     → AllFared begun fared r s ⊎ OneOpen begun fared r s → slice_get begun (length fared) ≡ Some c → EndsIn c.answer s t o
     → AllFared begun (fared ++ fared_by c o ∷ []) r t
 fared-more begun fared c o r s t (inl all) at e =
@@ -92,19 +92,19 @@ fared-more begun fared c o r s t (inr one) at e =
           (OneSet c.target c.value (carried_out (said o)) one.turn (sets-both c o one.mid s t begins e));
     }
 
-turns : {begun : List SetCommand} {fared : List (ℕ × Result Value Trouble)} {r s : TalkState} → SetsUpTo 1 begun fared r s → AllFared begun fared r s ⊎ OneOpen begun fared r s
+turns : {begun : List SetCommand} {fared : List (ℕ × Result (List ℕ) Trouble)} {r s : TalkState} → SetsUpTo 1 begun fared r s → AllFared begun fared r s ⊎ OneOpen begun fared r s
 turns NoneBegun = inl (record { same = refl; turn = NoneSet })
 turns (OneBegun {begun = begun} {fared = fared} {r = r} {s = s} {t = t} c h few b) = begun-more begun fared c r s t (turns h) few b
 turns (OneFared {begun = begun} {fared = fared} {r = r} {s = s} {t = t} c o h at e) = inl (fared-more begun fared c o r s t (turns h) at e)
 
-all-turns : (begun : List SetCommand) (fared : List (ℕ × Result Value Trouble)) (r s : TalkState)
+all-turns : (begun : List SetCommand) (fared : List (ℕ × Result (List ℕ) Trouble)) (r s : TalkState)
     → AllFared begun fared r s ⊎ OneOpen begun fared r s → length begun ≡ length fared → SetsInTurn (map wish_in begun) fared r s
 all-turns begun fared r s (inl all) same = all.turn
 all-turns begun fared r s (inr one) same =
     let size : length begun ≡ length fared + 1 = ap length one.whole ∙ length-append one.front (one.last ∷ []) ∙ ap (λ (n : ℕ). n + 1) one.same in
     absurd (omega (arith, size, same))
 
-pub in-turn : (ahead : ℕ) (begun : List SetCommand) (fared : List (ℕ × Result Value Trouble)) (r s : TalkState)
+pub in-turn : (ahead : ℕ) (begun : List SetCommand) (fared : List (ℕ × Result (List ℕ) Trouble)) (r s : TalkState)
     → SetsUpTo ahead begun fared r s → length begun ≡ length fared → ahead ≡ 1 → SetsInTurn (map wish_in begun) fared r s
 in-turn ahead begun fared r s h same one =
     let single : SetsUpTo 1 begun fared r s = subst (λ (n : ℕ). SetsUpTo n begun fared r s) one h in

@@ -1,5 +1,5 @@
 -- What is asked of objects in words, and what answers say of them (AES70-2; the words are the profile's).
-use Rattle.std.specs.Prelude.{◌≡◌, ◌≤◌, ◌<◌, ◌+◌, ℕ, ◌==◌, ◌||◌, if◌then◌else◌, List, [], ◌∷◌, ◌++◌, length, map, codes, decimal, Option, Some, None, Result, Ok, Err}
+use Rattle.std.specs.Prelude.{◌≡◌, ◌≤◌, ◌<◌, ◌+◌, ℕ, Bool, true, false, ◌==◌, ◌||◌, if◌then◌else◌, List, [], ◌∷◌, ◌++◌, length, map, codes, decimal, Option, Some, None, Result, Ok, Err}
 use Rattle.std.specs.List.{position, flat_map, fold, slice_get}
 use Rattle.std.specs.Str.{bytes_eq}
 use Rattle.oca_types.specs.declared.class.Class.{Class}
@@ -303,33 +303,33 @@ graver_of a b =
 
 -- ---- several objects
 
--- what is told of an object: its value, or why it has not the one that was asked for
-abbrev pub fared_text : Result Value Trouble → List ℕ
-fared_text (Ok value) = word_of value
+-- what is told of an object: its word, or why it is not as it was asked for
+abbrev pub fared_text : Result (List ℕ) Trouble → List ℕ
+fared_text (Ok word) = word
 fared_text (Err why) = trouble_text why
 
-abbrev pub fared_line : ℕ × Result Value Trouble → List ℕ
+abbrev pub fared_line : ℕ × Result (List ℕ) Trouble → List ℕ
 fared_line fared = decimal fared.0 ++ codes " " ++ fared_text fared.1 ++ codes "\n"
 
-abbrev pub fared_status : Result Value Trouble → ℕ
-fared_status (Ok value) = 0
+abbrev pub fared_status : Result (List ℕ) Trouble → ℕ
+fared_status (Ok word) = 0
 fared_status (Err why) = trouble_status why
 
 -- the lines of several, and the gravest of their exit statuses
-abbrev pub fared_lines : List (ℕ × Result Value Trouble) → List ℕ
+abbrev pub fared_lines : List (ℕ × Result (List ℕ) Trouble) → List ℕ
 fared_lines fared = flat_map fared_line fared
 
-abbrev pub gravest : List (ℕ × Result Value Trouble) → ℕ
+abbrev pub gravest : List (ℕ × Result (List ℕ) Trouble) → ℕ
 gravest fared = fold (λ worst one. graver_of worst (fared_status one.1)) 0 fared
 
 -- The values that words name were found, one after another: those that there are, in order, and the objects for which there is none, and
 -- why.
-pub data FindsAll : List (ℕ × List ℕ) → List (ℕ × Value) → (missed : List (ℕ × Result Value Trouble)) → (old new : TalkState) → Type 0 where
+pub data FindsAll : List (ℕ × List ℕ) → List (ℕ × Value) → (missed : List (ℕ × Result (List ℕ) Trouble)) → (old new : TalkState) → Type 0 where
   NoneSought : {s : TalkState} → FindsAll [] [] [] s s
-  OneFound : {pairs : List (ℕ × List ℕ)} {wishes : List (ℕ × Value)} {missed : List (ℕ × Result Value Trouble)} {r s t : TalkState}
+  OneFound : {pairs : List (ℕ × List ℕ)} {wishes : List (ℕ × Value)} {missed : List (ℕ × Result (List ℕ) Trouble)} {r s t : TalkState}
       (target : ℕ) (word : List ℕ) (value : Value)
       → FindsAll pairs wishes missed r s → FindsValue target word s t (Ok value) → FindsAll (pairs ++ (target, word) ∷ []) (wishes ++ (target, value) ∷ []) missed r t
-  OneMissed : {pairs : List (ℕ × List ℕ)} {wishes : List (ℕ × Value)} {missed : List (ℕ × Result Value Trouble)} {r s t : TalkState}
+  OneMissed : {pairs : List (ℕ × List ℕ)} {wishes : List (ℕ × Value)} {missed : List (ℕ × Result (List ℕ) Trouble)} {r s t : TalkState}
       (target : ℕ) (word : List ℕ) (why : Trouble)
       → FindsAll pairs wishes missed r s → FindsValue target word s t (Err why) → FindsAll (pairs ++ (target, word) ∷ []) wishes (missed ++ (target, Err why) ∷ []) r t
 
@@ -349,28 +349,28 @@ pub record BeginsSet (command : SetCommand) (old new : TalkState) : Type 0 where
   pub begins : BeginsIn request command.answer old new
 
 -- what is told of it, by its outcome
-abbrev pub fared_by : SetCommand → Outcome → ℕ × Result Value Trouble
-fared_by command outcome = (command.target, on_ok (λ done. command.value) (carried_out (said outcome)))
+abbrev pub fared_by : SetCommand → Outcome → ℕ × Result (List ℕ) Trouble
+fared_by command outcome = (command.target, on_ok (λ done. word_of command.value) (carried_out (said outcome)))
 
 -- SET COMMANDS WERE SUBMITTED, one after another, and those that were waited for so far fared so: in the same order, each by its own
 -- handle. Never were more than `ahead` submitted that had not been waited for.
-pub data SetsUpTo (ahead : ℕ) : (begun : List SetCommand) (fared : List (ℕ × Result Value Trouble)) (old new : TalkState) → Type 0 where
+pub data SetsUpTo (ahead : ℕ) : (begun : List SetCommand) (fared : List (ℕ × Result (List ℕ) Trouble)) (old new : TalkState) → Type 0 where
   NoneBegun : {s : TalkState} → SetsUpTo ahead [] [] s s
-  OneBegun : {begun : List SetCommand} {fared : List (ℕ × Result Value Trouble)} {r s t : TalkState} (command : SetCommand)
+  OneBegun : {begun : List SetCommand} {fared : List (ℕ × Result (List ℕ) Trouble)} {r s t : TalkState} (command : SetCommand)
       → SetsUpTo ahead begun fared r s → length begun < length fared + ahead → BeginsSet command s t → SetsUpTo ahead (begun ++ command ∷ []) fared r t
-  OneFared : {begun : List SetCommand} {fared : List (ℕ × Result Value Trouble)} {r s t : TalkState} (command : SetCommand) (outcome : Outcome)
+  OneFared : {begun : List SetCommand} {fared : List (ℕ × Result (List ℕ) Trouble)} {r s t : TalkState} (command : SetCommand) (outcome : Outcome)
       → SetsUpTo ahead begun fared r s → slice_get begun (length fared) ≡ Some command → EndsIn command.answer s t outcome
       → SetsUpTo ahead begun (fared ++ fared_by command outcome ∷ []) r t
 
 -- Objects were set to values, one after another in this order, and fared so.
-pub data SetsInTurn : List (ℕ × Value) → (fared : List (ℕ × Result Value Trouble)) → (old new : TalkState) → Type 0 where
+pub data SetsInTurn : List (ℕ × Value) → (fared : List (ℕ × Result (List ℕ) Trouble)) → (old new : TalkState) → Type 0 where
   NoneSet : {s : TalkState} → SetsInTurn [] [] s s
-  OneSet : {wishes : List (ℕ × Value)} {fared : List (ℕ × Result Value Trouble)} {r s t : TalkState} (target : ℕ) (value : Value) (result : Result Unit Trouble)
+  OneSet : {wishes : List (ℕ × Value)} {fared : List (ℕ × Result (List ℕ) Trouble)} {r s t : TalkState} (target : ℕ) (value : Value) (result : Result Unit Trouble)
       → SetsInTurn wishes fared r s → SetsValue target value s t result
-      → SetsInTurn (wishes ++ (target, value) ∷ []) (fared ++ (target, on_ok (λ done. value) result) ∷ []) r t
+      → SetsInTurn (wishes ++ (target, value) ∷ []) (fared ++ (target, on_ok (λ done. word_of value) result) ∷ []) r t
 
 -- Each of these wishes was submitted, in this order, and each was waited for. One at a time: each was asked, and answered before the next.
-pub record SetsEach (ahead : ℕ) (wishes : List (ℕ × Value)) (fared : List (ℕ × Result Value Trouble)) (old new : TalkState) : Type 0 where
+pub record SetsEach (ahead : ℕ) (wishes : List (ℕ × Value)) (fared : List (ℕ × Result (List ℕ) Trouble)) (old new : TalkState) : Type 0 where
   pub begun : List SetCommand
   pub sets : SetsUpTo ahead begun fared old new
   pub every : map wish_in begun ≡ wishes
@@ -378,7 +378,7 @@ pub record SetsEach (ahead : ℕ) (wishes : List (ℕ × Value)) (fared : List (
   pub one_at_a_time : ahead ≡ 1 → SetsInTurn wishes fared old new
 
 -- where there is a value for each, they are set; else nothing is, and it is told of which there is none
-abbrev pub SetsWhere : ℕ → List (ℕ × Value) → (missed fared : List (ℕ × Result Value Trouble)) → TalkState → TalkState → Type 0
+abbrev pub SetsWhere : ℕ → List (ℕ × Value) → (missed fared : List (ℕ × Result (List ℕ) Trouble)) → TalkState → TalkState → Type 0
 SetsWhere ahead wishes [] fared old new = SetsEach ahead wishes fared old new
 SetsWhere ahead wishes (m ∷ missed) fared old new = (fared ≡ m ∷ missed) × (new ≡ old)
 
@@ -386,11 +386,49 @@ SetsWhere ahead wishes (m ∷ missed) fared old new = (fared ≡ m ∷ missed) �
 -- line of each that fared in some way was printed, in the order of the words, and the exit status is the gravest.
 pub record SetsAll (ahead : ℕ) (pairs : List (ℕ × List ℕ)) (old new : TalkState) (status : ℕ) (was is : Output) : Type 0 where
   pub wishes : List (ℕ × Value)
-  pub missed : List (ℕ × Result Value Trouble)
-  pub fared : List (ℕ × Result Value Trouble)
+  pub missed : List (ℕ × Result (List ℕ) Trouble)
+  pub fared : List (ℕ × Result (List ℕ) Trouble)
   pub between : TalkState
   pub finds : FindsAll pairs wishes missed old between
   pub sets : SetsWhere ahead wishes missed fared between new
+  pub worst : status ≡ gravest fared
+  pub prints : PrintsAll was is (fared_lines fared)
+
+-- ---- objects that are read or locked
+
+-- Of an object it is told that it is locked, or that it is not any more, or why not: by LockTotal or Unlock.
+abbrev pub Locks : Bool → ℕ → TalkState → TalkState → Result (List ℕ) Trouble → Type 0
+Locks true target old new told = (done : Result Unit Trouble) × DoesCall (lock_total target) old new done × (told ≡ on_ok (λ u. codes "locked") done)
+Locks false target old new told = (done : Result Unit Trouble) × DoesCall (unlocking target) old new done × (told ≡ on_ok (λ u. codes "unlocked") done)
+
+-- a word, and the name behind it where there is one
+abbrev pub named : List ℕ → Result (List ℕ) Trouble → List ℕ
+named word (Ok name) = word ++ codes " " ++ name
+named word (Err why) = word
+
+-- Of a value its word is told; of a switch's position its name was asked, which is told too.
+abbrev pub TellsValue : Value → ℕ → TalkState → TalkState → Result (List ℕ) Trouble → Type 0
+TellsValue (values.Switch n) target old new told = (name : Result (List ℕ) Trouble) × AsksName target n old new name × (told ≡ Ok (named (word_of (values.Switch n)) name))
+TellsValue value target old new told = (new ≡ old) × (told ≡ Ok (word_of value))
+
+abbrev pub TellsRead : Result Value Trouble → ℕ → TalkState → TalkState → Result (List ℕ) Trouble → Type 0
+TellsRead (Ok value) target old new told = TellsValue value target old new told
+TellsRead (Err why) target old new told = (new ≡ old) × (told ≡ Err why)
+
+-- Of an object its value was read, and is told.
+abbrev pub Gets : ℕ → TalkState → TalkState → Result (List ℕ) Trouble → Type 0
+Gets target old new told = (read : Result Value Trouble) × (s : TalkState) × ReadsValue target old s read × TellsRead read target s new told
+
+-- One thing was asked of objects, one after another in this order, and this is told of them.
+pub data InTurn (One : ℕ → TalkState → TalkState → Result (List ℕ) Trouble → Type 0) : List ℕ → (fared : List (ℕ × Result (List ℕ) Trouble)) → (old new : TalkState) → Type 0 where
+  NoneAsked : {s : TalkState} → InTurn One [] [] s s
+  OneAsked : {targets : List ℕ} {fared : List (ℕ × Result (List ℕ) Trouble)} {r s t : TalkState} (target : ℕ) (told : Result (List ℕ) Trouble)
+      → InTurn One targets fared r s → One target s t told → InTurn One (targets ++ target ∷ []) (fared ++ (target, told) ∷ []) r t
+
+-- ALL OBJECTS WERE ASKED so: the line of each was printed, in their order, and the exit status is the gravest.
+pub record AsksAll (One : ℕ → TalkState → TalkState → Result (List ℕ) Trouble → Type 0) (targets : List ℕ) (old new : TalkState) (status : ℕ) (was is : Output) : Type 0 where
+  pub fared : List (ℕ × Result (List ℕ) Trouble)
+  pub turns : InTurn One targets fared old new
   pub worst : status ≡ gravest fared
   pub prints : PrintsAll was is (fared_lines fared)
 

@@ -1,5 +1,6 @@
 -- For private contracts: objects and values as the program has them, and what is done for one of several.
 use Rattle.std.specs.Prelude.{◌≡◌, ℕ, Bool, true, false, List, [], ◌∷◌, ◌++◌, length, map, Result, Ok, Err}
+use Rattle.oca_types.specs.declared.words.Ono.{Ono}
 use Rattle.oca_script.specs.Ends.{Output}
 use Rattle.oca_script.specs.Printing.{PrintsAll}
 use Rattle.oca_control.specs.declared.outcome.Outcome.{Outcome}
@@ -14,6 +15,9 @@ use Rattle.ocactl.specs.Hands.{TalkState, FindsValue, FindsAll, SetCommand, Ends
 abbrev pub pair_of : Pair → ℕ × List ℕ
 pair_of p = (p.ono.0, p.word)
 
+abbrev pub number_of : Ono → ℕ
+number_of ono = ono.0
+
 abbrev pub wish_of : Wish → ℕ × Value
 wish_of w = (w.ono.0, w.value)
 
@@ -21,27 +25,33 @@ abbrev pub command_of : Setting → SetCommand
 command_of s = record { target = s.wish.ono.0; value = s.wish.value; answer = s.answer }
 
 -- what is told of one object was printed, and this is its status
-abbrev pub TellsFared : ℕ × Result Value Trouble → ℕ → Output → Output → Type 0
+abbrev pub TellsFared : ℕ × Result (List ℕ) Trouble → ℕ → Output → Output → Type 0
 TellsFared fared status was is = (status ≡ fared_status fared.1) × PrintsAll was is (fared_line fared)
 
+-- one object was asked so, and what is told of it was printed
+pub record TellsOne (One : ℕ → TalkState → TalkState → Result (List ℕ) Trouble → Type 0) (target status : ℕ) (old new : TalkState) (was is : Output) : Type 0 where
+  pub told : Result (List ℕ) Trouble
+  pub asks : One target old new told
+  pub tells : TellsFared (target, told) status was is
+
 -- the same behind what was told before
-pub record TellsNext (fared : ℕ × Result Value Trouble) (status now : ℕ) (was is : Output) : Type 0 where
+pub record TellsNext (fared : ℕ × Result (List ℕ) Trouble) (status now : ℕ) (was is : Output) : Type 0 where
   pub worst : now ≡ graver_of status (fared_status fared.1)
   pub prints : PrintsAll was is (fared_line fared)
 
 -- all that was told so far
-pub record TellsAll (fared : List (ℕ × Result Value Trouble)) (status : ℕ) (was is : Output) : Type 0 where
+pub record TellsAll (fared : List (ℕ × Result (List ℕ) Trouble)) (status : ℕ) (was is : Output) : Type 0 where
   pub worst : status ≡ gravest fared
   pub prints : PrintsAll was is (fared_lines fared)
 
 -- ---- values that are sought
 
-abbrev pub is_none : List (ℕ × Result Value Trouble) → Bool
+abbrev pub is_none : List (ℕ × Result (List ℕ) Trouble) → Bool
 is_none [] = true
 is_none (m ∷ missed) = false
 
 pub record FindsAllTo (pairs : List (ℕ × List ℕ)) (wishes : List Wish) (search : Search) (old new : TalkState) (was is : Output) : Type 0 where
-  pub missed : List (ℕ × Result Value Trouble)
+  pub missed : List (ℕ × Result (List ℕ) Trouble)
   pub finds : FindsAll pairs (map wish_of wishes) missed old new
   pub all : search.all ≡ is_none missed
   pub tells : TellsAll missed search.status was is
@@ -61,7 +71,7 @@ FindsOneTo pair wishes search old more now new was is =
 -- the commands that were submitted from a start on, of which these are still waited for, and what was told of the others
 pub record SoFar (ahead : ℕ) (start : TalkState) (before : Output) (wishes : List (ℕ × Value)) (talk : TalkState) (waiting : List SetCommand) (status : ℕ) (is : Output) : Type 0 where
   pub front : List SetCommand
-  pub fared : List (ℕ × Result Value Trouble)
+  pub fared : List (ℕ × Result (List ℕ) Trouble)
   pub sets : SetsUpTo ahead (front ++ waiting) fared start talk
   pub known : length front ≡ length fared
   pub every : map wish_in (front ++ waiting) ≡ wishes
@@ -87,6 +97,6 @@ pub record WaitsForFirst (old new : TalkState) (waiting more : List Setting) (st
 
 -- all wishes were set, and told
 pub record SetsEachTo (ahead : ℕ) (wishes : List (ℕ × Value)) (status : ℕ) (old new : TalkState) (was is : Output) : Type 0 where
-  pub fared : List (ℕ × Result Value Trouble)
+  pub fared : List (ℕ × Result (List ℕ) Trouble)
   pub sets : SetsEach ahead wishes fared old new
   pub tells : TellsAll fared status was is

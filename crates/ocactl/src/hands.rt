@@ -1,8 +1,10 @@
 //! Several objects: read, set, locked, unlocked. Each has its line.
 ghost use Rattle.std.specs.Prelude.{◌≡◌, ◌≤◌, [], map, length, IfOk, Err};
 ghost use Rattle.oca_types.specs.Sizes.{span_size};
-ghost use Rattle.ocactl.specs.Hands.{SetsAll};
-ghost use Rattle.ocactl.specs.PrivateHands.{pair_of, FindsAllTo, FindsOneTo, TellsFared};
+ghost use Rattle.oca_values.specs.declared.value.Value.TheVariants as values;
+ghost use Rattle.oca_values.specs.Words.{word_of};
+ghost use Rattle.ocactl.specs.Hands.{on_ok, TellsValue, Gets, Locks, AsksAll, SetsAll};
+ghost use Rattle.ocactl.specs.PrivateHands.{number_of, pair_of, FindsAllTo, FindsOneTo, TellsFared, TellsOne};
 
 use super::objects::{lock, name_of, unlock, value_of, wanted};
 use super::setting::{Wish, set_wishes};
@@ -27,33 +29,60 @@ pub fn get_all<E: End, W: Sink>(
     talk: &mut Talk<E>,
     onos: &[Ono],
     printer: &mut Printer<W>,
-) -> Result<u8, WriteFailed> {
+) -> Result<u8, WriteFailed>
+    ensures { IfOk result (λ status. AsksAll Gets (map number_of onos.now) talk.old talk.new status printer.old printer.new) }
+{
     let mut status = 0;
     for ono in onos {
-        let read = value_of(talk, *ono);
-        status = graver(status, tell_value(talk, *ono, read, printer)?);
+        status = graver(status, get_one(talk, *ono, printer)?);
     }
     Ok(status)
 }
 
-/// Prints the value of an object, of a switch with the position's name, or why there is none. Returns the exit status.
+/// Reads an object, and prints its value, or why there is none. Returns the exit status.
+fn get_one<E: End, W: Sink>(
+    talk: &mut Talk<E>,
+    ono: Ono,
+    printer: &mut Printer<W>,
+) -> Result<u8, WriteFailed>
+    ensures { IfOk result (λ status. TellsOne Gets ono.0 status talk.old talk.new printer.old printer.new) }
+{
+    match value_of(talk, ono) {
+        Ok(value) => tell_value(talk, ono, value, printer),
+        Err(trouble) => tell_trouble(ono, trouble, printer),
+    }
+}
+
+/// Prints the value of an object, of a switch with the position's name. Returns the exit status.
 fn tell_value<E: End, W: Sink>(
     talk: &mut Talk<E>,
     ono: Ono,
-    read: Result<Value, Trouble>,
+    value: Value,
     printer: &mut Printer<W>,
-) -> Result<u8, WriteFailed> {
-    match read {
-        Ok(Value::Switch(position)) => {
-            let word = word_of(Value::Switch(position));
-            match name_of(talk, ono, position) {
-                Ok(name) => tell(ono, Told::Named(word.as_str(), name.as_str()), printer)?,
-                Err(_) => tell(ono, Told::Word(word.as_str()), printer)?,
-            }
-            Ok(0)
-        }
-        other => tell_fared(ono, other, printer),
+) -> Result<u8, WriteFailed>
+    ensures { IfOk result (λ status. TellsOne (TellsValue value) ono.0 status talk.old talk.new printer.old printer.new) }
+{
+    match value {
+        Value::Switch(position) => tell_position(talk, ono, position, printer),
+        other => tell_fared(ono, Ok(other), printer),
     }
+}
+
+/// Prints the position of a switch, with its name where the switch gives it. Returns the exit status.
+fn tell_position<E: End, W: Sink>(
+    talk: &mut Talk<E>,
+    ono: Ono,
+    position: u16,
+    printer: &mut Printer<W>,
+) -> Result<u8, WriteFailed>
+    ensures { IfOk result (λ status. TellsOne (TellsValue (values.Switch position)) ono.0 status talk.old talk.new printer.old printer.new) }
+{
+    let word = word_of(Value::Switch(position));
+    match name_of(talk, ono, position) {
+        Ok(name) => tell(ono, Told::Named(word.as_str(), name.as_str()), printer)?,
+        Err(_) => tell(ono, Told::Word(word.as_str()), printer)?,
+    }
+    Ok(0)
 }
 
 /// Prints the value of an object, or why it is not as it was asked for. Returns the exit status.
@@ -62,7 +91,7 @@ pub fn tell_fared<W: Sink>(
     fared: Result<Value, Trouble>,
     printer: &mut Printer<W>,
 ) -> Result<u8, WriteFailed>
-    ensures { IfOk result (λ status. TellsFared (ono.0, fared) status printer.old printer.new) }
+    ensures { IfOk result (λ status. TellsFared (ono.0, on_ok word_of fared) status printer.old printer.new) }
 {
     match fared {
         Ok(value) => {
@@ -93,6 +122,7 @@ fn tell_done<W: Sink>(
     printer: &mut Printer<W>,
 ) -> Result<u8, WriteFailed>
     requires { length word.now ≤ 64 }
+    ensures { IfOk result (λ status. TellsFared (ono.0, on_ok (λ u. word.now) done) status printer.old printer.new) }
 {
     match done {
         Ok(()) => {
@@ -187,15 +217,30 @@ pub fn lock_all<E: End, W: Sink>(
     onos: &[Ono],
     locks: bool,
     printer: &mut Printer<W>,
-) -> Result<u8, WriteFailed> {
+) -> Result<u8, WriteFailed>
+    ensures { IfOk result (λ status. AsksAll (Locks locks) (map number_of onos.now) talk.old talk.new status printer.old printer.new) }
+{
     let mut status = 0;
     for ono in onos {
-        let (done, word) = if locks {
-            (lock(talk, *ono), "locked")
-        } else {
-            (unlock(talk, *ono), "unlocked")
-        };
-        status = graver(status, tell_done(*ono, done, word, printer)?);
+        status = graver(status, lock_one(talk, *ono, locks, printer)?);
     }
     Ok(status)
+}
+
+/// Locks an object, or takes its lock off, and prints how it fared. Returns the exit status.
+fn lock_one<E: End, W: Sink>(
+    talk: &mut Talk<E>,
+    ono: Ono,
+    locks: bool,
+    printer: &mut Printer<W>,
+) -> Result<u8, WriteFailed>
+    ensures { IfOk result (λ status. TellsOne (Locks locks) ono.0 status talk.old talk.new printer.old printer.new) }
+{
+    if locks {
+        let done = lock(talk, ono);
+        tell_done(ono, done, "locked", printer)
+    } else {
+        let done = unlock(talk, ono);
+        tell_done(ono, done, "unlocked", printer)
+    }
 }
