@@ -6,9 +6,11 @@ Usage: hands.py BIN     BIN is the folder with `ocactl`
 
 What is to be printed is made here from the objects of the second implementation and the rules of docs/PROTOCOL.md. The
 last line is 'N passed, M failed'."""
+import select
 import socket
 import subprocess
 import sys
+import threading
 
 import oca_profile as oca
 from served import Served
@@ -114,6 +116,23 @@ class Holding(Served):
             self.kept.append(len(self.held))
             self.held = {}
         return said, packets
+
+
+class Late(Served):
+    """The second implementation's device, which hears no set command but the first until it is told to go on."""
+
+    def __init__(self, tree):
+        super().__init__(tree)
+        self.answers, self.first, self.goes_on = self.device.datagram, None, threading.Event()
+        self.device.datagram = self.datagram
+
+    def datagram(self, peer, data, now):
+        for message in oca.check(data):
+            if message[0] == "command" and (message[2].level, message[2].index) in SETS and not self.goes_on.is_set():
+                self.first = self.first or message[2].handle
+                if message[2].handle != self.first:
+                    return "", []
+        return self.answers(peer, data, now)
 
 
 def asked(device):
@@ -244,6 +263,18 @@ def sets_at_once(checks):
         checks.same("set --ahead: both before it at once", device.kept, [2])
 
 
+def tells_at_once(checks):
+    """`set --ahead 2`, and `get` and `lock`: a line is printed as soon as its outcome and those before it are known."""
+    with Late(stagebox()) as device:
+        words = ["set", "--ahead", "2", "--device", f"127.0.0.1:{device.port}", "--port", str(checks.port), "4097", "muted", "4098", "inverted"]
+        with subprocess.Popen([f"{checks.folder}/ocactl", *words], stdout=subprocess.PIPE, text=True, bufsize=1) as run:
+            there = bool(select.select([run.stdout], [], [], 4)[0])
+            checks.same("set --ahead: the first line while the second command waits", there and run.stdout.readline(), "4097 muted\n")
+            device.goes_on.set()
+            checks.same("set --ahead: the rest", run.stdout.read(), "4098 inverted\n")
+            checks.same("set --ahead: the status", run.wait(10), 0)
+
+
 def refusals(checks):
     """Values that a device refuses, by the status's name; words that are for no value, of which nothing is set."""
     tree = stagebox()
@@ -358,7 +389,7 @@ def silence(checks):
 
 def main():
     checks = Checks(sys.argv[1])
-    for part in (trees, gets, sets, sets_at_once, refusals, bad_words, locks, strange_answers, silence):
+    for part in (trees, gets, sets, sets_at_once, tells_at_once, refusals, bad_words, locks, strange_answers, silence):
         try:
             part(checks)
         except (OSError, KeyError, subprocess.TimeoutExpired) as fault:

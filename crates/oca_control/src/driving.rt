@@ -45,8 +45,8 @@ pub fn drive<E: End>(link: &mut Link, end: &mut E, turns: u32) -> DriveReport
 /// Hands the end all that is due at this moment, for the device, and returns what was handed over; `turns` is 0.
 ///
 /// `due` is called at this moment until it returns `Nothing` or `Lost`, and at most once more than the span has
-/// handles: these are all, since at most as many commands as the span has handles are untaken (`law_of_giving_out`).
-/// Where a send fails, it is counted. Nothing is received. A moment that is earlier than one already seen
+/// handles: these are all, since at most as many commands as the span has handles are untaken (`law_of_histories`), so
+/// that each is reached (`law_of_giving_out`). Where a send fails, it is counted. Nothing is received. A moment that is earlier than one already seen
 /// counts as the one already seen.
 pub fn give_out<E: End>(link: &mut Link, end: &mut E, now: u64) -> DriveReport
     ensures { GivesOut now (link.old.span + 1) link.old link.new (E.state end.old) (E.state end.new) result }

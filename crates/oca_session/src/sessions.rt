@@ -127,8 +127,8 @@ impl Sessions {
         index_of(&self.slots[..self.count], self.recent, peer).is_some()
     }
 
-    /// For at most 16 sessions (`advance_into` has all of more): goes on to a moment, in milliseconds; one that is earlier
-    /// than the present moment counts as the present.
+    /// Goes on to a moment, in milliseconds; one that is earlier than the present moment counts as the present.
+    /// `advance_into` returns the peers of more than 16 sessions.
     ///
     /// Returns, in order of opening, the first 16 of the peers whose silence passes three of their heartbeats (again
     /// at each later call while they are silent): all of them where at most 16 sessions were chosen. Then forgets each

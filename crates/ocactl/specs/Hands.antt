@@ -99,7 +99,8 @@ pub record AsksIn (request : RequestFields) (old new : TalkState) (outcome : Out
   pub asks : Asks request old.turns (submission request old.link) old.link outcome new.link old.end_state new.end_state
   pub turns : new.turns ≡ old.turns
 
--- The request got its handle and all that was due was given out; or it was refused, which changes nothing.
+-- The request got its handle and what was due was given out, or the link was found lost; or it was refused, which
+-- changes nothing.
 abbrev pub GivesAtOnce : RequestFields → Result Handle ControlFault → TalkState → TalkState → Type 0
 GivesAtOnce request (Ok handle) old new =
     (report : DriveReport) × GivesOut 0 ((submitted request 0 old.link).span + 1) (submitted request 0 old.link) new.link old.end_state new.end_state report
@@ -369,7 +370,7 @@ pub data SetsInTurn : List (ℕ × Value) → (fared : List (ℕ × Result (List
       → SetsInTurn wishes fared r s → SetsValue target value s t result
       → SetsInTurn (wishes ++ (target, value) ∷ []) (fared ++ (target, on_ok (λ done. word_of value) result) ∷ []) r t
 
--- Each of these wishes was submitted, in this order, and each was waited for. One at a time: each was asked, and answered before the next.
+-- Each of these wishes was submitted, in this order, and each was waited for. One at a time: each was asked, and waited for before the next.
 pub record SetsEach (ahead : ℕ) (wishes : List (ℕ × Value)) (fared : List (ℕ × Result (List ℕ) Trouble)) (old new : TalkState) : Type 0 where
   pub begun : List SetCommand
   pub sets : SetsUpTo ahead begun fared old new

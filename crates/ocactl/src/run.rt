@@ -29,10 +29,11 @@ const HANDLES: u64 = 2_147_483_648;
 /// `replay` runs a link over the script that the source has to give. `send` sends a command and prints its answer: 0 for an
 /// answer with the status 0, 4 for another, 3 where the link is lost or no answer came. `run` sends the commands that the
 /// source has to give, and prints the answer of each, or why there is none, in the order of their lines: 3 where one got none. `tree`,
-/// `get`, `set`, `lock` and `unlock` print a line for each object: 4 where one was refused, 3 where an answer did not come, and of `set`
-/// 2 where a word is for no value of its object. Else 0
-/// where all was done, 2 where the words or a line are bad, and 1 where something could not be done. A fault is printed on `faults` as one
-/// line, behind one that begins with `note: ` where more is known; such a line also says why a send failed where no answer came.
+/// `get`, `set`, `lock` and `unlock` print a line for each object (`set`, where a value is missing, for those without one alone): 4
+/// where one was refused, 3 where an answer did not come or the link took no command, and of `set` 2 where a word is for no value of its
+/// object; of several 3 before 2 before 4. Else 0 where all was done, 2 where the words or a line are bad, and 1 where something could
+/// not be done. A fault is printed on `faults` as one line, behind one that begins with `note: ` where more is known; such a line also
+/// says why a send failed where no answer came.
 pub fn run<N: Net + Clock, S: AsStr, R: Source, W: Sink, F: Sink>(
     alloc: Global,
     system: &N,

@@ -65,7 +65,8 @@ impl<E: End> Talk<E> {
         ask(&mut self.link, &mut self.end, request, self.turns)
     }
 
-    /// Submits a command and gives it out at once. What the link refuses changes nothing.
+    /// Submits a command and gives it out at once, unless the link is found lost at that. What the link refuses changes
+    /// nothing.
     pub fn begin(&mut self, request: Request<'_>) -> Result<Handle, ControlFault>
         ensures { BeginsIn (request_of request.entry) result self.old self.new }
     {

@@ -33,14 +33,15 @@ const GET_EXAMPLE: &str =
     "Prints a line for each object: its ONo and its value: muted or unmuted; inverted or non-inverted; on or off; a position's number and
 name; an integer. Behind the ONo of another stands why: a status as Locked, or no value, no answer, lost.
 
-Status: 0 where all was done, 4 where something was refused, 3 where an answer did not come.
+Status: 0 where all was done, 4 where something was refused, 3 where an answer did not come. The name of a position that is not told
+changes nothing of it.
 
 Example: ocactl get --device 127.0.0.1:65000 4097 4100";
 
 const SET_EXAMPLE: &str =
     "VALUE is muted or unmuted; inverted or non-inverted; on or off; a position's number or its name; an integer. Where one is for no value
-of its object, nothing is set. Up to N set commands are under way at once (--ahead), 1 unless given; the lines stand in the order of the
-words, whichever is carried out first.
+of its object, or that can't be found out, nothing is set. Up to N set commands are waited for at once (--ahead), 1 unless given; the
+lines stand in the order of the words, whichever is carried out first.
 
 Status: 0 where all was set, 4 where something was refused, 2 where a value is none of its object's, 3 where an answer did not come.
 

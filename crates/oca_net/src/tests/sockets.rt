@@ -1,6 +1,6 @@
 //! Ends at UDP sockets, two in one process: what is sent lies at the socket until it is received, so no thread is
 //! needed. Each port is the system's choice. No clause says what goes through a socket, so these tests alone refuse an
-//! end that always answers Quiet or Failed, that drops datagrams, that sends nothing and answers true, or that is never
+//! end that always returns Quiet or Failed, that drops datagrams, that sends nothing and returns true, or that is never
 //! bound.
 
 use super::{A, LARGEST, LOCALHOST};
