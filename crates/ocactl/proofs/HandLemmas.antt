@@ -21,7 +21,7 @@ use Rattle.oca_values.specs.Words.{word_of}
 use Rattle.ocactl.specs.declared.hands.Pair.{Pair}
 use Rattle.ocactl.specs.declared.hands.Search.{Search}
 use Rattle.ocactl.specs.declared.setting.Wish.{Wish}
-use Rattle.ocactl.specs.declared.setting.Setting.{Setting}
+use Rattle.ocactl.specs.declared.setting.Submitted.{Submitted}
 use Rattle.ocactl.specs.declared.talk.Trouble.{Trouble}
 use Rattle.ocactl.specs.Hands.{on_ok, Calls, ReadsWith, ReadsBy, TalkState, FindsValue, FindsAll, NoneSought, OneFound, OneMissed, SetCommand, BeginsSet, EndsIn, SetsUpTo, NoneBegun, OneBegun, OneFared, SetsInTurn, SetsAll, ReadsValue, AsksName, named, TellsValue, Gets, OneAsked, NoneAsked, AsksAll, wish_in, fared_by, fared_status, fared_line, fared_lines, graver_of}
 use Rattle.ocactl.specs.PrivateHands.{number_of, pair_of, wish_of, command_of, is_none, TellsFared, TellsAll, TellsOne, TellsNext, FindsAllTo, AddsFound, FindsOneTo, SoFar, WaitsOn, SetsOn, WaitsForFirst, SetsEachTo}
@@ -87,14 +87,14 @@ finds-next ps i item wishes more search now r s t a b c h is x y =
 
 -- ---- set commands
 
-pub set-none : (ahead : ℕ) (s : TalkState) (a : Output) (left : List Setting) → left ≡ [] → SoFar ahead s a [] s (map command_of left) 0 a
-set-none ahead s a left e = subst (λ (cs : List Setting). SoFar ahead s a [] s (map command_of cs) 0 a) (sym e) (none-set ahead s a)
+pub set-none : (ahead : ℕ) (s : TalkState) (a : Output) (left : List Submitted) → left ≡ [] → SoFar ahead s a [] s (map command_of left) 0 a
+set-none ahead s a left e = subst (λ (cs : List Submitted). SoFar ahead s a [] s (map command_of cs) 0 a) (sym e) (none-set ahead s a)
   where
     none-set : (ahead : ℕ) (s : TalkState) (a : Output) → SoFar ahead s a [] s [] 0 a
     none-set ahead s a = record { front = []; fared = []; sets = NoneBegun; known = refl; every = refl; tells = tells-none a }
 
 first-fared : (ahead : ℕ) (start : TalkState) (before : Output) (wishes : List (ℕ × Value)) (c : SetCommand) (more : List SetCommand) (old new : TalkState) (o : Outcome) (status now : ℕ) (a b : Output)
-    → EndsIn c.answer old new o → TellsNext (fared_by c o) status now a b → SoFar ahead start before wishes old (c ∷ more) status a → SoFar ahead start before wishes new more now b
+    → EndsIn c.returned old new o → TellsNext (fared_by c o) status now a b → SoFar ahead start before wishes old (c ∷ more) status a → SoFar ahead start before wishes new more now b
 first-fared ahead start before wishes c more old new o status now a b ends told h =
     let whole : h.front ++ c ∷ [] ++ more ≡ h.front ++ c ∷ more = append_assoc h.front (c ∷ []) more in
     let next : slice_get (h.front ++ c ∷ more) (length h.fared) ≡ Some c =
@@ -108,12 +108,12 @@ first-fared ahead start before wishes c more old new o status now a b ends told 
       tells = tells-next h.fared (fared_by c o) status now before a b h.tells told;
     }
 
-pub waits-first : (old new : TalkState) (waiting more : List Setting) (status now : ℕ) (a b : Output)
+pub waits-first : (old new : TalkState) (waiting more : List Submitted) (status now : ℕ) (a b : Output)
     → WaitsForFirst old new waiting more status now a b → WaitsOn old new (map command_of waiting) (map command_of more) status now a b
 waits-first old new waiting more status now a b w = record {
   on = λ (ahead : ℕ) (start : TalkState) (before : Output) (wishes : List (ℕ × Value)) (h : SoFar ahead start before wishes old (map command_of waiting) status a).
-      first-fared ahead start before wishes (command_of w.setting) (map command_of more) old new w.outcome status now a b w.ends w.tells
-      (subst (λ (ws : List Setting). SoFar ahead start before wishes old (map command_of ws) status a) w.first h);
+      first-fared ahead start before wishes (command_of w.command) (map command_of more) old new w.outcome status now a b w.ends w.tells
+      (subst (λ (ws : List Submitted). SoFar ahead start before wishes old (map command_of ws) status a) w.first h);
 }
 
 pub waits-none : (s : TalkState) (waiting : List SetCommand) (status : ℕ) (a : Output) → WaitsOn s s waiting waiting status status a a
@@ -143,7 +143,7 @@ one-begun ahead start before wishes c waiting old new status a few begins h =
       tells = h.tells;
     }
 
-pub sets-next : (ahead left : ℕ) (wish : Wish) (one : Setting) (r s t : TalkState) (waiting mid more : List Setting) (status now : ℕ) (a b : Output)
+pub sets-next : (ahead left : ℕ) (wish : Wish) (one : Submitted) (r s t : TalkState) (waiting mid more : List Submitted) (status now : ℕ) (a b : Output)
     → WaitsOn r s (map command_of waiting) (map command_of mid) status now a b → length mid ≤ left → left + 1 ≡ ahead → one.wish ≡ wish → BeginsSet (command_of one) s t
     → more ≡ mid ++ one ∷ [] → SetsOn ahead (wish_of wish) r t (map command_of waiting) (map command_of more) status now a b
 sets-next ahead left wish one r s t waiting mid more status now a b w few room of begins are = record {
@@ -175,7 +175,7 @@ set-so-far ahead ws i d r s t x y m n a b c h so next =
     subst (λ (xs : List (ℕ × Value)). SoFar ahead r a xs t y n c) (sym (map-take wish_of ws i d h)) (next.on r a (map wish_of (take i ws)) so)
 
 -- all were waited for
-pub set-all : (ahead : ℕ) (wishes : List (ℕ × Value)) (r s t : TalkState) (x : List SetCommand) (left : List Setting) (m n : ℕ) (a b c : Output)
+pub set-all : (ahead : ℕ) (wishes : List (ℕ × Value)) (r s t : TalkState) (x : List SetCommand) (left : List Submitted) (m n : ℕ) (a b c : Output)
     → SoFar ahead r a wishes s x m b → WaitsOn s t x (map command_of left) m n b c → length left ≤ 0 → SetsEachTo ahead wishes n r t a c
 set-all ahead wishes r s t x [] m n a b c so w none =
     let h : SoFar ahead r a wishes t [] n c = w.on ahead r a wishes so in
@@ -193,7 +193,7 @@ set-all ahead wishes r s t x [] m n a b c so w none =
     }
 set-all ahead wishes r s t x (one ∷ left) m n a b c so w none = absurd (omega (arith, none))
 
-pub set-done : (ahead : ℕ) (ws : List Wish) (i : ℕ) (r s t : TalkState) (x : List SetCommand) (left : List Setting) (m : ℕ) (z : Result ℕ WriteFailed) (a b c : Output)
+pub set-done : (ahead : ℕ) (ws : List Wish) (i : ℕ) (r s t : TalkState) (x : List SetCommand) (left : List Submitted) (m : ℕ) (z : Result ℕ WriteFailed) (a b c : Output)
     → length ws ≤ i → SoFar ahead r a (map wish_of (take i ws)) s x m b → IfOk z (λ n. WaitsOn s t x (map command_of left) m n b c) → IfOk z (λ n. length left ≤ 0)
     → IfOk z (λ n. SetsEachTo ahead (map wish_of ws) n r t a c)
 set-done ahead ws i r s t x left m (Ok n) a b c end so w none =

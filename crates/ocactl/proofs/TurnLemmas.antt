@@ -25,7 +25,7 @@ some-none x e = cc e
 -- a request that is submitted and then waited for is asked
 asks-both : (request : RequestFields) (answer : Result Handle ControlFault) (o : Outcome) (r s t : TalkState) → BeginsIn request answer r s → EndsIn answer s t o → AsksIn request r t o
 asks-both request (Ok h) o r s t b e = record {
-  asks = subst (λ (z : Result Handle ControlFault). Asks request r.turns z r.link o t.link r.end_state t.end_state) b.answers
+  asks = subst (λ (z : Result Handle ControlFault). Asks request r.turns z r.link o t.link r.end_state t.end_state) b.returns
       (record {
         link = s.link;
         end_then = s.end_state;
@@ -36,17 +36,17 @@ asks-both request (Ok h) o r s t b e = record {
   turns = e.turns ∙ b.turns;
 }
 asks-both request (Err f) o r s t b e = record {
-  asks = subst (λ (z : Result Handle ControlFault). Asks request r.turns z r.link o t.link r.end_state t.end_state) b.answers
+  asks = subst (λ (z : Result Handle ControlFault). Asks request r.turns z r.link o t.link r.end_state t.end_state) b.returns
       (e.0, ap (λ (x : TalkState). x.link) e.1 ∙ b.gives.0, ap (λ (x : TalkState). x.end_state) e.1 ∙ b.gives.1);
   turns = ap (λ (x : TalkState). x.turns) e.1 ∙ b.turns;
 }
 
-sets-both : (c : SetCommand) (o : Outcome) (r s t : TalkState) → BeginsSet c r s → EndsIn c.answer s t o → SetsValue c.target c.value r t (carried_out (said o))
+sets-both : (c : SetCommand) (o : Outcome) (r s t : TalkState) → BeginsSet c r s → EndsIn c.returned s t o → SetsValue c.target c.value r t (carried_out (said o))
 sets-both c o r s t b e = record {
   request = b.request;
   outcome = o;
   calls = b.calls;
-  asks = asks-both b.request c.answer o r s t b.begins e;
+  asks = asks-both b.request c.returned o r s t b.begins e;
   done = refl;
 }
 
@@ -74,7 +74,7 @@ begun-more begun fared c r s t (inr one) few b =
     absurd (omega (arith, size, few))
 
 fared-more : (begun : List SetCommand) (fared : List (ℕ × Result (List ℕ) Trouble)) (c : SetCommand) (o : Outcome) (r s t : TalkState)
-    → AllFared begun fared r s ⊎ OneOpen begun fared r s → slice_get begun (length fared) ≡ Some c → EndsIn c.answer s t o
+    → AllFared begun fared r s ⊎ OneOpen begun fared r s → slice_get begun (length fared) ≡ Some c → EndsIn c.returned s t o
     → AllFared begun (fared ++ fared_by c o ∷ []) r t
 fared-more begun fared c o r s t (inl all) at e =
     let past : length begun ≤ length fared = omega (arith, all.same) in

@@ -106,10 +106,10 @@ GivesAtOnce request (Ok handle) old new =
     (report : DriveReport) × GivesOut 0 ((submitted request 0 old.link).span + 1) (submitted request 0 old.link) new.link old.end_state new.end_state report
 GivesAtOnce request (Err fault) old new = (new.link ≡ old.link) × (new.end_state ≡ old.end_state)
 
--- The request was submitted.
-pub record BeginsIn (request : RequestFields) (answer : Result Handle ControlFault) (old new : TalkState) : Type 0 where
-  pub answers : answer ≡ submission request old.link
-  pub gives : GivesAtOnce request answer old new
+-- Submit was called for the request.
+pub record BeginsIn (request : RequestFields) (returned : Result Handle ControlFault) (old new : TalkState) : Type 0 where
+  pub returns : returned ≡ submission request old.link
+  pub gives : GivesAtOnce request returned old new
   pub turns : new.turns ≡ old.turns
 
 -- The answer under this handle was waited for.
@@ -334,11 +334,11 @@ pub data FindsAll : List (ℕ × List ℕ) → List (ℕ × Value) → (missed :
       (target : ℕ) (word : List ℕ) (why : Trouble)
       → FindsAll pairs wishes missed r s → FindsValue target word s t (Err why) → FindsAll (pairs ++ (target, word) ∷ []) wishes (missed ++ (target, Err why) ∷ []) r t
 
--- A set command that was submitted: its object, the value, and its handle, or why the link refused it.
+-- A set command for which `submit` was called: its object, the value, and its handle, or why the link refused it.
 pub record SetCommand : Type 0 where
   pub target : ℕ
   pub value : Value
-  pub answer : Result Handle ControlFault
+  pub returned : Result Handle ControlFault
 
 abbrev pub wish_in : SetCommand → ℕ × Value
 wish_in command = (command.target, command.value)
@@ -347,7 +347,7 @@ wish_in command = (command.target, command.value)
 pub record BeginsSet (command : SetCommand) (old new : TalkState) : Type 0 where
   pub request : RequestFields
   pub calls : Calls command.target (class_of_value command.value) (set_method command.value) 1 (value_encoding command.value) request
-  pub begins : BeginsIn request command.answer old new
+  pub begins : BeginsIn request command.returned old new
 
 -- what is told of it, by its outcome
 abbrev pub fared_by : SetCommand → Outcome → ℕ × Result (List ℕ) Trouble
@@ -360,7 +360,7 @@ pub data SetsUpTo (ahead : ℕ) : (begun : List SetCommand) (fared : List (ℕ �
   OneBegun : {begun : List SetCommand} {fared : List (ℕ × Result (List ℕ) Trouble)} {r s t : TalkState} (command : SetCommand)
       → SetsUpTo ahead begun fared r s → length begun < length fared + ahead → BeginsSet command s t → SetsUpTo ahead (begun ++ command ∷ []) fared r t
   OneFared : {begun : List SetCommand} {fared : List (ℕ × Result (List ℕ) Trouble)} {r s t : TalkState} (command : SetCommand) (outcome : Outcome)
-      → SetsUpTo ahead begun fared r s → slice_get begun (length fared) ≡ Some command → EndsIn command.answer s t outcome
+      → SetsUpTo ahead begun fared r s → slice_get begun (length fared) ≡ Some command → EndsIn command.returned s t outcome
       → SetsUpTo ahead begun (fared ++ fared_by command outcome ∷ []) r t
 
 -- Objects were set to values, one after another in this order, and fared so.

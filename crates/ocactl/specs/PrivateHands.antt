@@ -8,7 +8,7 @@ use Rattle.oca_values.specs.declared.value.Value.{Value}
 use Rattle.ocactl.specs.declared.hands.Pair.{Pair}
 use Rattle.ocactl.specs.declared.hands.Search.{Search}
 use Rattle.ocactl.specs.declared.setting.Wish.{Wish}
-use Rattle.ocactl.specs.declared.setting.Setting.{Setting}
+use Rattle.ocactl.specs.declared.setting.Submitted.{Submitted}
 use Rattle.ocactl.specs.declared.talk.Trouble.{Trouble}
 use Rattle.ocactl.specs.Hands.{TalkState, FindsValue, FindsAll, SetCommand, EndsIn, SetsUpTo, SetsEach, wish_in, fared_by, fared_status, fared_line, fared_lines, gravest, graver_of}
 
@@ -21,8 +21,8 @@ number_of ono = ono.0
 abbrev pub wish_of : Wish → ℕ × Value
 wish_of w = (w.ono.0, w.value)
 
-abbrev pub command_of : Setting → SetCommand
-command_of s = record { target = s.wish.ono.0; value = s.wish.value; answer = s.answer }
+abbrev pub command_of : Submitted → SetCommand
+command_of s = record { target = s.wish.ono.0; value = s.wish.value; returned = s.returned }
 
 -- what is told of one object was printed, and this is its status
 abbrev pub TellsFared : ℕ × Result (List ℕ) Trouble → ℕ → Output → Output → Type 0
@@ -88,12 +88,12 @@ pub record SetsOn (ahead : ℕ) (wish : ℕ × Value) (old new : TalkState) (wai
       → SoFar ahead start before wishes old waiting status was → SoFar ahead start before (wishes ++ wish ∷ []) new more now is
 
 -- the first that is waited for fared so, and was told
-pub record WaitsForFirst (old new : TalkState) (waiting more : List Setting) (status now : ℕ) (was is : Output) : Type 0 where
-  pub setting : Setting
+pub record WaitsForFirst (old new : TalkState) (waiting more : List Submitted) (status now : ℕ) (was is : Output) : Type 0 where
+  pub command : Submitted
   pub outcome : Outcome
-  pub first : waiting ≡ setting ∷ more
-  pub ends : EndsIn setting.answer old new outcome
-  pub tells : TellsNext (fared_by (command_of setting) outcome) status now was is
+  pub first : waiting ≡ command ∷ more
+  pub ends : EndsIn command.returned old new outcome
+  pub tells : TellsNext (fared_by (command_of command) outcome) status now was is
 
 -- all wishes were set, and told
 pub record SetsEachTo (ahead : ℕ) (wishes : List (ℕ × Value)) (status : ℕ) (old new : TalkState) (was is : Output) : Type 0 where

@@ -24,26 +24,26 @@ pub struct Wish {
     pub value: Value,
 }
 
-/// A set command that was submitted: its handle, or why the link refused it.
+/// A set command for which `submit` was called: its handle, or why the link refused it.
 #[derive(Clone, Copy)]
-struct Setting {
+struct Submitted {
     wish: Wish,
-    answer: Result<Handle, ControlFault>,
+    returned: Result<Handle, ControlFault>,
 }
 
-impl Default for Setting {
+impl Default for Submitted {
     ghost use Rattle.std.specs.Prelude.{◌≡◌};
 
     ghost is_default = { λ s. s.wish.ono.0 ≡ 0 };
 
     /// What a place holds where no command is.
     fn default() -> Self {
-        Setting {
+        Submitted {
             wish: Wish {
                 ono: Ono(0),
                 value: Value::Boolean(false),
             },
-            answer: Err(ControlFault::Lost),
+            returned: Err(ControlFault::Lost),
         }
     }
 }
@@ -71,7 +71,7 @@ fn set_next<E: End, W: Sink>(
     talk: &mut Talk<E>,
     wish: &Wish,
     ahead: Span,
-    waiting: &mut ArrayVec<Setting, MOST_AHEAD>,
+    waiting: &mut ArrayVec<Submitted, MOST_AHEAD>,
     status: u8,
     printer: &mut Printer<W>,
 ) -> Result<u8, WriteFailed>
@@ -79,29 +79,29 @@ fn set_next<E: End, W: Sink>(
 {
     let left = usize::from(ahead.get()) - 1;
     let so_far = await_until(talk, waiting, left, status, printer)?;
-    let setting = begin(talk, *wish);
-    waiting.push(setting);
-    match setting.answer {
+    let command = begin(talk, *wish);
+    waiting.push(command);
+    match command.returned {
         Ok(_) => Ok(so_far),
         Err(_) => await_until(talk, waiting, 0, so_far, printer),
     }
 }
 
 /// Submits the command that sets an object.
-fn begin<E: End>(talk: &mut Talk<E>, wish: Wish) -> Setting
+fn begin<E: End>(talk: &mut Talk<E>, wish: Wish) -> Submitted
     ensures wish { result.wish ≡ wish }
     ensures begins { BeginsSet (command_of result) talk.old talk.new }
 {
     let request = set_request(wish.value);
-    let answer = talk.begin(request.of(wish.ono));
-    Setting { wish, answer }
+    let returned = talk.begin(request.of(wish.ono));
+    Submitted { wish, returned }
 }
 
 /// Waits for set commands, the first first, until at most so many are under way, and prints how each fared. Returns the exit status so
 /// far.
 fn await_until<E: End, W: Sink>(
     talk: &mut Talk<E>,
-    waiting: &mut ArrayVec<Setting, MOST_AHEAD>,
+    waiting: &mut ArrayVec<Submitted, MOST_AHEAD>,
     left: usize,
     status: u8,
     printer: &mut Printer<W>,
@@ -119,25 +119,25 @@ fn await_until<E: End, W: Sink>(
 /// Waits for the first set command under way, and prints how it fared. Returns the exit status so far.
 fn await_first<E: End, W: Sink>(
     talk: &mut Talk<E>,
-    waiting: &mut ArrayVec<Setting, MOST_AHEAD>,
+    waiting: &mut ArrayVec<Submitted, MOST_AHEAD>,
     status: u8,
     printer: &mut Printer<W>,
 ) -> Result<u8, WriteFailed>
     requires { 0 < length waiting.old.items }
     ensures { IfOk result (λ now. WaitsForFirst talk.old talk.new waiting.old.items waiting.new.items status now printer.old printer.new) }
 {
-    let setting = waiting.remove(0);
-    let outcome = outcome_of(talk, setting.answer);
-    let fared = fared_by(setting.wish.value, &outcome);
-    let own = tell_fared(setting.wish.ono, fared, printer)?;
+    let command = waiting.remove(0);
+    let outcome = outcome_of(talk, command.returned);
+    let fared = fared_by(command.wish.value, &outcome);
+    let own = tell_fared(command.wish.ono, fared, printer)?;
     Ok(graver(status, own))
 }
 
 /// How a submitted command fares: it is waited for, unless it was refused.
-fn outcome_of<E: End>(talk: &mut Talk<E>, answer: Result<Handle, ControlFault>) -> Outcome
-    ensures { EndsIn answer talk.old talk.new result }
+fn outcome_of<E: End>(talk: &mut Talk<E>, returned: Result<Handle, ControlFault>) -> Outcome
+    ensures { EndsIn returned talk.old talk.new result }
 {
-    match answer {
+    match returned {
         Ok(handle) => talk.finish(handle),
         Err(fault) => refused(fault),
     }

@@ -4,7 +4,7 @@ use Rattle.ocactl.proofs.setting.await_first.Goals as goal
 
 pub returns : goal.returns
 returns g c = record {
-  setting = c.remove-setting.result;
+  command = c.remove-command.result;
   outcome = c.outcome_of-outcome.result;
   first = search rules;
   ends = c.outcome_of-outcome.ensures;
