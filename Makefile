@@ -16,7 +16,8 @@ HISTORIES = 2000
 SEED = 1
 PREFIX = /usr/local
 LIBRARY = crates/oca_c/out/liboca_c.a
-PROGRAMS = ocadev ocactl trials amplifier panel
+PROGRAMS = ocadev ocactl
+BUILD = python3 gate/build.py bin
 .PHONY: build demo test lossy fuzz world law bench install install-library clean
 
 demo:
@@ -24,16 +25,10 @@ demo:
 	@python3 examples/run.py
 
 build:
-	@echo "Proving and building $(PROGRAMS) with the crates below them. The first time this takes some 20 minutes on 4"
-	@echo "processors; after an edit, mostly seconds to minutes. Each crate is named as it is checked."
-	mkdir -p bin
-	cd crates/ocadev && rt run -- show > /dev/null
-	cd crates/ocactl && rt run -- --help > /dev/null
-	cd crates/trials && rt run -- calls > /dev/null
-	cd crates/amplifier && rt run > /dev/null
-	cd crates/panel && rt run > /dev/null
-	for program in $(PROGRAMS); do cp crates/$$program/out/$$program bin/; done
-	python3 examples/run.py bin/ocadev
+	@echo "Proving and building $(PROGRAMS) with the crates below them: the first time some 15 minutes on four idle processors,"
+	@echo "after an edit mostly seconds to minutes. Each crate is named as it ends."
+	@$(BUILD) $(PROGRAMS)
+	@python3 examples/run.py bin/ocadev
 
 test:
 	@python3 gate/run.py
@@ -48,14 +43,15 @@ fuzz:
 	@python3 tools/fuzz.py bin $(SECONDS) $(SEED)
 
 world:
-	@test -x bin/trials || $(MAKE) build
+	@test -x bin/trials || $(BUILD) trials
 	@python3 tools/world.py bin $(SCHEDULES) $(SEED)
 
 law:
-	@test -x bin/trials || $(MAKE) build
+	@test -x bin/trials || $(BUILD) trials
 	@python3 tools/law.py bin $(HISTORIES) $(SEED)
 
 bench: build
+	@$(BUILD) trials
 	python3 bench/run.py bin
 	python3 bench/core.py bin
 	python3 bench/memory.py bin
@@ -63,17 +59,17 @@ bench: build
 
 install: install-library
 	@test -x bin/ocactl || $(MAKE) build
-	install -d $(DESTDIR)$(PREFIX)/bin $(DESTDIR)$(PREFIX)/share/man/man1
-	install -m 755 bin/ocadev bin/ocactl $(DESTDIR)$(PREFIX)/bin
-	install -m 644 man/ocadev.1 man/ocactl.1 $(DESTDIR)$(PREFIX)/share/man/man1
+	install -d "$(DESTDIR)$(PREFIX)/bin" "$(DESTDIR)$(PREFIX)/share/man/man1"
+	install -m 755 bin/ocadev bin/ocactl "$(DESTDIR)$(PREFIX)/bin"
+	install -m 644 man/ocadev.1 man/ocactl.1 "$(DESTDIR)$(PREFIX)/share/man/man1"
 
 # liboca.a is liboca_c.a with the toolchain's heap over malloc; liboca_c.a is for a heap of the program's own
 install-library: $(LIBRARY)
-	install -d $(DESTDIR)$(PREFIX)/include $(DESTDIR)$(PREFIX)/lib/pkgconfig
-	install -m 644 include/oca.h $(DESTDIR)$(PREFIX)/include
-	install -m 644 $(LIBRARY) $(DESTDIR)$(PREFIX)/lib/liboca_c.a
-	printf 'create %s\naddlib %s\naddlib %s\nsave\nend\n' $(DESTDIR)$(PREFIX)/lib/liboca.a $(LIBRARY) $(dir $(shell rt doc))c/liblibc_c.a | ar -M
-	sed 's|@PREFIX@|$(PREFIX)|' include/oca.pc.in > $(DESTDIR)$(PREFIX)/lib/pkgconfig/oca.pc
+	install -d "$(DESTDIR)$(PREFIX)/include" "$(DESTDIR)$(PREFIX)/lib/pkgconfig"
+	install -m 644 include/oca.h "$(DESTDIR)$(PREFIX)/include"
+	install -m 644 $(LIBRARY) "$(DESTDIR)$(PREFIX)/lib/liboca_c.a"
+	cd "$(DESTDIR)$(PREFIX)/lib" && printf 'create liboca.a\naddlib liboca_c.a\naddlib %s\nsave\nend\n' $(dir $(shell rt doc))c/liblibc_c.a | ar -M
+	sed 's|@PREFIX@|$(PREFIX)|' include/oca.pc.in > "$(DESTDIR)$(PREFIX)/lib/pkgconfig/oca.pc"
 
 crates/oca_c/out/liboca_c.a: $(foreach name,c types pdu tree session net device control,$(wildcard crates/oca_$(name)/src/*.rt crates/oca_$(name)/specs/*.antt crates/oca_$(name)/proofs/*.antt))
 	cd crates/oca_c && rt lib && touch out/liboca_c.a

@@ -1,10 +1,17 @@
 #!/usr/bin/env python3
-"""The gate: `rt ci`, and then the steps of the file `steps` beside this one. The steps of a paragraph run two at a time,
-and what each prints is shown as a whole when it ends, with how long it took; a paragraph begins when the one before it
-is over. The last line is 'N passed, M failed' over all of it, and the exit status 1 where anything failed.
-`run.py steps` runs the steps alone. A step that takes half an hour is ended, and has failed."""
+"""The gate: `rt ci`, and then the steps of the file `steps` beside this one.
+
+Usage: run.py                    all of it
+       run.py steps [FILE]       the steps alone, of this file
+
+The steps of a paragraph run two at a time. What a step prints is shown as a whole when it ends, with its minutes; a
+paragraph begins when the one before it is over. A step has failed where one of its checks failed, it ended with another
+status than 0, it passed fewer checks than its line names, or it did not end in the minutes that its line allows. The
+gate has failed too where a line of the steps can't be read, and where a tool of the gate stands in no step. The last
+line is 'N passed, M failed' over all of it, and the exit status 1 where anything failed."""
 import os
 import re
+import resource
 import signal
 import subprocess
 import sys
@@ -13,15 +20,25 @@ from concurrent.futures import ThreadPoolExecutor
 from pathlib import Path
 
 HERE = Path(__file__).resolve().parent
+TOP = HERE.parent
 BESIDE = 2
-LONGEST = 1800
 RUNNING = []
+
+
+class Step:
+    """A line of the steps: a command, the fewest checks that it passes, and the most minutes that it takes."""
+
+    def __init__(self, line):
+        read = re.fullmatch(r"\s*(\d+)\s+([\d.]+)\s+(\S.*)", line)
+        self.is_read = bool(read) and int(read[1]) > 0
+        self.least, self.minutes = (int(read[1]), float(read[2])) if read else (1, 0)
+        self.command = read[3] if read else line
 
 
 def started(command):
     """Starts a command, with a group of processes of its own, so that all that it starts can be ended with it."""
     RUNNING.append(subprocess.Popen(
-        command, shell=True, cwd=HERE.parent, stdin=subprocess.DEVNULL, stdout=subprocess.PIPE,
+        command, shell=True, cwd=TOP, stdin=subprocess.DEVNULL, stdout=subprocess.PIPE,
         stderr=subprocess.STDOUT, text=True, errors="replace", start_new_session=True))
     return RUNNING[-1]
 
@@ -37,61 +54,125 @@ def interrupted(number, _):
     os._exit(128 + number)
 
 
-def counted(last, status):
-    """How many checks passed and failed, by the last line and the exit status."""
+def last_line(text):
+    return next((line.strip() for line in reversed(text.splitlines()) if line.strip()), "")
+
+
+def counted(last, status, least):
+    """How many checks passed and failed, by the last line and the exit status; and why they are too few, if they are.
+    A command that counts nothing is one check, by its status."""
     counts = re.fullmatch(r"(\d+) passed, (\d+) failed", last)
     passed, failed = map(int, counts.groups()) if counts else (int(status == 0), 0)
-    return passed, 1 if status != 0 and failed == 0 else failed
+    why = ""
+    if status != 0 and failed == 0:
+        why = f"it ended with status {status}"
+    elif failed == 0 and passed < least:
+        why = f"it passed {passed} checks, and the least is {least}"
+    return passed, failed + bool(why), why
 
 
-def took(command, begun):
-    return f"gate: {(time.monotonic() - begun) / 60:.1f} minutes for {command[:60]}"
+def took(command, begun, why=""):
+    told = f"gate: {(time.monotonic() - begun) / 60:.1f} minutes for {command[:60]}"
+    return f"gate: FAILED: {why}: {command[:60]}\n{told}" if why else told
 
 
-def watched(command):
-    """Runs a command, and shows what it prints as it prints it."""
+def watched(command, least):
+    """Runs a command, shows what it prints as it prints it, and answers how many checks passed and failed."""
     print(f"gate: {command}", flush=True)
     begun, last = time.monotonic(), ""
     with started(command) as process:
         for line in process.stdout:
             print(line, end="", flush=True)
             last = line.strip() or last
-    print(took(command, begun), flush=True)
-    return counted(last, process.returncode)
+    passed, failed, why = counted(last, process.returncode, least)
+    print(took(command, begun, why), flush=True)
+    return passed, failed
 
 
-def kept(command):
-    """Runs a command, and answers its counts and what it printed."""
+def kept(step):
+    """Runs a step, and answers how many checks passed and failed, and what it printed."""
     begun = time.monotonic()
-    with started(command) as process:
+    with started(step.command) as process:
         try:
-            text = process.communicate(timeout=LONGEST)[0]
+            text = process.communicate(timeout=60 * step.minutes)[0]
+            status = process.returncode
         except subprocess.TimeoutExpired:
             end(process)
-            text = process.communicate()[0] + "it took too long and was ended\n"
-    last = next((line.strip() for line in reversed(text.splitlines()) if line.strip()), "")
-    return counted(last, process.returncode), f"gate: {command}\n{text}{took(command, begun)}"
+            text, status = process.communicate()[0] + "\nit took too long and was ended\n", 1
+    passed, failed, why = counted(last_line(text), status, step.least)
+    return (passed, failed), f"gate: {step.command}\n{text}{took(step.command, begun, why)}"
 
 
-def paragraphs():
+def paragraphs(file):
     """The steps, a list for each paragraph."""
-    lines = (HERE / "steps").read_text().splitlines()
-    text = "\n".join(line for line in lines if not line.startswith("#"))
-    return [part.splitlines() for part in re.split(r"\n\s*\n", text.strip("\n"))]
+    text = "\n".join(line for line in file.read_text().splitlines() if not line.startswith("#"))
+    parts = [part for part in re.split(r"\n\s*\n", text.strip("\n")) if part.strip()]
+    return [[Step(line) for line in part.splitlines()] for part in parts]
 
 
-def main():
-    signal.signal(signal.SIGINT, interrupted)
-    signal.signal(signal.SIGTERM, interrupted)
-    counts = [] if sys.argv[1:] == ["steps"] else [watched("rt ci")]
+def left_out(steps, tools):
+    """The tools that are programs and stand in no step. What a step only uses says so by having no `main` to call."""
+    named = " ".join(step.command for step in steps)
+    programs = [tool for tool in sorted(tools.glob("*.py")) if '__name__ == "__main__"' in tool.read_text()]
+    by_hand = [tool for tool in programs if "\nNo step of the gate." in tool.read_text()]
+    return [tool.name for tool in programs if tool not in by_hand and f"{tools.name}/{tool.name}" not in named]
+
+
+def least_of_ci():
+    """`rt ci` counts each crate of crates.txt, and each edit that must fail."""
+    lines = (line.split("#")[0].strip() for line in (TOP / "crates.txt").read_text().splitlines())
+    return sum(map(bool, lines)) + len(list(TOP.glob("crates/*/must-fail/*.edit")))
+
+
+def processor_minutes():
+    used = resource.getrusage(resource.RUSAGE_CHILDREN)
+    return (used.ru_utime + used.ru_stime) / 60
+
+
+def run_steps(parts):
+    """Runs the steps of each paragraph, and answers their counts."""
+    counts = []
     with ThreadPoolExecutor(BESIDE) as pool:
-        for steps in paragraphs():
+        for steps in parts:
+            begun, used = time.monotonic(), processor_minutes()
             for count, text in pool.map(kept, steps):
                 print(text, flush=True)
                 counts.append(count)
+            print(f"gate: {(time.monotonic() - begun) / 60:.1f} minutes, {processor_minutes() - used:.1f} processor minutes "
+                  f"for {len(steps)} steps", flush=True)
+    return counts
+
+
+def refused(steps):
+    """What is wrong with the lines of the steps, a line each."""
+    wrong = [f"a step is no 'LEAST MINUTES COMMAND', with LEAST above 0: {step.command}" for step in steps if not step.is_read]
+    return wrong if steps else ["there is no step"]
+
+
+def main(words):
+    signal.signal(signal.SIGINT, interrupted)
+    signal.signal(signal.SIGTERM, interrupted)
+    begun, counts = time.monotonic(), []
+    parts = paragraphs(Path(words[1]) if len(words) > 1 else HERE / "steps")
+    steps = [step for part in parts for step in part]
+    wrong = refused(steps)
+    if len(words) < 2:
+        wrong += [f"no step runs tools/{name}" for name in left_out(steps, TOP / "tools")]
+    for line in wrong:
+        print(f"gate: FAILED: {line}", flush=True)
+    if not words:
+        print(f"gate: every proof from nothing, then {len(steps)} steps: some 40 minutes on four idle processors, "
+              "90 on two. Each crate and each step is shown as it ends.", flush=True)
+        counts.append(watched("rt ci", least_of_ci()))
+        print(f"gate: {processor_minutes():.1f} processor minutes for rt ci", flush=True)
+    counts += [(0, len(wrong))] + run_steps([[step for step in part if step.is_read] for part in parts])
     passed, failed = (sum(of) for of in zip(*counts))
-    print(f"{passed} passed, {failed} failed")
-    sys.exit(1 if failed else 0)
+    print(f"gate: {(time.monotonic() - begun) / 60:.1f} minutes, {processor_minutes():.1f} processor minutes in all")
+    print(f"{passed} passed, {failed} failed", flush=True)
+    return 1 if failed or not passed else 0
 
 
-main()
+if __name__ == "__main__":
+    if sys.argv[1:2] not in ([], ["steps"]):
+        sys.exit(__doc__)
+    sys.exit(main(sys.argv[1:]))

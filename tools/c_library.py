@@ -21,7 +21,8 @@ TOP = HERE.parent
 AMPLIFIER = "1: open 0 dB/10, 2: muted 0 dB/10\n1: open -60 dB/10, 2: muted 0 dB/10\n"
 PANEL = "open channel 1: status 0\ngain to -6 dB: status 0\ngain: -60 dB/10\n"
 STRICT = ["-O2", "-Wall", "-Wextra", "-Werror"]
-LANGUAGES = {"c11": ["cc", "-std=c11", "-D_GNU_SOURCE"], "c++17": ["c++", "-x", "c++", "-std=c++17", "-D_GNU_SOURCE"]}
+LANGUAGES = {"c11": ["cc", "-std=c11"], "c++17": ["c++", "-x", "c++", "-std=c++17"]}
+SANITIZED = ["-O1", "-g", "-fsanitize=address,undefined", "-fno-sanitize-recover=all"]
 
 
 class Checks:
@@ -157,6 +158,23 @@ def refused_memory(checks, made):
         print(f"  {words[0].name}: {requests} requests for memory, {times} of them the library's")
 
 
+def arenas(checks, made):
+    """The heap of examples/c over arenas of each size, in both languages, under the sanitizers."""
+    for language, compiler in LANGUAGES.items():
+        subprocess.run([*compiler, *STRICT, *SANITIZED, "-o", made / f"heap-{language}", HERE / "heap.c"], check=True)
+        out, status = said_by([made / f"heap-{language}"])
+        checks.same(f"arenas of each size ({language})", (re.fullmatch(r"[1-9]\d{6} passed, 0 failed\n", out) is not None, status), (True, 0))
+
+
+def stays_below(checks, made, archive):
+    """What `make install-library` writes lies below DESTDIR, and nothing of it beside."""
+    room = made / "a room"
+    subprocess.run(["make", "-s", "install-library", "PREFIX=/opt/oca", f"DESTDIR={room}", f"LIBRARY={archive}"], cwd=TOP, check=True)
+    files = sorted(str(it.relative_to(room)) for it in room.rglob("*") if it.is_file())
+    checks.same("what is installed below DESTDIR", files, [f"opt/oca/{it}" for it in ("include/oca.h", "lib/liboca.a", "lib/liboca_c.a", "lib/pkgconfig/oca.pc")])
+    checks.same("nothing beside it", Path("/opt/oca").exists(), False)
+
+
 def names(checks, archive, header):
     """Each prototype has its symbol, and each symbol of the library its prototype."""
     text = re.sub(r"/\*.*?\*/", "", header.read_text(), flags=re.DOTALL)
@@ -178,6 +196,8 @@ def main():
         subprocess.run(["make", "-s", "install-library", f"PREFIX={prefix}", f"LIBRARY={archive}"], cwd=TOP, check=True)
         compile_all(made, prefix)
         names(checks, archive, TOP / "include/oca.h")
+        arenas(checks, made)
+        stays_below(checks, made, archive)
         for language in LANGUAGES:
             out, status = said_by([made / f"calls-{language}"])
             counts = re.search(r"(\d+) passed, (\d+) failed\n$", out)
@@ -195,7 +215,7 @@ def main():
             checks.same("the panel under valgrind", said_by([*careful, made / "panel-c11", port]), (PANEL, 0))
             checks.same("the device under valgrind", (run.communicate(timeout=120)[0], run.returncode), (AMPLIFIER, 0))
         arena = made / "arena"
-        subprocess.run(["cc", "-std=c11", "-D_GNU_SOURCE", "-DARENA=(3u<<20)", *STRICT, f"-I{prefix}/include", "-o", arena, TOP / "tools/c_library.c", TOP / "examples/c/heap.c",
+        subprocess.run(["cc", "-std=c11", "-DARENA=(3u<<20)", *STRICT, f"-I{prefix}/include", "-o", arena, TOP / "tools/c_library.c", TOP / "examples/c/heap.c",
                         f"{prefix}/lib/liboca_c.a"], check=True)
         checks.same("each call over an arena", said_by([arena])[1], 0)
     print(f"{checks.passed} passed, {checks.failed} failed")

@@ -25,7 +25,7 @@ def main():
     panel = subprocess.run([f"{folder}/panel", port], capture_output=True, text=True, timeout=60).stdout
     said = turned + amplifier.communicate(timeout=60)[0]
     good = (panel, said) == (PANEL, AMPLIFIER)
-    print("embedded: the panel set the amplifier" if good else f"embedded: the panel said {panel!r}, the amplifier {said!r}")
+    print("embedded: the panel set the amplifier\n1 passed, 0 failed" if good else f"embedded: the panel said {panel!r}, the amplifier {said!r}")
     return 0 if good else 1
 
 

@@ -499,23 +499,23 @@ def summary(seed, total, wrong):
 
 
 def learn(folder):
-    """Sizes as far as the program knows them, and whether it tells what was written."""
+    """Whether the program knows the sizes that are tried, and tells what was written: only then is all of it tried."""
     def knows(line, said=b""):
         done = subprocess.run([f"{folder}/trials", "events"], input=line, capture_output=True, timeout=60)
         return done.returncode == 0 and said in done.stdout
 
-    if knows(b"history 1 2 0\n"):
-        SIZES.extend([16, 16, 1, 2, 15, 17, 64])
-    if knows(b"history 1 16 1\n"):
-        CHANNELS.extend([0, 0, 1, 2, 9])
+    SIZES.extend([16, 16, 1, 2, 15, 17, 64])
+    CHANNELS.extend([0, 0, 1, 2, 9])
+    TOLD.append(())
     sets = ask(1, 4097, 4, 2, 1, b"\1").hex().encode()
-    if knows(b"history 1 16 0\n0 127.0.0.1:9001 " + sets + b"\n", b"written 4097\n"):
-        TOLD.append(())
+    return knows(b"history 1 2 0\n") and knows(b"history 1 16 1\n") and \
+        knows(b"history 1 16 0\n0 127.0.0.1:9001 " + sets + b"\n", b"written 4097\n")
 
 
 def main():
     folder = sys.argv[1]
-    learn(folder)
+    if not learn(folder):
+        sys.exit("law: trials does not know the sizes that are tried, or does not tell what was written")
     count = int(sys.argv[2]) if len(sys.argv) > 2 else 300
     seed = int(sys.argv[3]) if len(sys.argv) > 3 else 1
     total = collections.Counter()

@@ -7,7 +7,7 @@ Usage: lossy.py BIN [COMMANDS] [SEED]     so many commands one at a time, with a
        lossy.py BIN directed [WINDOW..]   16 under way, of which the last overtakes the others and stays unanswered
                                           while they are answered and 15 more are executed; then a copy of it comes
 
-Of each run it prints a table. One at a time, each answer must be what the second implementation of the profile says,
+Of each run it prints a table, and at the end 'N passed, M failed' over the runs. One at a time, each answer must be what the second implementation of the profile says,
 and the last two commands read back what was set. With 16 under way the commands may be executed in any order, so they
 are such whose answers tell them apart in every order. The exit status is 1 if a command was executed twice, was too
 old, an answer was wrong, or one is missing; of `directed`, if with a window of 31 or more the copy is not answered from
@@ -151,6 +151,11 @@ def line_of(c):
     return f"{c.target} {c.level} {c.index} {c.count} {oca.hex_text(c.params)}"
 
 
+def free_port():
+    with Network.bound() as s:
+        return s.getsockname()[1]
+
+
 def listening(device):
     """The address that the device printed once it was bound."""
     line = device.stderr.readline().decode()
@@ -170,7 +175,7 @@ class Run:
         self.network = network = network_of(listening(device))
         host, port = network.front.getsockname()
         panel = subprocess.Popen(
-            [f"{folder}/ocactl", "run", "--device", f"{host}:{port}", "--first-handle", "1", *words],
+            [f"{folder}/ocactl", "run", "--device", f"{host}:{port}", "--first-handle", "1", "--port", str(free_port()), *words],
             stdin=subprocess.PIPE, stdout=subprocess.PIPE)
         panel.stdin.write("".join(line + "\n" for line, _ in made).encode())
         panel.stdin.close()
@@ -223,24 +228,16 @@ def directed(folder, window):
     return (run.report.get("executed"), bool(kept), bool(old)) == (31, window >= 31, window < 31)
 
 
-def knows_ahead(folder):
-    text = subprocess.run([f"{folder}/ocactl", "run", "--help"], capture_output=True, text=True, timeout=60).stdout
-    if "--ahead" not in text:
-        print("ocactl run has no --ahead: nothing is tried with 16 under way")
-    return "--ahead" in text
-
-
 def main():
     folder, words = sys.argv[1], sys.argv[2:]
-    if words[:1] == ["directed"] and not knows_ahead(folder):
-        return 0
     if words[:1] == ["directed"]:
-        return 0 if all([directed(folder, int(window)) for window in words[1:] or ["30", "31"]]) else 1
-    count, seed = int(words[0]) if words else 200, int(words[1]) if len(words) > 1 else 1
-    good = told(folder, set_and_read(random.Random(seed), count), 32, seed, [])
-    if knows_ahead(folder):
-        good &= told(folder, told_apart(random.Random(seed), 4 * count), 31, seed, ["--ahead", "16"])
-    return 0 if good else 1
+        good = [directed(folder, int(window)) for window in words[1:] or ["30", "31"]]
+    else:
+        count, seed = int(words[0]) if words else 200, int(words[1]) if len(words) > 1 else 1
+        good = [told(folder, set_and_read(random.Random(seed), count), 32, seed, []),
+                told(folder, told_apart(random.Random(seed), 4 * count), 31, seed, ["--ahead", "16"])]
+    print(f"{sum(good)} passed, {len(good) - sum(good)} failed")
+    return 0 if all(good) else 1
 
 
 if __name__ == "__main__":

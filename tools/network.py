@@ -3,8 +3,9 @@
 
 Usage: network.py BIN     BIN is the folder with `ocadev` and `ocactl`
 
-Signals and failing calls come from the layer of `unreliable.c`. What the programs print and how long they take is compared; of
-what is timed the quickest of some runs counts, since a machine may be busy. The last line is 'N passed, M failed'."""
+Signals and failing calls come from the layer of `unreliable.c`. What the programs print and how long they take is compared. What is
+timed is held against waits of the same length that this script makes meanwhile, and tried again while it is too long, since a
+machine may be busy. The last line is 'N passed, M failed'."""
 import errno
 import os
 import re
@@ -12,6 +13,7 @@ import socket
 import subprocess
 import sys
 import tempfile
+import threading
 import time
 from pathlib import Path
 
@@ -20,6 +22,7 @@ import oca_profile as oca
 HERE = Path(__file__).resolve().parent
 GET = (4097, 4, 1, 0, b"")
 WAIT_MS = 50
+TRIES = 12
 
 
 def bound(ip="127.0.0.1", port=0):
@@ -96,6 +99,27 @@ class Checks:
         return (*run.communicate(timeout=60), run.returncode)
 
 
+class Waits:
+    """Waits of 50 ms, one after another in a thread of their own: how long one takes on this machine just now."""
+
+    def __enter__(self):
+        self.took, self.ends = [], False
+        self.thread = threading.Thread(target=self.wait, daemon=True)
+        self.thread.start()
+        return self
+
+    def wait(self):
+        while not self.ends:
+            begun = time.monotonic()
+            time.sleep(WAIT_MS / 1000)
+            self.took.append((time.monotonic() - begun) * 1000)
+
+    def __exit__(self, *_):
+        self.ends = True
+        self.thread.join()
+        self.one = max(WAIT_MS, sum(self.took) / len(self.took))
+
+
 def report(run):
     """The counts of a report by name."""
     words = run.communicate(timeout=60)[0].split()
@@ -109,13 +133,17 @@ def quiet_turns(checks):
                               (7, {"FAIL_RECEIVE": 7, "ERRNO": errno.ENETDOWN}),
                               (20, {"FAIL_RECEIVE": 99, "ERRNO": errno.ENOBUFS, "SIGNALS": 1000})):
         took = []
-        for _ in range(3):
+        for _ in range(TRIES):
             run, _ = checks.serve(turns, **settings)
-            begun = time.monotonic()
-            counts = report(run)
-            took.append((time.monotonic() - begun) * 1000 / turns)
-            checks.same(f"{settings}: quiet turns and failed ones", (counts.get("quiet"), counts.get("failed-receives")), (turns - failing, failing))
-        checks.expect(f"{settings}: a turn takes 50 ms", WAIT_MS - 3 < min(took) < WAIT_MS * 1.7, f"{took} ms")
+            with Waits() as waits:
+                begun = time.monotonic()
+                counts = report(run)
+            took.append((time.monotonic() - begun) * 1000 / turns / waits.one)
+            if {name: counts.get(name) for name in ("quiet", "failed-receives")} != {"quiet": turns - failing, "failed-receives": failing}:
+                checks.expect(f"{settings}: quiet turns and failed ones", False, counts)
+            if took[-1] < 1.2:
+                break
+        checks.expect(f"{settings}: a turn takes as long as a wait of 50 ms", 0.9 < min(took) < 1.2, f"{took} of such a wait")
 
 
 def signals(checks):
@@ -152,14 +180,19 @@ def a_stalled_neighbour(checks):
     """Datagrams to a host that takes none hold up nobody else."""
     with bound() as stalled, bound() as peer:
         run, port = checks.serve(100000, STALL=stalled.getsockname()[1])
-        slowest = []
-        for handle in range(1, 21):
-            for copy in range(5):
-                stalled.sendto(get_command(5 * handle + copy), ("127.0.0.1", port))
-            begun = time.monotonic()
-            checks.same(f"behind a stalled neighbour: answer {handle}", answer(peer, get_command(handle), ("127.0.0.1", port))[0], response(handle))
-            slowest.append((time.monotonic() - begun) * 1000)
-        checks.expect("behind five sends without room an answer comes soon", sorted(slowest)[10] < 60, f"{slowest} ms")
+        slowest, handle = [], 0
+        for _ in range(TRIES):
+            with Waits() as waits:
+                for handle in range(handle + 1, handle + 21):
+                    for copy in range(5):
+                        stalled.sendto(get_command(5 * handle + copy), ("127.0.0.1", port))
+                    begun = time.monotonic()
+                    checks.same(f"behind a stalled neighbour: answer {handle}", answer(peer, get_command(handle), ("127.0.0.1", port))[0], response(handle))
+                    slowest.append((time.monotonic() - begun) * 1000)
+            soon = sorted(slowest[-20:])[10] / waits.one
+            if soon < 1.2:
+                break
+        checks.expect("behind five sends without room an answer comes as soon as a wait of 50 ms ends", soon < 1.2, f"{slowest} ms")
         run.kill()
 
 

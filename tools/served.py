@@ -4,6 +4,8 @@ device.
 
 Usage: served.py PORT [CHANNELS]     serves the bench device, until it is stopped; at port 0 the system chooses one
 
+No step of the gate.
+
 As a module: `with Served(tree) as device:` serves in a thread; `device.port`, `device.tree` and `device.heard`, each
 datagram that came with what was said of it."""
 import socket

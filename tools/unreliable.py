@@ -139,6 +139,7 @@ def main():
         runs.expect(runs.refused > 300 and runs.ends > 2000, "too few refusals and failures were tried")
         print(f"unreliable: {runs.refused} requests for memory refused and answered, {runs.without} done without; "
               f"{runs.ends} failed reads and writes, {runs.pieces} runs in short pieces; {runs.wrong} wrong")
+    print(f"{runs.refused + runs.ends + runs.pieces} passed, {runs.wrong} failed")
     return 1 if runs.wrong else 0
 
 

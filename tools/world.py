@@ -599,11 +599,11 @@ def verdicts(checks):
 
 
 def learn_sizes(program):
-    """Room for peers, as far as the program knows it."""
+    """Whether the program knows room for peers: only then is all of it tried."""
     line = b"schedule 1 1 2 127.0.0.1:1/1\n"
-    if subprocess.run([program, "world"], input=line, capture_output=True, timeout=60).returncode == 0:
-        PEERS.extend([16, 16, 16, 16, 1, 2, 15, 17, 64])
-        BAD_LINES.extend([("schedule 1 1 0 127.0.0.1:1/1", "number"), ("schedule 1 1 65 127.0.0.1:1/1", "number")])
+    PEERS.extend([16, 16, 16, 16, 1, 2, 15, 17, 64])
+    BAD_LINES.extend([("schedule 1 1 0 127.0.0.1:1/1", "number"), ("schedule 1 1 65 127.0.0.1:1/1", "number")])
+    return subprocess.run([program, "world"], input=line, capture_output=True, timeout=60).returncode == 0
 
 
 def main():
@@ -614,7 +614,8 @@ def main():
         print(result[0] if result else "no break")
         return 0
     count, seed = int(sys.argv[2]), int(sys.argv[3]) if len(sys.argv) > 3 else 1
-    learn_sizes(program)
+    if not learn_sizes(program):
+        sys.exit("world: trials does not know room for peers")
     total = collections.Counter()
     jobs = [(program, seed, range(first, min(first + BATCH, count))) for first in range(0, count, BATCH)]
     with multiprocessing.Pool(min(4, multiprocessing.cpu_count())) as pool:

@@ -1,5 +1,6 @@
 /* A two-channel amplifier in C: each channel has a mute and a gain in tenths of a decibel.
  * Usage: device [PORT [SECONDS]]     It prints where it listens on standard error, and each change of its channels. */
+#define _POSIX_C_SOURCE 200809L
 #include <oca.h>
 
 #include <arpa/inet.h>

@@ -1,5 +1,5 @@
 /* A heap for firmware that has no malloc: an arena of fixed size, from which nothing is given back. Link it with liboca_c.a in
- * place of liboca.a. ARENA is its size in bytes; docs/EMBEDDING.md says how much a device takes. */
+ * place of liboca.a. ARENA is its size in bytes, any number; docs/EMBEDDING.md says how much a device takes. C11 or C++11. */
 #include <stdbool.h>
 #include <stddef.h>
 #include <stdint.h>
@@ -8,24 +8,33 @@
 #ifndef ARENA
 #define ARENA (2u << 20)
 #endif
+#define ALIGNMENT 16u /* of each block; the library asks for no more */
+
+#ifdef __cplusplus
+#define ALIGNED alignas(ALIGNMENT)
+extern "C" {
+#else
+#define ALIGNED _Alignas(ALIGNMENT)
+#endif
 
 struct tried { bool ok; void *at; };
 struct tried rattle_alloc(size_t size, size_t align);
 struct tried rattle_realloc(void *old, size_t kept, size_t size, size_t align);
 void rattle_dealloc(void *at);
 
-static _Alignas(16) uint8_t arena[ARENA];
-static _Alignas(16) uint8_t nothing[16];
-size_t heap_used, heap_requests;
+ALIGNED static uint8_t arena[(ARENA) + 1u]; /* no array has 0 bytes */
+ALIGNED static uint8_t nothing[ALIGNMENT];
+
+/* How many bytes of the arena are handed out at most, how many are (with the gaps between blocks), and how often was asked. */
+size_t heap_room = ARENA, heap_used, heap_requests;
 
 struct tried rattle_alloc(size_t size, size_t align) {
     struct tried refused = {false, nothing}, given = {true, nothing};
-    size_t at = (heap_used + 15) & ~(size_t)15;
-    (void)align;
+    size_t at = (heap_used + (ALIGNMENT - 1)) & ~(size_t)(ALIGNMENT - 1), takes = size ? size : 1;
     heap_requests++;
-    if (size > sizeof arena - at) return refused;
+    if (align > ALIGNMENT || at > heap_room || takes > heap_room - at) return refused;
     given.at = arena + at;
-    heap_used = at + size + (size == 0);
+    heap_used = at + takes;
     return given;
 }
 
@@ -36,3 +45,7 @@ struct tried rattle_realloc(void *old, size_t kept, size_t size, size_t align) {
 }
 
 void rattle_dealloc(void *at) { (void)at; }
+
+#ifdef __cplusplus
+}
+#endif

@@ -1,5 +1,6 @@
 /* A panel for an amplifier in C: it opens channel 1, sets its gain to -6 dB, and reads the gain back.
  * Usage: panel PORT [MUTE GAIN]     The amplifier is at 127.0.0.1; its mute and its gain are 4097 and 4098 unless named. */
+#define _POSIX_C_SOURCE 200809L
 #include <oca.h>
 
 #include <arpa/inet.h>

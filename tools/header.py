@@ -1,0 +1,177 @@
+#!/usr/bin/env python3
+"""include/oca.h held against the sources of the library: each prototype, by its parameters' names, order and types, and
+each constant and struct, by its numbers and fields.
+
+Usage: header.py
+
+The step is tried itself: with two parameters, constants or fields exchanged, left out or of another type, a difference
+must be found. The last line is 'N passed, M failed'."""
+import re
+import sys
+from pathlib import Path
+
+TOP = Path(__file__).resolve().parent.parent
+CALLS = TOP / "crates/oca_c/src"
+NUMBERS = {"bool": "bool", "usize": "size_t", **{f"{sign}{bits}": f"{'u' if sign == 'u' else ''}int{bits}_t" for sign in "iu" for bits in (8, 16, 32, 64)}}
+HANDLES = {"DeviceHandle": ("struct oca_device", "device"), "LinkHandle": ("struct oca_link", "link")}
+STRUCTS = {"Name": "struct oca_name", "Reading": "struct oca_setting"}
+# A parameter that the header calls otherwise, by its call.
+RENAMED = {
+    ("oca_device_datagram_words", "told"): "verdict", ("oca_device_object_words", "told"): "object", ("oca_device_setting", "reading"): "setting",
+    ("oca_link_submit", "command"): "handle", ("oca_link_due", "kind"): "due", ("oca_link_due", "command"): "handle",
+    ("oca_link_datagram", "kind"): "reception", ("oca_link_take", "command"): "handle", ("oca_link_answered", "command"): "handle",
+}
+LENGTHS = {"bytes": "len", "verdict": "words", "object": "words"}
+
+
+def in_c(call, name, kind):
+    """The header's parameters for one of the library's: a slice is a pointer and a length."""
+    name = RENAMED.get((call, name), name)
+    read = re.fullmatch(r"(&(?:mut )?)?(\[)?(\w+)\]?", kind)
+    lent, is_slice, inner = read.groups()
+    if inner in HANDLES:
+        of, name = HANDLES[inner]
+        return [(f"{of} *", name)]
+    of = NUMBERS.get(inner) or STRUCTS[inner]
+    if not lent:
+        return [(of, name)]
+    pointer = (f"{'' if lent == '&mut ' else 'const '}{of} *", name)
+    return [pointer, ("size_t", LENGTHS.get(name, f"{name}_len"))] if is_slice else [pointer]
+
+
+def exported():
+    """The calls that the library exports, each with the parameters and the result that the header must have."""
+    found = {}
+    for file in sorted(CALLS.glob("*.rt")):
+        for name, given, result in re.findall(r'pub extern "C" fn (\w+)\(([^)]*)\)\s*(?:-> (\w+))?', file.read_text()):
+            pairs = [re.fullmatch(r"(\w+): (.+)", it.strip()).groups() for it in given.split(",") if it.strip()]
+            found[name] = ([c for of, kind in pairs if kind != "Global" for c in in_c(name, of, kind)], NUMBERS.get(result, "void"))
+    return found
+
+
+def prototypes(header):
+    """The prototypes of the header."""
+    found = {}
+    for result, name, given in re.findall(r"^(uint32_t|void) (oca_\w+)\(([^)]*)\);", header, re.M):
+        words = [re.fullmatch(r"(.*?[ *])(\w+)", it.strip()).groups() for it in given.split(",") if it.strip() not in ("", "void")]
+        found[name] = ([(of.strip().replace("* ", "*"), it) for of, it in words], result)
+    return found
+
+
+def numbered(header, name):
+    """The constants of an enum of the header, by their numbers."""
+    body = re.search(rf"enum {name} \{{([^}}]*)\}}", re.sub(r"/\*.*?\*/", "", header, flags=re.S))[1]
+    return {word: int(number) for word, number in re.findall(r"(\w+) = (\d+)", body)}
+
+
+def fields(header, name):
+    """The fields of a struct of the header, in order, each with its type."""
+    body = re.search(rf"struct {name} \{{([^}}]*)\}}", header)[1]
+    found = []
+    for line in filter(None, (it.strip() for it in body.split(";"))):
+        of, names = line.split(" ", 1)
+        found += [(it.strip(), of) for it in names.split(",")]
+    return found
+
+
+def upper(name):
+    """A variant's name as a constant's: NoSuchBlock as NO_SUCH_BLOCK."""
+    return re.sub(r"(?<=[a-z])(?=[A-Z])", "_", name).upper()
+
+
+def text(file):
+    return (CALLS / file).read_text()
+
+
+def arms(source, kind, prefix):
+    """The numbers of the arms of a match over a type."""
+    return {f"{prefix}{upper(name)}": int(number) for name, number in re.findall(rf"{kind}::(\w+)(?:\(\w+\))? => \(?(\d+)", source)}
+
+
+def constant(file, name):
+    return int(re.search(rf"const {name}: usize = (\d+);", (TOP / file).read_text())[1])
+
+
+def expected():
+    """What the header must have besides prototypes: each constant and struct by its name."""
+    due = arms(text("link.rt"), "Due", "OCA_DUE_")
+    due["OCA_DUE_COMMAND"] = due.pop("OCA_DUE_SEND")
+    verdict = re.search(r"\} => \[0, (.*?)\]", text("words.rt"))[1].split(", ")
+    object_words = re.findall(r"(\w+)", " ".join(re.findall(r"^        (?:object\.|)(\w+)(?:\.0|\(object\.class\)|\.len\(\) as u32),", text("words.rt"), re.M)))
+    reading = re.search(r"pub struct Reading \{(.*?)\}", text("reading.rt"), re.S)[1]
+    return {
+        "enum oca_result": {f"OCA_{upper(name)}": int(number) for name, number in
+                            re.findall(r"^    (\w+) = (\d+),", text("answer.rt"), re.M)},
+        "enum oca_class": arms(text("words.rt"), "Class", "OCA_CLASS_"),
+        "enum oca_due": due,
+        "enum oca_reception": arms(text("link.rt"), "Reception", "OCA_"),
+        "struct oca_verdict": [(name, "uint32_t") for name in ["kind", *verdict[:4], "fault", "at"]],
+        "struct oca_object": [(name, "uint32_t") for name in object_words[:2]] + [("class_number", "uint32_t"), ("role_size", "uint32_t"), ("role[64]", "uint8_t")],
+        "struct oca_setting": [(name, NUMBERS[kind]) for name, kind in re.findall(r"pub (\w+): (\w+)", reading)],
+        "struct oca_name": [("size", "uint8_t"), ("text[64]", "uint8_t")],
+        "most": {"OCA_MOST_BYTES": constant("crates/oca_types/src/words.rt", "MOST_BYTES"),
+                 "OCA_MOST_ANSWER": constant("crates/oca_types/src/words.rt", "MOST_PARAMETER_BYTES"),
+                 "OCA_MOST_WRITTEN": constant("crates/oca_device/src/device.rt", "MOST_WRITTEN")},
+        "version": int(re.search(r"^    (0x[\d_]+)$", text("version.rt"), re.M)[1].replace("_", ""), 16),
+    }
+
+
+def stated(header, name):
+    """What the header has under that name."""
+    if name == "most":
+        return {word: int(number) for word, number in re.findall(r"(OCA_MOST_\w+) = (\d+)", header)}
+    if name == "version":
+        return int(re.search(r"#define OCA_VERSION (0x[0-9a-fA-F]+)u", header)[1], 16)
+    of, word = name.split(" ")
+    return numbered(header, word) if of == "enum" else fields(header, word)
+
+
+def differences(header):
+    """How many things were compared, and what differs, a line each."""
+    library, there, others = exported(), prototypes(header), expected()
+    wrong = [f"{name}: in one of both alone" for name in sorted(library.keys() ^ there.keys())]
+    wrong += [f"{name}: the header has {there[name]}, the library {library[name]}" for name in sorted(library.keys() & there.keys())
+              if there[name] != library[name]]
+    wrong += [f"{name}: the header has {stated(header, name)}, the library {of}" for name, of in others.items() if stated(header, name) != of]
+    return len(library) + sum(len(of) if isinstance(of, (dict, list)) else 1 for of in others.values()), wrong
+
+
+# Headers that are wrong: the text, and what stands there in its place.
+WRONG = [
+    ("bool lockable, bool muted", "bool muted, bool lockable"),
+    ("uint8_t window, uint8_t peers", "uint8_t peers, uint8_t window"),
+    ("OCA_CLASS_MUTE = 2, OCA_CLASS_POLARITY = 3", "OCA_CLASS_POLARITY = 2, OCA_CLASS_MUTE = 3"),
+    ("executed, kept, old, reused, fault", "executed, kept, reused, old, fault"),
+    ("OCA_FULL = 1, OCA_RESERVED = 2, OCA_TAKEN = 3, OCA_NO_SUCH_BLOCK = 4, OCA_TOO_DEEP = 5", "OCA_TOO_DEEP = 1, OCA_RESERVED = 2, OCA_TAKEN = 3, OCA_NO_SUCH_BLOCK = 4, OCA_FULL = 5"),
+    ("uint32_t oca_device_tick(struct oca_device *device, uint64_t now);", "uint32_t oca_device_tick(struct oca_device *device, uint32_t now);"),
+    ("uint32_t oca_device_tick(struct oca_device *device, uint64_t now);", ""),
+    ("int8_t setting, int8_t least, int8_t greatest", "int8_t setting, int8_t greatest, int8_t least"),
+    ("uint32_t *kind, uint32_t *ip, uint16_t *port", "uint32_t *ip, uint32_t *kind, uint16_t *port"),
+    ("uint32_t *status, uint32_t *count", "uint32_t *count, uint32_t *status"),
+    ("const uint8_t *params, size_t params_len", "uint8_t *params, size_t params_len"),
+    ("void oca_link_close(struct oca_link *link);", "uint32_t oca_link_close(struct oca_link *link);"),
+    ("uint32_t kind, negative; uint64_t magnitude;", "uint32_t negative, kind; uint64_t magnitude;"),
+    ("uint32_t ono, container, class_number", "uint32_t container, ono, class_number"),
+    ("OCA_DUE_COMMAND = 1, OCA_DUE_KEEP_ALIVE = 2", "OCA_DUE_COMMAND = 2, OCA_DUE_KEEP_ALIVE = 1"),
+    ("OCA_STRANGER = 2, OCA_MALFORMED = 3", "OCA_STRANGER = 3, OCA_MALFORMED = 2"),
+    ("OCA_MOST_WRITTEN = 86", "OCA_MOST_WRITTEN = 85"),
+    ("OCA_VERSION 0x010100u", "OCA_VERSION 0x010000u"),
+]
+
+
+def main():
+    header = (TOP / "include/oca.h").read_text()
+    compared, wrong = differences(header)
+    for line in wrong:
+        print(f"include/oca.h: {line}")
+    found = [header.count(there) == 1 and len(differences(header.replace(there, other))[1]) > 0 for there, other in WRONG]
+    for (there, other), is_found in zip(WRONG, found):
+        if not is_found:
+            print(f"not found: {other!r} in place of {there!r}")
+    failed = len(wrong) + found.count(False)
+    print(f"{compared - len(wrong) + sum(found)} passed, {failed} failed")
+    return 1 if failed else 0
+
+
+if __name__ == "__main__":
+    sys.exit(main())
