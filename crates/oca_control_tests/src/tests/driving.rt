@@ -1,0 +1,90 @@
+//! The loop over an end in memory.
+use super::ends::Step::*;
+use super::ends::{Delivery, Ending, Step, plays};
+use super::links::Step::{Submits, Takes};
+use super::{ANSWER, COMMAND};
+use oca_control::DriveReport;
+
+/// An end that is quiet at 0, and delivers an answer to the handle 1 at 10.
+const ANSWERS: Ending = Ending {
+    quiet: 0,
+    deliveries: &[Delivery::Quiet(0), Delivery::Response(1, 10)],
+    room: 4,
+    fail_send: None,
+};
+
+// The loop ends behind the last entry of the end.
+const ANSWERED: &[Step] = &[
+    At(Submits(0, Ok(1))),
+    Drives(
+        5,
+        DriveReport {
+            turns: 2,
+            sent: 1,
+            keep_alives: 0,
+            answered: 1,
+            failed_receives: 0,
+            failed_sends: 0,
+            lost: false,
+        },
+    ),
+    Taken(1),
+    Sent(0, &COMMAND),
+    At(Takes(1, Some(ANSWER))),
+];
+
+#[test]
+fn a_command_is_sent_and_answered(rt: HostRuntime) {
+    plays(&rt, rt.alloc(), 16, ANSWERS, ANSWERED);
+}
+
+/// An end whose first send fails, and whose second receive.
+const FAILS: Ending = Ending {
+    quiet: 0,
+    deliveries: &[Delivery::Quiet(0), Delivery::Failed, Delivery::Quiet(250)],
+    room: 4,
+    fail_send: Some(0),
+};
+
+const REPEATED: &[Step] = &[
+    At(Submits(0, Ok(1))),
+    Drives(
+        3,
+        DriveReport {
+            turns: 3,
+            sent: 2,
+            keep_alives: 0,
+            answered: 0,
+            failed_receives: 1,
+            failed_sends: 1,
+            lost: false,
+        },
+    ),
+    Taken(1),
+];
+
+#[test]
+fn a_send_that_fails_is_repeated(rt: HostRuntime) {
+    plays(&rt, rt.alloc(), 16, FAILS, REPEATED);
+}
+
+const NO_TURNS: &[Step] = &[
+    Drives(
+        0,
+        DriveReport {
+            turns: 0,
+            sent: 0,
+            keep_alives: 0,
+            answered: 0,
+            failed_receives: 0,
+            failed_sends: 0,
+            lost: false,
+        },
+    ),
+    Delivered(0),
+];
+
+#[test]
+fn no_turns(rt: HostRuntime) {
+    plays(&rt, rt.alloc(), 16, ANSWERS, NO_TURNS);
+}
