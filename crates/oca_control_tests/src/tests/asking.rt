@@ -1,9 +1,9 @@
 //! Commands that are asked over an end in memory.
 use super::ends::Step::*;
-use super::ends::{Delivery, Ending, Fared, Step, plays};
+use super::ends::{Delivery, Ending, Fared, QUIET, Step, is_outcome, plays};
 use super::links::Step::{HearsResponse, IsLost, Submits, Takes};
 use super::{ANSWER, COMMAND};
-use oca_control::{ControlFault, DriveReport, Reception};
+use oca_control::{ControlFault, DriveReport, Reception, refused};
 
 /// An end that delivers the answer to the handle 1 at 10.
 const ANSWERS: Ending = Ending {
@@ -32,14 +32,6 @@ const QUIET_ONCE: Ending = Ending {
 /// An end that is quiet twice.
 const QUIET_TWICE: Ending = Ending {
     quiet: 2,
-    deliveries: &[],
-    room: 32,
-    fail_send: None,
-};
-
-/// An end that is quiet for 30 turns.
-const QUIET: Ending = Ending {
-    quiet: 30,
     deliveries: &[],
     room: 32,
     fail_send: None,
@@ -171,4 +163,33 @@ const ONE_TURN: &[Step] = &[
 #[test]
 fn one_turn(rt: HostRuntime) {
     plays(&rt, rt.alloc(), 16, QUIET_TWICE, ONE_TURN);
+}
+
+/// Why a link refuses a command, and how it fared.
+const REFUSALS: [(ControlFault, Fared); 4] = [
+    (ControlFault::Lost, Fared::Lost),
+    (
+        ControlFault::HandlesSpent,
+        Fared::Refused(ControlFault::HandlesSpent),
+    ),
+    (
+        ControlFault::SpanFull,
+        Fared::Refused(ControlFault::SpanFull),
+    ),
+    (ControlFault::TooLong, Fared::Refused(ControlFault::TooLong)),
+];
+
+/// The first refusal after which a command fared otherwise.
+fn first_wrong(refusals: &[(ControlFault, Fared)]) -> Option<usize> {
+    for (at, (fault, want)) in refusals.iter().enumerate() {
+        if !is_outcome(&refused(*fault), *want) {
+            return Some(at);
+        }
+    }
+    None
+}
+
+#[test]
+fn a_lost_link_is_no_refusal(rt: HostRuntime) {
+    assert_eq!(rt; first_wrong(&REFUSALS), None);
 }

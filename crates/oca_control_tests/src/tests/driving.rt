@@ -1,8 +1,8 @@
 //! The loop over an end in memory.
 use super::ends::Step::*;
-use super::ends::{Delivery, Ending, Step, plays};
-use super::links::Step::{Submits, Takes};
-use super::{ANSWER, COMMAND};
+use super::ends::{Delivery, Ending, QUIET, Step, plays};
+use super::links::Step::{IsLost, Submits, Takes};
+use super::{ANSWER, COMMAND, KEEP_ALIVE};
 use oca_control::DriveReport;
 
 /// An end that is quiet at 0, and delivers an answer to the handle 1 at 10.
@@ -87,4 +87,53 @@ const NO_TURNS: &[Step] = &[
 #[test]
 fn no_turns(rt: HostRuntime) {
     plays(&rt, rt.alloc(), 16, ANSWERS, NO_TURNS);
+}
+
+// A command is sent at 0 and then each 250 ms, 20 times; at 5,000 the link is lost, which ends the loop.
+const LOST: &[Step] = &[
+    At(Submits(0, Ok(1))),
+    Drives(
+        30,
+        DriveReport {
+            turns: 21,
+            sent: 20,
+            keep_alives: 0,
+            answered: 0,
+            failed_receives: 0,
+            failed_sends: 0,
+            lost: true,
+        },
+    ),
+    At(IsLost(true)),
+    Delivered(21),
+    Taken(20),
+];
+
+#[test]
+fn a_loop_ends_where_the_link_is_lost(rt: HostRuntime) {
+    plays(&rt, rt.alloc(), 16, QUIET, LOST);
+}
+
+// From 0 to 7,250 there are two times 2,500 ms of silence.
+const KEEP_ALIVES: &[Step] = &[
+    Drives(
+        31,
+        DriveReport {
+            turns: 30,
+            sent: 0,
+            keep_alives: 2,
+            answered: 0,
+            failed_receives: 0,
+            failed_sends: 0,
+            lost: false,
+        },
+    ),
+    Taken(2),
+    Sent(0, &KEEP_ALIVE),
+    Sent(1, &KEEP_ALIVE),
+];
+
+#[test]
+fn keep_alives_are_sent(rt: HostRuntime) {
+    plays(&rt, rt.alloc(), 16, QUIET, KEEP_ALIVES);
 }

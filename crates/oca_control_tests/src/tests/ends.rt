@@ -39,6 +39,14 @@ pub struct Ending {
     pub fail_send: Option<u64>,
 }
 
+/// An end that is quiet for 30 turns, each 250 ms.
+pub const QUIET: Ending = Ending {
+    quiet: 30,
+    deliveries: &[],
+    room: 32,
+    fail_send: None,
+};
+
 /// How a command fared.
 #[derive(Clone, Copy)]
 pub enum Fared {
@@ -110,7 +118,7 @@ fn end_of(alloc: Global, ending: Ending) -> Option<MemoryEnd> {
 }
 
 /// Whether a command fared so.
-fn is_outcome(outcome: &Outcome, want: Fared) -> bool {
+pub fn is_outcome(outcome: &Outcome, want: Fared) -> bool {
     match (outcome, want) {
         (Outcome::Answered(answer), Fared::Answered(want)) => is_answer(answer, want),
         (Outcome::Refused(fault), Fared::Refused(want)) => *fault == want,

@@ -1,9 +1,18 @@
 //! What is given out, and when.
 use super::links::Step::*;
 use super::links::{Step, plays};
-use super::{ANSWER, KEEP_ALIVE};
-use oca_control::{ControlFault, Due, Reception};
+use super::{ANSWER, DEVICE, KEEP_ALIVE};
+use oca_control::{
+    ControlFault, Due, Reception, law_of_answering, law_of_giving_out, law_of_histories,
+};
 use oca_types::Handle;
+
+/// The laws of a link, whose functions run nothing.
+fn laws() {
+    law_of_histories();
+    law_of_answering();
+    law_of_giving_out();
+}
 
 // Silence of 2,500 ms gives a keep-alive of 5 seconds.
 const SILENCE: &[Step] = &[
@@ -33,12 +42,13 @@ const TWENTY: &[Step] = &[
 
 #[test]
 fn twenty_sendings_lose_the_link(rt: HostRuntime) {
+    laws();
     plays(&rt, 1, 16, TWENTY);
 }
 
 // A moment that is earlier than the one already seen counts as that, 2,500.
 const BACKWARDS: &[Step] = &[
-    Hears(super::DEVICE, &[], 2_500, Reception::Malformed),
+    Hears(DEVICE, &[], 2_500, Reception::Malformed),
     Gives(3, Due::KeepAlive),
 ];
 

@@ -1,8 +1,8 @@
 //! Commands that come twice, and what is lost.
 use super::schedules::Row::*;
-use super::schedules::{ANSWERED, EXECUTED, KEPT, ONE_LINK, Ran, Row, Seen, runs};
+use super::schedules::{ANSWERED, EXECUTED, Each, KEPT, ONE_LINK, Ran, Row, Seen, runs};
 use super::{A, B, DEVICE, GET};
-use oca_control::Reception;
+use oca_control::{ControlFault, Reception};
 use oca_pair::{PairFault, law_answers, law_getting_through, law_never_old, law_round_trip};
 use oca_types::Peer;
 use std::alloc::Global;
@@ -70,6 +70,29 @@ fn what_is_lost_is_given_out_again(rt: HostRuntime) {
         sessions: 1,
     };
     runs(&rt, rt.alloc(), &ONE_LINK, &[WITH_LOSSES], Ok(want));
+}
+
+/// Each copy of a command is lost: the link is lost after 20, and has no answer.
+const ALL_LOST: &[Row] = &[
+    Gets(0, Seen::Submitted(1)),
+    All(Each::Repeats, 0, 20),
+    Due(4_999, Seen::Nothing),
+    Due(5_000, Seen::Lost),
+    Takes(1, Seen::NoAnswer),
+    Gets(5_000, Seen::Refused(ControlFault::Lost)),
+];
+
+/// A link is lost where no copy arrives.
+#[test]
+fn a_link_is_lost(rt: HostRuntime) {
+    let want = Ran {
+        wrong: None,
+        to_device: 20,
+        to_links: 0,
+        last_byte: None,
+        sessions: 0,
+    };
+    runs(&rt, rt.alloc(), &ONE_LINK, &[ALL_LOST], Ok(want));
 }
 
 /// A step that names a datagram that was never sent is refused by its number.

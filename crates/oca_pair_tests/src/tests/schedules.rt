@@ -51,6 +51,8 @@ pub enum Each {
     Gets(u64),
     /// The first link gives the datagram of the number out at a moment.
     Sends(u64),
+    /// The first link gives the datagram of the number out at so many times 250 ms.
+    Repeats,
     /// The device executes the datagram of the number at a moment.
     Executes(u64),
     /// The datagram of the number answers a command of its link at a moment.
@@ -205,6 +207,13 @@ fn step_of(each: Each, number: u32) -> (Step<'static>, Seen) {
     match each {
         Each::Gets(now) => (get_state(0, now), Seen::Submitted(number)),
         Each::Sends(now) => (Step::Due { link: 0, now }, Seen::Sent(k)),
+        Each::Repeats => (
+            Step::Due {
+                link: 0,
+                now: u64::from(number).saturating_mul(250),
+            },
+            Seen::Sent(k),
+        ),
         Each::Executes(now) => (Step::ToDevice { k, now }, EXECUTED),
         Each::Answers(now) => (Step::ToLink { k, now }, ANSWERED),
         Each::Takes => (take(number), STATE),
