@@ -3,6 +3,7 @@
 //! something else.
 mod delivering;
 mod peers;
+mod rows;
 mod schedules;
 mod stepping;
 mod windows;

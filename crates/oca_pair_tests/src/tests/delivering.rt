@@ -1,6 +1,7 @@
 //! Commands that come twice, and what is lost.
-use super::schedules::Row::*;
-use super::schedules::{ANSWERED, EXECUTED, Each, KEPT, ONE_LINK, Ran, Row, Seen, runs};
+use super::rows::Row::*;
+use super::rows::{ANSWERED, EXECUTED, Each, KEPT, Row, Seen};
+use super::schedules::{ONE_LINK, Ran, runs};
 use super::{A, B, DEVICE, GET};
 use oca_control::{ControlFault, Reception};
 use oca_pair::{PairFault, law_answers, law_getting_through, law_never_old, law_round_trip};

@@ -1,6 +1,7 @@
 //! Peers, with room for their sessions and without.
-use super::schedules::Row::*;
-use super::schedules::{ANSWERED, EXECUTED, Each, Network, ONE_LINK, Ran, Row, STATE, Seen, runs};
+use super::rows::Row::*;
+use super::rows::{ANSWERED, EXECUTED, Each, Row, STATE, Seen};
+use super::schedules::{Network, ONE_LINK, Ran, runs};
 use super::{A_PORT, B, DEVICE_PORT, GET};
 use oca_device::Verdict;
 use oca_pair::PairFault;

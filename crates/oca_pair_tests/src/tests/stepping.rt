@@ -1,6 +1,7 @@
 //! Changes at the device's front, the clock, and the numbers of faults.
-use super::schedules::Row::*;
-use super::schedules::{EXECUTED, Each, Network, ONE_LINK, Ran, Row, Seen, runs};
+use super::rows::Row::*;
+use super::rows::{EXECUTED, Each, Row, Seen};
+use super::schedules::{Network, ONE_LINK, Ran, runs};
 use oca_pair::PairFault;
 use oca_tree::{LocalValue, SetFault};
 

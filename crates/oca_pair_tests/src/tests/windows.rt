@@ -1,9 +1,8 @@
 //! Windows of replies, and the span.
 use super::A_PORT;
-use super::schedules::Row::*;
-use super::schedules::{
-    ANSWERED, EXECUTED, Each, KEPT, Network, OLD, ONE_LINK, Ran, Row, STATE, Seen, runs,
-};
+use super::rows::Row::*;
+use super::rows::{ANSWERED, EXECUTED, Each, KEPT, OLD, Row, STATE, Seen};
+use super::schedules::{Network, ONE_LINK, Ran, runs};
 use oca_control::ControlFault;
 
 /// A link of A with a span of 2, and a window of 3.
