@@ -1,0 +1,195 @@
+//! Commands that are asked over an end in memory.
+use super::ends::Step::*;
+use super::ends::{Delivery, Ending, Fared, QUIET, Step, is_outcome, plays};
+use super::links::Step::{HearsResponse, IsLost, Submits, Takes};
+use super::{ANSWER, COMMAND};
+use oca_control::{ControlFault, DriveReport, Reception, refused};
+
+/// An end that delivers the answer to the handle 1 at 10.
+const ANSWERS: Ending = Ending {
+    quiet: 0,
+    deliveries: &[Delivery::Response(1, 10)],
+    room: 4,
+    fail_send: None,
+};
+
+/// An end that is closed.
+const CLOSED: Ending = Ending {
+    quiet: 0,
+    deliveries: &[],
+    room: 32,
+    fail_send: None,
+};
+
+/// An end that is quiet once.
+const QUIET_ONCE: Ending = Ending {
+    quiet: 1,
+    deliveries: &[],
+    room: 32,
+    fail_send: None,
+};
+
+/// An end that is quiet twice.
+const QUIET_TWICE: Ending = Ending {
+    quiet: 2,
+    deliveries: &[],
+    room: 32,
+    fail_send: None,
+};
+
+// A command is sent once, and its answer is taken.
+const ANSWERED: &[Step] = &[
+    Asks(5, Fared::Answered(ANSWER)),
+    Taken(1),
+    Sent(0, &COMMAND),
+    At(Takes(1, None)),
+];
+
+#[test]
+fn a_command_is_answered(rt: HostRuntime) {
+    plays(&rt, rt.alloc(), 16, ANSWERS, ANSWERED);
+}
+
+const NO_TURN: &[Step] = &[
+    Asks(0, Fared::Unanswered),
+    Taken(1),
+    Delivered(0),
+    Waits(1, 1, Fared::Answered(ANSWER)),
+];
+
+#[test]
+fn a_command_leaves_before_a_turn(rt: HostRuntime) {
+    plays(&rt, rt.alloc(), 16, ANSWERS, NO_TURN);
+}
+
+// The answer that comes is to the handle 1, and the command that is asked has 2.
+const ANOTHER: &[Step] = &[
+    At(Submits(0, Ok(1))),
+    Asks(1, Fared::Unanswered),
+    At(Takes(1, Some(ANSWER))),
+];
+
+#[test]
+fn another_answer_is_none(rt: HostRuntime) {
+    plays(&rt, rt.alloc(), 16, ANSWERS, ANOTHER);
+}
+
+// The link is lost after 20 sendings, and then the end is asked nothing.
+const LOST: &[Step] = &[
+    Asks(30, Fared::Lost),
+    At(IsLost(true)),
+    Delivered(21),
+    Taken(20),
+    Asks(30, Fared::Lost),
+    Delivered(21),
+];
+
+#[test]
+fn a_link_is_lost(rt: HostRuntime) {
+    plays(&rt, rt.alloc(), 16, QUIET, LOST);
+}
+
+// What the link refuses asks the end nothing.
+const REFUSED: &[Step] = &[
+    At(Submits(0, Ok(1))),
+    Asks(5, Fared::Refused(ControlFault::SpanFull)),
+    Taken(0),
+    Delivered(0),
+];
+
+#[test]
+fn a_command_is_refused(rt: HostRuntime) {
+    plays(&rt, rt.alloc(), 1, ANSWERS, REFUSED);
+}
+
+const THERE: &[Step] = &[
+    At(Submits(0, Ok(1))),
+    At(HearsResponse(1, 5, Reception::Answered(1))),
+    Waits(1, 9, Fared::Answered(ANSWER)),
+    Delivered(0),
+];
+
+#[test]
+fn an_answer_that_is_there_takes_no_turn(rt: HostRuntime) {
+    plays(&rt, rt.alloc(), 16, QUIET_ONCE, THERE);
+}
+
+const NOTHING: &[Step] = &[Asks(3, Fared::Unanswered), Taken(1)];
+
+#[test]
+fn a_closed_end_answers_nothing(rt: HostRuntime) {
+    plays(&rt, rt.alloc(), 16, CLOSED, NOTHING);
+}
+
+// What is due is given out, and again after 250 ms.
+const ALL: &[Step] = &[
+    At(Submits(0, Ok(1))),
+    At(Submits(0, Ok(2))),
+    GivesOut(0, 2, 0),
+    GivesOut(249, 0, 0),
+    GivesOut(250, 2, 0),
+    Taken(4),
+];
+
+#[test]
+fn all_that_is_due_is_given_out(rt: HostRuntime) {
+    plays(&rt, rt.alloc(), 16, CLOSED, ALL);
+}
+
+const KEEP_ALIVES: &[Step] = &[GivesOut(2_500, 0, 1)];
+
+#[test]
+fn a_keep_alive_is_given_out(rt: HostRuntime) {
+    plays(&rt, rt.alloc(), 16, CLOSED, KEEP_ALIVES);
+}
+
+const ONE_TURN: &[Step] = &[
+    At(Submits(0, Ok(1))),
+    Drives(
+        1,
+        DriveReport {
+            turns: 1,
+            sent: 1,
+            keep_alives: 0,
+            answered: 0,
+            failed_receives: 0,
+            failed_sends: 0,
+            lost: false,
+        },
+    ),
+    Delivered(1),
+];
+
+#[test]
+fn one_turn(rt: HostRuntime) {
+    plays(&rt, rt.alloc(), 16, QUIET_TWICE, ONE_TURN);
+}
+
+/// Why a link refuses a command, and how it fared.
+const REFUSALS: [(ControlFault, Fared); 4] = [
+    (ControlFault::Lost, Fared::Lost),
+    (
+        ControlFault::HandlesSpent,
+        Fared::Refused(ControlFault::HandlesSpent),
+    ),
+    (
+        ControlFault::SpanFull,
+        Fared::Refused(ControlFault::SpanFull),
+    ),
+    (ControlFault::TooLong, Fared::Refused(ControlFault::TooLong)),
+];
+
+/// The first refusal after which a command fared otherwise.
+fn first_wrong(refusals: &[(ControlFault, Fared)]) -> Option<usize> {
+    for (at, (fault, want)) in refusals.iter().enumerate() {
+        if !is_outcome(&refused(*fault), *want) {
+            return Some(at);
+        }
+    }
+    None
+}
+
+#[test]
+fn a_lost_link_is_no_refusal(rt: HostRuntime) {
+    assert_eq!(rt; first_wrong(&REFUSALS), None);
+}

@@ -1,0 +1,71 @@
+//! What is given out, and when.
+use super::links::Step::*;
+use super::links::{Step, plays};
+use super::{ANSWER, DEVICE, KEEP_ALIVE};
+use oca_control::{
+    ControlFault, Due, Reception, law_of_answering, law_of_giving_out, law_of_histories,
+};
+use oca_types::Handle;
+
+/// The laws of a link, whose functions run nothing.
+fn laws() {
+    law_of_histories();
+    law_of_answering();
+    law_of_giving_out();
+}
+
+// Silence of 2,500 ms gives a keep-alive of 5 seconds.
+const SILENCE: &[Step] = &[
+    Gives(2_499, Due::Nothing),
+    Gave(&[]),
+    Gives(2_500, Due::KeepAlive),
+    Gave(&KEEP_ALIVE),
+];
+
+#[test]
+fn a_keep_alive_after_2500_ms(rt: HostRuntime) {
+    plays(&rt, 1, 16, SILENCE);
+}
+
+// A command is given out 20 times, 250 ms apart. A lost link still hands answers on.
+const TWENTY: &[Step] = &[
+    Submits(0, Ok(1)),
+    Repeats(0, 1),
+    Gives(249, Due::Nothing),
+    Repeats(1, 20),
+    Gives(5_000, Due::Lost),
+    Gave(&[]),
+    Submits(5_000, Err(ControlFault::Lost)),
+    HearsResponse(1, 5_001, Reception::Answered(1)),
+    Takes(1, Some(ANSWER)),
+];
+
+#[test]
+fn twenty_sendings_lose_the_link(rt: HostRuntime) {
+    laws();
+    plays(&rt, 1, 16, TWENTY);
+}
+
+// A moment that is earlier than the one already seen counts as that, 2,500.
+const BACKWARDS: &[Step] = &[
+    Hears(DEVICE, &[], 2_500, Reception::Malformed),
+    Gives(3, Due::KeepAlive),
+];
+
+#[test]
+fn a_moment_that_runs_backwards(rt: HostRuntime) {
+    plays(&rt, 1, 16, BACKWARDS);
+}
+
+// A command has at most 1,445 bytes of parameters, and its datagram 1,472.
+const LONG: &[Step] = &[
+    SubmitsLong(1_446, Err(ControlFault::TooLong)),
+    SubmitsLong(1_445, Ok(1)),
+    Gives(0, Due::Send(Handle(1))),
+    GaveLen(1_472),
+];
+
+#[test]
+fn the_most_parameters(rt: HostRuntime) {
+    plays(&rt, 1, 16, LONG);
+}
