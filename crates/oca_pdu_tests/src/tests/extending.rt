@@ -92,10 +92,12 @@ fn are_added(packet: &mut Packet, more: More) -> bool
 fn first_wrong(packet: &mut Packet, rows: &[More]) -> Option<Wrong>
     requires { HoldsResponses packet.old.items }
 {
-    for (at, more) in rows.iter().enumerate() {
+    let mut at: usize = 0;
+    for more in rows {
         if !are_added(packet, *more) {
             return Some(Wrong::More(at));
         }
+        at = at.saturating_add(1);
     }
     None
 }
