@@ -1,0 +1,9 @@
+//! What no clause says: encodings and answers from outside, and each call once.
+mod classes;
+mod faults;
+mod methods;
+mod peers;
+mod puts;
+mod sizes;
+mod takes;
+mod texts;

@@ -1,0 +1,124 @@
+//! Peers as text, and moments that may be missing.
+use oca_types::{Peer, sooner};
+use std::alloc::Global;
+
+/// Peers, their addresses as four numbers, and their texts.
+const PEERS: &[(Peer, [u8; 4], &str)] = &[
+    (
+        Peer {
+            ip: 0x7F00_0001,
+            port: 65_000,
+        },
+        [127, 0, 0, 1],
+        "127.0.0.1:65000",
+    ),
+    (
+        Peer {
+            ip: 0xC0A8_0A02,
+            port: 9,
+        },
+        [192, 168, 10, 2],
+        "192.168.10.2:9",
+    ),
+    (Peer { ip: 0, port: 0 }, [0, 0, 0, 0], "0.0.0.0:0"),
+    (
+        Peer {
+            ip: 0xFFFF_FFFF,
+            port: 0xFFFF,
+        },
+        [255, 255, 255, 255],
+        "255.255.255.255:65535",
+    ),
+];
+
+/// Whether a peer prints this text.
+fn prints(alloc: Global, peer: Peer, text: &str) -> bool {
+    match peer.to_string(alloc) {
+        Ok(printed) => printed.as_str() == text,
+        Err(_) => false,
+    }
+}
+
+/// Whether the text names this peer.
+fn reads(text: &str, peer: Peer) -> bool {
+    match text.parse::<Peer>() {
+        Ok(read) => read == peer,
+        Err(_) => false,
+    }
+}
+
+/// The first peer that has other numbers or another text.
+fn first_wrong(alloc: Global) -> Option<Peer> {
+    for (peer, numbers, text) in PEERS {
+        let same = Peer::from((*numbers, peer.port)) == *peer;
+        if !same || !prints(alloc, *peer, text) || !reads(text, *peer) {
+            return Some(*peer);
+        }
+    }
+    None
+}
+
+#[test]
+fn peers_as_text(rt: HostRuntime) {
+    assert_eq!(rt; first_wrong(rt.alloc()), None);
+}
+
+/// Texts that name no peer.
+const NO_PEERS: &[&str] = &[
+    "",
+    "127.0.0.1",
+    "127.0.0.1:",
+    "127.0.0.1:65536",
+    "127.0.0:1",
+    "127.0.0.01:1",
+];
+
+/// The first of them that is read.
+fn first_read() -> Option<usize> {
+    for (at, text) in NO_PEERS.iter().enumerate() {
+        if text.parse::<Peer>().is_ok() {
+            return Some(at);
+        }
+    }
+    None
+}
+
+#[test]
+fn texts_that_name_no_peer(rt: HostRuntime) {
+    assert_eq!(rt; first_read(), None);
+}
+
+#[test]
+fn a_peer_on_this_machine(rt: HostRuntime) {
+    assert_eq!(rt; Peer::loopback(9001), AT_9001);
+}
+
+/// 127.0.0.1:9001.
+const AT_9001: Peer = Peer {
+    ip: 0x7F00_0001,
+    port: 9001,
+};
+
+/// Two moments that may be missing, and the sooner.
+const MOMENTS: &[(Option<u64>, Option<u64>, Option<u64>)] = &[
+    (None, None, None),
+    (Some(5), None, Some(5)),
+    (None, Some(6), Some(6)),
+    (Some(5), Some(6), Some(5)),
+    (Some(7), Some(6), Some(6)),
+];
+
+/// The first row whose sooner moment is another.
+fn first_wrong_moment() -> Option<usize> {
+    for (at, row) in MOMENTS.iter().enumerate() {
+        if sooner(row.0, row.1) != row.2 {
+            return Some(at);
+        }
+    }
+    None
+}
+
+#[test]
+fn the_sooner_moment(rt: HostRuntime) {
+    assert_eq!(rt; first_wrong_moment(), None);
+}
