@@ -1,4 +1,5 @@
 //! What no clause says: encodings and answers from outside, and each call once.
+mod bytes;
 mod classes;
 mod faults;
 mod methods;

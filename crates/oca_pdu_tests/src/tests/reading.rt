@@ -34,6 +34,15 @@ const MESSAGES: &[(&[u8], &[Read])] = &[
         &[Read::Response(9, 0, 3, &[0xFD, 0xA8, 0xFD, 0xA8, 2, 0x58])],
     ),
     (GET_MEMBERS, &[Read::Command(true, 5, 100, (3, 5), 0, &[])]),
+    (
+        MEMBERS,
+        &[Read::Response(
+            5,
+            0,
+            1,
+            &[0, 1, 0, 0, 0x10, 0, 0, 3, 0, 1, 0, 1, 0, 3, 0, 2],
+        )],
+    ),
     (LOCKED, &[Read::Response(1, 3, 0, &[])]),
     (
         ROLE,

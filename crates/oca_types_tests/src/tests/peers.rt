@@ -1,6 +1,7 @@
 //! Peers as text, and moments that may be missing.
 use oca_types::{Peer, sooner};
 use std::alloc::Global;
+use std::net::SocketAddrV4;
 
 /// Peers, their addresses as four numbers, and their texts.
 const PEERS: &[(Peer, [u8; 4], &str)] = &[
@@ -47,11 +48,16 @@ fn reads(text: &str, peer: Peer) -> bool {
     }
 }
 
+/// Whether a peer is that of these four numbers and its port, and of its own address.
+fn is_at(peer: Peer, numbers: [u8; 4]) -> bool {
+    let address = SocketAddrV4::from(peer);
+    Peer::from((numbers, peer.port)) == peer && Peer::from(address) == peer
+}
+
 /// The first peer that has other numbers or another text.
 fn first_wrong(alloc: Global) -> Option<Peer> {
     for (peer, numbers, text) in PEERS {
-        let same = Peer::from((*numbers, peer.port)) == *peer;
-        if !same || !prints(alloc, *peer, text) || !reads(text, *peer) {
+        if !is_at(*peer, *numbers) || !prints(alloc, *peer, text) || !reads(text, *peer) {
             return Some(*peer);
         }
     }
