@@ -1,5 +1,5 @@
-//! Devices run alone, event by event. A script is a list of events with what must come of each. Expected bytes are those
-//! of AES70-3's layouts, written out or put together here, and never the device's own.
+//! Devices run alone, event by event. A script is a list of events with what must come of each. Expected bytes are
+//! those of AES70-3's layouts, written out or put together here, and never the device's own.
 mod benches;
 mod blocks;
 mod commands;
@@ -25,8 +25,10 @@ fn peer(port: u16) -> Peer {
     }
 }
 
+/// The port of the first peer.
 const A: u16 = 9001;
 
+/// The port of the second.
 const B: u16 = 9002;
 
 /// GetState of 4097 under handle 1.
@@ -42,6 +44,7 @@ const MUTED: Part = Part::Bytes(&[
 /// A keep-alive of 1 second.
 const ONE_SECOND: Part = Part::Bytes(&[0x3b, 0, 1, 0, 0, 0, 0x0b, 4, 0, 1, 0, 1]);
 
+/// The verdict on one command that is executed.
 const EXECUTED: Verdict = Verdict::Served {
     executed: 1,
     kept: 0,
@@ -49,6 +52,7 @@ const EXECUTED: Verdict = Verdict::Served {
     reused: 0,
 };
 
+/// The verdict on one duplicate.
 const KEPT: Verdict = Verdict::Served {
     executed: 0,
     kept: 1,
@@ -56,6 +60,7 @@ const KEPT: Verdict = Verdict::Served {
     reused: 0,
 };
 
+/// The verdict on one command that is too old.
 const OLD: Verdict = Verdict::Served {
     executed: 0,
     kept: 0,
@@ -63,6 +68,7 @@ const OLD: Verdict = Verdict::Served {
     reused: 0,
 };
 
+/// The verdict on one command that asks something else under a retained handle.
 const REUSED: Verdict = Verdict::Served {
     executed: 0,
     kept: 0,
@@ -70,6 +76,7 @@ const REUSED: Verdict = Verdict::Served {
     reused: 1,
 };
 
+/// The verdict on a datagram without a command.
 const NOTHING: Verdict = Verdict::Served {
     executed: 0,
     kept: 0,

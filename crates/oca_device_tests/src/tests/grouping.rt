@@ -16,6 +16,7 @@ const STATES: &[Part] = &[
     Each(1, 87, &[0, 0, 0, 11], &[0, 1, 1]),
 ];
 
+/// The verdict on 86 commands that are executed.
 const EXECUTED_86: Verdict = Verdict::Served {
     executed: 86,
     kept: 0,
@@ -97,6 +98,7 @@ const TWO_STATES: Part = Bytes(&[
     2, 0, 1, 1,
 ]);
 
+/// The verdict on 2 commands that are executed.
 const EXECUTED_2: Verdict = Verdict::Served {
     executed: 2,
     kept: 0,
@@ -132,6 +134,7 @@ const TWICE: &[Part] = &[
     Times(2, &[0, 0, 0, 0x0b, 0, 0, 0, 1, 0, 1, 1]),
 ];
 
+/// The verdict on two that are executed and one duplicate.
 const EXECUTED_2_KEPT_1: Verdict = Verdict::Served {
     executed: 2,
     kept: 1,
@@ -156,6 +159,7 @@ fn other_commands_end_no_group(rt: HostRuntime) {
     plays(&rt, rt.alloc(), Setup::Window(32), NO_END);
 }
 
+/// The verdict on one command that is executed and one duplicate.
 const EXECUTED_1_KEPT_1: Verdict = Verdict::Served {
     executed: 1,
     kept: 1,
@@ -192,6 +196,7 @@ const HEADER_OF_13: Part = Bytes(&[0x3b, 0, 1, 0, 0, 0, 231, 1, 0, 13]);
 /// The header of a PDU with all 14 of them.
 const HEADER_OF_14: Part = Bytes(&[0x3b, 0, 1, 0, 0, 0, 248, 1, 0, 14]);
 
+/// The verdict on 13 commands that are executed.
 const EXECUTED_13: Verdict = Verdict::Served {
     executed: 13,
     kept: 0,
@@ -199,6 +204,7 @@ const EXECUTED_13: Verdict = Verdict::Served {
     reused: 0,
 };
 
+/// The verdict on 14 commands that are executed.
 const EXECUTED_14: Verdict = Verdict::Served {
     executed: 14,
     kept: 0,

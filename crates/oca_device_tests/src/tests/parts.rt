@@ -13,7 +13,8 @@ pub enum Part {
     Times(u32, &'static [u8]),
     /// For each number from the first on and before the second: bytes, the number in four bytes, and bytes.
     Each(u32, u32, &'static [u8], &'static [u8]),
-    /// A command PDU of this type: its handle, target, DefLevel and MethodIndex, and the bytes of at most one parameter.
+    /// A command PDU of this type: its handle, target, DefLevel and MethodIndex, and the bytes of at most one
+    /// parameter.
     Command(u8, u32, u32, (u8, u8), &'static [u8]),
     /// A response PDU: its handle, status, ParamCount, and the bytes of the parameters.
     Response(u32, u8, u8, &'static [u8]),

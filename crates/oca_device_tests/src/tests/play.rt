@@ -18,8 +18,8 @@ pub enum Step {
     Groups(u16, u64, &'static [Part], Verdict, &'static [&'static [Part]]),
     /// A peer sends a datagram at a moment; later steps look at the packets.
     Hears(u16, u64, &'static [Part], Verdict),
-    /// A sends GetState of 4097 under each handle from the first on and before the second at 0. Each is executed and told
-    /// to be Muted.
+    /// A sends GetState of 4097 under each handle from the first on and before the second at 0. Each is executed and
+    /// told to be Muted.
     TellsMuted(u32, u32),
     /// Each peer from the first on and before the second sends this at a moment, and gets the packet.
     EachAnswers(u16, u16, u64, Part, Verdict, Part),
