@@ -1,0 +1,5 @@
+//! Answers from outside: answers of the profile byte by byte, and the table of methods once over the bench
+//! device.
+mod commands;
+mod script;
+mod words;
