@@ -46,6 +46,8 @@ pub enum Addition {
     One(u32, u32, Spec<'static>, Result<(), AddFault>),
     /// Into a container, as this number, an object with what was stored of it.
     Stored(u32, u32, Spec<'static>, Start<'static>, Result<(), StartFault>),
+    /// Into a container, as this number, an object with the default of what is stored of one.
+    Unstored(u32, u32, Spec<'static>, Result<(), StartFault>),
     /// Into the root, as the numbers from one to before another, objects that are all taken.
     Many(u32, u32, Spec<'static>),
     /// Blocks in the numbers from one to before another, each with the number behind its container's, that are all taken.
@@ -73,7 +75,7 @@ fn used_parameters() -> Params {
 }
 
 /// The status and the ParamCount that a command is answered with, and its parameters.
-fn call(
+pub fn call(
     tree: &mut Tree,
     peer: Peer,
     target: u32,
@@ -96,7 +98,7 @@ fn call(
 }
 
 /// Whether a command is answered so.
-fn gives(
+pub fn gives(
     tree: &mut Tree,
     peer: Peer,
     target: u32,
@@ -198,6 +200,9 @@ fn adds(builder: &mut TreeBuilder, addition: &Addition) -> bool {
         }
         Stored(container, ono, spec, start, want) => {
             builder.add_with(Ono(*container), Ono(*ono), spec, start) == *want
+        }
+        Unstored(container, ono, spec, want) => {
+            builder.add_with(Ono(*container), Ono(*ono), spec, &Start::default()) == *want
         }
         Many(first, end, spec) => takes_many(builder, *first, *end, spec),
         Nested(first, end) => takes_nested(builder, *first, *end),
