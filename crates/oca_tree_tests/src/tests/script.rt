@@ -4,7 +4,7 @@ use oca_tree::{
     AddFault, LocalValue, Lock, SetFault, Setting, Spec, Start, StartFault, Tree, TreeBuilder,
     bench,
 };
-use oca_types::{Command, Handle, MethodId, Ono, Params, Peer, Status};
+use oca_types::{Class, Command, Handle, MethodId, Ono, Params, Peer, Status, class_fields};
 use std::alloc::Global;
 use std::process::Abort;
 
@@ -31,6 +31,10 @@ pub enum Row {
     Releases(Peer),
     /// How many objects there are.
     Len(usize),
+    /// The object is at a place, and has a class with these fields, a container and a role.
+    Shows(usize, Class, &'static [u16], u32, &'static str),
+    /// No object is at a place.
+    Ends(usize),
 }
 
 use Row::*;
@@ -122,6 +126,25 @@ fn release(tree: &mut Tree, peer: Peer) -> bool {
     true
 }
 
+/// Whether this is read of the object at a place.
+fn shows(
+    tree: &Tree,
+    place: usize,
+    ono: u32,
+    class: (Class, &[u16]),
+    container: u32,
+    role: &str,
+) -> bool {
+    let Some(info) = tree.object_at(place) else {
+        return false;
+    };
+    info.ono == Ono(ono)
+        && info.class == class.0
+        && class_fields(info.class).as_slice() == class.1
+        && info.container == Ono(container)
+        && info.role.as_str() == role
+}
+
 /// Whether what is done at the object comes out so.
 fn agrees(tree: &mut Tree, ono: u32, row: Row) -> bool {
     match row {
@@ -146,6 +169,10 @@ fn agrees(tree: &mut Tree, ono: u32, row: Row) -> bool {
         Locked(want) => tree.lock_of(Ono(ono)) == want,
         Releases(peer) => release(tree, peer),
         Len(count) => tree.len() == count,
+        Shows(place, class, fields, container, role) => {
+            shows(tree, place, ono, (class, fields), container, role)
+        }
+        Ends(place) => tree.object_at(place).is_none(),
     }
 }
 
