@@ -54,7 +54,7 @@ pub enum Addition {
     Unstored(u32, u32, Spec<'static>, Result<(), StartFault>),
     /// Into the root, as the numbers from one to before another, objects that are all taken.
     Many(u32, u32, Spec<'static>),
-    /// Blocks in the numbers from one to before another, each with the number behind its container's, that are all taken.
+    /// Into each of the blocks with the numbers from one to before another a block with the next number, all taken.
     Nested(u32, u32),
 }
 
