@@ -220,7 +220,7 @@ const DEPTHS: &[Case] = &[
 4099 4098 block lockable a
 4100 4099 block lockable a
 4101 4100 block lockable a
-4102 4101 block lockable a",
+4102 4101 block lockable a\n",
         Ok(8),
     ),
 ];
