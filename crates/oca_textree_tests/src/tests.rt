@@ -1,0 +1,3 @@
+//! What lines list, and the fault of each that lists nothing.
+mod faults;
+mod trees;
