@@ -27,33 +27,40 @@ fn since(rt: &HostRuntime, then: Instant) -> Option<u64> {
     Some(milliseconds(then.elapsed(rt).ok()?))
 }
 
-/// After a pause: the milliseconds since the end was bound, what it says of them, what a receive says, and the
-/// milliseconds since before it was bound.
-fn moments_after(
-    rt: &HostRuntime,
-    end: &mut UdpEnd<'_, HostRuntime>,
+/// An end, and the clock before it was bound and after.
+#[derive(Drop)]
+struct Clocked<'a> {
+    end: UdpEnd<'a, HostRuntime>,
     before: Instant,
     bound: Instant,
-    pause: u64,
-) -> Option<[u64; 4]> {
-    thread::sleep(rt, Duration::from_millis(pause));
-    let mut packet = Packet::new();
-    let least = since(rt, bound)?;
-    let asked = end.now();
-    let heard = quiet(end.receive_by(&mut packet, 0))?;
-    Some([least, asked, heard, since(rt, before)?])
 }
 
-/// The moments after the first pause behind which they do not follow one another.
+/// An end that is bound now.
+fn clocked_end(rt: &HostRuntime) -> Option<Clocked<'_>> {
+    let before = Instant::now(rt).ok()?;
+    let end = end_here(rt)?;
+    let bound = Instant::now(rt).ok()?;
+    Some(Clocked { end, before, bound })
+}
+
+/// After a pause: the milliseconds since the end was bound, what it says of them, what a receive says, and the
+/// milliseconds since before it was bound.
+fn moments_after(rt: &HostRuntime, clocked: &mut Clocked<'_>, pause: u64) -> Option<[u64; 4]> {
+    thread::sleep(rt, Duration::from_millis(pause));
+    let mut packet = Packet::new();
+    let least = since(rt, clocked.bound)?;
+    let asked = clocked.end.now();
+    let heard = quiet(clocked.end.receive_by(&mut packet, 0))?;
+    Some([least, asked, heard, since(rt, clocked.before)?])
+}
+
+/// The first pause behind which the moments do not follow one another, and those.
 fn first_lag(rt: &HostRuntime, pauses: &[u64]) -> Option<(usize, Option<[u64; 4]>)> {
-    let before = Instant::now(rt).ok();
-    let end = end_here(rt);
-    let bound = Instant::now(rt).ok();
-    let (Some(before), Some(mut end), Some(bound)) = (before, end, bound) else {
+    let Some(mut clocked) = clocked_end(rt) else {
         return Some((usize::MAX, None));
     };
     for (at, pause) in pauses.iter().enumerate() {
-        let moments = moments_after(rt, &mut end, before, bound, *pause);
+        let moments = moments_after(rt, &mut clocked, *pause);
         match moments {
             Some([least, asked, heard, most])
                 if least <= asked && asked <= heard && heard <= most => {}
