@@ -17,9 +17,6 @@ pub mod run;
 pub mod session;
 mod setting;
 pub mod talk;
-pub mod tasks;
-#[cfg(test)]
-mod tests;
-mod told;
+pub mod tasks;mod told;
 mod walk;
 pub mod words;
