@@ -3,37 +3,19 @@
 //! runs a link over the script there.
 #![tactic(auto)]
 
-mod commands;
-mod exchange;
-mod hands;
-mod line;
-mod objects;
-mod replay;
-mod request;
-mod run;
-mod session;
-mod setting;
-mod talk;
-mod tasks;
-mod told;
-mod walk;
-mod words;
-
 use oca_net::fill_standard_descriptors;
 use oca_program::{Failure, report as report_failure, words_of};
 use oca_script::{FromReader, Printer, ToWriter};
+use ocactl_cli::run::run;
 use std::io;
 use std::process::ExitCode;
-
-#[cfg(test)]
-mod tests;
 
 /// Runs the program on its command line and the standard streams.
 fn main(rt: HostRuntime) -> ExitCode {
     let _ = fill_standard_descriptors(&rt);
     let mut faults = Printer::new(ToWriter::new(rt.stderr()));
     let status = match words_of(&rt) {
-        Ok(words) => run::run(
+        Ok(words) => run(
             rt.alloc(),
             &rt,
             words.as_slice(),

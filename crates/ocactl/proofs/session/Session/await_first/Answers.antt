@@ -1,9 +1,0 @@
-use Rattle.std.proofs.Common.{refl}
-use Rattle.ocactl.proofs.ExchangeLemmas.{first-removed, first-awaited, awaited-from, some-under-way}
-use Rattle.ocactl.proofs.session.Session.await_first.Goals as goal
-
-pub returns : goal.returns
-returns g c =
-    awaited-from _ _ _ _ c.self.view_is
-    (first-awaited _ _ c.remove.result _ (first-removed _ _ _ (some-under-way _ _ c.self.view_is c.requires) c.remove.ensures.value c.remove.ensures.items)
-    c.wait_for-outcome.ensures.waits c.wait_for-outcome.ensures.receives refl c.gets_none-self-inside.ensures)

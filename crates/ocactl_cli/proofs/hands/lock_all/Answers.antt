@@ -1,0 +1,10 @@
+use Rattle.ocactl_cli.specs.Hands.{Locks}
+use Rattle.ocactl_cli.proofs.HandLemmas.{asked-none, asked-next}
+use Rattle.ocactl_cli.proofs.hands.lock_all.Goals as goal
+
+pub loop-ono-init : goal.loop-ono-init
+loop-ono-init g c = asked-none (Locks c.args.locks) _ _
+
+pub loop-ono-preserved : goal.loop-ono-preserved
+loop-ono-preserved g c =
+    asked-next (Locks c.args.locks) c.args.onos.now c.loop-ono.ono-index _ _ _ _ _ _ _ _ _ _ c.loop-ono-test.true c.loop-ono.invariant c.in_ok-lock_one.ensures c.graver-status.ensures

@@ -1,0 +1,137 @@
+-- How commands fare that are sent over a network, one or those of lines (*profile*).
+use Rattle.std.specs.Prelude.{IfSome, ◌≡◌, ℕ, ◌+◌, ◌-◌, ◌<◌, ◌≤◌, ◌==◌, Bool, ◌||◌, true, if◌then◌else◌, List, [], ◌∷◌, ◌++◌, length, codes, Result, Ok, Err}
+use Rattle.oca_types.specs.declared.words.Handle.{Handle}
+use Rattle.oca_types.specs.Peers.{RequestFields}
+use Rattle.oca_net.specs.Ends.{last_u64}
+use Rattle.oca_net.specs.EndStates.{EndState}
+use Rattle.oca_control.specs.declared.fault.ControlFault.{ControlFault}
+use Rattle.oca_control.specs.declared.outcome.Outcome.{Outcome}
+use Rattle.oca_control.specs.declared.outcome.Outcome.TheVariants as outcomes
+use Rattle.oca_control.specs.declared.report.DriveReport.{DriveReport}
+use Rattle.oca_control.specs.Answers.{answer_fields}
+use Rattle.oca_control.specs.Links.{LinkState, submission, submitted}
+use Rattle.oca_control.specs.Driving.{GivesOut}
+use Rattle.oca_control.specs.Asking.{Waits, ReceivesSoOften, Asks, refused_by}
+use Rattle.oca_script.specs.declared.fault.ReplayFault.{ReplayFault}
+use Rattle.oca_script.specs.declared.fault.ReplayFault.TheVariants.{Line, Read, Write, TooMuch}
+use Rattle.oca_script.specs.declared.fault.WriteFailed.{WriteFailed}
+use Rattle.oca_script.specs.Ends.{Input, Output}
+use Rattle.oca_script.specs.Printing.{WritesOut, WritesWhole, WritesFront}
+use Rattle.oca_script.specs.Replaying.{Replays, Outcome as ReadsLines}
+use Rattle.ocactl_cli.specs.Requests.{LineAsked, Send, Wait, asked_line}
+use Rattle.ocactl_cli.specs.Printing.{answer_text, refusal_text}
+
+-- the line that is printed
+abbrev pub outcome_text : Outcome → List ℕ
+outcome_text (outcomes.Answered a) = answer_text (answer_fields a)
+outcome_text (outcomes.Refused fault) = refusal_text fault
+outcome_text outcomes.Lost = codes "lost\n"
+outcome_text outcomes.Unanswered = codes "no answer\n"
+
+-- the exit status: 0 for an answer with the status 0, 4 for another, 3 where there is none
+abbrev pub outcome_status : Outcome → ℕ
+outcome_status (outcomes.Answered a) = if a.status == 0 then 0 else 4
+outcome_status (outcomes.Refused fault) = 3
+outcome_status outcomes.Lost = 3
+outcome_status outcomes.Unanswered = 3
+
+-- What was written of an outcome, and the exit status, or a write failed.
+abbrev pub WritesOutcome : Outcome → Result ℕ WriteFailed → Output → Output → Type 0
+WritesOutcome outcome (Ok status) was is = (status ≡ outcome_status outcome) × WritesWhole was is (outcome_text outcome)
+WritesOutcome outcome (Err e) was is = WritesFront was is (outcome_text outcome)
+
+-- ONE COMMAND was asked over an end, and how it fared was written.
+pub record AsksOnce (request : RequestFields) (turns : ℕ) (old new : LinkState) (before after : EndState) (result : Result ℕ WriteFailed) (was is : Output) : Type 0 where
+  pub outcome : Outcome
+  pub asks : Asks request turns (submission request old) old outcome new before after
+  pub writes : WritesOutcome outcome result was is
+
+-- ---- commands of lines
+
+-- A command of a line waits for so many turns.
+abbrev pub most_turns : ℕ
+most_turns = 4294967295
+
+-- A link, what the end that it is driven over says of itself, the handles of the commands under way in the order of their lines, how
+-- many may be, and whether a command got no answer so far.
+pub record SessionState : Type 0 where
+  pub link : LinkState
+  pub end_state : EndState
+  pub under_way : List ℕ
+  pub ahead : ℕ
+  pub unanswered : Bool
+
+-- The first command under way was waited for, and came out so.
+pub record AwaitsFirst (old new : SessionState) (outcome : Outcome) : Type 0 where
+  pub handle : ℕ
+  pub first : old.under_way ≡ handle ∷ new.under_way
+  pub waits : Waits handle most_turns old.link outcome new.link old.end_state new.end_state
+  pub asks : new.end_state.receives < last_u64 → ReceivesSoOften most_turns outcome old.end_state.receives new.end_state.receives
+  pub ahead : new.ahead ≡ old.ahead
+  pub unanswered : new.unanswered ≡ (old.unanswered || outcome_status outcome == 3)
+
+-- Commands under way were waited for, one after another, while more than `left` were; how each came out is printed.
+pub data Awaits (left : ℕ) : (old new : SessionState) (text : List ℕ) → Type 0 where
+  NoneAwaited : {s : SessionState} → Awaits left s s []
+  OneAwaited : {r s t : SessionState} {text : List ℕ} (outcome : Outcome) → Awaits left r s text → left < length s.under_way →
+      AwaitsFirst s t outcome → Awaits left r t (text ++ outcome_text outcome)
+
+-- until at most so many are under way
+abbrev pub AwaitsUntil : ℕ → SessionState → SessionState → List ℕ → Type 0
+AwaitsUntil left old new text = Awaits left old new text × (length new.under_way ≤ left)
+
+-- The command got this handle and was given out at once, and is under way behind the others.
+pub record Submits (request : RequestFields) (handle : Handle) (old new : SessionState) : Type 0 where
+  pub report : DriveReport
+  pub gives : GivesOut 0 ((submitted request 0 old.link).span + 1) (submitted request 0 old.link) new.link old.end_state new.end_state report
+  pub under_way : new.under_way ≡ old.under_way ++ handle.0 ∷ []
+  pub ahead : new.ahead ≡ old.ahead
+  pub unanswered : new.unanswered ≡ old.unanswered
+
+-- A command is submitted, and as many are waited for as need be, so that fewer are under way than may be. Where it is refused all
+-- that are under way are waited for first.
+abbrev pub Sends : RequestFields → Result Handle ControlFault → SessionState → SessionState → List ℕ → Type 0
+Sends request (Ok handle) old new text =
+    (s : SessionState) × (left : ℕ) × Submits request handle old s × (left < old.ahead) × AwaitsUntil left s new text
+Sends request (Err fault) old new text =
+    (s : SessionState) × (x : List ℕ) × AwaitsUntil 0 old s x × (new ≡ record s { unanswered = true }) × (text ≡ x ++ outcome_text (refused_by fault))
+
+-- WHAT A LINE DOES, from a session to the one after it, with the text that it prints.
+abbrev pub Serves : SessionState → LineAsked → SessionState → List ℕ → Type 0
+Serves old (Send request) new text =
+    (s : SessionState) × (x : List ℕ) × (y : List ℕ) × AwaitsUntil (old.ahead - 1) old s x × Sends request (submission request s.link) s new y × (text ≡ x ++ y)
+Serves old Wait new text = AwaitsUntil 0 old new text
+
+-- ---- all lines
+
+-- how it all ended, where what was printed last was written, or a write failed
+abbrev pub ended_by : Result Unit WriteFailed → Result Unit ReplayFault → Result Unit ReplayFault
+ended_by (Ok u) ended = ended
+ended_by (Err e) ended = Err Write
+
+-- All that were still under way were waited for, and how they fared was written.
+pub record Concludes (ended : Result Unit ReplayFault) (old new : SessionState) (was is : Output) (result : Result Unit ReplayFault) : Type 0 where
+  pub text : List ℕ
+  pub written : Result Unit WriteFailed
+  pub awaits : AwaitsUntil 0 old new text
+  pub writes : WritesOut written was is text
+  pub ends : result ≡ ended_by written ended
+
+-- the same, unless a write had failed
+abbrev pub Finishes : Result Unit ReplayFault → SessionState → SessionState → Output → Output → Result Unit ReplayFault → Type 0
+Finishes (Ok u) old new was is result = Concludes (Ok u) old new was is result
+Finishes (Err (Line number fault)) old new was is result = Concludes (Err (Line number fault)) old new was is result
+Finishes (Err Read) old new was is result = Concludes (Err Read) old new was is result
+Finishes (Err Write) old new was is result = (result ≡ Err Write) × (new ≡ old) × (is ≡ was)
+Finishes (Err TooMuch) old new was is result = Concludes (Err TooMuch) old new was is result
+
+-- THE LINES of a source were served one after another, and then all commands under way were waited for. Where the bytes that the source
+-- had are known, these were its lines; whatever source, there are bytes, those that it gave where it tells them, and the rest of what it
+-- had, of which they were.
+pub record SendsLines (old new : SessionState) (was is : Output) (had has : Input) (result : Result Unit ReplayFault) : Type 0 where
+  pub middle : SessionState
+  pub between : Output
+  pub ended : Result Unit ReplayFault
+  pub known : IfSome had.remaining (λ given. Replays asked_line Serves old middle was between ended given)
+  pub reads : ReadsLines asked_line Serves old middle was between had has ended
+  pub finishes : Finishes ended middle new between is result

@@ -1,0 +1,52 @@
+//! A command and how it fares: asked over an end, and printed.
+ghost use Rattle.std.specs.Prelude.{◌≡◌};
+ghost use Rattle.oca_types.specs.Peers.{request_of};
+ghost use Rattle.oca_script.specs.Printing.{Prints};
+ghost use Rattle.ocactl_cli.specs.Exchanges.{AsksOnce, outcome_text, outcome_status};
+
+use super::line::{Line, print_line};
+use oca_control::{Link, Outcome, ask};
+use oca_net::End;
+use oca_script::{Printer, Sink, WriteFailed};
+use oca_types::Request;
+
+/// The exit status: 0 for an answer with the status 0, 4 for another, 3 where there is none.
+pub fn status_of(outcome: &Outcome) -> u8
+    ensures { result ≡ outcome_status outcome.now }
+{
+    match outcome {
+        Outcome::Answered(answer) => { if answer.status == 0 { 0 } else { 4 } }
+        Outcome::Refused(_) | Outcome::Lost | Outcome::Unanswered => 3,
+    }
+}
+
+/// Prints how a command fared, as one line.
+pub fn print_outcome<W: Sink>(
+    outcome: &Outcome,
+    printer: &mut Printer<W>,
+) -> Result<(), WriteFailed>
+    ensures { Prints result printer.old printer.new (outcome_text outcome.now) }
+{
+    match outcome {
+        Outcome::Answered(answer) => print_line(printer, Line::Answer(answer)),
+        Outcome::Refused(fault) => print_line(printer, Line::Submission(Err(*fault))),
+        Outcome::Lost => printer.print(b"lost\n"),
+        Outcome::Unanswered => printer.print(b"no answer\n"),
+    }
+}
+
+/// Asks for one command over the end, waits for its answer at most so many turns, and writes how it fared. Returns the exit status.
+pub fn ask_once<E: End, W: Sink>(
+    link: &mut Link,
+    end: &mut E,
+    request: Request<'_>,
+    turns: u32,
+    printer: &mut Printer<W>,
+) -> Result<u8, WriteFailed>
+    ensures { AsksOnce (request_of request.entry) turns link.old link.new (E.state end.old) (E.state end.new) result printer.old printer.new }
+{
+    let outcome = ask(link, end, request, turns);
+    print_outcome(&outcome, printer)?;
+    printer.flush()?;
+    Ok(status_of(&outcome))
+}

@@ -1,0 +1,22 @@
+//! The controller's program, without its `main`: what the words of the command line ask for, and what is done and printed.
+//!
+//! [`run::run`] is the whole program on its words: `tree`, `get`, `set`, `lock` and `unlock` speak of a device's objects in words,
+//! `send` sends a command to a device over UDP and prints its answer, `run` sends the commands that a source has to give, and `replay`
+//! runs a link over the script there. Each of them over any end stands in a module of its own: [`commands`], [`exchange`], [`hands`],
+//! [`replay`].
+#![tactic(auto)]
+
+pub mod commands;
+pub mod exchange;
+pub mod hands;
+mod line;
+mod objects;
+pub mod replay;
+mod request;
+pub mod run;
+pub mod session;
+mod setting;
+pub mod talk;
+pub mod tasks;mod told;
+mod walk;
+pub mod words;

@@ -1,0 +1,234 @@
+//! The commands for hands: what they take, and what their words say.
+ghost use Rattle.std.specs.Prelude.{◌≡◌, codes};
+ghost use Rattle.std.specs.Option.{option_map};
+ghost use Rattle.oca_script.specs.Fields.{number_of};
+ghost use Rattle.oca_program.specs.Options.{given, read_or};
+ghost use Rattle.ocactl_cli.specs.Hands.{ono_said};
+
+use super::hands::Pair;
+use super::words::{ahead_option, networked};
+use clap::{Arg, ArgAction, ArgMatches, Command};
+use oca_program::options::{number_or, option};
+use oca_program::{Failure, RunFault};
+use oca_script::field::number;
+use oca_types::{Ono, Span, Text};
+use std::alloc::{AllocError, Global};
+
+/// What is to be done with objects of a device.
+#[derive(Drop)]
+pub enum Task {
+    /// To print how they are set.
+    Get(Vec<Ono>),
+    /// To set them, so many at once.
+    Set(Span, Vec<Pair>),
+    /// To lock them.
+    Lock(Vec<Ono>),
+    /// To take their locks off.
+    Unlock(Vec<Ono>),
+    /// To print all objects.
+    Tree,
+}
+
+const GET_EXAMPLE: &str =
+    "Prints a line for each object: its ONo and its value: muted or unmuted; inverted or non-inverted; on or off; a position's number and
+name; an integer. Behind the ONo of another stands why: a status as Locked, or no value, no answer, lost.
+
+Status: 0 where all was done, 4 where something was refused, 3 where an answer did not come. The name of a position that is not told
+changes nothing of it.
+
+Example: ocactl get --device 127.0.0.1:65000 4097 4100";
+
+const SET_EXAMPLE: &str =
+    "VALUE is muted or unmuted; inverted or non-inverted; on or off; a position's number or its name; an integer. Where one is for no value
+of its object, or that can't be found out, nothing is set. Up to N set commands are waited for at once (--ahead), 1 unless given; the
+lines stand in the order of the words, whichever is carried out first.
+
+Status: 0 where all was set, 4 where something was refused, 2 where a value is none of its object's, 3 where an answer did not come.
+
+Example: ocactl set --device 127.0.0.1:65000 4097 unmuted 4100 -60";
+
+const LOCK_EXAMPLE: &str =
+    "Other controllers then neither read nor set the objects. A lock is released where its holder, this address and port, is silent for
+more than 15 seconds.
+
+Example: ocactl lock --device 127.0.0.1:65000 4097";
+
+const UNLOCK_EXAMPLE: &str = "Example: ocactl unlock --device 127.0.0.1:65000 4097";
+
+const TREE_EXAMPLE: &str =
+    "Prints a line for each object: its ONo, its class identifier, the ONo of its container (0 for the root), and its role. Behind the ONo of
+a block that does not say its members, or of an object that does not say what it is, stands why, as BufferOverflow or Locked.
+
+Example: ocactl tree --device 127.0.0.1:65000";
+
+/// The options of each command for hands.
+fn handed<'a>(
+    alloc: Global,
+    name: &'a str,
+    about: &'a str,
+    example: &'a str,
+) -> Result<Command<'a>, AllocError> {
+    networked(
+        Command::new(alloc, name).about(about).after_help(example),
+        alloc,
+    )?
+    .arg(option(
+        alloc,
+        "turns",
+        "T",
+        "How often to wait for an answer, 50 ms at most each [200 unless given]",
+    ))?
+    .arg(option(
+        alloc,
+        "port",
+        "PORT",
+        "The local port [65001 unless given, or one of the system's choice where that is in use]",
+    ))
+}
+
+/// The objects that a command is about.
+fn objects<'a>(alloc: Global) -> Arg<'a> {
+    Arg::new(alloc, "ONO")
+        .value_name("ONO")
+        .help("The numbers of objects")
+        .action(ArgAction::Append)
+        .num_args(1..)
+        .required(true)
+}
+
+/// The objects and the words for their values.
+fn pairs<'a>(alloc: Global) -> Arg<'a> {
+    Arg::new(alloc, "ONO")
+        .value_name("ONO VALUE")
+        .help("The numbers of objects, and behind each its value")
+        .action(ArgAction::Append)
+        .num_args(1..)
+        .allow_negative_numbers(true)
+        .required(true)
+}
+
+/// The program with the commands for hands.
+pub fn with_tasks<'a>(program: Command<'a>, alloc: Global) -> Result<Command<'a>, AllocError> {
+    program
+        .subcommand(handed(
+            alloc,
+            "tree",
+            "Prints the objects of a device",
+            TREE_EXAMPLE,
+        )?)?
+        .subcommand(handed(
+            alloc,
+            "get",
+            "Prints how objects of a device are set",
+            GET_EXAMPLE,
+        )?
+        .arg(objects(alloc))?)?
+        .subcommand(
+            handed(alloc, "set", "Sets objects of a device", SET_EXAMPLE)?
+                .arg(ahead_option(alloc))?
+                .arg(pairs(alloc))?,
+        )?
+        .subcommand(handed(alloc, "lock", "Locks objects of a device", LOCK_EXAMPLE)?.arg(objects(
+            alloc,
+        ))?)?
+        .subcommand(handed(
+            alloc,
+            "unlock",
+            "Takes the locks off objects of a device",
+            UNLOCK_EXAMPLE,
+        )?
+        .arg(objects(alloc))?)
+}
+
+/// Whether a command is one for hands.
+pub fn is_task(name: &str) -> bool {
+    matches!(name, "tree" | "get" | "set" | "lock" | "unlock")
+}
+
+/// How many turns a command waits for its answer: 200 unless said.
+pub fn turns_of(words: &ArgMatches<'_>) -> Option<u32>
+    ensures { result ≡ read_or 200 (number_of 10 4294967295) (given words.now (codes "turns")) }
+{
+    match number_or(words, "turns", 10, 4294967295, 200) {
+        Some(turns) => Some(turns as u32),
+        None => None,
+    }
+}
+
+/// What the words of a command for hands ask for; what sets, so many at once.
+pub fn task_of(
+    alloc: Global,
+    name: &str,
+    words: &ArgMatches<'_>,
+    ahead: Span,
+) -> Result<Task, Failure> {
+    let given = words.get_strs("ONO").unwrap_or(&[]);
+    Ok(match name {
+        "get" => Task::Get(onos_of(alloc, given)?),
+        "set" => Task::Set(ahead, pairs_of(alloc, given)?),
+        "lock" => Task::Lock(onos_of(alloc, given)?),
+        "unlock" => Task::Unlock(onos_of(alloc, given)?),
+        _ => Task::Tree,
+    })
+}
+
+/// The number of an object that a word says.
+fn ono_of(word: &str) -> Option<Ono>
+    ensures { option_map (λ ono. ono.0) result ≡ ono_said word.now }
+{
+    match number(word.as_bytes(), 10, 4294967295) {
+        Some(ono) => Some(Ono(ono as u32)),
+        None => None,
+    }
+}
+
+/// The numbers of objects that words say.
+fn onos_of(alloc: Global, words: &[&str]) -> Result<Vec<Ono>, Failure> {
+    let mut onos = Vec::new(alloc);
+    for word in words {
+        let Some(ono) = ono_of(word) else {
+            return Err(bad_words(alloc, BAD_ONO));
+        };
+        if onos.push(ono).is_err() {
+            return Err(Failure::from(RunFault::NoMemory));
+        }
+    }
+    Ok(onos)
+}
+
+/// What is said of a word that is no number of an object.
+const BAD_ONO: &str = "an ONo is 1 to 10 digits, up to 4294967295";
+
+/// What is said where a value is missing.
+const BAD_PAIRS: &str = "behind each ONo stands a value, of at most 64 bytes";
+
+/// The objects and words for values that words say.
+fn pairs_of(alloc: Global, words: &[&str]) -> Result<Vec<Pair>, Failure> {
+    let mut pairs = Vec::new(alloc);
+    if words.len() % 2 != 0 {
+        return Err(bad_words(alloc, BAD_PAIRS));
+    }
+    for at in 0..words.len() / 2 {
+        let pair = pair_of(alloc, words[2 * at], words[2 * at + 1])?;
+        if pairs.push(pair).is_err() {
+            return Err(Failure::from(RunFault::NoMemory));
+        }
+    }
+    Ok(pairs)
+}
+
+/// The object and the word for its value that two words say.
+fn pair_of(alloc: Global, first: &str, second: &str) -> Result<Pair, Failure> {
+    let Some(ono) = ono_of(first) else {
+        return Err(bad_words(alloc, BAD_ONO));
+    };
+    let Some(word) = Text::new(second) else {
+        return Err(bad_words(alloc, BAD_PAIRS));
+    };
+    Ok(Pair { ono, word })
+}
+
+/// Bad words, and what more is known of them.
+fn bad_words(alloc: Global, note: &str) -> Failure {
+    Failure::told(alloc, RunFault::BadWords, note)
+}

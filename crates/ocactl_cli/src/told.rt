@@ -1,0 +1,225 @@
+//! The lines that tell of objects.
+ghost use Rattle.std.specs.Prelude.{◌≡◌, ◌+◌, ◌*◌, ◌++◌, ◌≤◌, codes, length, decimal};
+ghost use Rattle.oca_script.specs.Ends.{output};
+ghost use Rattle.oca_script.specs.Printing.{Prints};
+ghost use Rattle.oca_values.specs.Answers.{status_name_of};
+ghost use Rattle.ocactl_cli.specs.Hands.{or_number, refused_text, trouble_text, told_text, line_of, ToldWithin, dotted, fields_text, place_text, trouble_status, graver_of};
+
+use super::talk::Trouble;
+use oca_control::ControlFault;
+use oca_script::{Printer, Sink, WriteFailed};
+use oca_types::Ono;
+use oca_values::status_name;
+
+/// Room for a line.
+const LINE_ROOM: usize = 600;
+
+/// What an object's line says behind its number.
+#[derive(Clone, Copy)]
+pub enum Told<'a> {
+    /// A word.
+    Word(&'a str),
+    /// A word, and the name of the position that it is for.
+    Named(&'a str, &'a str),
+    /// Why it is not as it was asked for.
+    Hindered(Trouble),
+}
+
+/// Prints the line of an object, and hands it on.
+pub fn tell<W: Sink>(ono: Ono, told: Told<'_>, printer: &mut Printer<W>) -> Result<(), WriteFailed>
+    requires { ToldWithin told }
+    ensures { Prints result printer.old printer.new (line_of ono.0 told.entry) }
+{
+    print_told(ono.0, told, printer)?;
+    printer.flush()
+}
+
+/// Prints the line of an object.
+fn print_told<W: Sink>(
+    ono: u32,
+    told: Told<'_>,
+    printer: &mut Printer<W>,
+) -> Result<(), WriteFailed>
+    requires { ToldWithin told }
+    ensures { Prints result printer.old printer.new (line_of ono told.entry) }
+{
+    printer.make_room(LINE_ROOM)?;
+    printer.put_number(u64::from(ono));
+    printer.put(b" ");
+    put_told(told, printer);
+    printer.put(b"\n");
+    Ok(())
+}
+
+/// Holds what a line says behind the number.
+fn put_told<W: Sink>(told: Told<'_>, printer: &mut Printer<W>)
+    requires within { ToldWithin told }
+    requires room { length printer.old.held + 300 ≤ 8192 }
+    ensures value { printer.new ≡ output printer.old.contents (printer.old.held ++ told_text told.entry) printer.old.failed }
+    ensures len { length printer.new.held ≤ length printer.old.held + 200 }
+{
+    match told {
+        Told::Word(word) => printer.put(word.as_bytes()),
+        Told::Named(word, name) => {
+            printer.put(word.as_bytes());
+            printer.put(b" ");
+            printer.put(name.as_bytes());
+        }
+        Told::Hindered(trouble) => put_trouble(trouble, printer),
+    }
+}
+
+/// Holds why an object is not as it was asked for.
+fn put_trouble<W: Sink>(trouble: Trouble, printer: &mut Printer<W>)
+    requires { length printer.old.held + 100 ≤ 8192 }
+    ensures value { printer.new ≡ output printer.old.contents (printer.old.held ++ trouble_text trouble) printer.old.failed }
+    ensures len { length printer.new.held ≤ length printer.old.held + 50 }
+{
+    match trouble {
+        Trouble::Refused(status) => put_status(status, printer),
+        Trouble::Unreadable => printer.put(b"unreadable answer"),
+        Trouble::NoValue => printer.put(b"no value"),
+        Trouble::NoSuchWord => printer.put(b"no such value"),
+        Trouble::NotSubmitted(fault) => printer.put(refusal(fault)),
+        Trouble::Lost => printer.put(b"lost"),
+        Trouble::Unanswered => printer.put(b"no answer"),
+    }
+}
+
+/// Why a link takes no command.
+fn refusal(fault: ControlFault) -> &'static [u8]
+    ensures value { result.now ≡ refused_text fault }
+    ensures short { length result.now ≤ 50 }
+{
+    match fault {
+        ControlFault::Lost => b"refused 1 lost",
+        ControlFault::HandlesSpent => b"refused 2 handles-spent",
+        ControlFault::SpanFull => b"refused 3 span-full",
+        ControlFault::TooLong => b"refused 4 too-long",
+    }
+}
+
+/// Holds the name of a status, or its number where it has none.
+fn put_status<W: Sink>(status: u8, printer: &mut Printer<W>)
+    requires { length printer.old.held + 100 ≤ 8192 }
+    ensures value { printer.new ≡ output printer.old.contents (printer.old.held ++ or_number status (status_name_of status)) printer.old.failed }
+    ensures len { length printer.new.held ≤ length printer.old.held + 50 }
+{
+    match status_name(status) {
+        Some(name) => printer.put(name.as_bytes()),
+        None => {
+            printer.put(b"status ");
+            printer.put_number(u64::from(status));
+        }
+    }
+}
+
+/// Prints the line of an object in a tree, and hands it on: its number, the fields of its class's identifier, the number of its
+/// container, and its role.
+pub fn tell_place<W: Sink>(
+    ono: u32,
+    fields: &[u16],
+    container: u32,
+    role: &str,
+    printer: &mut Printer<W>,
+) -> Result<(), WriteFailed>
+    requires fields { length fields.now ≤ 16 }
+    requires role { length role.now ≤ 64 }
+    ensures { Prints result printer.old printer.new (place_text ono fields.now container role.now) }
+{
+    print_place(ono, fields, container, role, printer)?;
+    printer.flush()
+}
+
+/// Prints the line of an object in a tree.
+fn print_place<W: Sink>(
+    ono: u32,
+    fields: &[u16],
+    container: u32,
+    role: &str,
+    printer: &mut Printer<W>,
+) -> Result<(), WriteFailed>
+    requires fields { length fields.now ≤ 16 }
+    requires role { length role.now ≤ 64 }
+    ensures { Prints result printer.old printer.new (place_text ono fields.now container role.now) }
+{
+    printer.make_room(LINE_ROOM)?;
+    put_place(ono, fields, container, role, printer);
+    Ok(())
+}
+
+/// Holds the line of an object in a tree.
+fn put_place<W: Sink>(
+    ono: u32,
+    fields: &[u16],
+    container: u32,
+    role: &str,
+    printer: &mut Printer<W>,
+)
+    requires fields { length fields.now ≤ 16 }
+    requires role { length role.now ≤ 64 }
+    requires room { length printer.old.held + 600 ≤ 8192 }
+    ensures { printer.new ≡ output printer.old.contents (printer.old.held ++ place_text ono fields.now container role.now) printer.old.failed }
+{
+    printer.put_number(u64::from(ono));
+    put_fields(fields, printer);
+    printer.put(b" ");
+    printer.put_number(u64::from(container));
+    printer.put(b" ");
+    printer.put(role.as_bytes());
+    printer.put(b"\n");
+}
+
+/// Holds the fields of a class's identifier.
+fn put_fields<W: Sink>(fields: &[u16], printer: &mut Printer<W>)
+    requires fields { length fields.now ≤ 16 }
+    requires room { length printer.old.held + 500 ≤ 8192 }
+    ensures value { printer.new ≡ output printer.old.contents (printer.old.held ++ fields_text fields.now) printer.old.failed }
+    ensures len { length printer.new.held ≤ length printer.old.held + 21 * length fields.now }
+{
+    if let [first, rest @ ..] = fields {
+        printer.put(b" ");
+        printer.put_number(u64::from(*first));
+        put_dotted(rest, printer);
+    }
+}
+
+/// Holds numbers behind dots.
+fn put_dotted<W: Sink>(fields: &[u16], printer: &mut Printer<W>)
+    requires fields { length fields.now ≤ 16 }
+    requires room { length printer.old.held + 400 ≤ 8192 }
+    ensures value { printer.new ≡ output printer.old.contents (printer.old.held ++ dotted fields.now) printer.old.failed }
+    ensures len { length printer.new.held ≤ length printer.old.held + 21 * length fields.now }
+{
+    for field in fields {
+        printer.put(b".");
+        printer.put_number(u64::from(*field));
+    }
+}
+
+/// The exit status for an object that is not as it was asked for: 4 for an answer with another status than OK, or one of which nothing
+/// is made; 2 for a word that is for no value; 3 where no answer came.
+pub fn status_of(trouble: Trouble) -> u8
+    ensures { result ≡ trouble_status trouble }
+{
+    match trouble {
+        Trouble::Refused(_) | Trouble::Unreadable | Trouble::NoValue => 4,
+        Trouble::NoSuchWord => 2,
+        Trouble::NotSubmitted(_) | Trouble::Lost | Trouble::Unanswered => 3,
+    }
+}
+
+/// The exit status for several objects, of two of theirs: 3 before 2 before 4 before 0.
+pub fn graver(a: u8, b: u8) -> u8
+    ensures { result ≡ graver_of a b }
+{
+    if a == 3 || b == 3 {
+        3
+    } else if a == 2 || b == 2 {
+        2
+    } else if a == 4 || b == 4 {
+        4
+    } else {
+        0
+    }
+}

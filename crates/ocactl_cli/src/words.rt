@@ -1,0 +1,464 @@
+//! The words of the command line.
+ghost use Rattle.std.specs.Prelude.{◌≡◌, ◌≤◌, IfSome};
+ghost use Rattle.std.specs.Option.{option_map};
+ghost use Rattle.oca_types.specs.Sizes.{span_size};
+ghost use Rattle.oca_control.specs.Links.{new_link};
+ghost use Rattle.oca_types.specs.Peers.{request_of};
+ghost use Rattle.ocactl_cli.specs.Words.{array_items, span_of as span_said, span_in as span_given, linking_fields, first_handle_in, linking_in, host_in, own_address, port_in, handle_in, reach_fields, reach_in, ahead_in, sending_fields, sending_in, params_of as params_said, params_in as params_given};
+
+use super::tasks::{Task, is_task, task_of, turns_of, with_tasks};
+use arrayvec::ArrayVec;
+use clap::{Arg, ArgMatches, Command, Error};
+use oca_control::Link;
+use oca_program::options::{
+    address_or, help_or_failure, number_if, number_in, number_or, option, peer_in, text_of,
+};
+use oca_program::{Failure, RunFault};
+use oca_script::field::{hex_bytes, number};
+use oca_types::{
+    Handle, LOOPBACK, MOST_COMMAND_PARAMETER_BYTES, MethodId, Ono, Peer, Request, Span,
+};
+use std::alloc::{AllocError, Global};
+use std::convert::AsStr;
+
+/// How many turns `send` takes, unless it is said.
+const TURNS: u64 = 200;
+
+/// The link that the words ask for.
+#[derive(Clone, Copy)]
+pub struct Linking {
+    pub device: Peer,
+    pub first_handle: u32,
+    pub span: Span,
+}
+
+impl Linking {
+    /// A new link, made at moment 0.
+    pub fn link(&self) -> Link
+        ensures { result ≡ new_link self.now.device self.now.first_handle 0 (span_size self.now.span) }
+    {
+        Link::new(self.device, Handle(self.first_handle), 0, self.span)
+    }
+}
+
+/// A device that is reached over a network: the local address and port, the first handle, and the span.
+#[derive(Clone, Copy)]
+pub struct Reach {
+    pub device: Peer,
+    pub ip: u32,
+    pub port: Option<u16>,
+    pub first_handle: Option<u32>,
+    pub span: Span,
+}
+
+impl Reach {
+    /// A new link, made at moment 0, with this first handle unless the words give one.
+    pub fn link(&self, first_handle: u32) -> Link {
+        let first = match self.first_handle {
+            Some(handle) => handle,
+            None => first_handle,
+        };
+        Link::new(self.device, Handle(first), 0, self.span)
+    }
+}
+
+/// The command that the words ask to send.
+#[derive(Drop)]
+pub struct Sending {
+    pub target: Ono,
+    pub method: MethodId,
+    pub count: u8,
+    pub params: ArrayVec<u8, MOST_COMMAND_PARAMETER_BYTES>,
+    pub turns: u32,
+}
+
+impl Sending {
+    /// The command.
+    pub fn command(&self) -> Request<'_>
+        ensures { request_of result ≡ record { target = self.now.target.0; level = self.now.method.level; index = self.now.method.index; count = self.now.count; params = self.now.params.items } }
+    {
+        Request {
+            target: self.target,
+            method: self.method,
+            count: self.count,
+            params: self.params.as_slice(),
+        }
+    }
+}
+
+/// What the words ask for.
+#[derive(Drop)]
+pub enum Asked {
+    /// To replay a script.
+    Replay(Linking),
+    /// To send a command to a device.
+    Send(Reach, Sending),
+    /// To send the commands of the input to a device, so many of them at once.
+    Run(Reach, Span),
+    /// To do something with objects of a device, where each command waits so many turns for its answer.
+    Do(Reach, u32, Task),
+    /// To print a help text.
+    Help(String),
+}
+
+/// The options of each link: the device and the span.
+fn linked<'a>(command: Command<'a>, alloc: Global) -> Result<Command<'a>, AllocError> {
+    command
+        .arg(option(alloc, "device", "A.B.C.D:PORT", "The device's address").required(true))?
+        .arg(option(
+            alloc,
+            "span",
+            "S",
+            "How far above the lowest untaken command the next handle may lie, 1 to 32 [16 unless given]",
+        ))
+}
+
+/// The options of a link over a network: the first handle and the local address.
+pub fn networked<'a>(command: Command<'a>, alloc: Global) -> Result<Command<'a>, AllocError> {
+    linked(command, alloc)?
+        .arg(option(
+            alloc,
+            "first-handle",
+            "H",
+            "The handle of the first command, 0 to 4294967295 [by the clock unless given: it rises by 100000 a second, and begins anew at 2147483648]",
+        ))?
+        .arg(option(
+            alloc,
+            "ip",
+            "A.B.C.D",
+            "The local address [127.0.0.1 for a device of this machine, any address else, unless given]",
+        ))
+}
+
+/// How many commands may be under way at once.
+pub fn ahead_option<'a>(alloc: Global) -> Arg<'a> {
+    option(
+        alloc,
+        "ahead",
+        "N",
+        "How many commands may be under way at once, 1 to the span; those may be executed in any order [1 unless given]",
+    )
+}
+
+const REPLAY_EXAMPLE: &str =
+    "Lines: N submit ONO LEVEL INDEX COUNT HEX, N due, N from A.B.C.D:PORT HEX, take H; N is a moment in ms.
+
+Example: printf '0 submit 4097 4 1 0 -\\n0 due\\n' | ocactl replay --device 127.0.0.1:65000 --first-handle 1";
+
+const RUN_EXAMPLE: &str =
+    "Lines: ONO LEVEL INDEX COUNT HEX, a command, HEX being - for no parameters; wait, for the answers to all before it.
+
+Status: 0 where each command was answered, 3 where one was not.
+
+Example: echo '4097 4 1 0 -' | ocactl run --device 127.0.0.1:65000";
+
+const PROGRAM_EXAMPLE: &str = "Example: ocactl set --device 127.0.0.1:65000 4097 unmuted";
+
+const SEND_EXAMPLE: &str =
+    "Status of send: 0 for an answer with status 0, 4 for another, 3 where none came.
+
+Example: ocactl send --device 127.0.0.1:65000 --first-handle 1 --target 4097 --level 4 --index 1 --count 0";
+
+/// The command `replay`.
+fn replay_command<'a>(alloc: Global) -> Result<Command<'a>, AllocError> {
+    let command = Command::new(alloc, "replay")
+        .about("Runs a controller's link over a script on standard input, with no network")
+        .after_help(REPLAY_EXAMPLE);
+    linked(command, alloc)?.arg(option(
+        alloc,
+        "first-handle",
+        "H",
+        "The handle of the first command, 0 to 4294967295",
+    )
+    .required(true))
+}
+
+/// The command `send`.
+fn send_command<'a>(alloc: Global) -> Result<Command<'a>, AllocError> {
+    let command = Command::new(alloc, "send")
+        .about("Sends a command to a device and prints its answer: status, ParamCount, parameters")
+        .after_help(SEND_EXAMPLE);
+    networked(command, alloc)?
+        .arg(option(alloc, "target", "ONO", "The target's object number").required(true))?
+        .arg(option(alloc, "level", "L", "The method's DefLevel").required(true))?
+        .arg(option(alloc, "index", "I", "The method's MethodIndex").required(true))?
+        .arg(option(
+            alloc,
+            "count",
+            "C",
+            "ParamCount: how many parameters there are",
+        )
+        .required(true))?
+        .arg(option(
+            alloc,
+            "params",
+            "HEX",
+            "The parameters in hexadecimal, - for none [none unless given]",
+        ))?
+        .arg(option(
+            alloc,
+            "turns",
+            "T",
+            "How often to wait, 50 ms at most each; at 0 the command is sent once and no answer waited for [200 unless given]",
+        ))?
+        .arg(option(
+            alloc,
+            "port",
+            "PORT",
+            "The local port [one of the system's choice unless given: a session of its own at the device for each call, of which there are 16 unless its maker chose otherwise, so give a port for many calls in a row]",
+        ))
+}
+
+/// The command `run`.
+fn run_command<'a>(alloc: Global) -> Result<Command<'a>, AllocError> {
+    let command = Command::new(alloc, "run")
+        .about(
+            "Sends the commands on standard input and prints the answer of each, in the order of their lines",
+        )
+        .after_help(RUN_EXAMPLE);
+    networked(command, alloc)?
+        .arg(ahead_option(alloc))?
+        .arg(option(
+            alloc,
+            "port",
+            "PORT",
+            "The local port [65001 unless given, or one of the system's choice where that is in use]",
+        ))
+}
+
+/// The whole program.
+fn command<'a>(alloc: Global) -> Result<Command<'a>, AllocError> {
+    let program = Command::new(alloc, "ocactl")
+        .about("A controller of OCA (AES70) devices over UDP")
+        .after_help(PROGRAM_EXAMPLE)
+        .subcommand_required(true);
+    with_tasks(program, alloc)?
+        .subcommand(replay_command(alloc)?)?
+        .subcommand(send_command(alloc)?)?
+        .subcommand(run_command(alloc)?)
+}
+
+/// The words, matched with what the program takes.
+fn matches_of<'a, S: AsStr>(alloc: Global, words: &'a [S]) -> Result<ArgMatches<'a>, Error> {
+    command(alloc)?.try_get_matches_from(words)
+}
+
+/// What the words ask for, the program's name first, or why they ask for nothing.
+pub fn asked_for<S: AsStr>(alloc: Global, words: &[S]) -> Result<Asked, Failure> {
+    match matches_of(alloc, words) {
+        Ok(matches) => match asked_in(&matches) {
+            Some(asked) => Ok(asked),
+            None => task_asked(alloc, &matches),
+        },
+        Err(error) => Ok(Asked::Help(help_or_failure(alloc, &error)?)),
+    }
+}
+
+/// What the options say, where each has its form.
+fn asked_in(matches: &ArgMatches<'_>) -> Option<Asked> {
+    match matches.subcommand()? {
+        ("replay", words) => Some(Asked::Replay(linking_of(words)?)),
+        ("send", words) => Some(Asked::Send(reach_of(words)?, sending_of(words)?)),
+        ("run", words) => {
+            let reach = reach_of(words)?;
+            let ahead = ahead_of(words, reach.span)?;
+            Some(Asked::Run(reach, ahead))
+        }
+        _ => None,
+    }
+}
+
+/// What the options and the words of a command for hands say.
+fn task_asked(alloc: Global, matches: &ArgMatches<'_>) -> Result<Asked, Failure> {
+    let bad = Failure::told(
+        alloc,
+        RunFault::BadWords,
+        "an option has a value that is not of its form: see --help",
+    );
+    let Some((name, words)) = matches.subcommand() else {
+        return Err(bad);
+    };
+    if !is_task(name) {
+        return Err(bad);
+    }
+    let (Some(reach), Some(turns)) = (reach_of(words), turns_of(words)) else {
+        return Err(bad);
+    };
+    let Some(ahead) = ahead_of(words, reach.span) else {
+        return Err(bad);
+    };
+    Ok(Asked::Do(reach, turns, task_of(alloc, name, words, ahead)?))
+}
+
+/// The span that a text says: 1 to 3 digits, 1 to 32.
+#[tactic(auto, using(oca_program::proofs::OptionLemmas::size_rules))]
+fn span_of(text: &[u8]) -> Option<Span>
+    ensures { option_map span_size result ≡ span_said text.now }
+{
+    let size = number(text, 3, 255)? as u8;
+    Span::new(size)
+}
+
+/// The span that the options ask for: of 16 commands unless it is given.
+fn span_in(words: &ArgMatches<'_>) -> Option<Span>
+    ensures { option_map span_size result ≡ span_given words.now }
+{
+    match text_of(words, "span") {
+        Some(text) => span_of(text.as_bytes()),
+        None => Some(Span::default()),
+    }
+}
+
+/// The first handle, which is to be given.
+fn first_handle_of(words: &ArgMatches<'_>) -> Option<u32>
+    ensures { result ≡ first_handle_in words.now }
+{
+    match number_in(words, "first-handle", 10, 4294967295) {
+        Some(handle) => Some(handle as u32),
+        None => None,
+    }
+}
+
+/// The link that the options ask for.
+#[tactic(auto, unfolding(crate::specs::Words::linking_in))]
+fn linking_of(words: &ArgMatches<'_>) -> Option<Linking>
+    ensures { option_map linking_fields result ≡ linking_in words.now }
+{
+    let device = peer_in(words, "device")?;
+    let first_handle = first_handle_of(words)?;
+    let span = span_in(words)?;
+    Some(Linking {
+        device,
+        first_handle,
+        span,
+    })
+}
+
+/// The device that the options name, at the address of one host.
+fn host_of(words: &ArgMatches<'_>) -> Option<Peer>
+    ensures { result ≡ host_in words.now }
+{
+    let device = peer_in(words, "device")?;
+    if device.ip == 0 || device.ip == 4294967295 {
+        return None;
+    }
+    Some(device)
+}
+
+/// The address that a socket is bound to unless it is given.
+fn address_for(device: Peer) -> u32
+    ensures { result ≡ own_address device }
+{
+    if device.ip / 16_777_216 == 127 {
+        LOOPBACK
+    } else {
+        0
+    }
+}
+
+/// The local port, where it is given.
+fn port_of(words: &ArgMatches<'_>) -> Option<Option<u16>>
+    ensures { result ≡ port_in words.now }
+{
+    match number_if(words, "port", 5, 65535) {
+        Some(Some(port)) => Some(Some(port as u16)),
+        Some(None) => Some(None),
+        None => None,
+    }
+}
+
+/// The first handle, where it is given.
+fn handle_of(words: &ArgMatches<'_>) -> Option<Option<u32>>
+    ensures { result ≡ handle_in words.now }
+{
+    match number_if(words, "first-handle", 10, 4294967295) {
+        Some(Some(handle)) => Some(Some(handle as u32)),
+        Some(None) => Some(None),
+        None => None,
+    }
+}
+
+/// The device that the options ask for, and how it is reached.
+#[tactic(auto, unfolding(crate::specs::Words::reach_in))]
+fn reach_of(words: &ArgMatches<'_>) -> Option<Reach>
+    ensures { option_map reach_fields result ≡ reach_in words.now }
+{
+    let device = host_of(words)?;
+    let ip = address_or(words, "ip", address_for(device))?;
+    let port = port_of(words)?;
+    let first_handle = handle_of(words)?;
+    let span = span_in(words)?;
+    Some(Reach {
+        device,
+        ip,
+        port,
+        first_handle,
+        span,
+    })
+}
+
+/// How many commands may be under way at once.
+fn ahead_of(words: &ArgMatches<'_>, span: Span) -> Option<Span>
+    ensures { option_map span_size result ≡ ahead_in (span_size span) words.now }
+{
+    Span::new(ahead_within(words, span)? as u8)
+}
+
+/// How many commands may be under way at once, as a number.
+fn ahead_within(words: &ArgMatches<'_>, span: Span) -> Option<usize>
+    ensures value { result ≡ ahead_in (span_size span) words.now }
+    ensures within { IfSome result (λ n. (1 ≤ n) × (n ≤ 32)) }
+{
+    let ahead = number_or(words, "ahead", 3, 255, 1)?;
+    if 1 <= ahead && ahead <= u64::from(span.get()) {
+        return Some(ahead as usize);
+    }
+    None
+}
+
+/// The command that the options ask to send.
+#[tactic(auto, unfolding(crate::specs::Words::sending_in))]
+fn sending_of(words: &ArgMatches<'_>) -> Option<Sending>
+    ensures { option_map sending_fields result ≡ sending_in words.now }
+{
+    let target = number_in(words, "target", 10, 4294967295)?;
+    let level = number_in(words, "level", 5, 65535)?;
+    let index = number_in(words, "index", 5, 65535)?;
+    let count = number_in(words, "count", 3, 255)?;
+    let params = params_in(words)?;
+    let turns = number_or(words, "turns", 10, 4294967295, TURNS)?;
+    Some(Sending {
+        target: Ono(target as u32),
+        method: MethodId {
+            level: level as u16,
+            index: index as u16,
+        },
+        count: count as u8,
+        params,
+        turns: turns as u32,
+    })
+}
+
+/// The parameters that a text says: at most 2,890 hexadecimal digits, or `-`.
+fn params_of(text: &[u8]) -> Option<ArrayVec<u8, MOST_COMMAND_PARAMETER_BYTES>>
+    ensures { option_map array_items result ≡ params_said text.now }
+{
+    let mut room = [0u8; MOST_COMMAND_PARAMETER_BYTES];
+    if text.len() > 2 * MOST_COMMAND_PARAMETER_BYTES {
+        return None;
+    }
+    let bytes = hex_bytes(text, &mut room)?;
+    let mut params = ArrayVec::new();
+    params.try_extend_from_slice(bytes).unwrap();
+    Some(params)
+}
+
+/// The parameters that the options give, none where they are not given.
+fn params_in(words: &ArgMatches<'_>) -> Option<ArrayVec<u8, MOST_COMMAND_PARAMETER_BYTES>>
+    ensures { option_map array_items result ≡ params_given words.now }
+{
+    match text_of(words, "params") {
+        Some(text) => params_of(text.as_bytes()),
+        None => Some(ArrayVec::new()),
+    }
+}
