@@ -19,8 +19,6 @@ mod reception;
 mod report;
 mod slot;
 mod table;
-#[cfg(test)]
-mod tests;
 
 pub use answer::Answer;
 pub use asking::{ask, refused, wait_for};

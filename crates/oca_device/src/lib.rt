@@ -25,6 +25,3 @@ pub use outbox::Outbox;
 pub use report::Report;
 pub use serving::{serve, serve_with};
 pub use verdict::Verdict;
-
-#[cfg(test)]
-mod tests;

@@ -5,6 +5,3 @@
 mod ends;
 
 pub use ends::{Discard, PatternReader, PieceReader, ShortWriter, behind_notes};
-
-#[cfg(test)]
-mod tests;

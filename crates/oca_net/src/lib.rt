@@ -17,6 +17,3 @@ pub use descriptors::fill_standard_descriptors;
 pub use end::{End, Heard};
 pub use memory::{MemoryEnd, Scripted};
 pub use udp::{BindError, BindFault, UdpEnd};
-
-#[cfg(test)]
-mod tests;

@@ -18,6 +18,3 @@ pub use pair::{Transcript, run_pair, run_pair_with_sizes};
 pub use sent::Sent;
 pub use start::Start;
 pub use step::Step;
-
-#[cfg(test)]
-mod tests;

@@ -30,6 +30,3 @@ pub use writing::{
     extend_response, holds_responses, replace_response, write_command, write_keepalive,
     write_response,
 };
-
-#[cfg(test)]
-mod tests;

@@ -13,6 +13,3 @@ pub mod start;
 
 pub use fault::{Failure, RunFault, print_note, report};
 pub use start::words_of;
-
-#[cfg(test)]
-mod tests;

@@ -20,6 +20,3 @@ mod window;
 pub use oca_types::sooner;
 pub use sessions::{Admission, Sessions};
 pub use window::Judged;
-
-#[cfg(test)]
-mod tests;

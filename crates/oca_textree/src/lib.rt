@@ -21,6 +21,3 @@ mod value;
 
 pub use fault::{ObjectFault, TreeFault};
 pub use text::tree_from_text;
-
-#[cfg(test)]
-mod tests;

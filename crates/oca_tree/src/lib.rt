@@ -35,6 +35,3 @@ pub use room::Room;
 pub use setting::{LocalValue, SetFault};
 pub use start::{Start, StartFault};
 pub use tree::{Done, ObjectInfo, Setting, Tree};
-
-#[cfg(test)]
-mod tests;

@@ -14,8 +14,6 @@ mod peer;
 mod put;
 mod sizes;
 mod status;
-#[cfg(test)]
-mod tests;
 mod text;
 mod words;
 

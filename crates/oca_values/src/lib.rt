@@ -23,6 +23,3 @@ pub use reading::read_value;
 pub use request::{Request, get_request, set_request};
 pub use value::Value;
 pub use words::{value_from_word, word_of};
-
-#[cfg(test)]
-mod tests;
