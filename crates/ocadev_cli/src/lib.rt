@@ -13,7 +13,5 @@ mod request;
 pub mod run;
 pub mod serving;
 mod show;
-#[cfg(test)]
-mod tests;
 pub mod trace;
 mod words;
