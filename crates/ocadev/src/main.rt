@@ -2,32 +2,19 @@
 //! prints the objects of the bench device; `ocadev serve` serves it at a UDP socket.
 #![tactic(auto)]
 
-mod answer;
-mod making;
-mod replay;
-mod report;
-mod request;
-mod run;
-mod serving;
-mod show;
-mod trace;
-mod words;
-
 use oca_net::fill_standard_descriptors;
-use oca_program::{Failure, report as report_failure, words_of};
+use oca_program::{Failure, report, words_of};
 use oca_script::{FromReader, Printer, ToWriter};
+use ocadev_cli::run::run;
 use std::io;
 use std::process::ExitCode;
-
-#[cfg(test)]
-mod tests;
 
 /// Runs the program on its command line and the standard streams.
 fn main(rt: HostRuntime) -> ExitCode {
     let _ = fill_standard_descriptors(&rt);
     let mut faults = Printer::new(ToWriter::new(rt.stderr()));
     let status = match words_of(&rt) {
-        Ok(words) => run::run(
+        Ok(words) => run(
             rt.alloc(),
             &rt,
             words.as_slice(),
@@ -35,7 +22,7 @@ fn main(rt: HostRuntime) -> ExitCode {
             &mut Printer::new(ToWriter::new(io::writer(&rt))),
             &mut faults,
         ),
-        Err(fault) => report_failure(&Failure::from(fault), &mut faults),
+        Err(fault) => report(&Failure::from(fault), &mut faults),
     };
     ExitCode::from(status)
 }

@@ -24,7 +24,7 @@ pub const NAMES: [&str; 10] = [
 ];
 
 /// What a call answered.
-#[derive(Clone, Copy, Debug, PartialEq, Eq)]
+#[derive(Clone, Copy)]
 pub enum Answered {
     Done,
     NoMemory,

@@ -1,4 +1,5 @@
 //! The device core without its scripts: datagrams made in memory, for counting instructions a command.
+use crate::hostile::set;
 use crate::vectors::vector;
 use oca_device::{Device, Outbox};
 use oca_pdu::write_command;
@@ -15,7 +16,7 @@ const SENDER: Peer = Peer {
 };
 
 /// What is measured.
-#[derive(Clone, Copy, Debug, PartialEq, Eq)]
+#[derive(Clone, Copy, PartialEq)]
 pub enum Kind {
     /// One new GetState a datagram.
     Single,
@@ -85,13 +86,6 @@ fn datagram(kind: Kind) -> Packet {
     packet
 }
 
-/// Sets a byte, where it is there.
-fn set(packet: &mut Packet, at: usize, value: u8) {
-    if at < packet.len() {
-        packet[at] = value;
-    }
-}
-
 /// Gives the command of this number in the packet a handle.
 fn set_handle(packet: &mut Packet, number: u32, handle: u32) {
     let at = 14usize.saturating_add(17usize.saturating_mul(number as usize));
@@ -109,8 +103,24 @@ fn set_target(packet: &mut Packet, objects: u16, turn: u32) {
     }
 }
 
+/// Gives the commands in the packet the handles behind this one, and their target where it changes. Returns the last
+/// handle.
+fn set_commands(packet: &mut Packet, kind: Kind, objects: u16, before: u32) -> u32 {
+    let mut handle = before;
+    for number in 0..commands_in(kind) {
+        if kind != Kind::Copies || handle == 0 {
+            handle = handle.wrapping_add(1);
+        }
+        set_handle(packet, number, handle);
+    }
+    if kind == Kind::Others {
+        set_target(packet, objects, handle);
+    }
+    handle
+}
+
 /// The device that is measured: of how many objects, and with how many sessions.
-#[derive(Clone, Copy, Debug, PartialEq, Eq)]
+#[derive(Clone, Copy)]
 pub struct Size {
     /// 8 for the bench device; any other number from 1 to 4,096 for so many objects, mutes but for the root.
     pub objects: u16,
@@ -150,7 +160,10 @@ impl Size {
 /// The tree of that many objects.
 fn tree_of(alloc: Global, size: Size) -> Result<Tree, NoMemory> {
     if size.objects == 8 {
-        return bench(alloc).map_err(|_| NoMemory);
+        return match bench(alloc) {
+            Ok(tree) => Ok(tree),
+            Err(_) => Err(NoMemory),
+        };
     }
     let Ok(mut builder) = TreeBuilder::with_room(alloc, size.room()) else {
         return Err(NoMemory);
@@ -161,13 +174,19 @@ fn tree_of(alloc: Global, size: Size) -> Result<Tree, NoMemory> {
         kind: ObjectKind::Mute(MuteState::Muted),
     };
     for number in 1..size.objects {
-        let _ = builder.add(
-            Ono(100),
-            Ono(4096u32.saturating_add(u32::from(number))),
-            &spec,
-        );
+        let ono = Ono(4096u32.saturating_add(u32::from(number)));
+        let _ = builder.add(Ono(100), ono, &spec);
     }
     Ok(builder.finish())
+}
+
+/// The device of this size with its sessions, and an outbox.
+fn opened(alloc: Global, size: Size) -> Result<(Device, Outbox), NoMemory> {
+    let tree = tree_of(alloc, size)?;
+    let mut device = Device::with_sizes(alloc, tree, size.sizes())?;
+    let mut outbox = Outbox::new(alloc)?;
+    open_sessions(&mut device, &mut outbox, size.sessions);
+    Ok((device, outbox))
 }
 
 /// Other peers say a keep-alive each, so that there are that many sessions with the one that is measured.
@@ -191,23 +210,12 @@ pub fn run(
     datagrams: u32,
     served: bool,
 ) -> Result<u64, NoMemory> {
-    let tree = tree_of(alloc, size)?;
-    let mut device = Device::with_sizes(alloc, tree, size.sizes())?;
-    let mut outbox = Outbox::new(alloc)?;
-    open_sessions(&mut device, &mut outbox, size.sessions);
+    let (mut device, mut outbox) = opened(alloc, size)?;
     let mut packet = datagram(kind);
     let mut handle = 0u32;
     let mut packets = 0u64;
     for _ in 0..datagrams {
-        for number in 0..commands_in(kind) {
-            if kind != Kind::Copies || handle == 0 {
-                handle = handle.wrapping_add(1);
-            }
-            set_handle(&mut packet, number, handle);
-        }
-        if kind == Kind::Others {
-            set_target(&mut packet, size.objects, handle);
-        }
+        handle = set_commands(&mut packet, kind, size.objects, handle);
         outbox.clear();
         if served {
             let _ = device.datagram(SENDER, packet.as_slice(), 0, &mut outbox);

@@ -13,7 +13,7 @@ use std::alloc::Global;
 const DATAGRAMS: [usize; 10] = [0, 2, 4, 0, 10, 12, 6, 14, 2, 13];
 
 /// What the trial found.
-#[derive(Clone, Copy, Debug, Default)]
+#[derive(Clone, Copy, Default)]
 pub struct Tally {
     /// Runs with a failed receive in one place.
     pub receives: u64,

@@ -5,7 +5,7 @@ use oca_types::{Ono, Peer};
 use std::alloc::Global;
 
 /// Why a line is refused.
-#[derive(Clone, Copy, Debug, PartialEq, Eq)]
+#[derive(Clone, Copy)]
 pub enum LineFault {
     /// Memory was refused.
     NoMemory,
@@ -146,11 +146,17 @@ impl<'a> Fields<'a> {
     fn integer(&mut self) -> Result<i128, LineFault> {
         let text = self.next()?;
         match str::from_utf8(text) {
-            Ok(digits) if text.first() != Some(&b'+') => {
-                digits.parse::<i128>().map_err(|_| LineFault::Number)
-            }
+            Ok(digits) if text.first() != Some(&b'+') => parsed(digits),
             _ => Err(LineFault::Number),
         }
+    }
+}
+
+/// The integer that the digits write.
+fn parsed(digits: &str) -> Result<i128, LineFault> {
+    match digits.parse::<i128>() {
+        Ok(value) => Ok(value),
+        Err(_) => Err(LineFault::Number),
     }
 }
 

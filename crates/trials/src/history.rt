@@ -10,13 +10,14 @@
 //! each object that has a setting or a lock: its number, `=`, its setting or `-`, and behind `/t` or `/r` the holder of
 //! its total or its read-only lock.
 use crate::fields::{Fields, LineFault};
-use crate::lines::{Full, RunFault, put_bytes, put_peer, put_set_fault, put_verdict};
+use crate::lines::{
+    Full, RunFault, put, put_bytes, put_integer, put_number, put_peer, put_set_fault, put_verdict,
+};
 use oca_device::{Device, Outbox};
 use oca_script::field::{moment, peer};
 use oca_tree::{AddFault, LocalValue, Lock, LockKind, Setting, Tree, bench_with_channels};
 use oca_types::{Ono, Peer, Peers, Sizes, Window};
 use std::alloc::Global;
-use std::fmt::Write;
 
 /// A device in the middle of its history, and what is to be printed of it.
 #[derive(Drop)]
@@ -141,7 +142,7 @@ fn new_history(alloc: Global, tree: Tree, sizes: Sizes) -> Result<History, Full>
         return Err(Full);
     };
     let mut out = String::new(alloc);
-    writeln!(out, "history")?;
+    put(&mut out, "history\n")?;
     Ok(History {
         device,
         outbox,
@@ -155,26 +156,37 @@ impl History {
         self.outbox.clear();
         match happens {
             Happens::Datagram(from, bytes, now) => {
-                let verdict = self
-                    .device
-                    .datagram(*from, bytes.as_slice(), *now, &mut self.outbox);
-                put_verdict(&mut self.out, verdict)?;
+                self.hear(alloc, *from, bytes.as_slice(), *now)?;
             }
             Happens::Quiet(now) => {
                 self.device.tick(*now);
-                writeln!(self.out, "quiet")?;
+                put(&mut self.out, "quiet\n")?;
             }
-            Happens::Set(ono, value) => match self.device.set(*ono, *value) {
-                Ok(()) => writeln!(self.out, "set")?,
-                Err(fault) => put_set_fault(&mut self.out, fault)?,
-            },
+            Happens::Set(ono, value) => self.set(*ono, *value)?,
         }
+        self.put_state()
+    }
+
+    /// Hands the device a datagram, and notes what it said, its packets and what it wrote to.
+    fn hear(&mut self, alloc: Global, from: Peer, bytes: &[u8], now: u64) -> Result<(), Full> {
+        let verdict = self.device.datagram(from, bytes, now, &mut self.outbox);
+        put_verdict(&mut self.out, verdict)?;
         put_packets(alloc, &mut self.out, &self.outbox)?;
-        if let Happens::Datagram(..) = happens {
-            put_written(&mut self.out, self.device.written())?;
+        put_written(&mut self.out, self.device.written())
+    }
+
+    /// Sets an object at the front, and notes what came of it.
+    fn set(&mut self, ono: Ono, value: LocalValue) -> Result<(), Full> {
+        match self.device.set(ono, value) {
+            Ok(()) => put(&mut self.out, "set\n"),
+            Err(fault) => put_set_fault(&mut self.out, fault),
         }
-        let sessions = self.device.sessions();
-        writeln!(self.out, "sessions {sessions}")?;
+    }
+
+    /// Notes how many sessions the device has, and its objects.
+    fn put_state(&mut self) -> Result<(), Full> {
+        put_number(&mut self.out, "sessions ", self.device.sessions() as u64)?;
+        put(&mut self.out, "\n")?;
         put_objects(&mut self.out, self.device.tree())
     }
 }
@@ -182,7 +194,7 @@ impl History {
 /// The lines of the packets.
 fn put_packets(alloc: Global, out: &mut String, outbox: &Outbox) -> Result<(), Full> {
     for packet in outbox.packets() {
-        write!(out, "> ")?;
+        put(out, "> ")?;
         put_bytes(alloc, out, packet.as_slice())?;
     }
     Ok(())
@@ -193,28 +205,23 @@ fn put_written(out: &mut String, written: &[Ono]) -> Result<(), Full> {
     if written.is_empty() {
         return Ok(());
     }
-    write!(out, "written")?;
+    put(out, "written")?;
     for ono in written {
-        let number = ono.0;
-        write!(out, " {number}")?;
+        put_number(out, " ", u64::from(ono.0))?;
     }
-    Ok(writeln!(out, "")?)
+    put(out, "\n")
 }
 
 /// The line of the objects that have a setting or a lock.
 fn put_objects(out: &mut String, tree: &Tree) -> Result<(), Full> {
-    write!(out, "objects")?;
+    put(out, "objects")?;
     for index in 0..tree.len() {
         if let Some(object) = tree.object_at(index) {
-            put_object(
-                out,
-                object.ono,
-                tree.setting_of(object.ono),
-                tree.lock_of(object.ono),
-            )?;
+            let ono = object.ono;
+            put_object(out, ono, tree.setting_of(ono), tree.lock_of(ono))?;
         }
     }
-    Ok(writeln!(out, "")?)
+    put(out, "\n")
 }
 
 /// An object, where it has a setting or a lock.
@@ -227,24 +234,32 @@ fn put_object(
     if setting.is_none() && lock.is_none() {
         return Ok(());
     }
-    let number = ono.0;
-    write!(out, " {number}=")?;
+    put_number(out, " ", u64::from(ono.0))?;
+    put(out, "=")?;
+    put_setting(out, setting)?;
+    match lock {
+        None => Ok(()),
+        Some(lock) => put_lock(out, lock),
+    }
+}
+
+/// A setting, or `-`.
+fn put_setting(out: &mut String, setting: Option<Setting>) -> Result<(), Full> {
     match setting {
-        None => write!(out, "-")?,
-        Some(Setting::State(state)) => write!(out, "{state}")?,
-        Some(Setting::Position(position)) => write!(out, "{position}")?,
-        Some(Setting::Truth(truth)) => {
-            let truth = u8::from(truth);
-            write!(out, "{truth}")?;
-        }
-        Some(Setting::Number { setting, .. }) => write!(out, "{setting}")?,
+        None => put(out, "-"),
+        Some(Setting::State(state)) => put_number(out, "", u64::from(state)),
+        Some(Setting::Position(position)) => put_number(out, "", u64::from(position)),
+        Some(Setting::Truth(truth)) => put_number(out, "", u64::from(truth)),
+        Some(Setting::Number { setting, .. }) => put_integer(out, setting),
     }
-    let Some(lock) = lock else {
-        return Ok(());
+}
+
+/// A lock: its kind and its holder.
+fn put_lock(out: &mut String, lock: Lock) -> Result<(), Full> {
+    let kind = match lock.kind {
+        LockKind::Total => "/t",
+        LockKind::Readonly => "/r",
     };
-    match lock.kind {
-        LockKind::Total => write!(out, "/t")?,
-        LockKind::Readonly => write!(out, "/r")?,
-    }
+    put(out, kind)?;
     put_peer(out, lock.holder)
 }

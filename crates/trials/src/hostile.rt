@@ -26,7 +26,7 @@ const READER: Peer = Peer {
 };
 
 /// What the trial found.
-#[derive(Clone, Copy, Debug, Default)]
+#[derive(Clone, Copy, Default)]
 pub struct Tally {
     /// Datagrams that were tried.
     pub tried: u64,
@@ -255,7 +255,7 @@ fn changed_bytes(bench: &mut Bench, bytes: &[u8]) {
 }
 
 /// Sets a byte, where it is there.
-fn set(packet: &mut Packet, at: usize, value: u8) {
+pub fn set(packet: &mut Packet, at: usize, value: u8) {
     if at < packet.len() {
         packet[at] = value;
     }

@@ -1,13 +1,14 @@
 //! The lines that tell what schedules and histories led to.
 use crate::fields::LineFault;
 use oca_device::Verdict;
+use oca_pdu::PduFault;
 use oca_tree::SetFault;
 use oca_types::Peer;
 use std::alloc::Global;
 use std::fmt::Write;
 
 /// Why a run over lines ends.
-#[derive(Clone, Copy, Debug, PartialEq, Eq)]
+#[derive(Clone, Copy)]
 pub enum RunFault {
     /// Memory was refused.
     NoMemory,
@@ -28,6 +29,21 @@ impl From<std::alloc::AllocError> for Full {
     }
 }
 
+/// A text.
+pub fn put(out: &mut String, text: &str) -> Result<(), Full> {
+    Ok(out.push_str(text)?)
+}
+
+/// A number behind a text.
+pub fn put_number(out: &mut String, text: &str, number: u64) -> Result<(), Full> {
+    Ok(write!(out, "{text}{number}")?)
+}
+
+/// An integer.
+pub fn put_integer(out: &mut String, integer: i128) -> Result<(), Full> {
+    Ok(write!(out, "{integer}")?)
+}
+
 /// The line of what a device made of a datagram.
 pub fn put_verdict(out: &mut String, verdict: Verdict) -> Result<(), Full> {
     match verdict {
@@ -36,42 +52,56 @@ pub fn put_verdict(out: &mut String, verdict: Verdict) -> Result<(), Full> {
             kept,
             old,
             reused,
-        } => {
-            write!(out, "served {executed} {kept} {old}")?;
-            if reused != 0 {
-                write!(out, " reused {reused}")?;
-            }
-        }
-        Verdict::Malformed(fault) => {
-            let number = fault.kind.number();
-            let at = fault.at;
-            write!(out, "malformed {number} at {at}")?;
-        }
-        Verdict::NoRoom => write!(out, "no-room")?,
+        } => put_served(out, [executed, kept, old], reused)?,
+        Verdict::Malformed(fault) => put_malformed(out, fault)?,
+        Verdict::NoRoom => put(out, "no-room")?,
     }
-    Ok(writeln!(out, "")?)
+    put(out, "\n")
+}
+
+/// How many commands a device executed, answered again and found too old, and how many asked something else under a
+/// kept handle, where there are any.
+fn put_served(out: &mut String, counts: [u32; 3], reused: u32) -> Result<(), Full> {
+    put(out, "served")?;
+    for count in counts {
+        put_number(out, " ", u64::from(count))?;
+    }
+    if reused == 0 {
+        return Ok(());
+    }
+    put_number(out, " reused ", u64::from(reused))
+}
+
+/// The fault of a datagram.
+fn put_malformed(out: &mut String, fault: PduFault) -> Result<(), Full> {
+    put_number(out, "malformed ", u64::from(fault.kind.number()))?;
+    put_number(out, " at ", u64::from(fault.at))
 }
 
 /// The line of a change at a device's own front that was refused.
 pub fn put_set_fault(out: &mut String, fault: SetFault) -> Result<(), Full> {
-    let number = fault as u8;
-    Ok(writeln!(out, "refused {number}")?)
+    put_number(out, "refused ", fault as u64)?;
+    put(out, "\n")
 }
 
 /// A peer.
 pub fn put_peer(out: &mut String, peer: Peer) -> Result<(), Full> {
-    let [a, b, c, d] = peer.ip.to_be_bytes();
-    let port = peer.port;
-    Ok(write!(out, "{a}.{b}.{c}.{d}:{port}")?)
+    let mut before = "";
+    for byte in peer.ip.to_be_bytes() {
+        put_number(out, before, u64::from(byte))?;
+        before = ".";
+    }
+    put_number(out, ":", u64::from(peer.port))
 }
 
 /// Bytes in hexadecimal, `-` for none, and the end of the line.
 pub fn put_bytes(alloc: Global, out: &mut String, bytes: &[u8]) -> Result<(), Full> {
     if bytes.is_empty() {
-        return Ok(writeln!(out, "-")?);
+        return put(out, "-\n");
     }
-    match hex::encode(alloc, bytes) {
-        Ok(text) => Ok(writeln!(out, "{text}")?),
-        Err(_) => Err(Full),
-    }
+    let Ok(text) = hex::encode(alloc, bytes) else {
+        return Err(Full);
+    };
+    put(out, text.as_str())?;
+    put(out, "\n")
 }

@@ -25,6 +25,7 @@ use calls::{Answered, NAMES, call};
 use core_bench::{Kind, Size};
 use history::histories;
 use lines::RunFault;
+use oca_types::NoMemory;
 use std::net::Net;
 use std::process::ExitCode;
 use std::rt::Runtime;
@@ -41,18 +42,34 @@ fn main(rt: HostRuntime) -> ExitCode {
     };
     match words.as_slice() {
         [_] => damaged(&rt),
-        [_, word] if word.as_str() == "calls" => names(&rt),
-        [_, word] if word.as_str() == "world" => schedules(&rt),
-        [_, word] if word.as_str() == "events" => events(&rt),
-        [_, word, name] if word.as_str() == "call" => one_call(&rt, name.as_str()),
-        [_, word, count] if word.as_str() == "echo" => echoed(&rt, count.as_str()),
-        [_, word, kind, objects, sessions, count, way] if word.as_str() == "bench" => {
+        [_, verb] => of_one_word(&rt, verb.as_str()),
+        [_, verb, word] => of_two_words(&rt, verb.as_str(), word.as_str()),
+        [_, verb, kind, objects, sessions, count, way] if verb.as_str() == "bench" => {
             match size_of(objects.as_str(), sessions.as_str()) {
                 Some(size) => measured(&rt, kind.as_str(), size, count.as_str(), way.as_str()),
                 None => said(&rt, "bad words", 2),
             }
         }
         _ => said(&rt, "bad words", 2),
+    }
+}
+
+/// Runs the trial that one word names.
+fn of_one_word<R: Runtime + AllocGlobal>(rt: &R, verb: &str) -> ExitCode {
+    match verb {
+        "calls" => names(rt),
+        "world" => schedules(rt),
+        "events" => events(rt),
+        _ => said(rt, "bad words", 2),
+    }
+}
+
+/// Runs the trial that two words name.
+fn of_two_words<R: Runtime + AllocGlobal + Net>(rt: &R, verb: &str, word: &str) -> ExitCode {
+    match verb {
+        "call" => one_call(rt, word),
+        "echo" => echoed(rt, word),
+        _ => said(rt, "bad words", 2),
     }
 }
 
@@ -66,34 +83,45 @@ fn said<R: Runtime>(rt: &R, text: &str, status: u8) -> ExitCode {
     ExitCode::from(status)
 }
 
-/// The damaged datagrams.
+/// The damaged datagrams and the failing ends.
 fn damaged<R: Runtime + AllocGlobal>(rt: &R) -> ExitCode {
-    let Ok(tally) = hostile::hostile(rt.alloc()) else {
-        return said(rt, "no memory", 1);
-    };
+    match wrong(rt) {
+        Ok(0) => ExitCode::SUCCESS,
+        Ok(_) => ExitCode::FAILURE,
+        Err(NoMemory) => said(rt, "no memory", 1),
+    }
+}
+
+/// How many of the damaged datagrams and of the runs with failing ends are wrong. A line is printed of each trial.
+fn wrong<R: Runtime + AllocGlobal>(rt: &R) -> Result<u64, NoMemory> {
+    let datagrams = hostile::hostile(rt.alloc())?;
+    tell_datagrams(rt, &datagrams);
+    let devices = ends::failing_ends(rt.alloc())?;
+    tell_ends(rt, "failing ends", &devices);
+    let links = ends::failing_ends_of_a_link(rt.alloc())?;
+    tell_ends(rt, "failing ends of a link", &links);
+    Ok(
+        datagrams
+            .wrong
+            .saturating_add(devices.wrong)
+            .saturating_add(links.wrong),
+    )
+}
+
+/// The line of the damaged datagrams.
+fn tell_datagrams<R: Runtime>(rt: &R, tally: &hostile::Tally) {
     let _ = println!(rt;
         "damaged datagrams: {} tried, {} refused with nothing changed, {} accepted, {} of them written back alike, {} wrong",
         tally.tried, tally.refused, tally.accepted, tally.written_back, tally.wrong
     );
-    let Ok(ends) = ends::failing_ends(rt.alloc()) else {
-        return said(rt, "no memory", 1);
-    };
+}
+
+/// The line of runs with failing ends.
+fn tell_ends<R: Runtime>(rt: &R, name: &str, tally: &ends::Tally) {
     let _ = println!(rt;
-        "failing ends: {} runs with a failed receive, {} with a failed send, {} wrong",
-        ends.receives, ends.sends, ends.wrong
+        "{name}: {} runs with a failed receive, {} with a failed send, {} wrong",
+        tally.receives, tally.sends, tally.wrong
     );
-    let Ok(links) = ends::failing_ends_of_a_link(rt.alloc()) else {
-        return said(rt, "no memory", 1);
-    };
-    let _ = println!(rt;
-        "failing ends of a link: {} runs with a failed receive, {} with a failed send, {} wrong",
-        links.receives, links.sends, links.wrong
-    );
-    ExitCode::from(if tally.wrong == 0 && ends.wrong == 0 && links.wrong == 0 {
-        0
-    } else {
-        1
-    })
 }
 
 /// A bare loop at a socket.

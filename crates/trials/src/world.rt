@@ -1,12 +1,13 @@
 //! Schedules over a device and links, read as lines and run one after another.
 use crate::fields::LineFault;
-use crate::lines::{Full, RunFault, put_bytes, put_peer, put_set_fault, put_verdict};
+use crate::lines::{
+    Full, RunFault, put, put_bytes, put_number, put_peer, put_set_fault, put_verdict,
+};
 use crate::schedule::{Line, Schedule, read_line};
 use oca_control::{Answer, ControlFault, Reception};
 use oca_pair::{Outcome, PairFault, Sent, Transcript, run_pair_with_sizes};
 use oca_tree::bench;
 use std::alloc::Global;
-use std::fmt::Write;
 
 /// Runs the schedules that the text has, and prints what each led to: `schedule`, a line for each step, the datagrams
 /// that were sent to the device and to links in order, and how many sessions the device has at the end; or, behind
@@ -75,18 +76,24 @@ fn run(alloc: Global, schedule: &Schedule) -> Result<Transcript, PairFault> {
     )
 }
 
+/// The line of a text and a number.
+fn put_counted(out: &mut String, text: &str, number: u64) -> Result<(), Full> {
+    put_number(out, text, number)?;
+    put(out, "\n")
+}
+
 /// The lines of a run.
 fn put_run(
     alloc: Global,
     out: &mut String,
     ran: &Result<Transcript, PairFault>,
 ) -> Result<(), Full> {
-    writeln!(out, "schedule")?;
+    put(out, "schedule\n")?;
     match ran {
         Ok(transcript) => put_transcript(alloc, out, transcript),
         Err(PairFault::NoMemory) => Err(Full),
-        Err(PairFault::BadStep(number)) => Ok(writeln!(out, "bad step {number}")?),
-        Err(PairFault::SamePeer) => Ok(writeln!(out, "same peer")?),
+        Err(PairFault::BadStep(number)) => put_counted(out, "bad step ", *number as u64),
+        Err(PairFault::SamePeer) => put(out, "same peer\n"),
     }
 }
 
@@ -97,61 +104,68 @@ fn put_transcript(alloc: Global, out: &mut String, transcript: &Transcript) -> R
     }
     put_sent(alloc, out, "to-device", transcript.to_device.as_slice())?;
     put_sent(alloc, out, "to-link", transcript.to_links.as_slice())?;
-    let sessions = transcript.device.sessions();
-    Ok(writeln!(out, "sessions {sessions}")?)
+    put_counted(out, "sessions ", transcript.device.sessions() as u64)
 }
 
 /// The line of a step.
 fn put_outcome(alloc: Global, out: &mut String, outcome: &Outcome) -> Result<(), Full> {
     match outcome {
-        Outcome::Submitted(handle) => {
-            let number = handle.0;
-            writeln!(out, "handle {number}")?;
-        }
-        Outcome::Refused(fault) => put_refusal(out, *fault)?,
-        Outcome::Sent(number) => writeln!(out, "sent {number}")?,
-        Outcome::Nothing => writeln!(out, "nothing")?,
-        Outcome::Lost => writeln!(out, "lost")?,
-        Outcome::Device(verdict) => put_verdict(out, *verdict)?,
-        Outcome::Link(Reception::Answered(count)) => writeln!(out, "answered {count}")?,
-        Outcome::Link(Reception::Stranger) => writeln!(out, "stranger")?,
-        Outcome::Link(Reception::Malformed) => writeln!(out, "malformed")?,
-        Outcome::Link(Reception::NothingNew) => writeln!(out, "nothing new")?,
-        Outcome::Ticked => writeln!(out, "quiet")?,
-        Outcome::Set => writeln!(out, "set")?,
-        Outcome::NotSet(fault) => put_set_fault(out, *fault)?,
-        Outcome::Answer(answer) => put_answer(alloc, out, answer)?,
-        Outcome::NoAnswer => writeln!(out, "none")?,
+        Outcome::Submitted(handle) => put_counted(out, "handle ", u64::from(handle.0)),
+        Outcome::Refused(fault) => put(out, refusal(*fault)),
+        Outcome::Sent(number) => put_counted(out, "sent ", *number as u64),
+        Outcome::Nothing => put(out, "nothing\n"),
+        Outcome::Lost => put(out, "lost\n"),
+        Outcome::Device(verdict) => put_verdict(out, *verdict),
+        Outcome::Link(reception) => put_reception(out, *reception),
+        Outcome::Ticked => put(out, "quiet\n"),
+        Outcome::Set => put(out, "set\n"),
+        Outcome::NotSet(fault) => put_set_fault(out, *fault),
+        Outcome::Answer(answer) => put_answer(alloc, out, answer),
+        Outcome::NoAnswer => put(out, "none\n"),
     }
-    Ok(())
+}
+
+/// The line of what a link made of a datagram.
+fn put_reception(out: &mut String, reception: Reception) -> Result<(), Full> {
+    match reception {
+        Reception::Answered(count) => put_counted(out, "answered ", count as u64),
+        Reception::Stranger => put(out, "stranger\n"),
+        Reception::Malformed => put(out, "malformed\n"),
+        Reception::NothingNew => put(out, "nothing new\n"),
+    }
 }
 
 /// The line of a command that a link refused.
-fn put_refusal(out: &mut String, fault: ControlFault) -> Result<(), Full> {
-    let text = match fault {
-        ControlFault::Lost => "refused 1 lost",
-        ControlFault::HandlesSpent => "refused 2 handles-spent",
-        ControlFault::SpanFull => "refused 3 span-full",
-        ControlFault::TooLong => "refused 4 too-long",
-    };
-    Ok(writeln!(out, "{text}")?)
+fn refusal(fault: ControlFault) -> &'static str {
+    match fault {
+        ControlFault::Lost => "refused 1 lost\n",
+        ControlFault::HandlesSpent => "refused 2 handles-spent\n",
+        ControlFault::SpanFull => "refused 3 span-full\n",
+        ControlFault::TooLong => "refused 4 too-long\n",
+    }
 }
 
 /// The line of an answer.
 fn put_answer(alloc: Global, out: &mut String, answer: &Answer) -> Result<(), Full> {
-    let status = answer.status;
-    let count = answer.count;
-    write!(out, "answer {status} {count} ")?;
+    put_number(out, "answer ", u64::from(answer.status))?;
+    put_number(out, " ", u64::from(answer.count))?;
+    put(out, " ")?;
     put_bytes(alloc, out, answer.params.as_slice())
 }
 
 /// The lines of the datagrams that were sent one way.
 fn put_sent(alloc: Global, out: &mut String, way: &str, sent: &[Sent]) -> Result<(), Full> {
     for datagram in sent {
-        write!(out, "{way} ")?;
-        put_peer(out, datagram.peer)?;
-        write!(out, " ")?;
-        put_bytes(alloc, out, datagram.bytes.as_slice())?;
+        put_datagram(alloc, out, way, datagram)?;
     }
     Ok(())
+}
+
+/// The line of a datagram that was sent one way.
+fn put_datagram(alloc: Global, out: &mut String, way: &str, datagram: &Sent) -> Result<(), Full> {
+    put(out, way)?;
+    put(out, " ")?;
+    put_peer(out, datagram.peer)?;
+    put(out, " ")?;
+    put_bytes(alloc, out, datagram.bytes.as_slice())
 }

@@ -1,0 +1,99 @@
+-- What the options of the device's program say (*profile*).
+use Rattle.std.specs.Prelude.{ℕ, Bool, true, false, List, codes, Option, Some, None}
+use Rattle.std.specs.Option.{option_map}
+use Rattle.std.specs.Str.{bytes_eq}
+use Rattle.clap.specs.declared.parser.matches.ArgMatches.{ArgMatches}
+use Rattle.oca_types.specs.Sizes.{DeviceSizes, sizes_of}
+use Rattle.oca_script.specs.Fields.{number_of, address_of, then_in}
+use Rattle.oca_program.specs.Options.{given, read_as, read_or, read_if, sized}
+use Rattle.ocadev_cli.specs.declared.words.Objects.{Objects}
+use Rattle.ocadev_cli.specs.declared.words.Objects.TheVariants as said
+use Rattle.ocadev_cli.specs.declared.words.Making.{Making}
+use Rattle.ocadev_cli.specs.declared.words.Serving.{Serving}
+
+-- ---- how large the device is made
+
+-- the size of the reply windows: 1 to 64 in at most 3 digits, 32 unless given
+abbrev pub window_of : List ℕ → Option ℕ
+window_of text = then_in (number_of 3 255 text) (sized 64)
+
+abbrev pub window_in : ArgMatches → Option ℕ
+window_in words = read_or 32 window_of (given words (codes "window"))
+
+-- of how many peers sessions are kept at once: 1 to 64 in at most 3 digits, 16 unless given
+abbrev pub peers_of : List ℕ → Option ℕ
+peers_of text = then_in (number_of 3 255 text) (sized 64)
+
+abbrev pub peers_in : ArgMatches → Option ℕ
+peers_in words = read_or 16 peers_of (given words (codes "peers"))
+
+-- how many channel strips stand behind the bench's own objects: 0 to 1,022 in at most 4 digits, none unless given
+abbrev pub channels_in : ArgMatches → Option ℕ
+channels_in words = read_or 0 (number_of 4 1022) (given words (codes "channels"))
+
+-- the objects: the bench's with so many strips behind them, or those that the file at a path lists
+pub data SaidObjects : Type 0 where
+  Bench : ℕ → SaidObjects
+  Listed : List ℕ → SaidObjects
+
+abbrev pub said_objects : Objects → SaidObjects
+said_objects (said.Bench channels) = Bench channels
+said_objects (said.Listed path) = Listed path.now
+
+-- a file or a number of strips, and not both
+abbrev pub objects_by : Option (List ℕ) → Option ℕ → Option (List ℕ) → Option SaidObjects
+objects_by None channels text = option_map Bench channels
+objects_by (Some path) channels None = Some (Listed path)
+objects_by (Some path) channels (Some text) = None
+
+unfoldable pub objects_in : ArgMatches → Option SaidObjects
+objects_in words = objects_by (given words (codes "tree")) (channels_in words) (given words (codes "channels"))
+
+-- the device: its objects and its sizes
+pub record MakingFields : Type 0 where
+  pub objects : SaidObjects
+  pub sizes : DeviceSizes
+
+abbrev pub making_fields : Making → MakingFields
+making_fields m = record { objects = said_objects m.objects; sizes = sizes_of m.sizes }
+
+unfoldable pub making_in : ArgMatches → Option MakingFields
+making_in words =
+    then_in (window_in words) (λ window.
+    then_in (peers_in words) (λ peers.
+    then_in (objects_in words) (λ objects.
+    Some (record { objects = objects; sizes = record { window = window; peers = peers } }))))
+
+-- ---- where it is served
+
+-- for how many turns, in at most 10 digits, where that is said
+abbrev pub turns_in : ArgMatches → Option (Option ℕ)
+turns_in words = read_if (number_of 10 4294967295) (given words (codes "turns"))
+
+-- whether a flag stands among the words: its text is then `true`
+abbrev pub is_true : Option (List ℕ) → Bool
+is_true None = false
+is_true (Some text) = bytes_eq text (codes "true")
+
+abbrev pub says_so : ArgMatches → List ℕ → Bool
+says_so words flag = is_true (given words flag)
+
+-- where to serve which device, for how many turns, and whether to tell of each datagram
+pub record ServingFields : Type 0 where
+  pub ip : ℕ
+  pub port : ℕ
+  pub turns : Option ℕ
+  pub making : MakingFields
+  pub verbose : Bool
+
+abbrev pub serving_fields : Serving → ServingFields
+serving_fields s = record { ip = s.ip; port = s.port; turns = s.turns; making = making_fields s.making; verbose = s.verbose }
+
+-- the address 127.0.0.1 unless given, and the port in at most 5 digits
+unfoldable pub serving_in : ArgMatches → Option ServingFields
+serving_in words =
+    then_in (read_or 2130706433 address_of (given words (codes "ip"))) (λ ip.
+    then_in (read_as (number_of 5 65535) (given words (codes "port"))) (λ port.
+    then_in (turns_in words) (λ turns.
+    then_in (making_in words) (λ making.
+    Some (record { ip = ip; port = port; turns = turns; making = making; verbose = says_so words (codes "verbose") })))))

@@ -1,0 +1,95 @@
+//! Serving an end until it is stopped, and turn by turn with a line for each datagram.
+ghost use Rattle.std.specs.Prelude.{◌≡◌, ◌≤◌, ◌<◌, IsTrue};
+ghost use Rattle.oca_net.specs.Ends.{last_u64};
+ghost use Rattle.oca_device.specs.Reports.{added, no_turns};
+ghost use Rattle.ocadev_cli.specs.Totals.{ServesOn, capped};
+
+use super::trace::{Watched, print_turn};
+use oca_device::{Device, NoElectronics, Outbox, Report, serve_with};
+use oca_net::End;
+use oca_script::{Printer, Sink};
+
+/// How many rounds of 2^32 - 1 turns are 2^64 - 1 turns.
+const ROUNDS: u64 = 4_294_967_297;
+
+/// Serves an end for 2^64 - 1 turns, which no run comes to, or until it is closed.
+pub fn serve_on<E: End>(device: &mut Device, end: &mut E, outbox: &mut Outbox) -> Report
+    ensures served { ServesOn device.old device.new (E.state end.old) (E.state end.new) result }
+    ensures turns { result.turns ≤ last_u64 }
+    ensures closed { result.turns < last_u64 → IsTrue (E.state end.new).closed }
+{
+    let mut report = nothing();
+    for _round in 0..ROUNDS {
+        let mut none = NoElectronics;
+        let round = serve_with(device, end, outbox, &mut none, u32::MAX);
+        report = sum(report, round);
+        if round.turns < u64::from(u32::MAX) {
+            return report;
+        }
+    }
+    report
+}
+
+/// Serves an end for so many turns, or until it is closed, and prints a line for each datagram. That this can't be
+/// written is no fault.
+pub fn serve_traced<E: End, F: Sink>(
+    device: &mut Device,
+    end: &mut Watched<E>,
+    outbox: &mut Outbox,
+    turns: u64,
+    faults: &mut Printer<F>,
+) -> Report
+    ensures served { ServesOn device.old device.new (E.state end.old.end) (E.state end.new.end) result }
+    ensures turns { result.turns ≤ turns }
+    ensures closed { result.turns < turns → IsTrue (E.state end.new.end).closed }
+{
+    let mut report = nothing();
+    for _turn in 0..turns {
+        let mut none = NoElectronics;
+        let turn = serve_with(device, end, outbox, &mut none, 1);
+        report = sum(report, turn);
+        if turn.turns < 1 {
+            return report;
+        }
+        let _ = print_turn(end, &turn, device.written(), faults);
+    }
+    report
+}
+
+/// What both did, where a number that would pass 64 bits stays at its last value.
+fn sum(a: Report, b: Report) -> Report
+    ensures { result ≡ capped (added a b) }
+{
+    Report {
+        turns: a.turns.saturating_add(b.turns),
+        executed: a.executed.saturating_add(b.executed),
+        kept: a.kept.saturating_add(b.kept),
+        old: a.old.saturating_add(b.old),
+        reused: a.reused.saturating_add(b.reused),
+        malformed: a.malformed.saturating_add(b.malformed),
+        no_room: a.no_room.saturating_add(b.no_room),
+        oversize: a.oversize.saturating_add(b.oversize),
+        quiet: a.quiet.saturating_add(b.quiet),
+        failed_receives: a.failed_receives.saturating_add(b.failed_receives),
+        failed_sends: a.failed_sends.saturating_add(b.failed_sends),
+    }
+}
+
+/// No turns.
+fn nothing() -> Report
+    ensures { result ≡ no_turns }
+{
+    Report {
+        turns: 0,
+        executed: 0,
+        kept: 0,
+        old: 0,
+        reused: 0,
+        malformed: 0,
+        no_room: 0,
+        oversize: 0,
+        quiet: 0,
+        failed_receives: 0,
+        failed_sends: 0,
+    }
+}

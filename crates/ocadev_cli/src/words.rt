@@ -1,0 +1,323 @@
+//! The words of the command line.
+ghost use Rattle.std.specs.Prelude.{◌≡◌};
+ghost use Rattle.std.specs.Option.{option_map};
+ghost use Rattle.oca_types.specs.Sizes.{window_size, peer_count};
+ghost use Rattle.ocadev_cli.specs.Words.{window_of as window_said, window_in, peers_of as peers_said, peers_in, channels_in, said_objects, objects_in, making_fields, making_in, turns_in, says_so, serving_fields, serving_in};
+
+use clap::{Arg, ArgAction, ArgMatches, Command, Error};
+use oca_program::options::{
+    address_or, help_or_failure, number_if, number_in, number_or, option, text_of,
+};
+use oca_program::{Failure, RunFault};
+use oca_script::field::number;
+use oca_types::{LOOPBACK, Peers, Sizes, Window};
+use std::alloc::{AllocError, Global};
+use std::convert::AsStr;
+
+/// What the words ask for.
+#[derive(Drop)]
+pub enum Asked<'a> {
+    /// A replay of the script on standard input on such a device.
+    Replay(Making<'a>),
+    /// A device at a socket.
+    Serve(Serving<'a>),
+    /// The objects of a device.
+    Show(Objects<'a>),
+    /// This text.
+    Help(String),
+}
+
+/// The objects of a device.
+#[derive(Clone, Copy, PartialEq, Eq, Debug)]
+pub enum Objects<'a> {
+    /// The bench's, and so many channel strips behind them.
+    Bench(u16),
+    /// Those that the file at this path lists.
+    Listed(&'a str),
+}
+
+/// The device that is made: its objects and its sizes.
+#[derive(Clone, Copy, PartialEq, Eq, Debug)]
+pub struct Making<'a> {
+    pub objects: Objects<'a>,
+    pub sizes: Sizes,
+}
+
+/// Where to serve which device, for how many turns where that is said, and whether to tell of each datagram.
+#[derive(Clone, Copy, PartialEq, Eq, Debug)]
+pub struct Serving<'a> {
+    pub ip: u32,
+    pub port: u16,
+    pub turns: Option<u32>,
+    pub making: Making<'a>,
+    pub verbose: bool,
+}
+
+/// How many commands are kept with their replies.
+fn window_option<'a>(alloc: Global) -> Arg<'a> {
+    option(
+        alloc,
+        "window",
+        "W",
+        "How many commands of each peer are kept with their replies, 1 to 64; 32 unless given",
+    )
+}
+
+/// Of how many peers sessions are kept.
+fn peers_option<'a>(alloc: Global) -> Arg<'a> {
+    option(
+        alloc,
+        "peers",
+        "N",
+        "Of how many peers sessions are kept at once, 1 to 64; 16 unless given",
+    )
+}
+
+/// How many channel strips there are.
+fn channels_option<'a>(alloc: Global) -> Arg<'a> {
+    option(
+        alloc,
+        "channels",
+        "N",
+        "How many channel strips of four objects stand behind the bench's own, 0 to 1022; 0 unless given",
+    )
+}
+
+/// The file that lists the objects.
+fn tree_option<'a>(alloc: Global) -> Arg<'a> {
+    option(
+        alloc,
+        "tree",
+        "FILE",
+        "A file that lists the objects, one a line, in place of the bench's; see examples/stagebox.tree",
+    )
+}
+
+/// The options of the objects.
+fn listed<'a>(command: Command<'a>, alloc: Global) -> Result<Command<'a>, AllocError> {
+    command.arg(channels_option(alloc))?.arg(tree_option(alloc))
+}
+
+/// The options of a device.
+fn made<'a>(command: Command<'a>, alloc: Global) -> Result<Command<'a>, AllocError> {
+    let sized = command.arg(window_option(alloc))?.arg(peers_option(alloc))?;
+    listed(sized, alloc)
+}
+
+/// The command `replay`.
+fn replay_command<'a>(alloc: Global) -> Result<Command<'a>, AllocError> {
+    let command = Command::new(alloc, "replay")
+        .about(
+            "Runs a device, the bench device unless --tree is given, over the script on standard input, and prints its answers",
+        )
+        .after_help("Example: ocadev replay < examples/getstate.script");
+    made(command, alloc)
+}
+
+const SERVE_EXAMPLE: &str =
+    "A turn is one receive: a datagram that came, or 50 ms in which none did. So turns are spent faster where datagrams come.
+A run that a signal ends (Ctrl-C, kill) prints no report.
+
+Example: ocadev serve --port 65000 --turns 1200";
+
+/// The command `serve`.
+fn serve_command<'a>(alloc: Global) -> Result<Command<'a>, AllocError> {
+    let port = option(
+        alloc,
+        "port",
+        "PORT",
+        "The UDP port, 0 to 65535; at 0 the system chooses one",
+    );
+    let turns = option(
+        alloc,
+        "turns",
+        "T",
+        "How many turns are served, 0 to 4294967295; until it is stopped unless given",
+    );
+    let ip = option(
+        alloc,
+        "ip",
+        "A.B.C.D",
+        "The address; 127.0.0.1 unless given. At 0.0.0.0, every address of the machine, answers may leave from another one than was asked, and links drop those",
+    );
+    let verbose = Arg::new(alloc, "verbose")
+        .long("verbose")
+        .help(
+            "Prints a line for each datagram on standard error: its sender, what became of it, and the objects it wrote to",
+        )
+        .action(ArgAction::SetTrue);
+    let command = Command::new(alloc, "serve")
+        .about(
+            "Serves a device, the bench device unless --tree is given, at a UDP socket, and prints what was done",
+        )
+        .after_help(SERVE_EXAMPLE)
+        .arg(port.required(true))?
+        .arg(turns)?
+        .arg(ip)?;
+    made(command, alloc)?.arg(verbose)
+}
+
+/// The command `show`.
+fn show_command<'a>(alloc: Global) -> Result<Command<'a>, AllocError> {
+    let command = Command::new(alloc, "show")
+        .about("Prints the objects of the device: ONo, class identifier, container and role")
+        .after_help("Example: ocadev show --tree examples/stagebox.tree");
+    listed(command, alloc)
+}
+
+/// The whole program.
+fn command<'a>(alloc: Global) -> Result<Command<'a>, AllocError> {
+    Command::new(alloc, "ocadev")
+        .about("The bench device of OCA (AES70) over UDP")
+        .after_help("Example: ocadev replay < examples/getstate.script")
+        .subcommand_required(true)
+        .subcommand(replay_command(alloc)?)?
+        .subcommand(serve_command(alloc)?)?
+        .subcommand(show_command(alloc)?)
+}
+
+/// The words, matched with what the program takes.
+fn matches_of<'a, S: AsStr>(alloc: Global, words: &'a [S]) -> Result<ArgMatches<'a>, Error> {
+    command(alloc)?.try_get_matches_from(words)
+}
+
+/// What the words ask for, the program's name first, or why they ask for nothing.
+pub fn asked_for<'a, S: AsStr>(alloc: Global, words: &'a [S]) -> Result<Asked<'a>, Failure> {
+    match matches_of(alloc, words) {
+        Ok(matches) => match asked_by_matches(&matches) {
+            Some(asked) => Ok(asked),
+            None => Err(Failure::told(
+                alloc,
+                RunFault::BadWords,
+                "an option has a value that is not of its form: see --help",
+            )),
+        },
+        Err(error) => Ok(Asked::Help(help_or_failure(alloc, &error)?)),
+    }
+}
+
+/// What the matched words ask for, where their values are of their forms.
+fn asked_by_matches<'a>(matches: &ArgMatches<'a>) -> Option<Asked<'a>> {
+    match matches.subcommand() {
+        Some(("replay", options)) => Some(Asked::Replay(making_of(options)?)),
+        Some(("serve", options)) => Some(Asked::Serve(serving_of(options)?)),
+        Some(("show", options)) => Some(Asked::Show(objects_of(options)?)),
+        _ => None,
+    }
+}
+
+/// The window that a text says: 1 to 3 digits, 1 to 64.
+#[tactic(auto, using(oca_program::proofs::OptionLemmas::size_rules))]
+fn window_of(text: &[u8]) -> Option<Window>
+    ensures { option_map window_size result ≡ window_said text.now }
+{
+    let size = number(text, 3, 255)? as u8;
+    Window::new(size)
+}
+
+/// The window that the options ask for: of 32 commands unless it is given.
+fn window(options: &ArgMatches<'_>) -> Option<Window>
+    ensures { option_map window_size result ≡ window_in options.now }
+{
+    match text_of(options, "window") {
+        Some(text) => window_of(text.as_bytes()),
+        None => Some(Window::default()),
+    }
+}
+
+/// How many peers a text says: 1 to 3 digits, 1 to 64.
+#[tactic(auto, using(oca_program::proofs::OptionLemmas::size_rules))]
+fn peers_of(text: &[u8]) -> Option<Peers>
+    ensures { option_map peer_count result ≡ peers_said text.now }
+{
+    let count = number(text, 3, 255)? as u8;
+    Peers::new(count)
+}
+
+/// Of how many peers the options ask that sessions are kept: 16 unless it is given.
+fn peers(options: &ArgMatches<'_>) -> Option<Peers>
+    ensures { option_map peer_count result ≡ peers_in options.now }
+{
+    match text_of(options, "peers") {
+        Some(text) => peers_of(text.as_bytes()),
+        None => Some(Peers::default()),
+    }
+}
+
+/// How many channel strips the options ask for: none unless it is given.
+fn channels(options: &ArgMatches<'_>) -> Option<u16>
+    ensures { result ≡ channels_in options.now }
+{
+    match number_or(options, "channels", 4, 1022, 0) {
+        Some(channels) => Some(channels as u16),
+        None => None,
+    }
+}
+
+/// The objects that the options ask for: by a file or by a number of channel strips, and not by both.
+#[tactic(auto, unfolding(crate::specs::Words::objects_in))]
+fn objects_of<'a>(options: &ArgMatches<'a>) -> Option<Objects<'a>>
+    ensures { option_map said_objects result ≡ objects_in options.now }
+{
+    let Some(path) = text_of(options, "tree") else {
+        return Some(Objects::Bench(channels(options)?));
+    };
+    match text_of(options, "channels") {
+        Some(_) => None,
+        None => Some(Objects::Listed(path)),
+    }
+}
+
+/// The device that the options ask for.
+#[tactic(auto, unfolding(crate::specs::Words::making_in))]
+fn making_of<'a>(options: &ArgMatches<'a>) -> Option<Making<'a>>
+    ensures { option_map making_fields result ≡ making_in options.now }
+{
+    let window = window(options)?;
+    let peers = peers(options)?;
+    let objects = objects_of(options)?;
+    Some(Making {
+        objects,
+        sizes: Sizes { window, peers },
+    })
+}
+
+/// For how many turns to serve, where that is said.
+fn turns_of(options: &ArgMatches<'_>) -> Option<Option<u32>>
+    ensures { result ≡ turns_in options.now }
+{
+    match number_if(options, "turns", 10, 4294967295) {
+        Some(Some(turns)) => Some(Some(turns as u32)),
+        Some(None) => Some(None),
+        None => None,
+    }
+}
+
+/// Whether the words say this flag, whose text is then `true`.
+fn flag(options: &ArgMatches<'_>, name: &str) -> bool
+    ensures { result ≡ says_so options.now name.now }
+{
+    match text_of(options, name) {
+        Some(text) => text.as_bytes() == b"true".as_slice(),
+        None => false,
+    }
+}
+
+/// Where to serve which device: 1 to 5 digits of a port, 1 to 10 of turns, and an address `a.b.c.d`.
+#[tactic(auto, unfolding(crate::specs::Words::serving_in))]
+fn serving_of<'a>(options: &ArgMatches<'a>) -> Option<Serving<'a>>
+    ensures { option_map serving_fields result ≡ serving_in options.now }
+{
+    let ip = address_or(options, "ip", LOOPBACK)?;
+    let port = number_in(options, "port", 5, 65535)?;
+    let turns = turns_of(options)?;
+    let making = making_of(options)?;
+    let verbose = flag(options, "verbose");
+    Some(Serving {
+        ip,
+        port: port as u16,
+        turns,
+        making,
+        verbose,
+    })
+}

@@ -1,0 +1,6 @@
+//! Tests of `ocadev_cli` as data, through its public interface: whole runs of the program, replays between ends that
+//! fail, and what goes over sockets. No program is built from it.
+#![tactic(auto)]
+
+#[cfg(test)]
+mod tests;

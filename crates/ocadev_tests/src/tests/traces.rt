@@ -1,0 +1,145 @@
+//! A device that is served until its end is closed, and what is told of each datagram.
+use super::{bench_device, passes};
+use oca_device::{Outbox, Report};
+use oca_fakes::ShortWriter;
+use oca_net::{MemoryEnd, Scripted};
+use oca_script::Printer;
+use oca_types::Peer;
+use ocadev_cli::serving::{serve_on, serve_traced};
+use ocadev_cli::trace::Watched;
+use std::alloc::Global;
+
+/// SetState of 4097 to Unmuted under handle 1.
+const SET: &[u8] =
+    b"\x3b\x00\x01\x00\x00\x00\x1b\x01\x00\x01\x00\x00\x00\x12\x00\x00\x00\x01\x00\x00\x10\x01\x00\x04\x00\x02\x01\x02";
+
+/// GetState of 4097 under handle 1.
+const GET: &[u8] =
+    b"\x3b\x00\x01\x00\x00\x00\x1a\x01\x00\x01\x00\x00\x00\x11\x00\x00\x00\x01\x00\x00\x10\x01\x00\x04\x00\x01\x00";
+
+/// SetState of 4097 under 40 and of 4098 under 50.
+const TWO_SETS: &[u8] =
+    b"\x3b\x00\x01\x00\x00\x00\x2d\x01\x00\x02\x00\x00\x00\x12\x00\x00\x00\x28\x00\x00\x10\x01\x00\x04\x00\x02\x01\x01\x00\x00\x00\x12\x00\x00\x00\x32\x00\x00\x10\x02\x00\x04\x00\x02\x01\x01";
+
+/// What a receive gives.
+#[derive(Clone, Copy)]
+enum Receive {
+    /// A datagram of the peer 10.0.0.1 with this port.
+    From(u16, &'static [u8]),
+    /// More bytes than a datagram has.
+    Oversize,
+    Fails,
+    Silence,
+}
+
+use Receive::*;
+
+const SCRIPT: &[Receive] = &[
+    From(9001, SET),
+    From(9001, SET),
+    From(9001, GET),
+    From(9001, TWO_SETS),
+    From(9002, b"\x3b\x00"),
+    Oversize,
+    Fails,
+    Silence,
+];
+
+/// The entry of a script for a receive.
+fn scripted(alloc: Global, receive: Receive) -> Option<Scripted> {
+    Some(match receive {
+        From(port, bytes) => Scripted::Datagram {
+            from: Peer {
+                ip: 0x0a00_0001,
+                port,
+            },
+            bytes: bytes.to_vec(alloc).ok()?,
+            now: 0,
+        },
+        Oversize => Scripted::Datagram {
+            from: Peer { ip: 1, port: 1 },
+            bytes: [0u8; 1473].to_vec(alloc).ok()?,
+            now: 0,
+        },
+        Fails => Scripted::Failed,
+        Silence => Scripted::Quiet { now: 1 },
+    })
+}
+
+/// An end that gives the script. The third send fails, which is that of the fourth datagram, since a reuse is not
+/// answered.
+fn end(alloc: Global) -> Option<MemoryEnd> {
+    let mut script = Vec::new(alloc);
+    for receive in SCRIPT {
+        script.push(scripted(alloc, *receive)?).ok()?;
+    }
+    MemoryEnd::new(alloc, script, 9, Some(2)).ok()
+}
+
+const REPORT: Report = Report {
+    turns: 8,
+    executed: 3,
+    kept: 1,
+    old: 0,
+    reused: 1,
+    malformed: 1,
+    no_room: 0,
+    oversize: 1,
+    quiet: 1,
+    failed_receives: 1,
+    failed_sends: 1,
+};
+
+/// What a bench device reports of the script, and how many packets its end took.
+fn served(alloc: Global) -> Option<(Report, usize)> {
+    let mut device = bench_device(alloc)?;
+    let mut outbox = Outbox::new(alloc).ok()?;
+    let mut end = end(alloc)?;
+    let report = serve_on(&mut device, &mut end, &mut outbox);
+    Some((report, end.taken().len()))
+}
+
+#[test]
+fn serves_to_the_close(rt: HostRuntime) {
+    let served = served(rt.alloc());
+    passes(
+        &rt,
+        if served == Some((REPORT, 2)) {
+            None
+        } else {
+            Some(0)
+        },
+    );
+}
+
+/// The trace of the script.
+const TRACE: &[u8] = b"10.0.0.1:9001 served 1 0 0 wrote 4097
+10.0.0.1:9001 served 0 1 0
+10.0.0.1:9001 served 0 0 0 reused 1
+10.0.0.1:9001 served 2 0 0 wrote 4097 4098 failed-sends 1
+10.0.0.1:9002 malformed 9 at 1
+oversize
+";
+
+/// What a bench device reports of the script, and whether it is traced by that.
+fn traced(alloc: Global, trace: &[u8]) -> Option<(Report, bool)> {
+    let mut device = bench_device(alloc)?;
+    let mut outbox = Outbox::new(alloc).ok()?;
+    let mut end = Watched::new(end(alloc)?);
+    let mut faults = Printer::new(ShortWriter::new(7, usize::MAX));
+    let report = serve_traced(&mut device, &mut end, &mut outbox, u64::MAX, &mut faults);
+    Some((report, faults.sink().taken.as_slice() == trace))
+}
+
+#[test]
+fn tells_of_each_datagram(rt: HostRuntime) {
+    let traced = traced(rt.alloc(), TRACE);
+    passes(
+        &rt,
+        if traced == Some((REPORT, true)) {
+            None
+        } else {
+            Some(0)
+        },
+    );
+}
