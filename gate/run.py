@@ -2,7 +2,7 @@
 """The gate: `rt ci`, and then the steps of the file `steps` beside this one. The steps of a paragraph run two at a time,
 and what each prints is shown as a whole when it ends, with how long it took; a paragraph begins when the one before it
 is over. The last line is 'N passed, M failed' over all of it, and the exit status 1 where anything failed.
-`run.py steps` runs the steps alone. A step that takes half an hour is ended, and has failed."""
+`run.py steps` runs the steps alone. A step that takes an hour and a half is ended, and has failed."""
 import os
 import re
 import signal
@@ -14,7 +14,7 @@ from pathlib import Path
 
 HERE = Path(__file__).resolve().parent
 BESIDE = 2
-LONGEST = 1800
+LONGEST = 5400
 RUNNING = []
 
 

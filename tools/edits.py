@@ -158,41 +158,48 @@ class Answer:
             self.why = "the kept work of a library could not be used"
         elif not self.is_proved and not (ran.returncode == 1 and lines[-1].startswith("logic=not-proved")):
             self.why = f"it did not reach the prover: {' '.join(lines[:3])[:300]}"
-        self.failed, self.gone, self.unproved = [], [], []
+        self.wrong, self.open, self.gone, self.unproved = [], [], [], []
         for line in lines:
             self.read(line)
 
     def read(self, line):
         """Takes a line: a function of its own proof folder that has an error, or one that the search did not prove."""
-        error = re.match(r"(?:\./)?proofs/(\S+)/[^/\s]+\.antt:\d+:\d+: error: (.*)", line)
+        error = re.match(r"(?:\./)?proofs/(\S+/)?[^/\s]+\.antt:\d+:\d+: error: (.*)", line)
         if error:
-            (self.gone if GONE.search(error[2]) else self.failed).append(error[1].split("/"))
+            (self.gone if GONE.search(error[2]) else self.wrong).append((error[1] or "").split("/")[:-1])
         told = re.match(r"fn [^:\s]+::(\S+): (?:not proved|no proof)(.*)", line)
         if told:
             parts = told[1].split("::")
             self.unproved.append((parts, "it calls " in told[2]))
             if "did not prove" in told[2]:
-                self.failed.append(parts)
+                self.open.append(parts)
 
     def refuses(self, edit):
         """Whether a goal of a function of the edit fails by itself; of an edit of no function, any goal."""
         if self.why:
             return False
-        return any(not edit.functions or any(it.is_named(parts) for it in edit.functions) for parts in self.failed)
+        if not edit.functions:
+            return bool(self.wrong or self.open)
+        return any(self.fails(it) for it in edit.functions)
+
+    def fails(self, function):
+        """Whether its own proof does not fit, or the search finds none; where a name is gone, the search is no witness."""
+        is_its = function.is_named
+        return any(map(is_its, self.wrong)) or any(map(is_its, self.open)) and not any(map(is_its, self.gone))
 
     def strange(self, group):
         """A function that fails by itself though no edit touches it: then the crate itself is not proved."""
         if any(not it.functions for it in group):
             return None
         own = [it for edit in group for it in edit.functions]
-        others = [it for it, calls in self.unproved if not calls] + self.failed
+        others = [it for it, calls in self.unproved if not calls] + self.wrong
         return next(("::".join(it) for it in others if not any(f.is_named(it) for f in own)), None)
 
     def reason(self, edit):
         """Why the edit does not count as refused."""
         if self.why or self.is_proved:
             return self.why or "NOT REFUSED: the crate is still proved"
-        if any(it.is_named(parts) for parts in self.gone for it in edit.functions) or self.gone and not self.failed:
+        if any(it.is_named(parts) for parts in self.gone for it in edit.functions) or self.gone and not self.wrong:
             return "only a proof file names what is gone: change a value and keep the names"
         others = [it for it, calls in self.unproved if not calls] or [it for it, _ in self.unproved]
         return f"only other functions fail: {', '.join('::'.join(it) for it in others)[:200]}"
@@ -202,7 +209,8 @@ class Trial:
     """The edits of a crate, tried over the kept work of the crate as it stands."""
 
     def __init__(self, crate, room):
-        self.crate, self.room, self.pristine, self.checks, self.why = crate, room, None, 0, None
+        self.crate, self.room, self.checks, self.why = crate, room, 0, None
+        self.pristine, self.is_seen = None, False
         self.edits = [Edit(it, crate) for it in listed(Path(crate.folder, "wrong"))]
         self.edits += [Edit(it, crate, must_pass=True) for it in listed(SELFTEST / crate.name)]
 
@@ -212,13 +220,13 @@ class Trial:
 
     def prepare(self):
         """Makes the kept work that each group begins with a copy of, and sees the crate itself proved."""
-        pristine, earlier = f"{self.room}/pristine", f"{self.crate.folder}/out/incremental"
+        self.pristine, earlier = f"{self.room}/pristine", f"{self.crate.folder}/out/incremental"
         if os.environ.get("EDITS_KEPT") and os.path.isdir(earlier):
-            shutil.copytree(earlier, pristine)
-        answer = self.checked({}, pristine)
+            shutil.copytree(earlier, self.pristine)
+            return
+        answer, self.is_seen = self.checked({}, self.pristine), True
         if not answer.is_proved:
             self.why = answer.why or f"{self.crate.name} itself is not proved"
-        self.pristine = pristine
 
     def try_group(self, group):
         """Checks the crate with the edits of a group, and returns those that are not refused, with why."""
@@ -228,7 +236,7 @@ class Trial:
         texts = rt.edited("\n".join(it.text for it in group), self.crate.folder)[0]
         answer = self.checked(texts, kept if self.pristine else None)
         shutil.rmtree(kept, ignore_errors=True)
-        strange = None if self.pristine or answer.why else answer.strange(group)
+        strange = None if self.is_seen or answer.why else answer.strange(group)
         if strange:
             self.why = f"{strange} is not proved, though no edit touches it"
         for edit in group:
