@@ -1,15 +1,15 @@
 #!/usr/bin/env python3
-"""Tries the edits crates/NAME/wrong/*.edit: each turns the meaning of a function, and the prover must refuse each by itself.
+"""Tries the edits crates/NAME/wrong/*.edit: each turns the meaning of a function, and the prover must refuse each.
 
   edits.py [CRATE ..]      the edits of all crates of crates.txt, or of those alone
 
-An edit has the form of a must-fail edit: a line 'file: src/lib.rt', then pairs of lines 'old: TEXT' and 'new: TEXT', each
-old text standing once in that file. Edits of different functions are checked together, one check of a copy of the crate
-for each group. An edit is refused where a goal of a function that it touches fails: not where that function only calls
-one that is not proved, and not only since a proof file names what the edit took away. What is not refused in its group
-is tried in smaller ones, and at last alone; what is not refused there has failed.
+An edit has the form of a must-fail edit: a line 'file: src/lib.rt', then pairs of lines 'old: TEXT' and 'new: TEXT',
+each old text standing once in that file. Edits of different functions are checked together, one check of a copy of the
+crate for each group. An edit is refused where a goal of a function that it touches fails: not where that function only
+calls one that is not proved, and not only since a proof file names what the edit took away. What is not refused in its
+group is tried in smaller ones, and at last alone; what is not refused there has failed.
 
-The edits of tools/edits_selftest/CRATE/ must not be refused: this tool itself is tried by them.
+The edits of tools/edits_selftest/CRATE/ must not be refused, and for what their line 'says: ' has: they try this tool.
 
 Crates run side by side, as many as there are processors and memory for, or as many as RT_JOBS says. The libraries below
 a crate are taken from out/rlib as `rt ci` left them, and are built where they are not there. With EDITS_KEPT=1 a check
@@ -32,6 +32,8 @@ FLAGS = ["--jobs", "1"]
 FUNCTION = re.compile(r"( *)(?:pub(?:\([a-z: ]+\))? )?(?:const |unsafe |extern \"C\" )*fn (\w+)")
 BLOCK = re.compile(r"( *)(?:unsafe )?(?:pub )?(impl|trait)\b(.*)")
 GONE = re.compile(r"has no field|is not in scope|has no `|was not admitted|is no name")
+# What is counted: whether an edit must not be refused, and whether all is well with it.
+KINDS = [(False, True), (False, False), (True, True), (True, False)]
 PRINTING = threading.Lock()
 
 
@@ -79,7 +81,7 @@ def type_of(head):
 
 
 def functions_of(path, text):
-    """The functions of a source file in the layout of `rt fmt`: each ends where a brace stands as far in as its head."""
+    """The functions of a source file in the layout of `rt fmt`: each ends at a brace as far in as its head."""
     module = [it for it in Path(path).with_suffix("").parts[1:] if it not in ("lib", "main", "mod")]
     lines, found, block = text.split("\n"), [], None
     for at, line in enumerate(lines):
@@ -99,11 +101,12 @@ class Edit:
 
     def __init__(self, path, crate, must_pass=False):
         self.path, self.name, self.must_pass = path, path.stem, must_pass
-        self.why, self.functions, self.is_refused = None, [], False
+        self.why, self.functions, self.is_refused, self.says = None, [], False, ""
         if path.suffix != ".edit" or not path.is_file():
             self.why = "it is no edit"
             return
         self.text = path.read_text(errors="replace").strip("\n")
+        self.says = "".join(re.findall(r"(?m)^says: (.*)$", self.text)[:1])
         self.why = rt.edited(self.text, crate.folder)[1]
         if not self.why:
             self.find(crate)
@@ -183,7 +186,7 @@ class Answer:
         return any(self.fails(it) for it in edit.functions)
 
     def fails(self, function):
-        """Whether its own proof does not fit, or the search finds none; where a name is gone, the search is no witness."""
+        """Whether its own proof does not fit, or the search finds none; that says nothing where a name is gone."""
         is_its = function.is_named
         return any(map(is_its, self.wrong)) or any(map(is_its, self.open)) and not any(map(is_its, self.gone))
 
@@ -259,15 +262,15 @@ class Trial:
 
     def told(self):
         """A line for each edit, with how many passed and failed, and how many of the tool's own."""
-        counts = {(is_own, is_well): 0 for is_own in (False, True) for is_well in (False, True)}
+        counts = dict.fromkeys(KINDS, 0)
         for edit in self.edits:
-            is_well = (edit.is_refused != edit.must_pass) and not self.why
+            is_well = not self.why and (edit.is_refused if not edit.must_pass else edit.says in (edit.why or ""))
             counts[edit.must_pass, is_well] += 1
             place = os.path.relpath(edit.path, ROOT)
-            if edit.must_pass:
-                say(f"{place}: {'rightly not refused' if is_well else 'WRONGLY REFUSED'}{f' ({edit.why})' if edit.why else ''}")
+            if is_well:
+                say(f"{place}: {f'rightly not refused: {edit.why}' if edit.must_pass else 'refused'}")
             else:
-                say(f"{place}: {'refused' if is_well else f'FAILED: {self.why or edit.why}'}")
+                say(f"{place}: FAILED: {self.why or edit.why or 'it counts as refused'}")
         return counts
 
 
@@ -288,11 +291,13 @@ def tried(crate):
 
 
 def stands(library):
-    """Whether the library is built as it stands: its stamp says so, or `rt ci` left it, which writes none, after the last change."""
+    """Whether the library is built as it stands: its stamp says so, or it is newer than its sources, as `rt ci` leaves
+    it, which writes no stamp."""
     if os.path.isfile(f"{library.folder}/out/rlib/stamp"):
         return library.is_built()
     made = os.path.getmtime(library.rlib) if os.path.isdir(library.rlib) else 0
-    return all(os.path.getmtime(file) < made for it in [library, *library.below()] for file in rtlib.files_of(it.folder))
+    files = [file for it in [library, *library.below()] for file in rtlib.files_of(it.folder)]
+    return all(os.path.getmtime(file) < made for file in files)
 
 
 def main(names):
@@ -313,11 +318,10 @@ def main(names):
         work = crate.count(rb"\n") + 30 * len(listed(Path(crate.folder, "wrong")))
         tasks[crate.name, "edits"] = ([], work, rt.need(crate), lambda given, jobs, it=crate: tried(it))
     counts = rt.in_lanes(tasks).values()
-    total = {key: sum(it[key] for it in counts) for key in ((False, True), (False, False), (True, True), (True, False))}
-    own = sum(total[True, it] for it in (True, False))
-    say(f"edits: {total[False, True]} of {total[False, True] + total[False, False]} refused; {total[True, True]} of {own} of the tool's own not")
-    failed = total[False, False] + total[True, False]
-    print(f"{total[False, True] + total[True, True]} passed, {failed} failed")
+    refused, missed, tried_well, tried_badly = (sum(it[key] for it in counts) for key in KINDS)
+    say(f"edits: {refused} of {refused + missed} refused; the tool itself: {tried_well} of {tried_well + tried_badly}")
+    failed = missed + tried_badly
+    print(f"{refused + tried_well} passed, {failed} failed")
     return 1 if failed else 0
 
 
