@@ -54,6 +54,11 @@ fn moments_after(rt: &HostRuntime, clocked: &mut Clocked<'_>, pause: u64) -> Opt
     Some([least, asked, heard, since(rt, clocked.before)?])
 }
 
+/// Whether no moment is before the one that stands before it.
+fn is_rising(moments: [u64; 4]) -> bool {
+    moments[0] <= moments[1] && moments[1] <= moments[2] && moments[2] <= moments[3]
+}
+
 /// The first pause behind which the moments do not follow one another, and those.
 fn first_lag(rt: &HostRuntime, pauses: &[u64]) -> Option<(usize, Option<[u64; 4]>)> {
     let Some(mut clocked) = clocked_end(rt) else {
@@ -61,10 +66,8 @@ fn first_lag(rt: &HostRuntime, pauses: &[u64]) -> Option<(usize, Option<[u64; 4]
     };
     for (at, pause) in pauses.iter().enumerate() {
         let moments = moments_after(rt, &mut clocked, *pause);
-        match moments {
-            Some([least, asked, heard, most])
-                if least <= asked && asked <= heard && heard <= most => {}
-            _ => return Some((at, moments)),
+        if !is_rising(moments.unwrap_or([1, 0, 0, 0])) {
+            return Some((at, moments));
         }
     }
     None
