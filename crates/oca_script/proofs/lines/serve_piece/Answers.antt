@@ -1,4 +1,4 @@
-use Rattle.std.proofs.Common.{Err, ℕ, ◌+◌, ap, sym, ◌∙◌, arith}
+use Rattle.std.proofs.Common.{Err, ℕ, ◌+◌, ap, sym, ◌∙◌, arith, rules}
 use Rattle.std.proofs.lemmas.Result.{err_from_is_err_and}
 use Rattle.oca_script.proofs.PieceLemmas.{piece-more, piece-fails, piece-kept, ascii-parts, rests-more, rests-kept}
 use Rattle.oca_script.proofs.lines.serve_piece.Goals as goal
@@ -21,9 +21,9 @@ loop-end-preserved g c = record {
 
 pub loop-end-init : goal.loop-end-init
 loop-end-init g c = record {
-  ascii = c.is_ascii.ensures;
+  ascii = search rules;
   number = omega arith;
-  step = c.step;
+  step = search rules;
   rests = λ none. c.requires.rests;
 }
 
