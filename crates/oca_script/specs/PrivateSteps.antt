@@ -32,6 +32,11 @@ pub record Step {S R X : Type 0} (serves : S → R → S → List ℕ → Type 0
   pub prints : Printed result was is text
   pub accounts : AccountsFor result asks rest requests
 
+-- a line that is skipped leaves the state as it was; another one leaves it at rest where no further one is at hand
+abbrev pub RestsAfter : {S : Type 0} → (S → Type 0) → Bool → Bool → S → S → Type 0
+RestsAfter rests true more old new = new ≡ old
+RestsAfter rests false more old new = more ≡ false → rests new
+
 -- the text was printed, or a write failed; where a read failed nothing is held
 abbrev pub PrintedAtEnd : Result Unit ReplayFault → Output → Output → List ℕ → Type 0
 PrintedAtEnd (Ok u) old new text = PrintsAll old new text

@@ -1,5 +1,5 @@
 //! What the lines of a script ask for.
-ghost use Rattle.std.specs.Prelude.{◌≡◌, ◌≤◌, ℕ, List, Result, length};
+ghost use Rattle.std.specs.Prelude.{◌≡◌, ◌≤◌, ℕ, List, Result, length, OnOk, false};
 ghost use Rattle.oca_script.specs.Fields.{fields};
 ghost use Rattle.oca_script.specs.Script.{longest_line};
 ghost use Rattle.oca_script.specs.Replaying.{ServesLine};
@@ -22,12 +22,15 @@ pub trait Language {
     // What the fields of a line ask for, or their fault.
     ghost asked: { List (List ℕ) → Result Self.Request LineFault };
 
+    // A state in which nothing is under way, so that it may be left for as long as a read takes.
+    ghost rests: { Self.State → Type 0 } = { λ _. Unit {0} };
+
     // From a state a request leads to a state, and prints a text.
     ghost serves: { Self.State → Self.Request → Self.State → List ℕ → Type 0 };
 
     /// Serves what the line asks for and prints its text; or returns the fault of its fields, and then does nothing.
-    /// Lines that are skipped or are not ASCII do not come here. `more` tells whether further bytes of lines are at
-    /// hand: where there are none, the next line may be long in coming.
+    /// Lines that are skipped or are not ASCII do not come here. `more` tells whether a further line that asks
+    /// for something is at hand: where none is, the next line may be long in coming, and the state is left at rest.
     fn serve_line<W: Sink>(
         state: &mut Self::State,
         room: &mut Self::Room,
@@ -36,5 +39,6 @@ pub trait Language {
         printer: &mut Printer<W>,
     ) -> Result<(), Stop>
         requires { length line.now ≤ longest_line }
-        ensures { ServesLine (asked (fields line.now)) serves state.old state.new result printer.old printer.new };
+        ensures line { ServesLine (asked (fields line.now)) serves state.old state.new result printer.old printer.new }
+        ensures rests { OnOk result (more ≡ false → rests state.new) };
 }

@@ -1,14 +1,14 @@
 //! Lines in, lines out: the lines of a source are read in any pieces, served one after another, and what they print is
 //! written.
 ghost use Rattle.std.specs.Prelude.{◌≡◌, ◌+◌, ◌<◌, ◌≤◌, ◌++◌, [], ℕ, List, length, IsTrue, OnOk, OnErr, IfOk, IfErr, IfSome};
-ghost use Rattle.std.specs.Prelude.{true, Ok as ok};
+ghost use Rattle.std.specs.Prelude.{true, false, Ok as ok};
 ghost use Rattle.std.specs.Io.KnownBytes.{Consumes, Keeps, IsAtEnd};
 ghost use Rattle.oca_script.specs.Ends.{input, Remembers};
 ghost use Rattle.oca_script.specs.Fields.{fields};
-ghost use Rattle.oca_script.specs.Script.{longest_line, Script, is_skipped as skipped_line, is_ascii as ascii_line, asks, parsed, parsed_by, line_then};
+ghost use Rattle.oca_script.specs.Script.{longest_line, Script, is_skipped as skipped_line, is_ascii as ascii_line, lines, some_asks, asks, parsed, parsed_by, line_then};
 ghost use Rattle.oca_script.specs.PrivateScript.{script_from};
 ghost use Rattle.oca_script.specs.Replaying.{Outcome, Replays};
-ghost use Rattle.oca_script.specs.PrivateSteps.{Step, Performance, is_end_failure};
+ghost use Rattle.oca_script.specs.PrivateSteps.{Step, RestsAfter, Performance, is_end_failure};
 
 use super::ends::{Sink, Source};
 use super::fault::{LineFault, ReplayFault, Stop};
@@ -61,7 +61,32 @@ fn line_asks(line: &[u8], ascii: bool) -> Result<bool, LineFault>
     }
 }
 
-/// Serves a line that asks for something. `more` tells whether further bytes are at hand.
+/// Whether a further line that asks for something stands whole in these bytes.
+#[tactic(auto, using(crate::proofs::PieceLemmas::asks_past, crate::proofs::PieceLemmas::asks_here, crate::proofs::PieceLemmas::asks_none))]
+fn asks_more(bytes: &[u8]) -> bool
+    ensures { result ≡ some_asks (lines bytes.now) }
+{
+    let mut rest = bytes;
+    while let Some((line, after)) = split_at_byte(rest, b'\n') {
+        if !is_skipped(line) {
+            return true;
+        }
+        rest = after;
+    }
+    false
+}
+
+/// The same, but nothing is looked for behind the end of a line that may be skipped, so that no byte is looked at often.
+fn goes_on(end: &[u8], after: &[u8]) -> bool
+    ensures { some_asks (lines after.now) ≡ false → result ≡ false }
+{
+    if is_skipped(end) {
+        return false;
+    }
+    asks_more(after)
+}
+
+/// Serves a line that asks for something. `more` tells whether a further one is at hand.
 fn serve_asking<L: Language, W: Sink>(
     state: &mut L::State,
     room: &mut L::Room,
@@ -71,8 +96,9 @@ fn serve_asking<L: Language, W: Sink>(
     printer: &mut Printer<W>,
 ) -> Result<(), ReplayFault>
     requires { length line.now ≤ longest_line }
-    ensures { Step L.serves state.old state.new printer.old printer.new result
+    ensures step { Step L.serves state.old state.new printer.old printer.new result
         (λ (s : Script L.Request). line_then number (parsed_by (ok true) (L.asked (fields line.now))) s) (λ s. s) }
+    ensures rests { OnOk result (more ≡ false → L.rests state.new) }
 {
     match L::serve_line(state, room, line, more, printer) {
         Ok(()) => Ok(()),
@@ -81,8 +107,8 @@ fn serve_asking<L: Language, W: Sink>(
     }
 }
 
-/// Serves a line. `ascii` tells that each of its bytes is known to be below 128, `more` whether further bytes are at
-/// hand.
+/// Serves a line. `ascii` tells that each of its bytes is known to be below 128, `more` whether a further line that
+/// asks for something is at hand.
 fn serve_line<L: Language, W: Sink>(
     state: &mut L::State,
     room: &mut L::Room,
@@ -93,8 +119,9 @@ fn serve_line<L: Language, W: Sink>(
     printer: &mut Printer<W>,
 ) -> Result<(), ReplayFault>
     requires { IsTrue ascii → ascii_line line.now ≡ true }
-    ensures { Step L.serves state.old state.new printer.old printer.new result
+    ensures step { Step L.serves state.old state.new printer.old printer.new result
         (λ (s : Script L.Request). line_then number (parsed L.asked line.now) s) (λ s. s) }
+    ensures rests { OnOk result (RestsAfter L.rests (skipped_line line.now) more state.old state.new) }
 {
     match line_asks(line, ascii) {
         Err(fault) => Err(ReplayFault::Line(number, fault)),
@@ -118,7 +145,7 @@ fn keep(progress: &mut Progress, bytes: &[u8]) -> Result<(), ReplayFault>
 }
 
 /// Serves the line whose last bytes these are. `ascii` tells that each of them is known to be below 128, `more` whether
-/// further bytes are at hand.
+/// a further line that asks for something is at hand.
 fn serve_ended<L: Language, W: Sink>(
     state: &mut L::State,
     room: &mut L::Room,
@@ -131,6 +158,7 @@ fn serve_ended<L: Language, W: Sink>(
     requires { IsTrue ascii → ascii_line end.now ≡ true }
     ensures step { Step L.serves state.old state.new printer.old printer.new result
         (λ (s : Script L.Request). line_then progress.old.number (parsed L.asked (progress.old.line ++ end.now)) s) (λ s. s) }
+    ensures rests { OnOk result (RestsAfter L.rests (skipped_line (progress.old.line ++ end.now)) more state.old state.new) }
     ensures number { progress.new.number ≡ progress.old.number }
 {
     if progress.line.is_empty() {
@@ -149,16 +177,18 @@ fn serve_piece<L: Language, W: Sink>(
     piece: &[u8],
     printer: &mut Printer<W>,
 ) -> Result<(), ReplayFault>
-    requires { progress.old.number + length piece.now ≤ 16777217 }
+    requires number { progress.old.number + length piece.now ≤ 16777217 }
+    requires rests { L.rests state.old }
     ensures step { Step L.serves state.old state.new printer.old printer.new result
         (λ (m : ℕ × List ℕ). script_from L.asked progress.old.number progress.old.line (length piece.now + m.0) (piece.now ++ m.1))
         (λ m. script_from L.asked progress.new.number progress.new.line m.0 m.1) }
     ensures number { progress.new.number ≤ progress.old.number + length piece.now }
+    ensures rests { OnOk result (L.rests state.new) }
 {
     let ascii = is_ascii(piece);
     let mut rest = piece;
     while let Some((end, after)) = split_at_byte(rest, b'\n') {
-        let more = !after.is_empty();
+        let more = goes_on(end, after);
         serve_ended::<L, W>(state, room, progress, end, ascii, more, printer)?;
         progress.line.clear();
         progress.number += 1;
@@ -179,6 +209,8 @@ pub fn serve_lines<L: Language, R: Source, W: Sink>(
     reader: &mut R,
     printer: &mut Printer<W>,
 ) -> Result<(), ReplayFault>
+    // Nothing is under way, so that the first read may take as long as it will.
+    requires rests { L.rests state.old }
     // Whatever source: there are bytes, those that it gave where it tells them, and the rest of what it had, and their
     // script was replayed.
     ensures reads { Outcome L.asked L.serves state.old state.new printer.old printer.new
@@ -197,6 +229,7 @@ fn serve_script<L: Language, R: Source, W: Sink>(
     reader: &mut R,
     printer: &mut Printer<W>,
 ) -> Result<(), ReplayFault>
+    requires { L.rests state.old }
     ensures { Outcome L.asked L.serves state.old state.new printer.old printer.new
         (input (R.remaining reader.old) (R.failed reader.old)) (input (R.remaining reader.new) (R.failed reader.new)) result }
 {
@@ -224,6 +257,7 @@ fn read_script<L: Language, R: Source, W: Sink>(
     reader: &mut R,
     printer: &mut Printer<W>,
 ) -> Result<(), ReplayFault>
+    requires { L.rests state.old }
     ensures { Performance L.asked L.serves state.old state.new printer.old printer.new
         (input (R.remaining reader.old) (R.failed reader.old)) (input (R.remaining reader.new) (R.failed reader.new)) result }
 {
@@ -235,7 +269,7 @@ fn read_script<L: Language, R: Source, W: Sink>(
         let Ok(()) = printer.flush() else {
             return Err(ReplayFault::Write);
         };
-        let piece = read_piece(reader, &mut buffer, most)?;
+        let piece = read_piece::<L, R>(state, reader, &mut buffer, most)?;
         if piece.is_empty() {
             let line = progress.line.as_slice();
             return serve_line::<L, W>(state, room, progress.number, line, false, false, printer);
@@ -247,19 +281,21 @@ fn read_script<L: Language, R: Source, W: Sink>(
         return Err(ReplayFault::Write);
     };
     let last = progress.line.as_slice();
-    let over = read_piece(reader, &mut buffer, 1)?;
+    let over = read_piece::<L, R>(state, reader, &mut buffer, 1)?;
     if !over.is_empty() {
         return Err(ReplayFault::TooMuch);
     }
     serve_line::<L, W>(state, room, progress.number, last, false, false, printer)
 }
 
-/// The next bytes, and none only at the end.
-fn read_piece<'a, R: Source>(
+/// The next bytes, and none only at the end. It is called where nothing is under way alone, since it may take as long as it will.
+fn read_piece<'a, L: Language, R: Source>(
+    _state: &L::State,
     reader: &mut R,
     buffer: &'a mut [u8],
     most: usize,
 ) -> Result<&'a [u8], ReplayFault>
+    requires rests { L.rests _state.now }
     requires some { 0 < most }
     requires within { most ≤ length buffer.old }
     ensures consumes { IfOk result (λ piece. Consumes (R.remaining reader.old) (R.remaining reader.new) piece.now) }

@@ -61,6 +61,10 @@ pub record SessionState : Type 0 where
   pub ahead : ℕ
   pub unanswered : Bool
 
+-- no command is under way
+abbrev pub NoneUnderWay : SessionState → Type 0
+NoneUnderWay s = length s.under_way ≤ 0
+
 -- The first command under way was waited for, and came out so.
 pub record AwaitsFirst (old new : SessionState) (outcome : Outcome) : Type 0 where
   pub handle : ℕ

@@ -1,5 +1,5 @@
 //! Commands from lines, so many at once as may be under way.
-ghost use Rattle.std.specs.Prelude.{◌≡◌, ◌≤◌, ◌<◌, [], codes, length, OnOk};
+ghost use Rattle.std.specs.Prelude.{◌≡◌, ◌≤◌, ◌<◌, [], codes, length, OnOk, false};
 ghost use Rattle.std.specs.Str.{bytes_eq};
 ghost use Rattle.oca_script.specs.Ends.{input};
 ghost use Rattle.oca_script.specs.Fields.{fields};
@@ -7,7 +7,7 @@ ghost use Rattle.oca_script.specs.Printing.{Prints};
 ghost use Rattle.oca_types.specs.Peers.{request_of};
 ghost use Rattle.oca_control.specs.Links.{submission};
 ghost use Rattle.ocactl_cli.specs.Requests.{LineAsked, asked_line, is_wait as wait_line};
-ghost use Rattle.ocactl_cli.specs.Exchanges.{Serves, SendsLines, outcome_text};
+ghost use Rattle.ocactl_cli.specs.Exchanges.{NoneUnderWay, Serves, SendsLines, outcome_text};
 ghost use Rattle.ocactl_cli.specs.PrivateExchanges.{AwaitsAndPrints, SendsAndPrints, ServesAndPrints, GoesOn, is_write_failure, line_in, line_asked};
 
 use super::exchange::print_outcome;
@@ -39,6 +39,8 @@ impl<E: End> Language for Commands<E> {
     ghost Request = { LineAsked };
 
     ghost asked = { asked_line };
+
+    ghost rests = { NoneUnderWay };
 
     ghost serves = { Serves };
 
@@ -100,7 +102,8 @@ fn serve<E: End, W: Sink>(
     more: bool,
     printer: &mut Printer<W>,
 ) -> Result<(), WriteFailed>
-    ensures { ServesAndPrints session.old (line_in asked.entry) session.new result printer.old printer.new }
+    ensures rests { more ≡ false → NoneUnderWay session.new }
+    ensures serves { ServesAndPrints session.old (line_in asked.entry) session.new result printer.old printer.new }
 {
     match asked {
         Asked::Send(request) => {
@@ -112,7 +115,8 @@ fn serve<E: End, W: Sink>(
     }
 }
 
-/// Submits a command; then so many are waited for that one more may be under way, or all where no further bytes are at hand.
+/// Submits a command; then so many are waited for that one more may be under way, or all where no further line
+/// that asks for something is at hand.
 fn send<E: End, W: Sink>(
     session: &mut Session<E>,
     request: Request<'_>,
@@ -121,7 +125,8 @@ fn send<E: End, W: Sink>(
     printer: &mut Printer<W>,
 ) -> Result<(), WriteFailed>
     requires { length session.old.under_way < 32 }
-    ensures { SendsAndPrints (request_of request.entry) (submission (request_of request.entry) session.old.link) written session.old session.new result printer.old printer.new }
+    ensures rests { more ≡ false → NoneUnderWay session.new }
+    ensures sends { SendsAndPrints (request_of request.entry) (submission (request_of request.entry) session.old.link) written session.old session.new result printer.old printer.new }
 {
     match session.submit(request) {
         Ok(_) => {
@@ -177,12 +182,14 @@ fn write_outcome<W: Sink>(outcome: &Outcome, printer: &mut Printer<W>) -> Result
 }
 
 /// Sends the commands that the source has to give over the session, and prints how each fared, in the order of their lines.
-/// Commands that are still under way at the end are waited for. Faults: the first bad line, too much input, a failed read or write.
+/// Before each read, and at the end, commands that are still under way are waited for. Faults: the first bad line, too much input, a failed read or write.
 pub fn send_all<E: End, R: Source, W: Sink>(
     session: &mut Session<E>,
     reader: &mut R,
     printer: &mut Printer<W>,
 ) -> Result<(), ReplayFault>
+    // Nothing is under way, so that the first read may take as long as it will.
+    requires { NoneUnderWay session.old }
     ensures { SendsLines session.old session.new printer.old printer.new (input (R.remaining reader.old) (R.failed reader.old)) (input (R.remaining reader.new) (R.failed reader.new)) result }
 {
     let mut room = [0; PARAMS_ROOM];

@@ -17,6 +17,7 @@ pub mod run;
 pub mod session;
 mod setting;
 pub mod talk;
-pub mod tasks;mod told;
+pub mod tasks;
+mod told;
 mod walk;
 pub mod words;

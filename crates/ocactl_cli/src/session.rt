@@ -84,9 +84,10 @@ impl<E: End> Session<E> {
         self.ahead - 1
     }
 
-    /// How many stay under way behind a command: none where no further bytes are at hand.
+    /// How many stay under way behind a command: none where no further line that asks for something is at hand.
     pub fn left_after(&self, more: bool) -> usize
-        ensures { result < self.now.ahead }
+        ensures most { result < self.now.ahead }
+        ensures none { more ≡ false → result ≡ 0 }
     {
         if more { self.ahead - 1 } else { 0 }
     }

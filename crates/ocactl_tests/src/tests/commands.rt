@@ -193,6 +193,11 @@ enum Row {
     Bad(&'static [u8], LineFault),
     /// So many at once: the first of two lines, behind which the reader fails.
     FirstOfTwo(u8),
+    /// 16 at once over an end that delivers this: behind lines that come in one piece nothing more is read before the first answer is
+    /// written, which fails.
+    BeforeARead(&'static [Delivery], &'static [u8]),
+    /// The same, but all answers are written, and then a read fails.
+    ThenARead(&'static [Delivery], &'static [u8], &'static [u8]),
     /// Three commands at once, whose answers have only so much room, and what is printed.
     Cut(usize, &'static [u8]),
 }
@@ -252,6 +257,19 @@ fn unread(mut lines: Lines) -> Lines {
     lines
 }
 
+/// The same, but the reader fails behind all of the lines.
+fn whole(mut lines: Lines) -> Lines {
+    lines.given = lines.lines.len();
+    lines
+}
+
+/// The same, but that is told.
+fn read_fails(mut lines: Lines) -> Lines {
+    lines.ended = Err(ReplayFault::Read);
+    lines.read_failed = true;
+    lines
+}
+
 /// The same, but the writer fails behind so many bytes.
 fn unwritten(mut lines: Lines, room: usize) -> Lines {
     lines.room = room;
@@ -282,6 +300,12 @@ fn lines_of(row: Row) -> Lines {
         Bad(line, fault) => faulty(answered(1, &[], line, b""), 1, fault),
         FirstOfTwo(ahead) => {
             unread(answered(ahead, &[Answer(1, 1, 10)], TWO, b"answer 1 1 01\n"))
+        }
+        BeforeARead(deliveries, lines) => {
+            unwritten(whole(answered(16, deliveries, lines, b"")), 0)
+        }
+        ThenARead(deliveries, lines, output) => {
+            read_fails(whole(answered(16, deliveries, lines, output)))
         }
         Cut(room, output) => unwritten(answered(3, BACKWARDS, THREE_CLOSE, output), room),
     }
@@ -320,9 +344,9 @@ const BACKWARDS: &[Delivery] = &[Answer(3, 3, 10), Answer(2, 2, 20), Answer(1, 1
 /// Two commands, three with an empty line between them, and three.
 const TWO: &[u8] = b"4097 4 1 0 -\n4097 4 1 0 -\n";
 
-const THREE: &[u8] = b"4097 4 1 0 -\n4097 4 1 0 -\n\n4097 4 1 0 -";
+const THREE: &[u8] = b"4097 4 1 0 -\n4097 4 1 0 -\n\n4097 4 1 0 -\n";
 
-const THREE_CLOSE: &[u8] = b"4097 4 1 0 -\n4097 4 1 0 -\n4097 4 1 0 -";
+const THREE_CLOSE: &[u8] = b"4097 4 1 0 -\n4097 4 1 0 -\n4097 4 1 0 -\n";
 
 /// The answers to three, in the order of their lines.
 const IN_ORDER: &[u8] = b"answer 1 1 01\nanswer 2 1 01\nanswer 3 1 01\n";
@@ -372,6 +396,34 @@ const ROWS: &[Row] = &[
     Cut(14, b"answer 1 1 01\n"),
     Cut(41, b"answer 1 1 01\nanswer 2 1 01\nanswer 3 1 01"),
 ];
+
+/// The answers to two commands, the last one's first.
+const TWO_BACKWARDS: &[Delivery] = &[Answer(2, 2, 10), Answer(1, 1, 20)];
+
+// Nothing is left under way before a read, whatever else stands behind the last command: a comment, an empty line or a part of a line.
+// Commands of one piece are under way together.
+const AT_REST: &[Row] = &[
+    BeforeARead(&[Answer(1, 1, 10)], b"4097 4 2 1 01\n# done\n"),
+    BeforeARead(&[Answer(1, 1, 10)], b"4097 4 2 1 01\n\n"),
+    BeforeARead(&[Answer(1, 1, 10)], b"4097 4 2 1 01\n4097 4"),
+    BeforeARead(&[Answer(1, 1, 10)], b"4097 4 2 1 01\n# a\n\n#"),
+    BeforeARead(TWO_BACKWARDS, b"4097 4 1 0 -\n# a\n4097 4 1 0 -\n# done\n"),
+    ThenARead(
+        TWO_BACKWARDS,
+        b"4097 4 1 0 -\n4097 4 1 0 -\n# done\n",
+        b"answer 1 1 01\nanswer 2 1 01\n",
+    ),
+    ThenARead(
+        TWO_BACKWARDS,
+        b"4097 4 1 0 -\n# a\n\n4097 4 1 0 -\n",
+        b"answer 1 1 01\nanswer 2 1 01\n",
+    ),
+];
+
+#[test]
+fn nothing_is_under_way_at_a_read(rt: HostRuntime) {
+    none_wrong(&rt, first_wrong(rt.alloc(), AT_REST));
+}
 
 #[test]
 fn lines_of_commands(rt: HostRuntime) {
