@@ -157,7 +157,7 @@ fn keep_alive(number: u32) -> Step<'static> {
     Step::Other {
         from: Peer {
             ip: LOOPBACK,
-            port: 9100u16.saturating_add(number as u16),
+            port: 9100u16.saturating_add(u16::try_from(number).unwrap_or(0)),
         },
         bytes: &KEEP_ALIVE,
         now: 0,

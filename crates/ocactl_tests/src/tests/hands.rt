@@ -79,7 +79,7 @@ fn is_mute(alloc: Global, handle: u32) -> Option<Scripted> {
     let mut bytes = [0u8; 32];
     hex::decode_to_slice(CLASS, &mut bytes).ok()?;
     bytes[14..18].copy_from_slice(&handle.to_be_bytes());
-    Some(sent(bytes.to_vec(alloc).ok()?))
+    Some(sent(Vec::from_array(alloc, bytes).ok()?))
 }
 
 /// The command of a handle is answered by a status.
@@ -88,7 +88,7 @@ fn has_status(alloc: Global, handle: u32, status: u8) -> Option<Scripted> {
     hex::decode_to_slice(DONE, &mut bytes).ok()?;
     bytes[14..18].copy_from_slice(&handle.to_be_bytes());
     bytes[18] = status;
-    Some(sent(bytes.to_vec(alloc).ok()?))
+    Some(sent(Vec::from_array(alloc, bytes).ok()?))
 }
 
 /// The objects are mutes.

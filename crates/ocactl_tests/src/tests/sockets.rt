@@ -30,42 +30,52 @@ fn silent_port<N: Net + Clock>(alloc: Global, system: &N) -> Option<String> {
     format!(in alloc; "127.0.0.1:{}", end.local().port).ok()
 }
 
-/// Whether `send` to a silent port, with these words for its turns, prints this and ends with 3.
-fn is_unanswered<N: Net + Clock>(
+/// Whether `send` with these words prints this and ends with 3.
+fn ends_so<'a, N: Net + Clock>(
     alloc: Global,
     system: &N,
-    turns: &[&str],
-    output: &[u8],
-) -> Option<bool> {
-    let device = silent_port(alloc, system)?;
-    let to = ["--device", device.as_str()];
-    let more = super::joined(alloc, &to, turns)?;
+    more: &'a [&'a str],
+    output: &'a [u8],
+) -> bool {
     let expected = Run {
         words: SEND,
-        more: more.as_slice(),
+        more,
         input: b"",
         status: 3,
         output,
         fault: b"",
     };
-    Some(is_so(alloc, system, &expected))
+    is_so(alloc, system, &expected)
 }
 
-// The words for the turns, and what is printed.
-const UNANSWERED: &[(&[&str], &[u8])] = &[
-    (&["--turns", "2"], b"no answer\n"),
-    (&["--turns", "0"], b"no answer\n"),
-    (&[], b"lost\n"),
-];
+/// Whether `send` to a silent port has no answer in so many turns.
+fn is_unanswered<N: Net + Clock>(alloc: Global, system: &N, turns: &str) -> Option<bool> {
+    let device = silent_port(alloc, system)?;
+    let more = ["--device", device.as_str(), "--turns", turns];
+    Some(ends_so(alloc, system, &more, b"no answer\n"))
+}
 
-/// The first row that ends otherwise.
+/// Whether `send` to a silent port is lost where no turns are given.
+fn is_lost<N: Net + Clock>(alloc: Global, system: &N) -> Option<bool> {
+    let device = silent_port(alloc, system)?;
+    let more = ["--device", device.as_str()];
+    Some(ends_so(alloc, system, &more, b"lost\n"))
+}
+
+/// Turns in which no answer comes.
+const TURNS: &[&str] = &["2", "0"];
+
+/// The first row that ends otherwise; the last is that without turns.
 fn first_answered<N: Net + Clock>(alloc: Global, system: &N) -> Option<usize> {
-    for (at, (turns, output)) in UNANSWERED.iter().enumerate() {
-        if is_unanswered(alloc, system, turns, output) != Some(true) {
+    for (at, turns) in TURNS.iter().enumerate() {
+        if is_unanswered(alloc, system, turns) != Some(true) {
             return Some(at);
         }
     }
-    None
+    match is_lost(alloc, system) {
+        Some(true) => None,
+        _ => Some(TURNS.len()),
+    }
 }
 
 /// No answer in so many turns, and a device that never answers.
