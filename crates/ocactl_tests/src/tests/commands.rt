@@ -259,7 +259,8 @@ fn unread(mut lines: Lines) -> Lines {
 
 /// The same, but the reader fails behind all of the lines.
 fn whole(mut lines: Lines) -> Lines {
-    lines.given = lines.lines.len();
+    let text = lines.lines;
+    lines.given = text.len();
     lines
 }
 
