@@ -7,6 +7,7 @@ Usage: words.py BIN     BIN is the folder with `ocadev` and `ocactl`
 A device of this script hears what `ocactl` sends, byte for byte, and from which port; a controller of this script speaks to `ocadev
 serve` and compares the counts at the end, each of another number. The last line is 'N passed, M failed'."""
 import contextlib
+import os
 import random
 import re
 import select
@@ -105,6 +106,30 @@ def runs_ahead(checks):
             device.sendto(response(handle, handle, 0, b""), sender)
         out = run.communicate(timeout=30)
         checks.same("run --ahead: its answers", (*out, run.returncode), ("answer 1 0 -\nanswer 2 0 -\nanswer 3 0 -\n", "", 0))
+
+
+def waits_before_it_reads(checks):
+    """`run --ahead` with an input that is kept open and has no further command: the command is sent again until it is answered, and its
+    answer is printed. What stands behind it is no command yet, or none."""
+    for behind in ("", "# done\n", "\n", "\n# a comment without an end", "1 2 3 0"):
+        with bound() as device:
+            run = checks.start("ocactl", "run", "--device", f"127.0.0.1:{device.getsockname()[1]}", "--first-handle", 1, "--ahead", 16, "--port", free_port())
+            run.stdin.write(f"1 2 3 0 -\n1 2 3 0 -\n{behind}")
+            run.stdin.flush()
+            wanted = [oca.pdu(1, [oca.Command(handle, 1, 2, 3, 0, b"").body()]) for handle in (1, 2)]
+            heard = []
+            with contextlib.suppress(TimeoutError):
+                for _ in range(6):
+                    data, sender = device.recvfrom(2000)
+                    heard.append(data)
+            checks.same(f"run --ahead, {behind!r} behind a command: it is sent again", (len(heard), set(heard)), (6, set(wanted)))
+            for handle in (1, 2):
+                device.sendto(response(handle, handle, 0, b""), sender)
+            said = b""
+            while said.count(b"\n") < 2 and select.select([run.stdout], [], [], 10)[0]:
+                said += os.read(run.stdout.fileno(), 4096) or b"\n" * 9
+            checks.same(f"run --ahead, {behind!r} behind a command: its answer is printed", said, b"answer 1 0 -\nanswer 2 0 -\n")
+            run.kill()
 
 
 def own_ports(checks):
@@ -372,7 +397,7 @@ def trees(checks):
 
 def main():
     checks = Checks(sys.argv[1])
-    for part in (sends, runs, runs_ahead, typed, own_ports, limits, defaults, faults, unwritten, serves, serves_until_stopped, trees):
+    for part in (sends, runs, runs_ahead, waits_before_it_reads, typed, own_ports, limits, defaults, faults, unwritten, serves, serves_until_stopped, trees):
         try:
             part(checks)
         except (OSError, TypeError, subprocess.TimeoutExpired) as fault:  # nothing came, or other words than those that were waited for
