@@ -11,6 +11,7 @@ mod end;
 mod memory;
 mod moments;
 mod socket;
+mod system;
 mod udp;
 
 pub use descriptors::fill_standard_descriptors;

@@ -2,14 +2,15 @@
 ghost use Rattle.std.specs.Prelude.{◌≤◌, IfOk, length};
 ghost use Rattle.oca_net.specs.Sockets.{IsBoundAt};
 
+use crate::system;
 use oca_types::Peer;
 use std::io;
 use std::net::{Net, SocketAddr, SocketAddrV4, UdpSocket};
 use std::os::fd::{AsFd, AsRawFd, BorrowedFd, RawFd};
 use std::time::Duration;
 
-/// How long a send waits for room in the system's buffer, in milliseconds.
-pub(crate) const SEND_MS: u64 = 1;
+/// How many bytes are asked for the send buffer, in which datagrams wait for hosts that do not answer.
+const SEND_BUFFER: u32 = 4_000_000;
 
 /// A socket.
 #[derive(Drop)]
@@ -17,6 +18,8 @@ pub(crate) struct Socket {
     socket: UdpSocket,
     /// How long a receive waits, in milliseconds. At 0 no call waits.
     wait: u64,
+    /// How many bytes the system grants the send buffer, or 0 where it does not tell.
+    pub(crate) send_buffer: u32,
 }
 
 impl Socket {
@@ -26,12 +29,17 @@ impl Socket {
     {
         let socket = UdpSocket::bind(rt, SocketAddrV4::from(asked))?;
         socket.set_read_timeout(Some(Duration::from_millis(wait)))?;
-        socket.set_write_timeout(Some(Duration::from_millis(SEND_MS)))?;
         let local = peer_of(socket.local_addr()?)?;
         if local.ip != asked.ip || (asked.port != 0 && local.port != asked.port) {
             return Err(io::Error::from(io::ErrorKind::AddrNotAvailable));
         }
-        Ok((Socket { socket, wait }, local))
+        let send_buffer = granted(socket.as_raw_fd());
+        let socket = Socket {
+            socket,
+            wait,
+            send_buffer,
+        };
+        Ok((socket, local))
     }
 
     /// Lets a receive wait so many milliseconds.
@@ -61,9 +69,9 @@ impl Socket {
         Ok((n, peer_of(from)?))
     }
 
-    /// Hands a datagram to the system, which takes the whole of it.
+    /// Hands a datagram to the system, which takes the whole of it, and does not wait for room.
     pub(crate) fn send(&self, to: Peer, bytes: &[u8]) -> io::Result<()> {
-        let n = self.socket.send_to(bytes, SocketAddrV4::from(to))?;
+        let n = system::send_now(self.socket.as_raw_fd(), bytes, SocketAddrV4::from(to))?;
         if n == bytes.len() {
             Ok(())
         } else {
@@ -84,6 +92,12 @@ impl AsRawFd for Socket {
     fn as_raw_fd(&self) -> RawFd {
         self.socket.as_raw_fd()
     }
+}
+
+/// Asks for the send buffer: how many bytes the system grants, or 0 where it does not tell.
+fn granted(socket: RawFd) -> u32 {
+    let _ = system::ask_send_buffer(socket, SEND_BUFFER);
+    system::send_buffer(socket).unwrap_or(0)
 }
 
 /// The peer at an address; one of IPv6 is none.

@@ -6,7 +6,7 @@ ghost use Rattle.oca_net.specs.Sockets.{IsBoundAt, SaysMoment, after_heard, afte
 use crate::count::step;
 use crate::end::{End, Heard};
 use crate::moments::Moments;
-use crate::socket::{SEND_MS, Socket};
+use crate::socket::Socket;
 use oca_types::{MOST_BYTES, Packet, Peer};
 use std::alloc::Global;
 use std::io;
@@ -25,7 +25,7 @@ const WAIT_MS: u64 = 50;
 /// How long a wait until a moment may be, in milliseconds: an hour.
 const LONGEST_WAIT_MS: u64 = 3_600_000;
 
-/// How often at most a call is begun again that signals interrupt, so that it ends even where the clock stands still.
+/// How often at most a wait is begun again that signals interrupt, so that it ends even where the clock stands still.
 const TRIES: u32 = 65_536;
 
 /// Why no end was bound. The numbers are promised (*profile*).
@@ -74,10 +74,10 @@ impl BindError {
 /// the system drops it, and nothing tells. Whatever else the system returns is `Failed`, once the 50 ms are over, and
 /// counts as a failure.
 ///
-/// A send waits for room in the system's buffer, which datagrams to a host that does not answer fill: for a
-/// millisecond, by the system's tick (two where signals interrupt it). Then it is `false`, as where a network can't be
-/// reached, and counts as a failure. That a send was taken does not say that the datagram arrives. No call but `bind`
-/// takes memory.
+/// A send does not wait. Where the system's buffer has no room, which datagrams to hosts that do not answer fill, it is
+/// `false`, as where a network can't be reached, and counts as a failure. `bind` asks for a buffer of 4,000,000 bytes;
+/// what the system granted, `send_buffer` says. That a send was taken does not say that the datagram arrives. No call
+/// but `bind` takes memory.
 #[derive(Drop)]
 pub struct UdpEnd<'a, C: Clock> {
     moments: Moments<'a, C>,
@@ -185,6 +185,13 @@ impl<'a, C: Clock> UdpEnd<'a, C> {
         self.failed_send
     }
 
+    /// How many bytes the system grants for datagrams that have not left, by its own count; 0 where it does not tell.
+    /// Those to a neighbour that does not answer hold up to some 213,000 of them, so a grant of several times as much
+    /// leaves room for the others.
+    pub fn send_buffer(&self) -> u32 {
+        self.socket.send_buffer
+    }
+
     /// As `receive`, and waits until this moment of its own in place of 50 ms: an hour at most, and not at all where
     /// the moment is not still to come.
     pub fn receive_by(&mut self, packet: &mut Packet, moment: u64) -> Heard
@@ -243,12 +250,12 @@ impl<'a, C: Clock> End for UdpEnd<'a, C> {
         self.hear(packet, now, now.saturating_add(WAIT_MS))
     }
 
-    /// Hands the datagram to the system: whether it took the whole of it.
+    /// Hands the datagram to the system, without waiting for room: whether it took the whole of it.
     fn send(&mut self, to: Peer, bytes: &[u8]) -> bool
         requires { length bytes.now ≤ largest_datagram }
         ensures { self.new ≡ after_sent result self.old }
     {
-        match hand_over(&self.socket, &self.moments, to, bytes) {
+        match self.socket.send(to, bytes) {
             Ok(()) => true,
             Err(reason) => {
                 step(&mut self.failures);
@@ -314,42 +321,4 @@ fn fill(packet: &mut Packet, bytes: &[u8], from: Peer, now: u64) -> Heard
         Ok(()) => Heard::Datagram { from, now },
         Err(_) => Heard::Oversize { now },
     }
-}
-
-/// Sends a datagram. A send that a signal interrupts is begun again, for a millisecond.
-fn hand_over<C: Clock>(
-    socket: &Socket,
-    moments: &Moments<'_, C>,
-    to: Peer,
-    bytes: &[u8],
-) -> io::Result<()> {
-    let sent = socket.send(to, bytes);
-    match sent {
-        Err(e) if e.kind() == io::ErrorKind::Interrupted => {
-            send_again(socket, moments, to, bytes, e)
-        }
-        _ => sent,
-    }
-}
-
-/// Sends a datagram that was interrupted, again and again for a millisecond.
-#[inline(never)]
-fn send_again<C: Clock>(
-    socket: &Socket,
-    moments: &Moments<'_, C>,
-    to: Peer,
-    bytes: &[u8],
-    interrupted: io::Error,
-) -> io::Result<()> {
-    let until = moments.now().saturating_add(SEND_MS);
-    for _ in 0..TRIES {
-        match socket.send(to, bytes) {
-            Err(e) if e.kind() == io::ErrorKind::Interrupted => {}
-            sent => return sent,
-        }
-        if until < moments.now() {
-            break;
-        }
-    }
-    Err(interrupted)
 }

@@ -28,6 +28,8 @@ use Holder::*;
 /// A call of a socket, and what it must answer.
 #[derive(Clone, Copy)]
 enum Step {
+    /// The system granted the first end a send buffer of so many bytes at least.
+    Granted(u32),
     /// The ends are bound to this machine, each to a port of its own.
     AreBound,
     /// A socket sends bytes to another: whether they are taken.
@@ -160,6 +162,7 @@ fn failed_for(end: &UdpEnd<'_, HostRuntime>, wanted: Option<ErrorKind>) -> bool 
 /// Whether the call is answered so.
 fn agrees(sockets: &mut Sockets<'_>, step: Step) -> bool {
     match step {
+        Granted(least) => sockets.first.send_buffer() >= least,
         AreBound => are_bound(sockets),
         Sends(from, to, bytes, taken) => send(sockets, from, to, bytes) == Some(taken),
         Hears(who, from, bytes) => hears(sockets, who, from, bytes),
@@ -243,4 +246,11 @@ const REFUSED: &[Step] = &[
 #[test]
 fn a_send_that_the_system_refuses_is_false(rt: HostRuntime) {
     assert_eq!(rt; first_wrong(&rt, REFUSED), None);
+}
+
+// By default a system grants 212,992 bytes, as many as one neighbour that does not answer can hold, and doubles what is
+// asked up to that.
+#[test]
+fn a_send_buffer_is_asked_for(rt: HostRuntime) {
+    assert_eq!(rt; first_wrong(&rt, &[Granted(425_984)]), None);
 }

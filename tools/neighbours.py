@@ -1,0 +1,136 @@
+#!/usr/bin/env python3
+"""`ocadev serve` beside hosts that answer nothing, in network namespaces of its own: what the device sends them fills the
+system's buffers, and must cost another peer nothing.
+
+Usage: neighbours.py BIN [SECONDS]     BIN is the folder with `ocadev`; each run takes so long, 4 unless given
+
+Datagrams in the name of silent hosts come at several rates, of 122 keep-alives each, which the device returns one by one,
+or of one. Meanwhile a peer asks for a state twenty times a second. Each of its commands must be answered, the slowest
+within 100 ms longer than where no host is silent. It needs root and `ip` (iproute2); without them it says so, and tries
+nothing. The last line is 'N passed, M failed'."""
+import os
+import re
+import shutil
+import socket
+import subprocess
+import sys
+import time
+
+import oca_profile as oca
+
+DEVICE, PEER, SILENT = "10.91.0.1", "10.91.0.2", "10.91.0.{}"
+PORT = 65000
+# how many hosts are silent, how many datagrams a second come in their names, and of how many keep-alives
+RUNS = [(hosts, rate, alive) for hosts in (1, 8) for rate, alive in ((1, 122), (5, 122), (20, 122), (1000, 1))]
+
+
+def checksum(data):
+    total = sum(data[i] << 8 | data[i + 1] for i in range(0, len(data), 2))
+    while total >> 16:
+        total = (total & 0xffff) + (total >> 16)
+    return ~total & 0xffff
+
+
+def forged(source, port, payload):
+    """A datagram to the device with this source, from the IP header on."""
+    udp = port.to_bytes(2, "big") + PORT.to_bytes(2, "big") + (8 + len(payload)).to_bytes(2, "big") + b"\0\0" + payload
+    head = b"\x45\0" + (20 + len(udp)).to_bytes(2, "big") + b"\0\0\0\0\x40\x11\0\0" + socket.inet_aton(source) + socket.inet_aton(DEVICE)
+    return head[:10] + checksum(head).to_bytes(2, "big") + head[12:] + udp
+
+
+def flood(hosts, rate, alive, seconds):
+    """Sends datagrams in the names of silent hosts."""
+    raw = socket.socket(socket.AF_INET, socket.SOCK_RAW, socket.IPPROTO_RAW)
+    made = [forged(SILENT.format(100 + host), 9000, oca.pdu(4, [oca.u16(5)]) * alive) for host in range(hosts)]
+    begun, sent = time.monotonic(), 0
+    while time.monotonic() < begun + seconds:
+        if sent < rate * (time.monotonic() - begun):
+            raw.sendto(made[sent % hosts], (DEVICE, 0))
+            sent += 1
+        else:
+            time.sleep(0.0005)
+
+
+def ask(seconds):
+    """Asks for a state twenty times a second: prints how many were asked, how many answered at the first sending, and the slowest in ms."""
+    peer = socket.socket(socket.AF_INET, socket.SOCK_DGRAM)
+    peer.bind((PEER, 0))
+    asked = answered = slowest = 0
+    begun = time.monotonic()
+    while time.monotonic() < begun + seconds:
+        asked += 1
+        peer.settimeout(1)
+        sent = time.monotonic()
+        peer.sendto(oca.pdu(1, [oca.Command(asked, 4097, 4, 1, 0, b"").body()]), (DEVICE, PORT))
+        wanted = oca.pdu(3, [oca.response_body(asked, 0, 1, b"\1")])
+        try:
+            while peer.recv(2000) != wanted:
+                pass
+            answered += 1
+        except TimeoutError:
+            pass
+        slowest = max(slowest, 1000 * (time.monotonic() - sent))
+        time.sleep(0.05)
+    print(asked, answered, round(slowest))
+
+
+class Namespaces:
+    """A namespace for the device and one for its peers, with a link between them."""
+
+    def __enter__(self):
+        self.device, self.peers = f"oca-d{os.getpid()}", f"oca-p{os.getpid()}"
+        for line in (f"netns add {self.device}", f"netns add {self.peers}",
+                     f"-n {self.device} link add link0 type veth peer name link0 netns {self.peers}",
+                     f"-n {self.device} addr add {DEVICE}/24 dev link0", f"-n {self.peers} addr add {PEER}/24 dev link0",
+                     f"-n {self.device} link set link0 up", f"-n {self.peers} link set link0 up"):
+            subprocess.run(["ip", *line.split()], check=True)
+        return self
+
+    def __exit__(self, *_):
+        for name in (self.device, self.peers):
+            subprocess.run(["ip", "netns", "del", name], check=False)
+
+    def start(self, name, *words):
+        return subprocess.Popen(["ip", "netns", "exec", name, *map(str, words)], stdin=subprocess.DEVNULL, stdout=subprocess.PIPE,
+                                stderr=subprocess.PIPE, text=True)
+
+
+def run(room, folder, silent, seconds):
+    """What the peer says of its questions while these hosts are silent."""
+    device = room.start(room.device, f"{folder}/ocadev", "serve", "--ip", DEVICE, "--port", PORT)
+    assert re.match("listening ", device.stderr.readline())
+    me = [sys.executable, os.path.abspath(__file__)]
+    flooding = room.start(room.peers, *me, "flood", *silent, seconds + 1) if silent else None
+    asking = room.start(room.peers, *me, "ask", seconds)
+    said = asking.communicate(timeout=seconds + 60)[0]
+    if flooding:
+        flooding.communicate(timeout=60)
+    device.kill()
+    device.communicate()
+    return tuple(map(int, said.split()))
+
+
+def main():
+    if sys.argv[1] == "flood":
+        return flood(*map(int, sys.argv[2:6]))
+    if sys.argv[1] == "ask":
+        return ask(int(sys.argv[2]))
+    if os.geteuid() or not shutil.which("ip"):
+        print("neighbours: NOT TRIED: it needs root and `ip`\n1 passed, 0 failed")
+        return 0
+    folder, seconds = os.path.abspath(sys.argv[1]), int(sys.argv[2]) if len(sys.argv) > 2 else 4
+    passed = failed = 0
+    with Namespaces() as room:
+        _, _, alone = run(room, folder, None, seconds)
+        for silent in RUNS:
+            asked, answered, slowest = run(room, folder, silent, seconds)
+            is_well = asked == answered > 0 and slowest <= alone + 100
+            passed, failed = passed + is_well, failed + (not is_well)
+            print(f"{silent[0]} silent, {silent[1]} datagrams a second of {silent[2]} keep-alives: {answered} of {asked} answered, "
+                  f"the slowest in {slowest} ms (alone {alone})", flush=True)
+    print(f"{passed} passed, {failed} failed")
+    return 1 if failed else 0
+
+
+if __name__ == "__main__":
+    sys.exit(main())
