@@ -25,7 +25,7 @@ const WAIT_MS: u64 = 50;
 /// How long a wait until a moment may be, in milliseconds: an hour.
 const LONGEST_WAIT_MS: u64 = 3_600_000;
 
-/// How often at most a wait is begun again that signals interrupt, so that it ends even where the clock stands still.
+/// How often at most a call is begun again that signals interrupt, so that it ends even where the clock stands still.
 const TRIES: u32 = 65_536;
 
 /// Why no end was bound. The numbers are promised (*profile*).
@@ -255,7 +255,7 @@ impl<'a, C: Clock> End for UdpEnd<'a, C> {
         requires { length bytes.now ≤ largest_datagram }
         ensures { self.new ≡ after_sent result self.old }
     {
-        match self.socket.send(to, bytes) {
+        match hand_over(&self.socket, to, bytes) {
             Ok(()) => true,
             Err(reason) => {
                 step(&mut self.failures);
@@ -321,4 +321,15 @@ fn fill(packet: &mut Packet, bytes: &[u8], from: Peer, now: u64) -> Heard
         Ok(()) => Heard::Datagram { from, now },
         Err(_) => Heard::Oversize { now },
     }
+}
+
+/// Hands a datagram to the system, once more where a signal interrupts it.
+fn hand_over(socket: &Socket, to: Peer, bytes: &[u8]) -> io::Result<()> {
+    for _ in 0..TRIES {
+        match socket.send(to, bytes) {
+            Err(e) if e.kind() == io::ErrorKind::Interrupted => {}
+            sent => return sent,
+        }
+    }
+    Err(io::Error::from(io::ErrorKind::Interrupted))
 }
