@@ -121,13 +121,14 @@ ssize_t recvfrom(int file, void *bytes, size_t size, int flags, struct sockaddr 
 }
 
 /* What the system does with a send that finds no room. */
-static ssize_t wait_for_room(int file) {
+static ssize_t wait_for_room(int file, int flags) {
     struct timeval wait = {0, 0};
     socklen_t length = sizeof wait;
     getsockopt(file, SOL_SOCKET, SO_SNDTIMEO, &wait, &length);
     int never_ends = wait.tv_sec == 0 && wait.tv_usec == 0;
     struct timespec time = {never_ends ? 3600 : wait.tv_sec, wait.tv_usec * 1000};
-    if (!(fcntl(file, F_GETFL) & O_NONBLOCK) && nanosleep(&time, NULL)) { errno = EINTR; return -1; }
+    int waits = !(flags & MSG_DONTWAIT) && !(fcntl(file, F_GETFL) & O_NONBLOCK);
+    if (waits && nanosleep(&time, NULL)) { errno = EINTR; return -1; }
     errno = EAGAIN;
     return -1;
 }
@@ -135,7 +136,7 @@ static ssize_t wait_for_room(int file) {
 ssize_t sendto(int file, const void *bytes, size_t size, int flags, const struct sockaddr *to, socklen_t length) {
     if (is_interrupted()) return -1;
     if (++sends <= fail_send) { errno = with; return -1; }
-    if (stall && ntohs(((const struct sockaddr_in *)to)->sin_port) == stall) return wait_for_room(file);
+    if (stall && ntohs(((const struct sockaddr_in *)to)->sin_port) == stall) return wait_for_room(file, flags);
     return real_sendto(file, bytes, size, flags, to, length);
 }
 
