@@ -7,18 +7,22 @@
 # make world   schedules for both ends, held against the laws and the second implementation: SCHEDULES=8000 SEED=1
 # make law     histories of events, held against the law by events, and wrong devices: HISTORIES=2000 SEED=1
 # make bench   instructions, memory by size, requests a second beside bare loops, with the goals
-# make install puts the programs, their manual pages and the library for C below PREFIX (of DESTDIR); the library is proved
-#              and built anew where a source is newer, bin is taken as it is (make build first)
+# make install puts the programs, their manual pages and the library for C below PREFIX (of DESTDIR); what is not built yet is
+#              proved and built first (make build, make library), and built anew where a source is newer
+# make library proves and builds the library for C: TARGET=aarch64-unknown-linux-gnu for another kind of processor, which
+#              `make install-library` then puts into a folder of its own
+# make uninstall takes away what was installed
 COMMANDS = 200
 SECONDS = 60
 SCHEDULES = 8000
 HISTORIES = 2000
 SEED = 1
 PREFIX = /usr/local
-LIBRARY = crates/oca_c/out/liboca_c.a
+TARGET = x86_64-unknown-linux-gnu
+LIBRARY = crates/oca_c/out/$(TARGET)/liboca_c.a
 PROGRAMS = ocadev ocactl
 BUILD = python3 gate/build.py bin
-.PHONY: build demo test lossy fuzz world law bench install install-library clean
+.PHONY: build demo test lossy fuzz world law bench library install install-library uninstall clean
 
 demo:
 	@echo "Building by 'rt try' and running the examples; nothing is proved yet by that. This takes about a minute."
@@ -57,22 +61,23 @@ bench: build
 	python3 bench/memory.py bin
 	python3 bench/sockets.py bin
 
+export PREFIX DESTDIR LIBRARY
+
 install: install-library
 	@test -x bin/ocactl || $(MAKE) build
-	install -d "$(DESTDIR)$(PREFIX)/bin" "$(DESTDIR)$(PREFIX)/share/man/man1"
-	install -m 755 bin/ocadev bin/ocactl "$(DESTDIR)$(PREFIX)/bin"
-	install -m 644 man/ocadev.1 man/ocactl.1 "$(DESTDIR)$(PREFIX)/share/man/man1"
+	@sh gate/install.sh install programs
 
-# liboca.a is liboca_c.a with the toolchain's heap over malloc; liboca_c.a is for a heap of the program's own
 install-library: $(LIBRARY)
-	install -d "$(DESTDIR)$(PREFIX)/include" "$(DESTDIR)$(PREFIX)/lib/pkgconfig"
-	install -m 644 include/oca.h "$(DESTDIR)$(PREFIX)/include"
-	install -m 644 $(LIBRARY) "$(DESTDIR)$(PREFIX)/lib/liboca_c.a"
-	cd "$(DESTDIR)$(PREFIX)/lib" && printf 'create liboca.a\naddlib liboca_c.a\naddlib %s\nsave\nend\n' $(dir $(shell rt doc))c/liblibc_c.a | ar -M
-	sed 's|@PREFIX@|$(PREFIX)|' include/oca.pc.in > "$(DESTDIR)$(PREFIX)/lib/pkgconfig/oca.pc"
+	@sh gate/install.sh install library $(TARGET)
 
-crates/oca_c/out/liboca_c.a: $(foreach name,c types pdu tree session net device control,$(wildcard crates/oca_$(name)/src/*.rt crates/oca_$(name)/specs/*.antt crates/oca_$(name)/proofs/*.antt))
-	cd crates/oca_c && rt lib && touch out/liboca_c.a
+uninstall:
+	@sh gate/install.sh uninstall programs
+	@sh gate/install.sh uninstall library $(TARGET)
+
+library: $(LIBRARY)
+
+crates/oca_c/out/$(TARGET)/liboca_c.a: $(foreach name,c types pdu tree session net device control,$(wildcard crates/oca_$(name)/src/*.rt crates/oca_$(name)/specs/*.antt crates/oca_$(name)/proofs/*.antt))
+	@python3 gate/library.py $(TARGET)
 
 clean:
 	rm -rf bin crates/*/out out

@@ -3,8 +3,9 @@
 
 Usage: build.py FOLDER PROGRAM..     each program is copied into FOLDER
 
-A library is built as `rt lib` builds it, over what earlier checks kept in out/; `rt lib` itself lets no two crates be
-built at once that share one below them. A line is printed for each crate as it ends."""
+A library is built as `rt lib` builds it, over what earlier checks kept in out/, here or in other copies of the
+repository on this machine; `rt lib` itself lets no two crates be built at once that share one below them. A line is
+printed for each crate as it ends."""
 import importlib.machinery
 import importlib.util
 import os
@@ -13,72 +14,55 @@ import subprocess
 import sys
 import tempfile
 import time
-from concurrent.futures import FIRST_COMPLETED, ThreadPoolExecutor, wait
 from pathlib import Path
 
 TOP = Path(__file__).resolve().parent.parent
 # What a program is run with to be built: words that only print.
 WORDS = {"trials": ["calls"], "amplifier": [], "panel": []}
-MEMORY_OF_A_CHECK = 3_500_000_000
 
 
 def toolchain():
-    """The toolchain's own library, beside its command."""
-    folder = os.path.dirname(os.path.realpath(shutil.which("rt")))
-    loader = importlib.machinery.SourceFileLoader("rtlib", f"{folder}/rtlib.py")
-    made = importlib.util.module_from_spec(importlib.util.spec_from_loader("rtlib", loader))
-    sys.modules["rtlib"] = made
-    loader.exec_module(made)
-    made.guarded()
+    """The toolchain's own command, as a module. What its checks keep is taken from other copies, and given to them."""
+    sys.dont_write_bytecode = True
+    path = os.path.realpath(shutil.which("rt") or sys.exit("build: there is no rt"))
+    spec = importlib.util.spec_from_loader("rt", importlib.machinery.SourceFileLoader("rt", path))
+    made = importlib.util.module_from_spec(spec)
+    spec.loader.exec_module(made)
+    if hasattr(made, "share_work"):  # not in each release of the toolchain
+        made.share_work(is_alone=True)
+    made.rtlib.guarded()
     return made
 
 
-def lanes():
-    """How many checks run side by side: one a processor, as far as memory goes."""
-    with open("/proc/meminfo") as info:
-        free = next(1024 * int(line.split()[1]) for line in info if line.startswith("MemAvailable"))
-    return max(1, min(len(os.sched_getaffinity(0)), free // MEMORY_OF_A_CHECK))
-
-
-def most_behind(crates):
-    """For each crate how many bytes of source stand on its longest chain of crates above, itself counted."""
-    behind = {}
-    for crate in sorted(crates, key=lambda it: -len(it.below())):
-        above = [behind[it] for it in behind if crate in it.below()]
-        behind[crate] = crate.count(b"\n") + max(above, default=0)
-    return behind
-
-
 def build_library(crate, jobs):
-    """Builds a library; what the prover says of one that fails is shown."""
+    """Builds a library; what the prover says of one that fails is shown. Answers whether it is built, and its seconds."""
     begun = time.monotonic()
     with tempfile.TemporaryFile("w+", errors="replace") as crate.out:
         status = crate.build_rlib(["--jobs", str(jobs)], anew=False)
         crate.out.seek(0)
         if status:
             print(crate.out.read(), end="")
-    return status, time.monotonic() - begun
+    return status == 0, time.monotonic() - begun
 
 
-def build_libraries(crates):
-    """Builds libraries, each after those below it; answers whether all are built."""
-    behind, at_once, ended = most_behind(crates), lanes(), []
-    left, running = sorted(crates, key=lambda it: -behind[it]), {}
-    with ThreadPoolExecutor(at_once) as pool:
-        while left or running:
-            ready = [it for it in left if all(below in ended for below in it.below())][:at_once - len(running)]
-            for crate in ready:
-                left.remove(crate)
-                spare = at_once if not running and len(ready) == 1 else 1
-                running[pool.submit(build_library, crate, spare)] = crate
-            if not running:
-                return False
-            for done in wait(running, return_when=FIRST_COMPLETED).done:
-                crate, (status, seconds) = running.pop(done), done.result()
-                ended += [] if status else [crate]
-                told = "proved" if not status else "NOT PROVED"
-                print(f"build: {len(ended)} of {len(crates)} libraries: {crate.name} {told}, {seconds:.0f} s", flush=True)
-    return True
+def build_libraries(rt, crates):
+    """Builds libraries, each after those below it, and answers whether all are built. The toolchain's own lanes say which are built side
+    by side, by how many processors and by memory: those with the longest chain of others above them first."""
+    ended = []
+
+    def build(crate, given, jobs):
+        if not all(given[it.name, "proof"] for it in crate.below()):
+            return False
+        is_built, seconds = build_library(crate, jobs)
+        ended.append(crate)
+        print(f"build: {len(ended)} of {len(crates)} libraries: {crate.name} {'proved' if is_built else 'NOT PROVED'}, {seconds:.0f} s", flush=True)
+        return is_built
+
+    tasks = {}
+    for crate in sorted(crates, key=lambda it: len(it.below())):
+        waits = [(it.name, "proof") for it in crate.below()]
+        tasks[crate.name, "proof"] = (waits, crate.count(rb"\n"), rt.need(crate), lambda given, jobs, it=crate: build(it, given, jobs))
+    return all(rt.in_lanes(tasks).values())
 
 
 def build_program(name, folder):
@@ -95,13 +79,13 @@ def build_program(name, folder):
 
 def main():
     folder, names = Path(sys.argv[1]), sys.argv[2:]
-    begun, rtlib = time.monotonic(), toolchain()
+    begun, rt = time.monotonic(), toolchain()
     os.chdir(TOP)
-    crates = {it.name: it for it in rtlib.crates_below(str(TOP))}
+    crates = {it.name: it for it in rt.rtlib.crates_below(str(TOP))}
     libraries = {below for name in names for below in crates[name].below()}
     folder.mkdir(exist_ok=True)
-    held = rtlib.lock(list(libraries))
-    built = build_libraries(libraries)
+    held = rt.rtlib.lock(list(libraries))
+    built = build_libraries(rt, libraries)
     for it in held:
         os.close(it)
     good = built and all([build_program(name, folder) for name in names])

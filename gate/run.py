@@ -4,11 +4,12 @@
 Usage: run.py                    all of it
        run.py steps [FILE]       the steps alone, of this file
 
-The steps of a paragraph run two at a time. What a step prints is shown as a whole when it ends, with its minutes; a
-paragraph begins when the one before it is over. A step has failed where one of its checks failed, it ended with another
-status than 0, it passed fewer checks than its line names, or it did not end in the minutes that its line allows. The
-gate has failed too where a line of the steps can't be read, and where a tool of the gate stands in no step. The last
-line is 'N passed, M failed' over all of it, and the exit status 1 where anything failed."""
+The steps of a paragraph run three at a time, since most of them wait, begun in their order. What a step prints is shown
+when it ends, with its minutes: as a whole where it failed, else its last lines; a paragraph begins when the one before
+it is over. A step has failed where one of its checks failed, it ended with another status than 0, it passed fewer
+checks than its line names, or it did not end in the minutes that its line allows. The gate has failed too where a line
+of the steps can't be read, and where a tool of the gate stands in no step. The last lines are a table of the minutes,
+and 'N passed, M failed' over all of it; the exit status is 1 where anything failed."""
 import os
 import re
 import resource
@@ -16,13 +17,15 @@ import signal
 import subprocess
 import sys
 import time
-from concurrent.futures import ThreadPoolExecutor
+from concurrent.futures import ThreadPoolExecutor, as_completed
 from pathlib import Path
 
 HERE = Path(__file__).resolve().parent
 TOP = HERE.parent
-BESIDE = 2
+BESIDE = 3
+LAST_LINES = 12  # so many are shown of a step that passed
 RUNNING = []
+TABLE = []  # a line for each command that has ended
 
 
 class Step:
@@ -71,8 +74,10 @@ def counted(last, status, least):
     return passed, failed + bool(why), why
 
 
-def took(command, begun, why=""):
-    told = f"gate: {(time.monotonic() - begun) / 60:.1f} minutes for {command[:60]}"
+def took(command, begun, passed, failed, why=""):
+    minutes = (time.monotonic() - begun) / 60
+    TABLE.append(f"gate: {minutes:5.1f} minutes, {passed:5} passed, {failed} failed: {command[:60]}")
+    told = f"gate: {minutes:.1f} minutes for {command[:60]}"
     return f"gate: FAILED: {why}: {command[:60]}\n{told}" if why else told
 
 
@@ -85,7 +90,7 @@ def watched(command, least):
             print(line, end="", flush=True)
             last = line.strip() or last
     passed, failed, why = counted(last, process.returncode, least)
-    print(took(command, begun, why), flush=True)
+    print(took(command, begun, passed, failed, why), flush=True)
     return passed, failed
 
 
@@ -100,7 +105,8 @@ def kept(step):
             end(process)
             text, status = process.communicate()[0] + "\nit took too long and was ended\n", 1
     passed, failed, why = counted(last_line(text), status, step.least)
-    return (passed, failed), f"gate: {step.command}\n{text}{took(step.command, begun, why)}"
+    shown = text if failed else "".join(text.splitlines(keepends=True)[-LAST_LINES:])
+    return (passed, failed), f"gate: {step.command}\n{shown}{took(step.command, begun, passed, failed, why)}"
 
 
 def paragraphs(file):
@@ -135,11 +141,12 @@ def run_steps(parts):
     with ThreadPoolExecutor(BESIDE) as pool:
         for steps in parts:
             begun, used = time.monotonic(), processor_minutes()
-            for count, text in pool.map(kept, steps):
+            for ended in as_completed([pool.submit(kept, step) for step in steps]):
+                count, text = ended.result()
                 print(text, flush=True)
                 counts.append(count)
-            print(f"gate: {(time.monotonic() - begun) / 60:.1f} minutes, {processor_minutes() - used:.1f} processor minutes "
-                  f"for {len(steps)} steps", flush=True)
+            minutes = (time.monotonic() - begun) / 60
+            print(f"gate: {minutes:.1f} minutes, {processor_minutes() - used:.1f} processor minutes for {len(steps)} steps", flush=True)
     return counts
 
 
@@ -167,6 +174,7 @@ def main(words):
         print(f"gate: {processor_minutes():.1f} processor minutes for rt ci", flush=True)
     counts += [(0, len(wrong))] + run_steps([[step for step in part if step.is_read] for part in parts])
     passed, failed = (sum(of) for of in zip(*counts))
+    print("\n".join(TABLE))
     print(f"gate: {(time.monotonic() - begun) / 60:.1f} minutes, {processor_minutes():.1f} processor minutes in all")
     print(f"{passed} passed, {failed} failed", flush=True)
     return 1 if failed or not passed else 0

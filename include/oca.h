@@ -1,5 +1,6 @@
 /* An OCA (AES70) device and a controller's link to one, for C. Link liboca.a, which has both with the heap's calls, or
- * liboca_c.a and a heap of your own (examples/c/heap.c).
+ * liboca_c.a and a heap of your own (examples/c/heap.c). Built by `make install-library` it runs on every x86-64, and on every AArch64,
+ * with Linux; it needs 64 bits.
  *
  * A device is one struct oca_device, and a link one struct oca_link, zeroed before the first call: then it is closed. A call
  * answers OCA_DONE, or another number of enum oca_result; what it would have told is then not to be read (but how many there
@@ -8,7 +9,7 @@
  * not go back. Nothing here opens a socket, reads a clock or starts a thread.
  *
  * What the caller promises, at every call (no proof sees the C side):
- *  - each pointer is not null, also where its length is 0, and leads to that much memory that holds values (zero what is only
+ *  - each pointer is not null (but at a close and where it is said), also where its length is 0, and leads to that much memory that holds values (zero what is only
  *    written to); no two parameters of a call overlap;
  *  - a bool is 0 or 1;
  *  - the struct is as the last call left it, or zeroed; it may be moved, but never copied and both copies used;
@@ -26,9 +27,18 @@
 extern "C" {
 #endif
 
+/* A pointer that is null, and a result that nobody looks at, are warned of where the compiler can; on others this is empty. */
+#if defined(__GNUC__)
+#define OCA_NONNULL __attribute__((nonnull))
+#define OCA_CHECKED __attribute__((nonnull, warn_unused_result))
+#else
+#define OCA_NONNULL
+#define OCA_CHECKED
+#endif
+
 /* The version of this header: 65,536 for each major one, 256 for each minor one, 1 for each patch. A library of the same major
  * version and at least this minor one keeps what this header says. */
-#define OCA_VERSION 0x010100u
+#define OCA_VERSION 0x010200u
 uint32_t oca_version(void);
 
 enum oca_result {
@@ -48,34 +58,174 @@ enum oca_result {
     /* Of a setting at the front, the first that applies: no such object; a block; another kind of value; out of range. */
     OCA_NO_OBJECT = 16, OCA_NO_SETTING = 17, OCA_OTHER_KIND = 18, OCA_OUT_OF_RANGE = 19,
     /* Of a submission, the first that applies: the link is lost; no handle is left; the span is full; above 1,445 bytes. */
-    OCA_LOST = 20, OCA_HANDLES_SPENT = 21, OCA_SPAN_FULL = 22, OCA_TOO_LONG = 23
+    OCA_LOST = 20, OCA_HANDLES_SPENT = 21, OCA_SPAN_FULL = 22, OCA_TOO_LONG = 23,
+    OCA_NO_VALUE = 24 /* the words are those of no value, or the answer gives none of the class */
 };
+
+/* A result in words, for a log. */
+static inline const char *oca_result_text(uint32_t result) {
+    switch (result) {
+    case OCA_DONE: return "done";
+    case OCA_FULL: return "there is no room for another object";
+    case OCA_RESERVED: return "the number is below 4096";
+    case OCA_TAKEN: return "the number is taken";
+    case OCA_NO_SUCH_BLOCK: return "the container is no block of the tree";
+    case OCA_TOO_DEEP: return "the object would stand at depth 9";
+    case OCA_BAD_TEXT: return "a text is empty or has more than 64 bytes";
+    case OCA_BAD_RANGE: return "the setting is outside its range";
+    case OCA_NO_MEMORY: return "no memory";
+    case OCA_CLOSED: return "the struct is closed";
+    case OCA_OPEN: return "the struct is open";
+    case OCA_NOT_STARTED: return "the device is not started";
+    case OCA_STARTED: return "the device is started";
+    case OCA_NOTHING: return "there is nothing";
+    case OCA_TOO_SMALL: return "there is no room for all";
+    case OCA_BAD_SIZE: return "a size is outside its range";
+    case OCA_NO_OBJECT: return "there is no such object";
+    case OCA_NO_SETTING: return "a block has no setting";
+    case OCA_OTHER_KIND: return "the object is set by another kind of value";
+    case OCA_OUT_OF_RANGE: return "the value is out of range";
+    case OCA_LOST: return "the link is lost";
+    case OCA_HANDLES_SPENT: return "no handle is left";
+    case OCA_SPAN_FULL: return "the next handle is not below the lowest untaken one plus the span";
+    case OCA_TOO_LONG: return "the parameters have more than 1,445 bytes";
+    case OCA_NO_VALUE: return "there is no such value";
+    default: return "a result of a later version";
+    }
+}
 
 /* The most bytes of a datagram and of an answer's parameters, and the most objects that a datagram writes to (a command has 17 bytes
  * at least): room for so many always suffices. */
 enum { OCA_MOST_BYTES = 1472, OCA_MOST_ANSWER = 1452, OCA_MOST_WRITTEN = 86 };
 
+/* ---- numbers of AES70 ---- */
+
+/* The statuses of a response (AES70-2, OcaStatus). */
+enum oca_status {
+    OCA_STATUS_OK = 0, OCA_STATUS_PROTOCOL_VERSION_ERROR = 1, OCA_STATUS_DEVICE_ERROR = 2, OCA_STATUS_LOCKED = 3, OCA_STATUS_BAD_FORMAT = 4,
+    OCA_STATUS_BAD_ONO = 5, OCA_STATUS_PARAMETER_ERROR = 6, OCA_STATUS_PARAMETER_OUT_OF_RANGE = 7, OCA_STATUS_NOT_IMPLEMENTED = 8,
+    OCA_STATUS_INVALID_REQUEST = 9, OCA_STATUS_PROCESSING_FAILED = 10, OCA_STATUS_BAD_METHOD = 11, OCA_STATUS_PARTIALLY_SUCCEEDED = 12,
+    OCA_STATUS_TIMEOUT = 13, OCA_STATUS_BUFFER_OVERFLOW = 14
+};
+
+/* The name of a status; a null pointer for a number that none has. */
+static inline const char *oca_status_text(uint32_t status) {
+    static const char *const names[] = {"OK", "ProtocolVersionError", "DeviceError", "Locked", "BadFormat", "BadONo", "ParameterError",
+        "ParameterOutOfRange", "NotImplemented", "InvalidRequest", "ProcessingFailed", "BadMethod", "PartiallySucceeded", "Timeout",
+        "BufferOverflow"};
+    return status < sizeof names / sizeof *names ? names[status] : NULL;
+}
+
+/* The methods that a device carries out: the level in the upper 16 bits, the index in the lower ones. State is a mute's and a polarity's,
+ * position a switch's, setting a Boolean's and an integer's. */
+enum oca_method {
+    OCA_GET_CLASS_IDENTIFICATION = 0x10001, OCA_GET_LOCKABLE = 0x10002, OCA_LOCK_TOTAL = 0x10003, OCA_UNLOCK = 0x10004, OCA_GET_ROLE = 0x10005,
+    OCA_LOCK_READONLY = 0x10006, OCA_GET_ENABLED = 0x20001, OCA_SET_ENABLED = 0x20002, OCA_GET_LABEL = 0x20008, OCA_SET_LABEL = 0x20009,
+    OCA_GET_OWNER = 0x2000a, OCA_GET_MEMBERS = 0x30005, OCA_GET_MEMBERS_RECURSIVE = 0x30006, OCA_GET_STATE = 0x40001, OCA_SET_STATE = 0x40002,
+    OCA_GET_POSITION = 0x40001, OCA_SET_POSITION = 0x40002, OCA_GET_POSITION_NAME = 0x40003, OCA_SET_POSITION_NAME = 0x40004,
+    OCA_GET_POSITION_NAMES = 0x40005, OCA_SET_POSITION_NAMES = 0x40006, OCA_GET_POSITION_ENABLED = 0x40007,
+    OCA_SET_POSITION_ENABLED = 0x40008, OCA_GET_POSITION_ENABLEDS = 0x40009, OCA_SET_POSITION_ENABLEDS = 0x4000a,
+    OCA_GET_SETTING = 0x50001, OCA_SET_SETTING = 0x50002
+};
+
+/* The first fault of a malformed datagram. */
+enum oca_fault {
+    OCA_FAULT_EMPTY = 1, OCA_FAULT_TOO_LONG = 2, OCA_FAULT_SYNC = 3, OCA_FAULT_VERSION = 4, OCA_FAULT_PDU_SIZE = 5, OCA_FAULT_PDU_TYPE = 6,
+    OCA_FAULT_COUNT = 7, OCA_FAULT_MESSAGE_SIZE = 8, OCA_FAULT_TRUNCATED = 9
+};
+
+/* The classes, by the numbers that an object's is told by. */
+enum oca_class {
+    OCA_CLASS_BLOCK = 1, OCA_CLASS_MUTE = 2, OCA_CLASS_POLARITY = 3, OCA_CLASS_SWITCH = 4, OCA_CLASS_BOOLEAN = 5, OCA_CLASS_INT8 = 6,
+    OCA_CLASS_INT16 = 7, OCA_CLASS_INT32 = 8, OCA_CLASS_INT64 = 9, OCA_CLASS_UINT8 = 10, OCA_CLASS_UINT16 = 11, OCA_CLASS_UINT32 = 12,
+    OCA_CLASS_UINT64 = 13
+};
+
+/* The states of a mute and of a polarity, and the kinds of a lock. */
+enum oca_mute_state { OCA_MUTED = 1, OCA_UNMUTED = 2 };
+enum oca_polarity_state { OCA_NON_INVERTED = 1, OCA_INVERTED = 2 };
+enum oca_lock_kind { OCA_LOCKED_TOTAL = 1, OCA_LOCKED_READONLY = 2 };
+
+/* ---- values ---- */
+
+/* A value: the number of its class (2 to 13), 0, and its number in 64 bits: of a state (1 or 2), a position, a truth (0 or 1) or a
+ * setting, a signed one in two's complement. The functions below make one. Words of fixed size, the same on every compiler. */
+struct oca_value { uint32_t class_number, zero; uint64_t bits; };
+
+/* A value, and the least and the greatest that the object can be set to: of a position and of an integer; else both are the value. */
+struct oca_reading { struct oca_value value, least, greatest; };
+
+/* The value of a class with these bits, and one of each class. */
+static inline struct oca_value oca_value_of(uint32_t class_number, uint64_t bits) {
+    struct oca_value value = {class_number, 0, bits};
+    return value;
+}
+static inline struct oca_value oca_mute(bool muted) { return oca_value_of(OCA_CLASS_MUTE, muted ? OCA_MUTED : OCA_UNMUTED); }
+static inline struct oca_value oca_polarity(bool inverted) { return oca_value_of(OCA_CLASS_POLARITY, inverted ? OCA_INVERTED : OCA_NON_INVERTED); }
+static inline struct oca_value oca_position(uint16_t position) { return oca_value_of(OCA_CLASS_SWITCH, position); }
+static inline struct oca_value oca_boolean(bool setting) { return oca_value_of(OCA_CLASS_BOOLEAN, setting ? 1 : 0); }
+static inline struct oca_value oca_int8(int8_t setting) { return oca_value_of(OCA_CLASS_INT8, (uint64_t)(int64_t)setting); }
+static inline struct oca_value oca_int16(int16_t setting) { return oca_value_of(OCA_CLASS_INT16, (uint64_t)(int64_t)setting); }
+static inline struct oca_value oca_int32(int32_t setting) { return oca_value_of(OCA_CLASS_INT32, (uint64_t)(int64_t)setting); }
+static inline struct oca_value oca_int64(int64_t setting) { return oca_value_of(OCA_CLASS_INT64, (uint64_t)setting); }
+static inline struct oca_value oca_uint8(uint8_t setting) { return oca_value_of(OCA_CLASS_UINT8, setting); }
+static inline struct oca_value oca_uint16(uint16_t setting) { return oca_value_of(OCA_CLASS_UINT16, setting); }
+static inline struct oca_value oca_uint32(uint32_t setting) { return oca_value_of(OCA_CLASS_UINT32, setting); }
+static inline struct oca_value oca_uint64(uint64_t setting) { return oca_value_of(OCA_CLASS_UINT64, setting); }
+
+/* A value within limits, and one of a class without; and the number of a signed value. */
+static inline struct oca_reading oca_within(struct oca_value value, struct oca_value least, struct oca_value greatest) {
+    struct oca_reading reading = {value, least, greatest};
+    return reading;
+}
+static inline struct oca_reading oca_alone(struct oca_value value) { return oca_within(value, value, value); }
+static inline int64_t oca_value_signed(struct oca_value value) { return (int64_t)value.bits; }
+
+/* The bytes of the value as a set method has them for its one parameter: 1 to 8, and how many they are. OCA_NO_VALUE where the words are
+ * those of no value. */
+enum oca_result oca_value_put(const struct oca_value *value, uint8_t *out, size_t out_len, size_t *len) OCA_NONNULL;
+
+/* What the parameters of an answer give of an object of the class that was read. OCA_NO_VALUE where they are no such answer, and for a
+ * block. */
+enum oca_result oca_value_read(uint32_t class_number, const uint8_t *params, size_t params_len, struct oca_reading *reading) OCA_NONNULL;
+
+/* What is asked of an object: the method's level and index, ParamCount, and so many bytes of parameters. */
+struct oca_request { uint16_t level, index; uint8_t count, size; uint8_t params[8]; };
+
+/* What sets an object to the value, and what reads an object of the class. OCA_NO_VALUE where there is no such value, and for a block. */
+enum oca_result oca_set_request(const struct oca_value *value, struct oca_request *request) OCA_NONNULL;
+enum oca_result oca_get_request(uint32_t class_number, struct oca_request *request) OCA_NONNULL;
+
 /* ---- the device ---- */
 
 struct oca_device { void *at; bool is_open; };
 
+/* A closed one: struct oca_device device = OCA_DEVICE_INIT; */
+#define OCA_DEVICE_INIT {NULL, false}
+
 /* Opens a device that has its root alone (the block 100), with room for so many objects, the root counted: 1 to 4,096. */
-uint32_t oca_device_open(struct oca_device *device, uint16_t room);
+enum oca_result oca_device_open(struct oca_device *device, uint16_t room) OCA_CHECKED;
+
+/* Closes a device and gives its memory back; a closed one stays closed, and at a null pointer nothing is done. */
 void oca_device_close(struct oca_device *device);
+static inline void oca_device_close_any(struct oca_device *device) {
+    if (device) oca_device_close(device);
+}
+#define oca_device_close(device) oca_device_close_any(device)
 
 /* The tree, from its root (the block 100) on, before the start. `muted` and `inverted` are the states at first. */
-uint32_t oca_device_add_block(struct oca_device *device, uint32_t container, uint32_t ono, const uint8_t *role, size_t role_len, bool lockable);
-uint32_t oca_device_add_mute(struct oca_device *device, uint32_t container, uint32_t ono, const uint8_t *role, size_t role_len, bool lockable, bool muted);
-uint32_t oca_device_add_polarity(struct oca_device *device, uint32_t container, uint32_t ono, const uint8_t *role, size_t role_len, bool lockable, bool inverted);
-uint32_t oca_device_add_boolean(struct oca_device *device, uint32_t container, uint32_t ono, const uint8_t *role, size_t role_len, bool lockable, bool setting);
-uint32_t oca_device_add_int8(struct oca_device *device, uint32_t container, uint32_t ono, const uint8_t *role, size_t role_len, bool lockable, int8_t setting, int8_t least, int8_t greatest);
-uint32_t oca_device_add_int16(struct oca_device *device, uint32_t container, uint32_t ono, const uint8_t *role, size_t role_len, bool lockable, int16_t setting, int16_t least, int16_t greatest);
-uint32_t oca_device_add_int32(struct oca_device *device, uint32_t container, uint32_t ono, const uint8_t *role, size_t role_len, bool lockable, int32_t setting, int32_t least, int32_t greatest);
-uint32_t oca_device_add_int64(struct oca_device *device, uint32_t container, uint32_t ono, const uint8_t *role, size_t role_len, bool lockable, int64_t setting, int64_t least, int64_t greatest);
-uint32_t oca_device_add_uint8(struct oca_device *device, uint32_t container, uint32_t ono, const uint8_t *role, size_t role_len, bool lockable, uint8_t setting, uint8_t least, uint8_t greatest);
-uint32_t oca_device_add_uint16(struct oca_device *device, uint32_t container, uint32_t ono, const uint8_t *role, size_t role_len, bool lockable, uint16_t setting, uint16_t least, uint16_t greatest);
-uint32_t oca_device_add_uint32(struct oca_device *device, uint32_t container, uint32_t ono, const uint8_t *role, size_t role_len, bool lockable, uint32_t setting, uint32_t least, uint32_t greatest);
-uint32_t oca_device_add_uint64(struct oca_device *device, uint32_t container, uint32_t ono, const uint8_t *role, size_t role_len, bool lockable, uint64_t setting, uint64_t least, uint64_t greatest);
+enum oca_result oca_device_add_block(struct oca_device *device, uint32_t container, uint32_t ono, const uint8_t *role, size_t role_len, bool lockable) OCA_CHECKED;
+enum oca_result oca_device_add_mute(struct oca_device *device, uint32_t container, uint32_t ono, const uint8_t *role, size_t role_len, bool lockable, bool muted) OCA_CHECKED;
+enum oca_result oca_device_add_polarity(struct oca_device *device, uint32_t container, uint32_t ono, const uint8_t *role, size_t role_len, bool lockable, bool inverted) OCA_CHECKED;
+enum oca_result oca_device_add_boolean(struct oca_device *device, uint32_t container, uint32_t ono, const uint8_t *role, size_t role_len, bool lockable, bool setting) OCA_CHECKED;
+enum oca_result oca_device_add_int8(struct oca_device *device, uint32_t container, uint32_t ono, const uint8_t *role, size_t role_len, bool lockable, int8_t setting, int8_t least, int8_t greatest) OCA_CHECKED;
+enum oca_result oca_device_add_int16(struct oca_device *device, uint32_t container, uint32_t ono, const uint8_t *role, size_t role_len, bool lockable, int16_t setting, int16_t least, int16_t greatest) OCA_CHECKED;
+enum oca_result oca_device_add_int32(struct oca_device *device, uint32_t container, uint32_t ono, const uint8_t *role, size_t role_len, bool lockable, int32_t setting, int32_t least, int32_t greatest) OCA_CHECKED;
+enum oca_result oca_device_add_int64(struct oca_device *device, uint32_t container, uint32_t ono, const uint8_t *role, size_t role_len, bool lockable, int64_t setting, int64_t least, int64_t greatest) OCA_CHECKED;
+enum oca_result oca_device_add_uint8(struct oca_device *device, uint32_t container, uint32_t ono, const uint8_t *role, size_t role_len, bool lockable, uint8_t setting, uint8_t least, uint8_t greatest) OCA_CHECKED;
+enum oca_result oca_device_add_uint16(struct oca_device *device, uint32_t container, uint32_t ono, const uint8_t *role, size_t role_len, bool lockable, uint16_t setting, uint16_t least, uint16_t greatest) OCA_CHECKED;
+enum oca_result oca_device_add_uint32(struct oca_device *device, uint32_t container, uint32_t ono, const uint8_t *role, size_t role_len, bool lockable, uint32_t setting, uint32_t least, uint32_t greatest) OCA_CHECKED;
+enum oca_result oca_device_add_uint64(struct oca_device *device, uint32_t container, uint32_t ono, const uint8_t *role, size_t role_len, bool lockable, uint64_t setting, uint64_t least, uint64_t greatest) OCA_CHECKED;
 
 /* A name of a switch's position: how many bytes it has, at most 64, and they, in UTF-8. In a table: {3, "off"}. */
 struct oca_name { uint8_t size; uint8_t text[64]; };
@@ -92,11 +242,11 @@ static inline struct oca_name oca_name_of(const char *text) {
 }
 
 /* A switch with 1 to 16 positions, all enabled, and the one that it stands at, counted from 0. */
-uint32_t oca_device_add_switch(struct oca_device *device, uint32_t container, uint32_t ono, const uint8_t *role, size_t role_len, bool lockable, const struct oca_name *names, size_t names_len, uint16_t position);
+enum oca_result oca_device_add_switch(struct oca_device *device, uint32_t container, uint32_t ono, const uint8_t *role, size_t role_len, bool lockable, const struct oca_name *names, size_t names_len, uint16_t position) OCA_CHECKED;
 
 /* Starts the device, with reply windows of this size (1 to 64; 32 is usual) and sessions of so many peers (1 to 64; 16 is usual).
  * OCA_NO_MEMORY loses the objects: close the struct, and begin anew. */
-uint32_t oca_device_start(struct oca_device *device, uint8_t window, uint8_t peers);
+enum oca_result oca_device_start(struct oca_device *device, uint8_t window, uint8_t peers) OCA_CHECKED;
 
 /* What became of a datagram. `kind` is 0 for one that was served, with how many of its commands were executed, were duplicates, were
  * too old and asked something else under a known handle; 1 for a malformed one, with its first fault (1 to 9) and where it lies; 2
@@ -104,43 +254,42 @@ uint32_t oca_device_start(struct oca_device *device, uint8_t window, uint8_t pee
 struct oca_verdict { uint32_t kind, executed, kept, old, reused, fault, at; };
 
 /* Hands a datagram over. Its answers are then there until the next one, all for its sender. The verdict goes to `words` words. */
-uint32_t oca_device_datagram_words(struct oca_device *device, uint32_t ip, uint16_t port, const uint8_t *bytes, size_t len, uint64_t now, uint32_t *verdict, size_t words);
-static inline uint32_t oca_device_datagram(struct oca_device *device, uint32_t ip, uint16_t port, const uint8_t *bytes, size_t len, uint64_t now, struct oca_verdict *verdict) {
+enum oca_result oca_device_datagram_words(struct oca_device *device, uint32_t ip, uint16_t port, const uint8_t *bytes, size_t len, uint64_t now, uint32_t *verdict, size_t words) OCA_NONNULL;
+static inline enum oca_result oca_device_datagram(struct oca_device *device, uint32_t ip, uint16_t port, const uint8_t *bytes, size_t len, uint64_t now, struct oca_verdict *verdict) {
     return oca_device_datagram_words(device, ip, port, bytes, len, now, &verdict->kind, sizeof *verdict / sizeof verdict->kind);
 }
-uint32_t oca_device_packets(struct oca_device *device, size_t *count);
-uint32_t oca_device_packet(struct oca_device *device, size_t i, uint8_t *out, size_t out_len, size_t *len);
+
+/* How many packets the last datagram's answers are, and the bytes of each, by its index from 0: OCA_NOTHING behind the last. */
+enum oca_result oca_device_packets(struct oca_device *device, size_t *count) OCA_NONNULL;
+enum oca_result oca_device_packet(struct oca_device *device, size_t i, uint8_t *out, size_t out_len, size_t *len) OCA_NONNULL;
 
 /* The numbers of the objects that the last datagram wrote to, in order, each as often as it was; none before the first datagram. Clock
  * readings and settings at the front leave them. `count` is how many there are; where `out` has room for fewer it gets the first of
  * them, and the answer is OCA_TOO_SMALL. */
-uint32_t oca_device_written(struct oca_device *device, uint32_t *out, size_t out_len, size_t *count);
+enum oca_result oca_device_written(struct oca_device *device, uint32_t *out, size_t out_len, size_t *count) OCA_NONNULL;
 
 /* Hands a clock reading over, in silence: sessions and locks lapse by it. */
-uint32_t oca_device_tick(struct oca_device *device, uint64_t now);
+enum oca_result oca_device_tick(struct oca_device *device, uint64_t now) OCA_NONNULL;
 
 /* The earliest moment, not before the device's own, at which a clock reading changes the objects or the sessions: a loop may sleep
  * until then where no datagram comes. OCA_NOTHING where there is none within 64 bits, as where there is no session. */
-uint32_t oca_device_next_lapse(struct oca_device *device, uint64_t *moment);
+enum oca_result oca_device_next_lapse(struct oca_device *device, uint64_t *moment) OCA_NONNULL;
 
 /* Sets an object at the device's own front; locks do not bind it. A state is 1 or 2, as in AES70-2. */
-uint32_t oca_device_set_state(struct oca_device *device, uint32_t ono, uint8_t state);
-uint32_t oca_device_set_position(struct oca_device *device, uint32_t ono, uint16_t position);
-uint32_t oca_device_set_truth(struct oca_device *device, uint32_t ono, bool truth);
-uint32_t oca_device_set_signed(struct oca_device *device, uint32_t ono, int64_t number);
-uint32_t oca_device_set_unsigned(struct oca_device *device, uint32_t ono, uint64_t number);
+enum oca_result oca_device_set_state(struct oca_device *device, uint32_t ono, uint8_t state) OCA_NONNULL;
+enum oca_result oca_device_set_position(struct oca_device *device, uint32_t ono, uint16_t position) OCA_NONNULL;
+enum oca_result oca_device_set_truth(struct oca_device *device, uint32_t ono, bool truth) OCA_NONNULL;
+enum oca_result oca_device_set_signed(struct oca_device *device, uint32_t ono, int64_t number) OCA_NONNULL;
+enum oca_result oca_device_set_unsigned(struct oca_device *device, uint32_t ono, uint64_t number) OCA_NONNULL;
+
+/* The same by a value: states of a mute and of a polarity are of one kind, and so are integers of every type, as in the calls above.
+ * OCA_NO_VALUE, before all others, where the words are those of no value. */
+enum oca_result oca_device_set(struct oca_device *device, uint32_t ono, const struct oca_value *value) OCA_NONNULL;
 
 /* How an object is set: kind 1 a state, 2 a position, 3 a truth (0 or 1), 4 a number, `negative` (0 or 1) where it is below 0.
  * OCA_NOTHING for a block and where the object is not there. */
 struct oca_setting { uint32_t kind, negative; uint64_t magnitude; };
-uint32_t oca_device_setting(struct oca_device *device, uint32_t ono, struct oca_setting *setting);
-
-/* The classes, by the numbers that an object's is told by. */
-enum oca_class {
-    OCA_CLASS_BLOCK = 1, OCA_CLASS_MUTE = 2, OCA_CLASS_POLARITY = 3, OCA_CLASS_SWITCH = 4, OCA_CLASS_BOOLEAN = 5, OCA_CLASS_INT8 = 6,
-    OCA_CLASS_INT16 = 7, OCA_CLASS_INT32 = 8, OCA_CLASS_INT64 = 9, OCA_CLASS_UINT8 = 10, OCA_CLASS_UINT16 = 11, OCA_CLASS_UINT32 = 12,
-    OCA_CLASS_UINT64 = 13
-};
+enum oca_result oca_device_setting(struct oca_device *device, uint32_t ono, struct oca_setting *setting) OCA_NONNULL;
 
 /* An object: its number, that of the block that contains it (0 for the root), its class, and its role of so many bytes. A later
  * version may have further words before the role. */
@@ -148,55 +297,79 @@ struct oca_object { uint32_t ono, container, class_number, role_size; uint8_t ro
 
 /* How many objects there are, the root counted; and what each is, by its index from 0 at the root in order of adding: OCA_NOTHING
  * behind the last. The words go to `words` words, and the role to `role_len` bytes, as far as there is room. */
-uint32_t oca_device_objects(struct oca_device *device, size_t *count);
-uint32_t oca_device_object_words(struct oca_device *device, size_t index, uint32_t *object, size_t words, uint8_t *role, size_t role_len);
-static inline uint32_t oca_device_object(struct oca_device *device, size_t index, struct oca_object *object) {
+enum oca_result oca_device_objects(struct oca_device *device, size_t *count) OCA_NONNULL;
+enum oca_result oca_device_object_words(struct oca_device *device, size_t index, uint32_t *object, size_t words, uint8_t *role, size_t role_len) OCA_NONNULL;
+static inline enum oca_result oca_device_object(struct oca_device *device, size_t index, struct oca_object *object) {
     return oca_device_object_words(device, index, &object->ono, offsetof(struct oca_object, role) / sizeof object->ono, object->role, sizeof object->role);
 }
 
 /* The lock of an object: kind 1 keeps other peers from all access, 2 from all but reading; and the peer that holds it. OCA_NOTHING
  * where the object is not locked or not there. */
-uint32_t oca_device_lock(struct oca_device *device, uint32_t ono, uint32_t *kind, uint32_t *ip, uint16_t *port);
+enum oca_result oca_device_lock(struct oca_device *device, uint32_t ono, uint32_t *kind, uint32_t *ip, uint16_t *port) OCA_NONNULL;
 
 /* ---- the link ---- */
 
 struct oca_link { void *at; bool is_open; };
 
+/* A closed one: struct oca_link link = OCA_LINK_INIT; */
+#define OCA_LINK_INIT {NULL, false}
+
 /* Opens a link to the device at this address. Its first command gets this handle, and the handles of untaken commands lie within
  * the span (1 to 32; 16 is usual). */
-uint32_t oca_link_open(struct oca_link *link, uint32_t ip, uint16_t port, uint32_t first_handle, uint64_t now, uint8_t span);
+enum oca_result oca_link_open(struct oca_link *link, uint32_t ip, uint16_t port, uint32_t first_handle, uint64_t now, uint8_t span) OCA_CHECKED;
+
+/* Closes a link and gives its memory back; a closed one stays closed, and at a null pointer nothing is done. Its commands may be carried out all the same. */
 void oca_link_close(struct oca_link *link);
+static inline void oca_link_close_any(struct oca_link *link) {
+    if (link) oca_link_close(link);
+}
+#define oca_link_close(link) oca_link_close_any(link)
 
 /* Submits a command, of at most 1,445 bytes of parameters, and tells its handle. Then call oca_link_due. */
-uint32_t oca_link_submit(struct oca_link *link, uint32_t target, uint16_t level, uint16_t index, uint8_t count, const uint8_t *params, size_t params_len, uint64_t now, uint32_t *handle);
+enum oca_result oca_link_submit(struct oca_link *link, uint32_t target, uint16_t level, uint16_t index, uint8_t count, const uint8_t *params, size_t params_len, uint64_t now, uint32_t *handle) OCA_CHECKED;
+
+/* The same for what sets or reads a value, and for a method of enum oca_method. */
+static inline enum oca_result oca_link_ask(struct oca_link *link, uint32_t target, const struct oca_request *request, uint64_t now, uint32_t *handle) {
+    return oca_link_submit(link, target, request->level, request->index, request->count, request->params, request->size, now, handle);
+}
+static inline enum oca_result oca_link_call(struct oca_link *link, uint32_t target, uint32_t method, uint8_t count, const uint8_t *params, size_t params_len, uint64_t now, uint32_t *handle) {
+    return oca_link_submit(link, target, (uint16_t)(method >> 16), (uint16_t)method, count, params, params_len, now, handle);
+}
 
 /* Gives out what is due at the moment; call it until it tells nothing or lost. `out` has room for 1,472 bytes. */
 enum oca_due { OCA_DUE_NOTHING = 0, OCA_DUE_COMMAND = 1, OCA_DUE_KEEP_ALIVE = 2, OCA_DUE_LOST = 3 };
-uint32_t oca_link_due(struct oca_link *link, uint64_t now, uint8_t *out, size_t out_len, size_t *len, uint32_t *due, uint32_t *handle);
+enum oca_result oca_link_due(struct oca_link *link, uint64_t now, uint8_t *out, size_t out_len, size_t *len, uint32_t *due, uint32_t *handle) OCA_NONNULL;
 
 /* Takes a datagram that came from an address: it told nothing new, answered so many commands, is a stranger's, or is malformed. */
 enum oca_reception { OCA_NOTHING_NEW = 0, OCA_ANSWERED = 1, OCA_STRANGER = 2, OCA_MALFORMED = 3 };
-uint32_t oca_link_datagram(struct oca_link *link, uint32_t ip, uint16_t port, const uint8_t *bytes, size_t len, uint64_t now, uint32_t *reception, uint32_t *answered);
+enum oca_result oca_link_datagram(struct oca_link *link, uint32_t ip, uint16_t port, const uint8_t *bytes, size_t len, uint64_t now, uint32_t *reception, uint32_t *answered) OCA_NONNULL;
 
 /* When something is due next: the earliest moment, not before the last one that the link was handed, at which oca_link_due tells
  * anything but nothing. A loop may wait until then. OCA_NOTHING where that lies beyond 64 bits. */
-uint32_t oca_link_next_due(struct oca_link *link, uint64_t *moment);
+enum oca_result oca_link_next_due(struct oca_link *link, uint64_t *moment) OCA_NONNULL;
 
 /* The lowest handle whose answer came and was not taken yet; OCA_NOTHING where there is none. */
-uint32_t oca_link_answered(struct oca_link *link, uint32_t *handle);
+enum oca_result oca_link_answered(struct oca_link *link, uint32_t *handle) OCA_NONNULL;
 
 /* The moment at which the last well-formed datagram came from the device, and at first that of the opening. */
-uint32_t oca_link_last_heard(struct oca_link *link, uint64_t *moment);
+enum oca_result oca_link_last_heard(struct oca_link *link, uint64_t *moment) OCA_NONNULL;
+
+/* Whether the link is lost: a command got no answer to 20 sendings. It stays so; answers that still come are taken as before. */
+enum oca_result oca_link_is_lost(struct oca_link *link, bool *lost) OCA_NONNULL;
 
 /* Takes the answer to a command: its status and ParamCount, and its parameters. `out` has room for 1,452 bytes. */
-uint32_t oca_link_take(struct oca_link *link, uint32_t handle, uint32_t *status, uint32_t *count, uint8_t *out, size_t out_len, size_t *len);
+enum oca_result oca_link_take(struct oca_link *link, uint32_t handle, uint32_t *status, uint32_t *count, uint8_t *out, size_t out_len, size_t *len) OCA_NONNULL;
 
 #ifdef __cplusplus
 }
 static_assert(sizeof(struct oca_device) == 16 && sizeof(struct oca_link) == 16 && sizeof(struct oca_setting) == 16, "64 bits");
+static_assert(sizeof(struct oca_value) == 16 && sizeof(struct oca_reading) == 48 && sizeof(struct oca_request) == 14, "values");
+static_assert(sizeof(enum oca_result) == sizeof(uint32_t), "a result is a word");
 static_assert(sizeof(struct oca_verdict) == 28 && sizeof(struct oca_name) == 65 && offsetof(struct oca_object, role) == 16, "words");
 #else
 _Static_assert(sizeof(struct oca_device) == 16 && sizeof(struct oca_link) == 16 && sizeof(struct oca_setting) == 16, "64 bits");
+_Static_assert(sizeof(struct oca_value) == 16 && sizeof(struct oca_reading) == 48 && sizeof(struct oca_request) == 14, "values");
+_Static_assert(sizeof(enum oca_result) == sizeof(uint32_t), "a result is a word");
 _Static_assert(sizeof(struct oca_verdict) == 28 && sizeof(struct oca_name) == 65 && offsetof(struct oca_object, role) == 16, "words");
 #endif
 #endif

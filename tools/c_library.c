@@ -4,6 +4,26 @@
 #include <stdio.h>
 #include <string.h>
 
+#ifdef COUNTS_BLOCKS
+/* A heap that counts the blocks that were not given back. */
+#include <stdlib.h>
+struct tried { bool ok; void *at; };
+static long blocks;
+struct tried rattle_alloc(size_t size, size_t align) {
+    struct tried given = {true, malloc(size > align ? size : align)};
+    blocks++;
+    return given;
+}
+struct tried rattle_realloc(void *old, size_t kept, size_t size, size_t align) {
+    (void)kept;
+    struct tried given = {true, realloc(old, size > align ? size : align)};
+    return given;
+}
+void rattle_dealloc(void *at) { free(at), blocks--; }
+#else
+static const long blocks = 0;
+#endif
+
 static int passed, failed;
 
 static void same(const char *what, uint32_t got, uint32_t expected) {
@@ -74,6 +94,8 @@ static void closed_link(struct oca_link *l) {
     same("closed: next due", oca_link_next_due(l, &moment), OCA_CLOSED);
     same("closed: answered", oca_link_answered(l, &a), OCA_CLOSED);
     same("closed: last heard", oca_link_last_heard(l, &moment), OCA_CLOSED);
+    bool lost = true;
+    same("closed: is lost", oca_link_is_lost(l, &lost), OCA_CLOSED);
     same("closed: take", oca_link_take(l, 1, &a, &b, bytes, sizeof bytes, &size), OCA_CLOSED);
     oca_link_close(l);
 }
@@ -324,6 +346,155 @@ static void device(void) {
     closed_device(&d);
 }
 
+/* Values that stand side by side and differ, so that two that are exchanged are seen. */
+static void differing_neighbours(void) {
+    struct oca_device d;
+    struct oca_verdict v = {9, 9, 9, 9, 9, 9, 9};
+    struct oca_setting s = {0, 0, 0};
+    uint8_t bytes[OCA_MOST_BYTES] = {0};
+    uint32_t kind = 9, ip = 9;
+    uint16_t port = 9;
+    memset(&d, 0, sizeof d);
+    same("open", oca_device_open(&d, 4), OCA_DONE);
+    same("lockable, not muted", oca_device_add_mute(&d, 100, 4096, text("a"), 1, true, false), OCA_DONE);
+    same("muted, not lockable", oca_device_add_mute(&d, 100, 4097, text("b"), 1, false, true), OCA_DONE);
+    same("inverted, not lockable", oca_device_add_polarity(&d, 100, 4098, text("c"), 1, false, true), OCA_DONE);
+    same("full", oca_device_add_boolean(&d, 100, 4099, text("d"), 1, true, false), OCA_FULL);
+    same("a window of 1, two peers", oca_device_start(&d, 1, 2), OCA_DONE);
+    same("the first mute", oca_device_setting(&d, 4096, &s) == OCA_DONE && s.kind == 1 && s.magnitude == 2, 1);
+    same("the second mute", oca_device_setting(&d, 4097, &s) == OCA_DONE && s.kind == 1 && s.magnitude == 1, 1);
+    same("the polarity", oca_device_setting(&d, 4098, &s) == OCA_DONE && s.kind == 1 && s.magnitude == 2, 1);
+    const uint64_t late = (UINT64_C(1) << 33) + 7;
+    size_t size = command(bytes, 5, 4096, 1, 3, 0, bytes, 0);
+    same("a lock", oca_device_datagram(&d, 1, 2, bytes, size, late, &v), OCA_DONE);
+    same("its status", status_of(&d), 0);
+    size = command(bytes, 6, 4097, 1, 3, 0, bytes, 0);
+    same("no lock", oca_device_datagram(&d, 1, 2, bytes, size, late, &v), OCA_DONE);
+    same("its status", status_of(&d) != 0 && status_of(&d) != 99, 1);
+    size = command(bytes, 5, 4096, 1, 3, 0, bytes, 0);
+    same("a window of 1: an older one", oca_device_datagram(&d, 1, 2, bytes, size, late, &v), OCA_DONE);
+    same("is old", v.kind == 0 && v.executed == 0 && v.kept == 0 && v.old == 1 && v.reused == 0, 1);
+    size = command(bytes, 6, 4096, 1, 3, 0, bytes, 0);
+    same("another one under its handle", oca_device_datagram(&d, 1, 2, bytes, size, late, &v), OCA_DONE);
+    same("is reused", v.kind == 0 && v.executed == 0 && v.kept == 0 && v.old == 0 && v.reused == 1, 1);
+    same("a second peer", oca_device_datagram(&d, 2, 1, bytes, size, late, &v), OCA_DONE);
+    same("has room", v.kind, 0);
+    same("a third one", oca_device_datagram(&d, 3, 1, bytes, size, late, &v), OCA_DONE);
+    same("has none", v.kind, 2);
+    uint64_t moment = 9;
+    same("a moment above 32 bits", oca_device_next_lapse(&d, &moment) == OCA_DONE && moment == late + 15001, 1);
+    same("just before it", oca_device_tick(&d, late + 15000), OCA_DONE);
+    same("a lock still", oca_device_lock(&d, 4096, &kind, &ip, &port) == OCA_DONE && ip == 1 && port == 2, 1);
+    same("at it", oca_device_tick(&d, late + 15001), OCA_DONE);
+    same("no lock", oca_device_lock(&d, 4096, &kind, &ip, &port), OCA_NOTHING);
+    oca_device_close(&d);
+}
+
+/* A value of each class, by its words, its bytes, what reads it back and what asks for it; and words of no value. */
+static void values(void) {
+    const struct { struct oca_value value; uint32_t class_number; uint64_t bits; uint8_t size, bytes[8]; } rows[] = {
+        {oca_mute(true), 2, 1, 1, {1}}, {oca_mute(false), 2, 2, 1, {2}}, {oca_polarity(false), 3, 1, 1, {1}}, {oca_polarity(true), 3, 2, 1, {2}},
+        {oca_position(0x1234), 4, 0x1234, 2, {0x12, 0x34}}, {oca_boolean(true), 5, 1, 1, {1}}, {oca_boolean(false), 5, 0, 1, {0}},
+        {oca_int8(-2), 6, UINT64_MAX - 1, 1, {0xfe}}, {oca_int16(-600), 7, UINT64_MAX - 599, 2, {0xfd, 0xa8}},
+        {oca_int32(INT32_MIN), 8, UINT64_MAX - 0x7fffffff, 4, {0x80, 0, 0, 0}},
+        {oca_int64(INT64_MIN + 1), 9, (UINT64_C(1) << 63) + 1, 8, {0x80, 0, 0, 0, 0, 0, 0, 1}}, {oca_uint8(200), 10, 200, 1, {200}},
+        {oca_uint16(0xfedc), 11, 0xfedc, 2, {0xfe, 0xdc}}, {oca_uint32(0x89abcdef), 12, 0x89abcdef, 4, {0x89, 0xab, 0xcd, 0xef}},
+        {oca_uint64(UINT64_C(0x0123456789abcdef)), 13, UINT64_C(0x0123456789abcdef), 8, {1, 0x23, 0x45, 0x67, 0x89, 0xab, 0xcd, 0xef}}};
+    for (size_t i = 0; i < sizeof rows / sizeof *rows; i++) {
+        uint8_t bytes[24] = {0}, answer[24] = {0};
+        size_t size = 99;
+        struct oca_request r = {9, 9, 9, 9, {0}};
+        struct oca_reading got = {{9, 9, 9}, {9, 9, 9}, {9, 9, 9}};
+        const uint8_t n = rows[i].size;
+        const uint32_t class_number = rows[i].class_number;
+        const bool has_limits = class_number == 4 || class_number > 5;
+        same("its words", rows[i].value.class_number == class_number && rows[i].value.zero == 0 && rows[i].value.bits == rows[i].bits, 1);
+        same("no room for its bytes", oca_value_put(&rows[i].value, bytes, n - 1u, &size) == OCA_TOO_SMALL && size == n && bytes[0] == 0, 1);
+        same("its bytes", oca_value_put(&rows[i].value, bytes, n, &size) == OCA_DONE && size == n && memcmp(bytes, rows[i].bytes, n) == 0, 1);
+        same("what sets it", oca_set_request(&rows[i].value, &r), OCA_DONE);
+        same("its method", r.level == (class_number < 5 ? 4 : 5) && r.index == 2 && r.count == 1, 1);
+        same("its parameter", r.size == n && memcmp(r.params, rows[i].bytes, n) == 0, 1);
+        same("what reads it", oca_get_request(class_number, &r), OCA_DONE);
+        same("that method", r.level == (class_number < 5 ? 4 : 5) && r.index == 1 && r.count == 0 && r.size == 0, 1);
+        memcpy(answer, rows[i].bytes, n);
+        if (has_limits) answer[2 * n - 1] = 1, answer[3 * n - 1] = 2;
+        size = has_limits ? 3u * n : n;
+        same("an answer", oca_value_read(class_number, answer, size, &got), OCA_DONE);
+        same("its value", got.value.class_number == class_number && got.value.zero == 0 && got.value.bits == rows[i].bits, 1);
+        same("its limits", got.least.class_number == class_number && got.least.bits == (has_limits ? 1 : rows[i].bits)
+             && got.greatest.class_number == class_number && got.greatest.bits == (has_limits ? 2 : rows[i].bits), 1);
+        same("a byte less", oca_value_read(class_number, answer, size - 1, &got), OCA_NO_VALUE);
+    }
+    const struct oca_value none[] = {{0, 0, 1}, {1, 0, 1}, {14, 0, 1}, {2, 0, 0}, {2, 0, 3}, {3, 0, 3}, {4, 0, 65536}, {5, 0, 2}, {6, 0, 128}, {7, 0, 32768},
+        {8, 0, UINT64_C(1) << 31}, {10, 0, 256}, {11, 0, 65536}, {12, 0, UINT64_C(1) << 32}};
+    for (size_t i = 0; i < sizeof none / sizeof *none; i++) {
+        uint8_t bytes[8] = {7};
+        size_t size = 0;
+        struct oca_request r = {9, 9, 9, 9, {0}};
+        same("words of no value", oca_value_put(&none[i], bytes, sizeof bytes, &size) == OCA_NO_VALUE && bytes[0] == 7, 1);
+        same("nothing sets them", oca_set_request(&none[i], &r), OCA_NO_VALUE);
+    }
+    struct oca_request r = {9, 9, 9, 9, {0}};
+    struct oca_reading got = {{9, 9, 9}, {9, 9, 9}, {9, 9, 9}};
+    same("a block is not read", oca_get_request(OCA_CLASS_BLOCK, &r), OCA_NO_VALUE);
+    same("nor class 14", oca_get_request(14, &r), OCA_NO_VALUE);
+    same("no answer of class 0", oca_value_read(0, text("a"), 1, &got), OCA_NO_VALUE);
+    same("nor of a block", oca_value_read(OCA_CLASS_BLOCK, text("a"), 0, &got), OCA_NO_VALUE);
+}
+
+/* Values at the front. */
+static void sets_values(void) {
+    struct oca_device d = OCA_DEVICE_INIT;
+    struct oca_setting s = {9, 9, 9};
+    const struct oca_value no_value = {14, 0, 0}, minus_7 = oca_int16(-7), wide = oca_int32(-8), far = oca_int16(101), position = oca_position(1),
+        unmuted = oca_mute(false), most = oca_uint64(UINT64_MAX - 1);
+    same("closed: set", oca_device_set(&d, 4097, &minus_7), OCA_CLOSED);
+    same("open", oca_device_open(&d, 8), OCA_DONE);
+    same("set before the start", oca_device_set(&d, 4097, &no_value), OCA_NOT_STARTED);
+    same("block", oca_device_add_block(&d, 100, 4096, text("desk"), 4, true), OCA_DONE);
+    same("gain", oca_device_add_int16(&d, 4096, 4097, text("gain"), 4, false, -5, -600, 100), OCA_DONE);
+    same("mode", oca_device_add_switch(&d, 4096, 4098, text("mode"), 4, true, positions, 3, 2), OCA_DONE);
+    same("mute", oca_device_add_mute(&d, 4096, 4099, text("mute"), 4, false, true), OCA_DONE);
+    same("count", oca_device_add_uint64(&d, 4096, 4100, text("count"), 5, false, 3, 2, UINT64_MAX), OCA_DONE);
+    same("start", oca_device_start(&d, 8, 2), OCA_DONE);
+    same("set", oca_device_set(&d, 4097, &minus_7), OCA_DONE);
+    same("minus 7", oca_device_setting(&d, 4097, &s) == OCA_DONE && s.kind == 4 && s.negative == 1 && s.magnitude == 7, 1);
+    same("of a wider type", oca_device_set(&d, 4097, &wide), OCA_DONE);
+    same("minus 8", oca_device_setting(&d, 4097, &s) == OCA_DONE && s.negative == 1 && s.magnitude == 8, 1);
+    same("above its greatest", oca_device_set(&d, 4097, &far), OCA_OUT_OF_RANGE);
+    same("no value", oca_device_set(&d, 9, &no_value), OCA_NO_VALUE);
+    same("another kind", oca_device_set(&d, 4097, &position), OCA_OTHER_KIND);
+    same("no object", oca_device_set(&d, 9, &position), OCA_NO_OBJECT);
+    same("no setting", oca_device_set(&d, 4096, &position), OCA_NO_SETTING);
+    same("position", oca_device_set(&d, 4098, &position), OCA_DONE);
+    same("position 1", oca_device_setting(&d, 4098, &s) == OCA_DONE && s.kind == 2 && s.magnitude == 1, 1);
+    same("unmute", oca_device_set(&d, 4099, &unmuted), OCA_DONE);
+    same("state 2", oca_device_setting(&d, 4099, &s) == OCA_DONE && s.kind == 1 && s.magnitude == 2, 1);
+    same("most", oca_device_set(&d, 4100, &most), OCA_DONE);
+    same("that number", oca_device_setting(&d, 4100, &s) == OCA_DONE && s.negative == 0 && s.magnitude == UINT64_MAX - 1, 1);
+    oca_device_close(&d);
+    oca_device_close(NULL);
+}
+
+/* Texts of results and statuses. */
+static void texts(void) {
+    for (uint32_t i = 0; i <= OCA_NO_VALUE; i++) same("a text", strlen(oca_result_text(i)) > 3 && strcmp(oca_result_text(i), oca_result_text(99)) != 0, 1);
+    same("status 3", (uint32_t)strcmp(oca_status_text(OCA_STATUS_LOCKED), "Locked"), 0);
+    same("status 14", (uint32_t)strcmp(oca_status_text(14), "BufferOverflow"), 0);
+    same("no status 15", oca_status_text(15) == NULL, 1);
+}
+
+/* Objects at each depth: the one that would stand at depth 9 is refused as that, and not as one too many. */
+static void depths(void) {
+    struct oca_device d;
+    memset(&d, 0, sizeof d);
+    same("open", oca_device_open(&d, 64), OCA_DONE);
+    for (uint32_t i = 0; i < 7; i++) same("a block", oca_device_add_block(&d, i ? 4095 + i : 100, 4096 + i, text("a"), 1, true), OCA_DONE);
+    same("at depth 8", oca_device_add_mute(&d, 4101, 4200, text("a"), 1, true, false), OCA_DONE);
+    same("at depth 9", oca_device_add_mute(&d, 4102, 4201, text("a"), 1, true, false), OCA_TOO_DEEP);
+    oca_device_close(&d);
+}
+
 static void link(void) {
     struct oca_link l;
     uint8_t bytes[OCA_MOST_BYTES] = {0};
@@ -374,9 +545,12 @@ static void link(void) {
     same("take again", oca_link_take(&l, 1, &a, &b, bytes, sizeof bytes, &size), OCA_NOTHING);
     same("keep-alive", oca_link_due(&l, 2500, bytes, sizeof bytes, &size, &a, &b), OCA_DONE);
     same("it is one", a, OCA_DUE_KEEP_ALIVE);
+    bool lost = true;
+    same("not lost", oca_link_is_lost(&l, &lost) == OCA_DONE && !lost, 1);
     same("submit", oca_link_submit(&l, 4097, 4, 1, 0, bytes, 0, 2500, &handle), OCA_DONE);
     for (uint64_t k = 0; k <= 20; k++) oca_link_due(&l, 2500 + 250 * k, bytes, sizeof bytes, &size, &a, &b);
     same("lost after 20 sendings", a, OCA_DUE_LOST);
+    same("it says so", oca_link_is_lost(&l, &lost) == OCA_DONE && lost, 1);
     same("submit when lost", oca_link_submit(&l, 4097, 4, 1, 0, bytes, 0, 9000, &handle), OCA_LOST);
     oca_link_close(&l);
     same("the last moments", oca_link_open(&l, 1, 2, 1, UINT64_MAX - 2000, 16), OCA_DONE);
@@ -389,10 +563,41 @@ static void link(void) {
     closed_link(&l);
 }
 
+/* What is asked by a request and by a method, at moments above 2^32, with as many parameters as fill a datagram. */
+static void asks(void) {
+    struct oca_link l = OCA_LINK_INIT;
+    struct oca_request r = {9, 9, 9, 9, {0}};
+    const struct oca_value minus_6 = oca_int16(-60);
+    const uint64_t late = UINT64_C(5) << 32;
+    uint8_t bytes[OCA_MOST_BYTES] = {0}, params[1445];
+    size_t size = 0;
+    uint32_t due = 9, handle = 9;
+    uint64_t moment = 9;
+    memset(params, 0xa5, sizeof params);
+    same("open", oca_link_open(&l, 1, 2, 0x01020304, late, 3), OCA_DONE);
+    same("what sets it", oca_set_request(&minus_6, &r), OCA_DONE);
+    same("ask", oca_link_ask(&l, 0x05060708, &r, late, &handle) == OCA_DONE && handle == 0x01020304, 1);
+    same("give out", oca_link_due(&l, late + 1, bytes, sizeof bytes, &size, &due, &handle) == OCA_DONE && due == OCA_DUE_COMMAND, 1);
+    same("its bytes", size == 29 && memcmp(bytes + 14, "\1\2\3\4\5\6\7\10\0\5\0\2\1\xff\xc4", 15) == 0, 1);
+    same("call", oca_link_call(&l, 4097, OCA_SET_LABEL, 7, params, sizeof params, late + 2, &handle) == OCA_DONE && handle == 0x01020305, 1);
+    same("give out", oca_link_due(&l, late + 2, bytes, sizeof bytes, &size, &due, &handle) == OCA_DONE && handle == 0x01020305, 1);
+    same("a full datagram", size == OCA_MOST_BYTES && bytes[23] == 2 && bytes[25] == 9 && bytes[26] == 7 && bytes[27] == 0xa5 && bytes[1471] == 0xa5, 1);
+    same("due again", oca_link_next_due(&l, &moment) == OCA_DONE && moment == late + 251, 1);
+    oca_link_close(&l);
+    oca_link_close(NULL);
+}
+
 int main(void) {
     same("version", oca_version(), OCA_VERSION);
     device();
+    differing_neighbours();
+    depths();
+    values();
+    sets_values();
+    texts();
     link();
+    asks();
+    same("blocks of memory not given back", (uint32_t)blocks, 0);
     printf("%d passed, %d failed\n", passed, failed);
     return failed != 0;
 }

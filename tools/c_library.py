@@ -1,16 +1,21 @@
 #!/usr/bin/env python3
 """The library for C: its header, its programs, and what it does where memory is refused.
 
-Usage: c_library.py BIN [LIBRARY]     BIN is the folder with `ocadev` and `ocactl`; LIBRARY is liboca_c.a; unless it is named, it is
-proved and built: over the crates below it as the gate has just proved them, else by `rt lib`
+Usage: c_library.py BIN     BIN is the folder with `ocadev` and `ocactl`; the library is proved and built
 
 The two programs of examples/c are compiled as C11 and as C++17 with -Wall -Wextra -Werror from what `make install` installs, by the
-flags of oca.pc, and run against each other and against `ocadev` and `ocactl`, also under valgrind. Each call is tried on a
-closed handle and at its limits (c_library.c). Each request for memory is refused in turn. Header and library name the same
-functions. The last line is 'N passed, M failed'."""
+flags of oca.pc (the former with the shared library, the latter with the static one) and by CMake, and run against each other and
+against `ocadev` and `ocactl`, also under valgrind, for AArch64 under emulation, and on an emulated x86-64 of the first kind; what
+is not installed here is named as NOT TRIED. Each call is tried on a closed handle and at its limits (c_library.c). Each request
+for memory is refused in turn. Header and library name the same functions, and the library needs what EMBEDDING names. What is
+installed lies below its folder, also with a space in its name or a relative one, and `make uninstall` leaves nothing of it. The
+last line is 'N passed, M failed'."""
 import os
 import re
+import shlex
 import shutil
+import socket
+import struct
 import subprocess
 import sys
 import tempfile
@@ -37,64 +42,28 @@ class Checks:
             print(f"WRONG: {what}: {got!r:.400} in place of {expected!r:.400}")
 
 
-def below(crate):
-    """What crates.txt says that a crate stands on, and what those stand on."""
-    lines = [line.split("#")[0].split(":") for line in (TOP / "crates.txt").read_text().splitlines()]
-    on = {line[0].split()[0]: line[1].split() for line in lines if len(line) == 2}
-    found, left = [], list(on[crate])
-    while left:
-        name = left.pop(0)
-        if name not in found:
-            found.append(name)
-            left += on.get(name, [])
-    return [name for name in found if name in on], on[crate]
+def library(target):
+    """The library for a kind of processor, proved and built: over the crates below it as the gate has just proved them, else over kept work."""
+    run = subprocess.run([sys.executable, "gate/library.py", target], cwd=TOP, stdout=subprocess.PIPE, stderr=subprocess.STDOUT, text=True)
+    if run.returncode:
+        sys.exit(f"no library for {target}:\n{run.stdout[-2000:]}")
+    return TOP / f"crates/oca_c/out/{target}/liboca_c.a"
 
 
-def over_the_gate():
-    """The command that proves and builds the library over the crates below it as `rt ci` proved and left them; nothing where a check keeps
-    its own work, or a crate was not left."""
-    made, named = below("oca_c")
-    rlibs = {name: TOP / f"crates/{name}/out/rlib" for name in made}
-    if not all((at / f"{name}.rlib").is_dir() and not (at / "stamp").exists() for name, at in rlibs.items()):
-        return None
-    kit = Path(subprocess.run(["rt", "doc"], check=True, capture_output=True, text=True).stdout.strip()).parent
-    words = [kit / "bin/rattle", "build", "--crate-name", "oca_c", "src/lib.rt", "--crate-type", "staticlib"]
-    for name in ["std", *named]:
-        words += ["--extern", f"{name}={rlibs[name] / name if name in rlibs else kit / 'rlibs' / name}.rlib"]
-    for folder in [kit / "rlibs", *rlibs.values()]:
-        words += ["-L", f"dependency={folder}"]
-    words += ["--links", "oca_c=", "--antt-project", kit / "rattle/logic/antt-project.json", "--logic-built", kit / "logic_built", "--toolchain", kit / "toolchain"]
-    return [*words, "--backend", "llvm", "--jobs", "2", "-o", "out/liboca_c.a"]
-
-
-def library(words):
-    """liboca_c.a"""
-    if len(words) > 2:
-        return words[2]
-    crate = TOP / "crates/oca_c"
-    (crate / "out").mkdir(exist_ok=True)
-    for command in (over_the_gate(), ["rt", "lib"]):
-        if command:
-            run = subprocess.run(command, cwd=crate, stdout=subprocess.PIPE, stderr=subprocess.STDOUT, text=True)
-            if run.returncode == 0:
-                return crate / "out/liboca_c.a"
-            print(f"not built by {command[0]}, status {run.returncode}:\n{run.stdout[-2000:]}", flush=True)
-    sys.exit("no library")
-
-
-def flags(prefix):
+def flags(prefix, lib="lib"):
     """What pkg-config gives for oca; where it is missing, what it would give."""
     if shutil.which("pkg-config"):
-        env = dict(os.environ, PKG_CONFIG_PATH=f"{prefix}/lib/pkgconfig")
-        return [subprocess.run(["pkg-config", which, "oca"], env=env, check=True, capture_output=True, text=True).stdout.split()
+        env = dict(os.environ, PKG_CONFIG_PATH=f"{prefix}/{lib}/pkgconfig")
+        return [shlex.split(subprocess.run(["pkg-config", which, "oca"], env=env, check=True, capture_output=True, text=True).stdout)
                 for which in ("--cflags", "--libs")]
-    return [[f"-I{prefix}/include"], [f"-L{prefix}/lib", "-loca"]]
+    return [[f"-I{prefix}/include"], [f"-L{prefix}/{lib}", "-loca"]]
 
 
 def compile_all(made, prefix):
     """The three programs in both languages, from the installed files."""
-    cflags, libs = flags(prefix)
+    cflags, shared = flags(prefix)
     for language, compiler in LANGUAGES.items():
+        libs = [*shared, f"-Wl,-rpath,{prefix}/lib"] if language == "c11" else [f"{prefix}/lib/liboca.a"]
         for name, source in (("device", "examples/c/device.c"), ("panel", "examples/c/panel.c"), ("calls", "tools/c_library.c")):
             text = made / f"{name}.c"
             shutil.copy(TOP / source, text)
@@ -139,6 +108,21 @@ def against_the_programs(checks, made, folder):
     run.kill()
 
 
+def full_datagram(checks, made):
+    """A datagram of 1,472 bytes, 86 commands, is answered by the device of the example as any other is."""
+    commands = b"".join(struct.pack(">IIIHHB", 17, handle, 4097, 4, 1, 0) for handle in range(1, 87))
+    datagram = b"\x3b" + struct.pack(">HIBH", 1, 9 + len(commands), 1, 86) + commands
+    run, port = serving([made / "device-c11", 0, 2])
+    with socket.socket(socket.AF_INET, socket.SOCK_DGRAM) as end:
+        end.settimeout(30)
+        end.sendto(datagram, ("127.0.0.1", int(port)))
+        counts = []
+        while sum(counts) < 86:
+            counts.append(struct.unpack(">H", end.recv(2000)[8:10])[0])
+    checks.same("what a full datagram gets from the device of the example", (len(datagram), sum(counts)), (1472, 86))
+    run.communicate(timeout=120)
+
+
 def refused_memory(checks, made):
     """Each request for memory refused in turn: the program says so and ends, or does without."""
     layer = made / "unreliable.so"
@@ -166,38 +150,133 @@ def arenas(checks, made):
         checks.same(f"arenas of each size ({language})", (re.fullmatch(r"[1-9]\d{6} passed, 0 failed\n", out) is not None, status), (True, 0))
 
 
+INSTALLED = ["include/oca.h", "lib/cmake/oca/oca-config-version.cmake", "lib/cmake/oca/oca-config.cmake", "lib/liboca.a", "lib/liboca.so",
+             "lib/liboca.so.1", "lib/liboca.so.1.2.0", "lib/liboca_c.a", "lib/pkgconfig/oca.pc",
+             "share/man/man3/oca_*.3"]
+
+
+def make(goal, prefix, archive, folder=TOP, **more):
+    words = [f"{name}={value}" for name, value in dict(PREFIX=prefix, LIBRARY=archive, **more).items()]
+    subprocess.run(["make", "-s", "-C", TOP, goal, *words], cwd=folder, check=True)
+
+
+def files_below(room):
+    """The files below a folder; the manual pages of the calls are counted as one."""
+    there = (str(it.relative_to(room)) for it in room.rglob("*") if not it.is_dir())
+    return sorted({re.sub(r"man3/oca_\w+\.3$", "man3/oca_*.3", it) for it in there})
+
+
 def stays_below(checks, made, archive):
-    """What `make install-library` writes lies below DESTDIR, and nothing of it beside."""
+    """What `make install-library` writes lies below DESTDIR, and nothing of it beside; `make uninstall` takes it away."""
     room = made / "a room"
-    subprocess.run(["make", "-s", "install-library", "PREFIX=/opt/oca", f"DESTDIR={room}", f"LIBRARY={archive}"], cwd=TOP, check=True)
-    files = sorted(str(it.relative_to(room)) for it in room.rglob("*") if it.is_file())
-    checks.same("what is installed below DESTDIR", files, [f"opt/oca/{it}" for it in ("include/oca.h", "lib/liboca.a", "lib/liboca_c.a", "lib/pkgconfig/oca.pc")])
+    make("install-library", "/opt/oca", archive, DESTDIR=room)
+    checks.same("what is installed below DESTDIR", files_below(room), [f"opt/oca/{it}" for it in INSTALLED])
     checks.same("nothing beside it", Path("/opt/oca").exists(), False)
+    (room / "opt/oca/lib/another.a").touch()
+    make("uninstall", "/opt/oca", archive, DESTDIR=room)
+    checks.same("what `make uninstall` leaves", files_below(room), ["opt/oca/lib/another.a"])
 
 
-def names(checks, archive, header):
+def prefixes(checks, made, archive):
+    """A prefix with a space, and a relative one: the panel is compiled with what pkg-config says of each, and runs."""
+    relative = os.path.relpath(made / "rel", TOP)
+    for prefix, place in ((made / "with a space", made / "with a space"), (relative, made / "rel")):
+        make("install-library", prefix, archive)
+        checks.same(f"what is installed below {place.name}", files_below(place), INSTALLED)
+        cflags, libs = flags(place)
+        panel = made / "panel-placed"
+        subprocess.run(["cc", "-std=c11", *STRICT, *cflags, "-o", panel, TOP / "examples/c/panel.c", *libs], check=True)
+        checks.same(f"the panel of {place.name}", said_by([panel], LD_LIBRARY_PATH=f"{place}/lib")[1] == 127, False)
+
+
+PROJECT = """cmake_minimum_required(VERSION 3.13)
+project(trial C)
+find_package(oca 1.1 REQUIRED CONFIG)
+foreach(each oca static)
+  add_executable(panel-${each} panel.c)
+  target_link_libraries(panel-${each} PRIVATE oca::${each})
+endforeach()
+"""
+
+
+def by_cmake(checks, made, prefix):
+    """The panel as a project of CMake has it, with the shared library and with the static one; version 2 is not found."""
+    if not shutil.which("cmake"):
+        return print("NOT TRIED: CMake is not installed")
+    project, said = made / "project", dict(cwd=made, capture_output=True, text=True)
+    project.mkdir()
+    shutil.copy(TOP / "examples/c/panel.c", project)
+    (project / "CMakeLists.txt").write_text(PROJECT)
+    for words in (["-S", project, "-B", "cmade", f"-DCMAKE_PREFIX_PATH={prefix}"], ["--build", "cmade"]):
+        run = subprocess.run(["cmake", *words], **said)
+        checks.same(f"cmake {words[0]}", (run.returncode, run.stderr), (0, ""))
+    run, port = serving([made / "device-c++17", 0, 3])
+    for kind in ("oca", "static"):
+        checks.same(f"the panel that CMake built with oca::{kind}", said_by([made / f"cmade/panel-{kind}", port])[1], 0)
+    run.communicate(timeout=120)
+    (project / "CMakeLists.txt").write_text(PROJECT.replace("oca 1.1", "oca 2.0"))
+    checks.same("version 2", subprocess.run(["cmake", "-S", project, "-B", "none", f"-DCMAKE_PREFIX_PATH={prefix}"], **said).returncode, 1)
+
+
+def on_arm(checks, made):
+    """For AArch64: device and panel against each other and each call, under emulation."""
+    tools = [it for it in ("aarch64-linux-gnu-gcc", "qemu-aarch64") if not shutil.which(it)]
+    if tools:
+        return print(f"NOT TRIED: AArch64, without {' and '.join(tools)}")
+    target, prefix = "aarch64-unknown-linux-gnu", made / "arm"
+    make("install-library", prefix, library(target), TARGET=target)
+    checks.same("what is installed for AArch64", files_below(prefix), [it.replace("lib/", "lib/aarch64-linux-gnu/", 1) if it[:4] == "lib/" else it for it in INSTALLED])
+    for name, source in (("device", "examples/c/device.c"), ("panel", "examples/c/panel.c"), ("calls", "tools/c_library.c")):
+        subprocess.run(["aarch64-linux-gnu-gcc", "-std=c11", *STRICT, f"-I{prefix}/include", "-o", made / f"{name}-arm", TOP / source,
+                        f"{prefix}/lib/aarch64-linux-gnu/liboca.a"], check=True)
+    emulated = ["qemu-aarch64", "-L", "/usr/aarch64-linux-gnu"]
+    run, port = serving([*emulated, made / "device-arm", 0, 6])
+    checks.same("the panel on AArch64", said_by([*emulated, made / "panel-arm", port]), (PANEL, 0))
+    checks.same("the device on AArch64", (run.communicate(timeout=120)[0], run.returncode), (AMPLIFIER, 0))
+    checks.same("each call on AArch64", said_by([*emulated, made / "calls-arm"])[1], 0)
+
+
+def on_the_first_kind(checks, made):
+    """On an x86-64 without what later ones brought."""
+    if not shutil.which("qemu-x86_64"):
+        return print("NOT TRIED: an x86-64 of the first kind, without qemu-x86_64")
+    checks.same("each call on an x86-64 of the first kind", said_by(["qemu-x86_64", "-cpu", "Opteron_G1", made / "calls-c++17"])[1], 0)
+
+
+def names(checks, archive, header, prefix):
     """Each prototype has its symbol, and each symbol of the library its prototype."""
     text = re.sub(r"/\*.*?\*/", "", header.read_text(), flags=re.DOTALL)
-    inline = set(re.findall(r"static inline \w+ (oca_\w+)\(", text))
-    prototypes = set(re.findall(r"^\w+ (oca_\w+)\(", text, flags=re.MULTILINE)) - inline
+    inline = set(re.findall(r"static inline [\w ]+?[ *](oca_\w+)\(", text))
+    prototypes = set(re.findall(r"^(?:enum )?\w+ (oca_\w+)\(", text, flags=re.MULTILINE)) - inline
     symbols = subprocess.run(["nm", "-g", "--defined-only", archive], capture_output=True, text=True).stdout
     exported = set(re.findall(r" T (oca_\w+)$", symbols, flags=re.MULTILINE))
     checks.same("prototypes without a symbol", prototypes - exported, set())
     checks.same("symbols without a prototype", exported - prototypes, set())
+    needed = subprocess.run(["nm", "-u", archive], capture_output=True, text=True).stdout
+    checks.same("what the library needs", sorted(set(re.findall(r" U (\w+)$", needed, flags=re.MULTILINE))),
+                ["memcpy", "memmove", "memset", "rattle_alloc", "rattle_dealloc", "rattle_realloc"])
+    shared = subprocess.run(["nm", "-D", "--defined-only", prefix / "lib/liboca.so"], capture_output=True, text=True).stdout
+    checks.same("what the shared library exports", set(re.findall(r" T (\w+)$", shared, flags=re.MULTILINE)), prototypes)
+    told = subprocess.run(["readelf", "-d", prefix / "lib/liboca.so"], capture_output=True, text=True).stdout
+    checks.same("its SONAME", re.findall(r"SONAME.*\[(.*)\]", told), ["liboca.so.1"])
 
 
 def main():
     folder = os.path.abspath(sys.argv[1])
-    archive = library(sys.argv)
+    archive = library("x86_64-unknown-linux-gnu")
     checks = Checks()
     with tempfile.TemporaryDirectory() as place:
         made = Path(place)
         prefix = made / "usr"
-        subprocess.run(["make", "-s", "install-library", f"PREFIX={prefix}", f"LIBRARY={archive}"], cwd=TOP, check=True)
+        make("install-library", prefix, archive)
         compile_all(made, prefix)
-        names(checks, archive, TOP / "include/oca.h")
+        names(checks, archive, TOP / "include/oca.h", prefix)
         arenas(checks, made)
         stays_below(checks, made, archive)
+        prefixes(checks, made, archive)
+        by_cmake(checks, made, prefix)
+        on_arm(checks, made)
+        on_the_first_kind(checks, made)
         for language in LANGUAGES:
             out, status = said_by([made / f"calls-{language}"])
             counts = re.search(r"(\d+) passed, (\d+) failed\n$", out)
@@ -206,6 +285,7 @@ def main():
             print(out, end="") if status else None
         against_each_other(checks, made)
         against_the_programs(checks, made, folder)
+        full_datagram(checks, made)
         refused_memory(checks, made)
         if shutil.which("valgrind"):
             careful = ["valgrind", "-q", "--error-exitcode=99", "--leak-check=full"]
@@ -218,6 +298,10 @@ def main():
         subprocess.run(["cc", "-std=c11", "-DARENA=(3u<<20)", *STRICT, f"-I{prefix}/include", "-o", arena, TOP / "tools/c_library.c", TOP / "examples/c/heap.c",
                         f"{prefix}/lib/liboca_c.a"], check=True)
         checks.same("each call over an arena", said_by([arena])[1], 0)
+        counted = made / "counted"
+        subprocess.run(["cc", "-std=c11", "-DCOUNTS_BLOCKS", *STRICT, f"-I{prefix}/include", "-o", counted, TOP / "tools/c_library.c", f"{prefix}/lib/liboca_c.a"],
+                       check=True)
+        checks.same("each call, and each block of memory is given back", said_by([counted])[1], 0)
     print(f"{checks.passed} passed, {checks.failed} failed")
     return 1 if checks.failed else 0
 

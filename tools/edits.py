@@ -5,9 +5,11 @@
 
 An edit has the form of a must-fail edit: a line 'file: src/lib.rt', then pairs of lines 'old: TEXT' and 'new: TEXT',
 each old text standing once in that file. Edits of different functions are checked together, one check of a copy of the
-crate for each group. An edit is refused where a goal of a function that it touches fails: not where that function only
-calls one that is not proved, and not only since a proof file names what the edit took away. What is not refused in its
-group is tried in smaller ones, and at last alone; what is not refused there has failed.
+crate for each group, of these functions and what they call: `rt ci` has proved the crate itself. An edit is refused where
+a goal of a function that it touches fails: not where that function only calls one that is not proved, and not only since
+a proof file names what the edit took away. What is not refused in its group is tried in smaller ones, and at last alone;
+what is not refused there has failed. An edit that touches no function, but a definition or a number, is alone; a line
+'of: PATH' has the function whose proof it must break, and only that one and the lemmas that it cites are checked.
 
 The edits of tools/edits_selftest/CRATE/ must not be refused, and for what their line 'says: ' has: they try this tool.
 
@@ -57,10 +59,15 @@ def say(text):
 
 
 class Function:
-    """A function of the sources: its module, the type or trait that it belongs to, its name and its lines."""
+    """A function of the sources: its module, the type or trait that it belongs to, the trait of its impl, its name and its lines."""
 
-    def __init__(self, module, of, name, first, last):
-        self.module, self.of, self.name, self.first, self.last = module, of, name, first, last
+    def __init__(self, module, block, name, first, last):
+        self.module, self.name, self.first, self.last = module, name, first, last
+        self.of, self.trait = block or (None, "")
+
+    def path(self):
+        """Its path below the crate, as the prover prints it."""
+        return "::".join([*self.module, *([self.of + self.trait] if self.of else []), self.name])
 
     def is_named(self, parts):
         """Whether the prover means it, or what lies in it, by this path below the crate."""
@@ -73,21 +80,46 @@ class Function:
         return rest[:1] == [self.name]
 
 
-def type_of(head):
-    """The name of the type that an `impl` is of, or of a trait."""
-    while re.search(r"<[^<>]*>", head):
-        head = re.sub(r"<[^<>]*>", "", head)
-    return re.sub(r"[^\w:].*", "", head.split(" for ")[-1].strip().lstrip("&")).split("::")[-1]
+def names_of(head):
+    """The name of the type that an `impl` is of, or of a trait, and that of the trait that it implements, if any, with the names of what
+    that trait is of, as the prover puts them together."""
+    if head.startswith("<"):  # what the impl is generic over
+        open_ones = [head[:at + 1].count("<") - head[:at + 1].count(">") for at in range(len(head))]
+        head = head[open_ones.index(0) + 1:]
+    parts = [re.sub(r"'\w+,? ?|\w+::", "", it).strip().lstrip("&") for it in head.split(" for ")]
+    trait = "".join(re.findall(r"\w+", parts[0])) if len(parts) > 1 else ""
+    name = re.match(r"\w*", parts[-1])[0]
+    return name[:1].upper() + name[1:], trait  # of a type such as u8 too
+
+
+def module_of(path):
+    """The module of a source file below src/."""
+    return [it for it in Path(path).with_suffix("").parts[1:] if it not in ("lib", "main", "mod")]
+
+
+def declares(text, name):
+    return bool(name) and re.search(rf"(?m)^ *(?:pub(?:\([a-z: ]+\))? )?(?:struct|enum|trait) {name}\b", text) is not None
+
+
+def at_its_type(function, folder, text):
+    """The function, in the module of the type that it belongs to, which may be another than that of its impl: so the
+    prover names it."""
+    if function.of and not declares(text, function.of):
+        for file in sorted(Path(folder, "src").rglob("*.rt")):
+            if declares(file.read_text(), function.of):
+                function.module = module_of(file.relative_to(folder))
+                break
+    return function
 
 
 def functions_of(path, text):
     """The functions of a source file in the layout of `rt fmt`: each ends at a brace as far in as its head."""
-    module = [it for it in Path(path).with_suffix("").parts[1:] if it not in ("lib", "main", "mod")]
+    module = module_of(path)
     lines, found, block = text.split("\n"), [], None
     for at, line in enumerate(lines):
         head, of = FUNCTION.match(line), BLOCK.match(line)
         if of:
-            block = of[1], type_of(of[3])
+            block = of[1], names_of(of[3])
         elif block and line == block[0] + "}":
             block = None
         if head:
@@ -101,12 +133,13 @@ class Edit:
 
     def __init__(self, path, crate, must_pass=False):
         self.path, self.name, self.must_pass = path, path.stem, must_pass
-        self.why, self.functions, self.is_refused, self.says = None, [], False, ""
+        self.why, self.functions, self.of, self.is_refused, self.says = None, [], [], False, ""
         if path.suffix != ".edit" or not path.is_file():
             self.why = "it is no edit"
             return
         self.text = path.read_text(errors="replace").strip("\n")
         self.says = "".join(re.findall(r"(?m)^says: (.*)$", self.text)[:1])
+        self.of = re.findall(r"(?m)^of: (\S+)$", self.text)
         self.why = rt.edited(self.text, crate.folder)[1]
         if not self.why:
             self.find(crate)
@@ -119,6 +152,7 @@ class Edit:
                 file = line[6:].strip()
                 text = Path(crate.folder, file).read_text()
                 functions = functions_of(file, text) if file.startswith("src/") else []
+                functions = [at_its_type(it, crate.folder, text) for it in functions]
             elif line.startswith("old: "):
                 place = text.find(line[5:])
                 at = text[:place].count("\n")
@@ -159,7 +193,7 @@ class Answer:
             self.why = f"the edited text cannot be read: {bad[:200]}"
         elif rtlib.STALE.search(ran.stdout):
             self.why = "the kept work of a library could not be used"
-        elif not self.is_proved and not (ran.returncode == 1 and lines[-1].startswith("logic=not-proved")):
+        elif not self.is_proved and not (ran.returncode == 1 and lines[-1].startswith(("logic=not-proved", "only="))):
             self.why = f"it did not reach the prover: {' '.join(lines[:3])[:300]}"
         self.wrong, self.open, self.gone, self.unproved = [], [], [], []
         for line in lines:
@@ -201,7 +235,7 @@ class Answer:
     def reason(self, edit):
         """Why the edit does not count as refused."""
         if self.why or self.is_proved:
-            return self.why or "NOT REFUSED: the crate is still proved"
+            return self.why or "NOT REFUSED: what it touches is still proved"
         if any(it.is_named(parts) for parts in self.gone for it in edit.functions) or self.gone and not self.wrong:
             return "only a proof file names what is gone: change a value and keep the names"
         others = [it for it, calls in self.unproved if not calls] or [it for it, _ in self.unproved]
@@ -209,37 +243,32 @@ class Answer:
 
 
 class Trial:
-    """The edits of a crate, tried over the kept work of the crate as it stands."""
+    """The edits of a crate, each group tried over what the checks of the groups before it kept: only the functions that the edits touch
+    are checked, and what these call. The gate has proved the crate itself."""
 
     def __init__(self, crate, room):
-        self.crate, self.room, self.checks, self.why = crate, room, 0, None
-        self.pristine, self.is_seen = None, False
+        self.crate, self.kept, self.checks, self.why = crate, f"{room}/kept", 0, None
         self.edits = [Edit(it, crate) for it in listed(Path(crate.folder, "wrong"))]
         self.edits += [Edit(it, crate, must_pass=True) for it in listed(SELFTEST / crate.name)]
-
-    def checked(self, texts, kept):
-        self.checks += 1
-        return Answer(rt.checked(self.crate, texts, FLAGS, kept), texts)
-
-    def prepare(self):
-        """Makes the kept work that each group begins with a copy of, and sees the crate itself proved."""
-        self.pristine, earlier = f"{self.room}/pristine", f"{self.crate.folder}/out/incremental"
+        earlier = f"{crate.folder}/out/incremental"
         if os.environ.get("EDITS_KEPT") and os.path.isdir(earlier):
-            shutil.copytree(earlier, self.pristine)
-            return
-        answer, self.is_seen = self.checked({}, self.pristine), True
-        if not answer.is_proved:
-            self.why = answer.why or f"{self.crate.name} itself is not proved"
+            shutil.copytree(earlier, self.kept)
+
+    def checked(self, texts, paths):
+        """Checks a copy of the crate with these texts: the functions of these paths, or all where there is none."""
+        self.checks += 1
+        only = [word for path in sorted(paths) for word in ("--only", path)]
+        ran = rt.checked(self.crate, texts, [*FLAGS, *only], self.kept)
+        if only and "` has no function `" in ran.stdout:  # a path that the prover writes in another way
+            ran = rt.checked(self.crate, texts, FLAGS, self.kept)
+        return Answer(ran, texts)
 
     def try_group(self, group):
         """Checks the crate with the edits of a group, and returns those that are not refused, with why."""
-        kept = f"{self.room}/group"
-        if self.pristine:
-            shutil.copytree(self.pristine, kept)
         texts = rt.edited("\n".join(it.text for it in group), self.crate.folder)[0]
-        answer = self.checked(texts, kept if self.pristine else None)
-        shutil.rmtree(kept, ignore_errors=True)
-        strange = None if self.is_seen or answer.why else answer.strange(group)
+        paths = {path for edit in group for path in [*edit.of, *(it.path() for it in edit.functions)]}
+        answer = self.checked(texts, paths if all(it.functions or it.of for it in group) else set())
+        strange = None if answer.why else answer.strange(group)
         if strange:
             self.why = f"{strange} is not proved, though no edit touches it"
         for edit in group:
@@ -252,8 +281,6 @@ class Trial:
         left, alone = [it for it in self.edits if not it.why], False
         while left and not self.why:
             groups = [[it] for it in left] if alone else grouped(left, self.crate)
-            if not self.pristine and (len(groups) > 1 or os.environ.get("EDITS_KEPT")):
-                self.prepare()
             missed = []
             for group in groups if not self.why else []:
                 missed += [it for it in self.try_group(group) if len(group) > 1]

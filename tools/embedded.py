@@ -1,32 +1,158 @@
 #!/usr/bin/env python3
-"""The two example programs, one against the other over loopback: the amplifier's own knobs set channel 2, and the panel opens
-channel 1 and sets its gain.
+"""The two example programs over loopback: the panel sets the amplifier, also where another peer holds a lock; each of the
+amplifier's own knobs is turned and read back by a peer, each object is set by a peer and shown by the amplifier, with an
+input that stays open; and the amplifier serves where its standard streams are closed.
 
 Usage: embedded.py BIN     BIN is the folder with `amplifier` and `panel`"""
+import itertools
+import os
 import re
+import socket
 import subprocess
 import sys
-import tempfile
 
-PANEL = "open channel 1: status 0\ngain to -6 dB: status 0\ngain: -60 dB/10\n"
-KNOBS = b"gain 2 -30\nopen 2\n"
-TURNED = "1: muted 0 dB/10, 2: muted -30 dB/10\n1: muted 0 dB/10, 2: open -30 dB/10\n"
-AMPLIFIER = TURNED + "1: open 0 dB/10, 2: open -30 dB/10\n1: open -60 dB/10, 2: open -30 dB/10\n"
+import oca_profile as oca
+
+OPENED = "open channel 1: status 0\n"
+MUTES, GAINS = (4097, 5097), (4098, 5098)
+LOCK_TOTAL, LOCK_READONLY = 3, 6
+
+
+class Checks:
+    """What was compared."""
+
+    def __init__(self):
+        self.passed, self.failed = 0, 0
+
+    def same(self, name, got, wanted):
+        if got == wanted:
+            self.passed += 1
+        else:
+            self.failed += 1
+            print(f"embedded: {name}: {got!r} where {wanted!r} is right")
+
+
+class Amplifier:
+    """A run of the amplifier, whose input stays open."""
+
+    def __init__(self, folder, **settings):
+        self.run = subprocess.Popen([f"{folder}/amplifier", "0", "100000"], stdin=subprocess.PIPE, stdout=subprocess.PIPE,
+                                    stderr=subprocess.PIPE, text=True, bufsize=1, **settings)
+        self.port = int(re.search(r":(\d+)", self.run.stderr.readline())[1])
+
+    def turn(self, line):
+        self.run.stdin.write(f"{line}\n")
+
+    def stop(self):
+        self.run.kill()
+        self.run.communicate(timeout=60)
+
+
+class Peer:
+    """A controller of one command at a time."""
+
+    def __init__(self, port):
+        self.socket = socket.socket(socket.AF_INET, socket.SOCK_DGRAM)
+        self.socket.connect(("127.0.0.1", port))
+        self.socket.settimeout(30)
+        self.handles = itertools.count(1)
+
+    def ask(self, target, level, index, params=b""):
+        """The status and the parameters of the answer."""
+        self.socket.send(oca.pdu(1, [oca.Command(next(self.handles), target, level, index, len(params) > 0, params).body()]))
+        answer = self.socket.recv(2000)
+        return answer[18], answer[20:]
+
+    def levels(self):
+        """Both channels as the amplifier prints them."""
+        said = []
+        for mute, gain in zip(MUTES, GAINS):
+            state, setting = self.ask(mute, 4, 1)[1], self.ask(gain, 5, 1)[1]
+            word = "muted" if state == bytes([1]) else "open"
+            said.append(f"{word} {int.from_bytes(setting[:2], 'big', signed=True)} dB/10")
+        return f"1: {said[0]}, 2: {said[1]}\n"
+
+
+def shown(levels):
+    """The line of both channels."""
+    (first, low), (second, high) = levels
+    return f"1: {first} {low} dB/10, 2: {second} {high} dB/10\n"
+
+
+def panel(folder, port, **settings):
+    return subprocess.run([f"{folder}/panel", str(port)], capture_output=True, text=True, timeout=60, **settings).stdout
+
+
+def panel_sets(checks, folder):
+    """The panel opens channel 1 and sets its gain; a lock of another peer refuses what it keeps."""
+    for lock, said, after in ((None, "gain to -6 dB: status 0\ngain: -60 dB/10\n", -60), (LOCK_READONLY, "gain to -6 dB: status 3\ngain: 0 dB/10\n", 0),
+                              (LOCK_TOTAL, "gain to -6 dB: status 3\ngain: status 3\n", None)):
+        amplifier = Amplifier(folder)
+        peer = Peer(amplifier.port)
+        if lock:
+            checks.same("the lock", peer.ask(GAINS[0], 1, lock)[0], 0)
+        checks.same(f"the panel, lock {lock}", panel(folder, amplifier.port), OPENED + said)
+        checks.same(f"the amplifier, lock {lock}", amplifier.run.stdout.readline(), shown((("open", 0), ("muted", 0))))
+        if after == -60:
+            checks.same("the gain is shown", amplifier.run.stdout.readline(), shown((("open", -60), ("muted", 0))))
+        checks.same(f"what is read, lock {lock}", peer.levels(), shown((("open", after or 0), ("muted", 0))))
+        amplifier.stop()
+
+
+def knobs(checks, folder):
+    """Each knob is turned, with an input that stays open: what is shown, and what a peer reads."""
+    amplifier = Amplifier(folder)
+    peer = Peer(amplifier.port)
+    levels = [["muted", 0], ["muted", 0]]
+    checks.same("at first", peer.levels(), shown(levels))
+    for line, channel, place, value in (("mute 2", 1, 0, "muted"), ("mute 1", 0, 0, "muted"), ("open 1", 0, 0, "open"), ("mute 1", 0, 0, "muted"),
+                                        ("open 2", 1, 0, "open"), ("mute 2", 1, 0, "muted"), ("gain 1 -60", 0, 1, -60), ("gain 2 -30", 1, 1, -30),
+                                        ("gain 1 100", 0, 1, 100), ("gain 2 -800", 1, 1, -800), ("gain 2 0", 1, 1, 0)):
+        changes = levels[channel][place] != value
+        levels[channel][place] = value
+        amplifier.turn(line)
+        if changes:
+            checks.same(f"{line}: what is shown", amplifier.run.stdout.readline(), shown(levels))
+            checks.same(f"{line}: what is read", peer.levels(), shown(levels))
+    for line, note in (("mute 3", "a line turns no knob"), ("mute", "a line turns no knob"), ("mute 1 ", "a line turns no knob"), ("gain 2 -3O", "a line turns no knob"),
+                       ("gain 2", "a line turns no knob"), ("gain 2 -", "a line turns no knob"), ("open 1 2", "a line turns no knob"), ("x" * 200, "a line turns no knob"),
+                       ("gain 2 101", "the value is out of range"), ("gain 1 -801", "the value is out of range")):
+        amplifier.turn(line)
+        checks.same(f"{line}: a note", amplifier.run.stderr.readline(), f"note: {note}\n")
+        checks.same(f"{line}: what is read", peer.levels(), shown(levels))
+    for onos, level, wanted in ((MUTES, 4, ((b"\2", "open"), (b"\1", "muted"))), (GAINS, 5, ((b"\xff\xc4", -60), (b"\0\x14", 20)))):
+        for channel, (params, value) in itertools.product((0, 1), wanted):
+            levels[channel][level - 4] = value
+            checks.same("a peer sets", peer.ask(onos[channel], level, 2, params)[0], 0)
+            checks.same("a peer sets: what is shown", amplifier.run.stdout.readline(), shown(levels))
+    amplifier.run.stdin.write("open 2")
+    amplifier.run.stdin.close()
+    levels[1][0] = "open"
+    checks.same("a last line without its end", amplifier.run.stdout.readline(), shown(levels))
+    checks.same("behind the end of the input", peer.levels(), shown(levels))
+    amplifier.run.stdin = None
+    amplifier.stop()
+
+
+def closed(checks, folder):
+    """Both serve where standard input or output is closed."""
+    for descriptor in (0, 1):
+        amplifier = Amplifier(folder, preexec_fn=lambda: os.close(descriptor))
+        checks.same(f"the amplifier with {descriptor} closed", Peer(amplifier.port).levels(), shown((("muted", 0), ("muted", 0))))
+        amplifier.stop()
+    amplifier = Amplifier(folder)
+    checks.same("the panel with 0 closed", panel(folder, amplifier.port, preexec_fn=lambda: os.close(0))[:len(OPENED)], OPENED)
+    amplifier.stop()
+    checks.same("an amplifier whose turns are over", subprocess.run([f"{folder}/amplifier", "0", "2"], stdin=subprocess.DEVNULL, capture_output=True,
+                                                                    timeout=60).returncode, 0)
 
 
 def main():
-    folder = sys.argv[1]
-    with tempfile.TemporaryFile() as knobs:
-        knobs.write(KNOBS)
-        knobs.seek(0)
-        amplifier = subprocess.Popen([f"{folder}/amplifier", "0", "40"], stdin=knobs, stdout=subprocess.PIPE, stderr=subprocess.PIPE, text=True)
-    port = re.search(r":(\d+)", amplifier.stderr.readline())[1]
-    turned = "".join(amplifier.stdout.readline() for _ in range(2))
-    panel = subprocess.run([f"{folder}/panel", port], capture_output=True, text=True, timeout=60).stdout
-    said = turned + amplifier.communicate(timeout=60)[0]
-    good = (panel, said) == (PANEL, AMPLIFIER)
-    print("embedded: the panel set the amplifier\n1 passed, 0 failed" if good else f"embedded: the panel said {panel!r}, the amplifier {said!r}")
-    return 0 if good else 1
+    checks = Checks()
+    for part in (panel_sets, knobs, closed):
+        part(checks, sys.argv[1])
+    print(f"embedded: the samples, each from both sides\n{checks.passed} passed, {checks.failed} failed")
+    return 1 if checks.failed else 0
 
 
 if __name__ == "__main__":

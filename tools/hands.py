@@ -6,13 +6,18 @@ Usage: hands.py BIN     BIN is the folder with `ocactl`
 
 What is to be printed is made here from the objects of the second implementation and the rules of docs/PROTOCOL.md. The
 last line is 'N passed, M failed'."""
+import contextlib
+import re
 import select
 import socket
 import subprocess
 import sys
 import threading
+import time
 
 import oca_profile as oca
+import own_ports
+from own_ports import free_port
 from served import Served
 
 CLASS, LOCK, UNLOCK, ROLE, MEMBERS, NAME, NAMES = (1, 1), (1, 3), (1, 4), (1, 5), (3, 5), (4, 3), (4, 5)
@@ -20,12 +25,6 @@ GET = {"mute": (4, 1), "polarity": (4, 1), "switch": (4, 1)}
 SET = {"mute": (4, 2), "polarity": (4, 2), "switch": (4, 2)}
 SETS = ((4, 2), (5, 2))
 OTHER = (127, 0, 0, 1, 9)  # a peer that never speaks
-
-
-def free_port():
-    with socket.socket(socket.AF_INET, socket.SOCK_DGRAM) as s:
-        s.bind(("127.0.0.1", 0))
-        return s.getsockname()[1]
 
 
 def word(obj):
@@ -37,18 +36,22 @@ def word(obj):
     if obj.kind == "boolean":
         return "on" if obj.state else "off"
     if obj.kind == "switch":
-        return f"{obj.state} {obj.names[obj.state]}"
+        return f"{obj.state} {oca.escaped(obj.names[obj.state])}"
     return str(obj.state)
 
 
 def line(obj):
-    return f"{obj.ono} {'.'.join(map(str, oca.CLASSES[obj.kind]))} {obj.container} {obj.role}\n"
+    return f"{obj.ono} {'.'.join(map(str, oca.CLASSES[obj.kind]))} {obj.container} {oca.escaped(obj.role)}\n"
 
 
 def lines(tree, ono=100):
     """The lines of a tree, each block's members behind it."""
     own = next(o for o in tree if o.ono == ono)
     return line(own) + "".join(lines(tree, o.ono) for o in oca.members(tree, ono))
+
+
+# a name that would end the line, begin another and clear the screen
+HIDING = "Mic\n4098 unmuted\x1b[2J"
 
 
 def stagebox():
@@ -62,6 +65,7 @@ def stagebox():
              oca.Object(5005, "uint32", 5000, "b", state=0, low=0, high=2**32 - 1),
              oca.Object(5006, "uint64", 5000, "c", state=2**64 - 1, low=0, high=2**64 - 1),
              oca.Object(5007, "switch", 5000, "names", state=2, names=["", "two words", "7", "Mic", "Mic"]),
+             oca.Object(5008, "switch", 5000, "a\n5009 1.1.1 100 \u202eb\x1b[2J\\", state=1, names=["Mic", HIDING, "\x9b" * 32]),
              oca.Object(4294967295, "polarity", 5000, "last", state=2)]
     assert block == 8
     return tree
@@ -164,9 +168,10 @@ class Checks:
                               capture_output=True, text=True, timeout=60)
         return done.stdout, done.stderr, done.returncode
 
-    def prints(self, what, device, words, printed, status):
-        """The words print just that, and nothing on standard error."""
-        self.same(what, self.run(device, *words), (printed, "", status))
+    def prints(self, what, device, words, printed, status, said=""):
+        """The words print just that, and this on standard error: nothing unless given."""
+        out, err, code = self.run(device, *words)
+        self.same(what, (out, re.sub(r"\b\d+ ms ago", "N ms ago", err), code), (printed, said, status))
 
 
 def trees(checks):
@@ -236,6 +241,11 @@ def sets(checks):
         checks.prints("set by a name", device, ["set", 4099, "Mic"], "4099 1\n", 0)
         checks.same("set by a name: what it asks", asked(device),
                     [(4099, CLASS, b""), (4099, NAMES, b""), (4099, SET["switch"], b"\0\1")])
+    with Served(stagebox()) as device:
+        checks.prints("set by a name as it is printed", device, ["set", 5008, oca.escaped(HIDING)], "5008 1\n", 0)
+        checks.prints("set by a name as it is not printed", device, ["set", 5008, HIDING], "5008 no such value\n", 2)
+        checks.prints("get of a name of which 192 bytes are printed", device, ["set", 5008, "2"], "5008 2\n", 0)
+        checks.prints("get of a name of which 192 bytes are printed", device, ["get", 5008], "5008 2 " + "\\u{9b}" * 32 + "\n", 0)
 
 
 def sets_at_once(checks):
@@ -376,22 +386,132 @@ def strange_answers(checks):
 
 
 def silence(checks):
-    """Nobody answers: each object has its line."""
+    """Nobody answers: each object has its line, and a note says what was heard."""
     with socket.socket(socket.AF_INET, socket.SOCK_DGRAM) as s:
         s.bind(("127.0.0.1", 0))  # hears, and never answers
         port = s.getsockname()[1]
-        checks.prints("get: no answer", port, ["get", "--turns", 2, 4097, 4098], "4097 no answer\n4098 no answer\n", 3)
-        checks.prints("set: no answer", port, ["set", "--turns", 2, 4097, "on"], "4097 no answer\n", 3)
-        checks.prints("tree: lost", port, ["tree"], "100 lost\n", 3)
+        note = f"note: nothing was heard from 127.0.0.1:{port}\n"
+        checks.prints("get: no answer", port, ["get", "--turns", 2, 4097, 4098], "4097 no answer\n4098 no answer\n", 3, note)
+        checks.prints("set: no answer", port, ["set", "--turns", 2, 4097, "on"], "4097 no answer\n", 3, note)
+        checks.prints("tree: lost", port, ["tree"], "100 lost\n", 3, note)
+        checks.prints("get: lost, and what was never sent", port, ["get", 4097, 4098], "4097 lost\n4098 not sent\n", 3, note)
         checks.prints("get: no handle is left", port, ["get", "--first-handle", oca.U32, "--turns", 1, 1, 2],
-                      "1 no answer\n2 refused 2 handles-spent\n", 3)
+                      "1 no answer\n2 refused 2 handles-spent\n", 3, note)
+    for ahead, printed in ((1, "4097 lost\n4098 not sent\n4101 not sent\n"), (2, "4097 lost\n4098 lost\n4101 not sent\n")):
+        with Deaf(stagebox(), SETS) as device:
+            checks.prints(f"set --ahead {ahead}: lost, and what was never sent", device,
+                          ["set", "--ahead", ahead, 4097, "muted", 4098, "inverted", 4101, "on"], printed, 3,
+                          f"note: 127.0.0.1:{device.port} was last heard N ms ago\n")
+            sent = {c[0] for c in asked(device) if c[1] in SETS}
+            checks.same(f"set --ahead {ahead}: what was sent", sent, {4097} if ahead == 1 else {4097, 4098})
+    with Served(stagebox()) as device:
+        checks.prints("get: answered, and no handle is left", device, ["get", "--first-handle", oca.U32 - 1, 4097, 4098],
+                      "4097 muted\n4098 refused 2 handles-spent\n", 3)
+    with Deaf(stagebox(), None) as device:
+        checks.prints("get: heard, and never answered", device, ["get", "--turns", 2, 4097], "4097 no answer\n", 3,
+                      f"note: 127.0.0.1:{device.port} is heard, and answers no command from port {checks.port}: "
+                      "wait two minutes, or give another --port\n")
+
+
+class Deaf(Served):
+    """The second implementation's device, which answers keep-alives, and no command of these methods (None: of any)."""
+
+    def __init__(self, tree, methods):
+        super().__init__(tree)
+        self.answers, self.methods = self.device.datagram, methods
+        self.device.datagram = self.datagram
+
+    def datagram(self, peer, data, now):
+        for message in oca.check(data):
+            if message[0] == "command" and (self.methods is None or (message[2].level, message[2].index) in self.methods):
+                return "", []
+        return self.answers(peer, data, now)
+
+
+class OldSession(Served):
+    """The second implementation's device, with a session of the program's own port that is ahead of the clock."""
+
+    def __init__(self, tree, ports):
+        super().__init__(tree, window=1)
+        for port in ports:
+            for handle in (oca.U32 - 1, oca.U32):
+                self.device.datagram((127, 0, 0, 1, port), oca.pdu(1, [oca.Command(handle, 100, 1, 1, 0, b"").body()]), 0)
+
+
+def old_sessions(checks):
+    """A session that is ahead of the clock, as behind a clock that was set back: the other port is taken before anything is set."""
+    own, other = own_ports.by_turns()
+    folder = checks.folder
+    for command, words, printed, done in (("set", (4097, "unmuted"), "4097 unmuted\n", lambda o: o.state == 2),
+                                          ("lock", (4097,), "4097 locked\n", lambda o: o.lock == ("total", (127, 0, 0, 1, other)))):
+        with OldSession(stagebox(), [own]) as device:
+            run = subprocess.run([f"{folder}/ocactl", command, "--device", f"127.0.0.1:{device.port}", *map(str, words)],
+                                 capture_output=True, text=True, timeout=60)
+            checks.same(f"{command}: an old session", (run.stdout, run.stderr, run.returncode),
+                        (printed, f"note: 127.0.0.1:{device.port} answers no command from port {own}: port {other} is taken\n", 0))
+            checks.same(f"{command}: an old session: the device", done(next(o for o in device.tree if o.ono == 4097)), True)
+    with OldSession(stagebox(), [own, other]) as device:
+        run = subprocess.run([f"{folder}/ocactl", "get", "--turns", "2", "--device", f"127.0.0.1:{device.port}", "4097"],
+                             capture_output=True, text=True, timeout=60)
+        said = [f"note: 127.0.0.1:{device.port} answers no command from port {own}: port {other} is taken",
+                f"note: 127.0.0.1:{device.port} is heard, and answers no command from port {other}: wait two minutes, or give another --port"]
+        checks.same("two old sessions", (run.stdout, run.stderr.splitlines(), run.returncode), ("4097 no answer\n", said, 3))
+
+
+def own_port_in_use(checks):
+    """`lock` and `unlock` take no other port than the program's own, and neither of its two may be in use; `get` takes another."""
+    for used in own_ports.by_turns():
+        with Served(stagebox()) as device, socket.socket(socket.AF_INET, socket.SOCK_DGRAM) as taken:
+            taken.bind(("127.0.0.1", used))
+            for command in ("lock", "unlock"):
+                run = subprocess.run([f"{checks.folder}/ocactl", command, "--device", f"127.0.0.1:{device.port}", "4097"],
+                                     capture_output=True, text=True, timeout=60)
+                said = re.fullmatch(rf"note: port {used}: .+\nsocket failed\n", run.stderr)
+                checks.same(f"{command}: port {used} is in use", (run.stdout, bool(said), run.returncode), ("", True, 1))
+            checks.same("a port in use: what is heard", device.heard, [])
+            run = subprocess.run([f"{checks.folder}/ocactl", "get", "--device", f"127.0.0.1:{device.port}", "4097"],
+                                 capture_output=True, text=True, timeout=60)
+            checks.same(f"get: port {used} is in use", (run.stdout, run.stderr, run.returncode), ("4097 muted\n", "", 0))
+
+
+def held(checks):
+    """`lock --hold`: the locks stay until the input ends, and are then taken off; 15 seconds behind a kill they lapse."""
+    def start(device, *words):
+        return subprocess.Popen([f"{checks.folder}/ocactl", "lock", "--hold", "--device", f"127.0.0.1:{device.port}", "--port", str(free_port()),
+                                 *map(str, words)], stdin=subprocess.PIPE, stdout=subprocess.PIPE, stderr=subprocess.PIPE, text=True)
+
+    with Served(stagebox()) as first, Served(stagebox()) as second:
+        runs = start(first, 4097, 77, 4098), start(second, 4097)
+        checks.same("lock --hold: the locks", [runs[0].stdout.readline() for _ in range(3)], ["4097 locked\n", "77 BadONo\n", "4098 locked\n"])
+        checks.same("lock --hold: the lock", runs[1].stdout.readline(), "4097 locked\n")
+        runs[0].stdin.write("a line that is dropped\n")
+        runs[0].stdin.flush()
+        begun = time.monotonic()
+        while time.monotonic() - begun < 20:
+            time.sleep(1)
+            for device in (first, second):
+                checks.run(device, "get", 4097)
+        for device in (first, second):
+            checks.prints("lock --hold: another controller after 20 seconds", device, ["get", 4097], "4097 Locked\n", 4)
+        runs[1].kill()
+        runs[0].stdin.close()
+        checks.same("lock --hold: the locks are taken off", (runs[0].stdout.read(), runs[0].stderr.read(), runs[0].wait(30)),
+                    ("4097 unlocked\n4098 unlocked\n", "", 4))
+        checks.same("lock --hold: no lock", [o.lock for o in first.tree], [None] * len(first.tree))
+        checks.prints("lock --hold: killed", second, ["get", 4097], "4097 Locked\n", 4)
+        time.sleep(16)
+        checks.prints("lock --hold: 16 seconds behind the kill", second, ["get", 4097], "4097 muted\n", 0)
+    with Served(stagebox()) as device:
+        run = start(device, 77)
+        checks.same("lock --hold: nothing is locked", (run.wait(30), run.stdout.read()), (4, "77 BadONo\n"))
 
 
 def main():
     checks = Checks(sys.argv[1])
-    for part in (trees, gets, sets, sets_at_once, tells_at_once, refusals, bad_words, locks, strange_answers, silence):
+    for part in (trees, gets, sets, sets_at_once, tells_at_once, refusals, bad_words, locks, strange_answers, silence, old_sessions, own_port_in_use, held):
         try:
-            part(checks)
+            with own_ports.alone() if part in (old_sessions, own_port_in_use) else contextlib.nullcontext():
+                part(checks)
         except (OSError, KeyError, subprocess.TimeoutExpired) as fault:
             checks.failed += 1
             print(f"{part.__name__}: {fault!r}")

@@ -1,6 +1,6 @@
 #!/usr/bin/env python3
 """include/oca.h held against the sources of the library: each prototype, by its parameters' names, order and types, and
-each constant and struct, by its numbers and fields.
+each constant and struct, by its numbers and fields; and the manual pages that are made from it: each call has one.
 
 Usage: header.py
 
@@ -8,13 +8,18 @@ The step is tried itself: with two parameters, constants or fields exchanged, le
 must be found. The last line is 'N passed, M failed'."""
 import re
 import sys
+import tempfile
 from pathlib import Path
 
 TOP = Path(__file__).resolve().parent.parent
+sys.path.insert(0, str(TOP / "gate"))
+import reference
+
 CALLS = TOP / "crates/oca_c/src"
 NUMBERS = {"bool": "bool", "usize": "size_t", **{f"{sign}{bits}": f"{'u' if sign == 'u' else ''}int{bits}_t" for sign in "iu" for bits in (8, 16, 32, 64)}}
 HANDLES = {"DeviceHandle": ("struct oca_device", "device"), "LinkHandle": ("struct oca_link", "link")}
-STRUCTS = {"Name": "struct oca_name", "Reading": "struct oca_setting"}
+STRUCTS = {"Name": "struct oca_name", "Reading": "struct oca_setting", "ValueWords": "struct oca_value", "ReadingWords": "struct oca_reading",
+           "RequestWords": "struct oca_request"}
 # A parameter that the header calls otherwise, by its call.
 RENAMED = {
     ("oca_device_datagram_words", "told"): "verdict", ("oca_device_object_words", "told"): "object", ("oca_device_setting", "reading"): "setting",
@@ -45,14 +50,15 @@ def exported():
     for file in sorted(CALLS.glob("*.rt")):
         for name, given, result in re.findall(r'pub extern "C" fn (\w+)\(([^)]*)\)\s*(?:-> (\w+))?', file.read_text()):
             pairs = [re.fullmatch(r"(\w+): (.+)", it.strip()).groups() for it in given.split(",") if it.strip()]
-            found[name] = ([c for of, kind in pairs if kind != "Global" for c in in_c(name, of, kind)], NUMBERS.get(result, "void"))
+            answers = "uint32_t" if name == "oca_version" else {"u32": "enum oca_result"}.get(result, "void")
+            found[name] = ([c for of, kind in pairs if kind != "Global" for c in in_c(name, of, kind)], answers)
     return found
 
 
 def prototypes(header):
     """The prototypes of the header."""
     found = {}
-    for result, name, given in re.findall(r"^(uint32_t|void) (oca_\w+)\(([^)]*)\);", header, re.M):
+    for result, name, given in re.findall(r"^(enum oca_result|uint32_t|void) (oca_\w+)\(([^)]*)\)(?: OCA_\w+)?;", header, re.M):
         words = [re.fullmatch(r"(.*?[ *])(\w+)", it.strip()).groups() for it in given.split(",") if it.strip() not in ("", "void")]
         found[name] = ([(of.strip().replace("* ", "*"), it) for of, it in words], result)
     return found
@@ -61,7 +67,7 @@ def prototypes(header):
 def numbered(header, name):
     """The constants of an enum of the header, by their numbers."""
     body = re.search(rf"enum {name} \{{([^}}]*)\}}", re.sub(r"/\*.*?\*/", "", header, flags=re.S))[1]
-    return {word: int(number) for word, number in re.findall(r"(\w+) = (\d+)", body)}
+    return {word: int(number, 0) for word, number in re.findall(r"(\w+) = (\w+)", body)}
 
 
 def fields(header, name):
@@ -69,7 +75,7 @@ def fields(header, name):
     body = re.search(rf"struct {name} \{{([^}}]*)\}}", header)[1]
     found = []
     for line in filter(None, (it.strip() for it in body.split(";"))):
-        of, names = line.split(" ", 1)
+        of, names = re.fullmatch(r"((?:const )?(?:struct )?\w+) (.*)", line).groups()
         found += [(it.strip(), of) for it in names.split(",")]
     return found
 
@@ -81,6 +87,44 @@ def upper(name):
 
 def text(file):
     return (CALLS / file).read_text()
+
+
+def source(name):
+    return (TOP / "crates" / name).read_text()
+
+
+def variants(name, kind, prefix):
+    """The numbers of the variants of an enum in a source of the repository."""
+    body = re.search(rf"pub enum {kind} \{{(.*?)\n\}}", source(name), re.S)[1]
+    return {f"{prefix}{upper(of)}": int(number) for of, number in re.findall(r"^    (\w+) = (\d+),", body, re.M)}
+
+
+def methods():
+    """Each method's level and index, as one number."""
+    found = {}
+    rows = re.search(r"fn place_of\(.*?\n\}", source("oca_types/src/class.rt"), re.S)[0]
+    for names, level, index in re.findall(r"((?:Method::\w+[ |\n]*)+) => \((\d+), (\d+)\)", rows):
+        found.update({f"OCA_{upper(name)}": int(level) << 16 | int(index) for name in re.findall(r"Method::(\w+)", names)})
+    return found
+
+
+def struct(file, name):
+    """The fields of a struct that crosses."""
+    body = re.search(rf"pub struct {name} \{{(.*?)\n\}}", text(file), re.S)[1]
+    found = []
+    for field, of in re.findall(r"pub (\w+): (.+),", body):
+        size = re.fullmatch(r"\[(\w+); (\d+)\]", of)
+        found.append((f"{field}[{size[2]}]", NUMBERS[size[1]]) if size else (field, NUMBERS.get(of) or STRUCTS[of]))
+    return found
+
+
+def texts():
+    """What the header says of each result that is a fault of a call behind, and of each status."""
+    said = {}
+    for name, kind in (("oca_tree/src/builder.rt", "AddFault"), ("oca_tree/src/setting.rt", "SetFault"), ("oca_control/src/fault.rt", "ControlFault")):
+        body = re.search(rf"pub enum {kind} \{{(.*?)\n\}}", source(name), re.S)[1]
+        said.update({f"OCA_{upper(of)}": it for it, of in re.findall(r'#\[error\("([^"{]*)"\)\]\s*(\w+)', body)})
+    return said
 
 
 def arms(source, kind, prefix):
@@ -98,7 +142,6 @@ def expected():
     due["OCA_DUE_COMMAND"] = due.pop("OCA_DUE_SEND")
     verdict = re.search(r"\} => \[0, (.*?)\]", text("words.rt"))[1].split(", ")
     object_words = re.findall(r"(\w+)", " ".join(re.findall(r"^        (?:object\.|)(\w+)(?:\.0|\(object\.class\)|\.len\(\) as u32),", text("words.rt"), re.M)))
-    reading = re.search(r"pub struct Reading \{(.*?)\}", text("reading.rt"), re.S)[1]
     return {
         "enum oca_result": {f"OCA_{upper(name)}": int(number) for name, number in
                             re.findall(r"^    (\w+) = (\d+),", text("answer.rt"), re.M)},
@@ -107,8 +150,19 @@ def expected():
         "enum oca_reception": arms(text("link.rt"), "Reception", "OCA_"),
         "struct oca_verdict": [(name, "uint32_t") for name in ["kind", *verdict[:4], "fault", "at"]],
         "struct oca_object": [(name, "uint32_t") for name in object_words[:2]] + [("class_number", "uint32_t"), ("role_size", "uint32_t"), ("role[64]", "uint8_t")],
-        "struct oca_setting": [(name, NUMBERS[kind]) for name, kind in re.findall(r"pub (\w+): (\w+)", reading)],
-        "struct oca_name": [("size", "uint8_t"), ("text[64]", "uint8_t")],
+        "struct oca_setting": struct("reading.rt", "Reading"),
+        "struct oca_name": struct("name.rt", "Name"),
+        "struct oca_value": struct("value_words.rt", "ValueWords"),
+        "struct oca_reading": struct("value_words.rt", "ReadingWords"),
+        "struct oca_request": struct("value_words.rt", "RequestWords"),
+        "enum oca_status": variants("oca_types/src/status.rt", "Status", "OCA_STATUS_"),
+        "enum oca_fault": variants("oca_pdu/src/fault.rt", "PduFaultKind", "OCA_FAULT_"),
+        "enum oca_method": methods(),
+        "enum oca_mute_state": variants("oca_model/src/value.rt", "MuteState", "OCA_"),
+        "enum oca_polarity_state": variants("oca_model/src/value.rt", "PolarityState", "OCA_"),
+        "enum oca_lock_kind": arms(text("words.rt"), "LockKind", "OCA_LOCKED_"),
+        "status texts": re.findall(r'=> Some\("(\w+)"\)', source("oca_model/src/status.rt")),
+        "result texts": texts(),
         "most": {"OCA_MOST_BYTES": constant("crates/oca_types/src/words.rt", "MOST_BYTES"),
                  "OCA_MOST_ANSWER": constant("crates/oca_types/src/words.rt", "MOST_PARAMETER_BYTES"),
                  "OCA_MOST_WRITTEN": constant("crates/oca_device/src/device.rt", "MOST_WRITTEN")},
@@ -122,6 +176,11 @@ def stated(header, name):
         return {word: int(number) for word, number in re.findall(r"(OCA_MOST_\w+) = (\d+)", header)}
     if name == "version":
         return int(re.search(r"#define OCA_VERSION (0x[0-9a-fA-F]+)u", header)[1], 16)
+    if name == "status texts":
+        return re.findall(r'"(\w+)"', re.search(r"oca_status_text.*?\};", header, re.S)[0])
+    if name == "result texts":
+        there = dict(re.findall(r'case (OCA_\w+): return "([^"]*)";', header))
+        return {word: there.get(word) for word in texts()} if there.keys() == numbered(header, "oca_result").keys() else there
     of, word = name.split(" ")
     return numbered(header, word) if of == "enum" else fields(header, word)
 
@@ -143,25 +202,54 @@ WRONG = [
     ("OCA_CLASS_MUTE = 2, OCA_CLASS_POLARITY = 3", "OCA_CLASS_POLARITY = 2, OCA_CLASS_MUTE = 3"),
     ("executed, kept, old, reused, fault", "executed, kept, reused, old, fault"),
     ("OCA_FULL = 1, OCA_RESERVED = 2, OCA_TAKEN = 3, OCA_NO_SUCH_BLOCK = 4, OCA_TOO_DEEP = 5", "OCA_TOO_DEEP = 1, OCA_RESERVED = 2, OCA_TAKEN = 3, OCA_NO_SUCH_BLOCK = 4, OCA_FULL = 5"),
-    ("uint32_t oca_device_tick(struct oca_device *device, uint64_t now);", "uint32_t oca_device_tick(struct oca_device *device, uint32_t now);"),
-    ("uint32_t oca_device_tick(struct oca_device *device, uint64_t now);", ""),
+    ("oca_device_tick(struct oca_device *device, uint64_t now)", "oca_device_tick(struct oca_device *device, uint32_t now)"),
+    ("enum oca_result oca_device_tick(struct oca_device *device, uint64_t now) OCA_NONNULL;", ""),
+    ("enum oca_result oca_device_tick(", "uint32_t oca_device_tick("),
+    ("struct oca_value { uint32_t class_number, zero; uint64_t bits; };", "struct oca_value { uint32_t zero, class_number; uint64_t bits; };"),
+    ("struct oca_value value, least, greatest;", "struct oca_value value, greatest, least;"),
+    ("{ uint16_t level, index; uint8_t count, size;", "{ uint16_t level, index; uint8_t size, count;"),
+    ("OCA_STATUS_LOCKED = 3, OCA_STATUS_BAD_FORMAT = 4", "OCA_STATUS_LOCKED = 4, OCA_STATUS_BAD_FORMAT = 3"),
+    ("OCA_SET_LABEL = 0x20009", "OCA_SET_LABEL = 0x2000a"),
+    ("OCA_FAULT_SYNC = 3, OCA_FAULT_VERSION = 4", "OCA_FAULT_VERSION = 3, OCA_FAULT_SYNC = 4"),
+    ("OCA_MUTED = 1, OCA_UNMUTED = 2", "OCA_UNMUTED = 1, OCA_MUTED = 2"),
+    ("OCA_NON_INVERTED = 1, OCA_INVERTED = 2", "OCA_INVERTED = 1, OCA_NON_INVERTED = 2"),
+    ("OCA_LOCKED_TOTAL = 1, OCA_LOCKED_READONLY = 2", "OCA_LOCKED_READONLY = 1, OCA_LOCKED_TOTAL = 2"),
+    ('"DeviceError", "Locked"', '"Locked", "DeviceError"'),
+    ('case OCA_TAKEN: return "the number is taken";', 'case OCA_TAKEN: return "the number is below 4096";'),
+    ('    case OCA_NOTHING: return "there is nothing";\n', ""),
     ("int8_t setting, int8_t least, int8_t greatest", "int8_t setting, int8_t greatest, int8_t least"),
     ("uint32_t *kind, uint32_t *ip, uint16_t *port", "uint32_t *ip, uint32_t *kind, uint16_t *port"),
     ("uint32_t *status, uint32_t *count", "uint32_t *count, uint32_t *status"),
-    ("const uint8_t *params, size_t params_len", "uint8_t *params, size_t params_len"),
-    ("void oca_link_close(struct oca_link *link);", "uint32_t oca_link_close(struct oca_link *link);"),
+    ("uint32_t class_number, const uint8_t *params", "uint32_t class_number, uint8_t *params"),
+    ("\nvoid oca_link_close(struct oca_link *link);", "\nuint32_t oca_link_close(struct oca_link *link);"),
     ("uint32_t kind, negative; uint64_t magnitude;", "uint32_t negative, kind; uint64_t magnitude;"),
     ("uint32_t ono, container, class_number", "uint32_t container, ono, class_number"),
     ("OCA_DUE_COMMAND = 1, OCA_DUE_KEEP_ALIVE = 2", "OCA_DUE_COMMAND = 2, OCA_DUE_KEEP_ALIVE = 1"),
     ("OCA_STRANGER = 2, OCA_MALFORMED = 3", "OCA_STRANGER = 3, OCA_MALFORMED = 2"),
     ("OCA_MOST_WRITTEN = 86", "OCA_MOST_WRITTEN = 85"),
-    ("OCA_VERSION 0x010100u", "OCA_VERSION 0x010000u"),
+    ("OCA_VERSION 0x010200u", "OCA_VERSION 0x010100u"),
 ]
+
+
+def pages_wrong(header):
+    """How many manual pages there are, and which call has none that says its declaration and what the header says of it."""
+    with tempfile.TemporaryDirectory() as place:
+        made = reference.write(Path(place))
+        texts = {file.stem: file.read_text() for file in Path(place).glob("*.3")}
+    calls = prototypes(header).keys() | set(re.findall(r"^static inline [\w ]+?[ *](oca_\w+)\(", header, re.M)) - reference.HELPERS
+    wrong = [f"{name}: a page in one of both alone" for name in sorted(calls ^ texts.keys())]
+    for name in sorted(calls & texts.keys()):
+        said = texts[name].split(".SH DESCRIPTION\n")[1].split("\n.SH")[0]
+        if not re.search(rf"^(static inline )?[\w *]+[ *]{name}\(.*\)(?: OCA_\w+)?;$", texts[name], re.M) or not said or made[name][0] != said:
+            wrong.append(f"{name}: its page does not say what the header says")
+    return len(calls), wrong
 
 
 def main():
     header = (TOP / "include/oca.h").read_text()
     compared, wrong = differences(header)
+    pages, unsaid = pages_wrong(header)
+    compared, wrong = compared + pages, wrong + unsaid
     for line in wrong:
         print(f"include/oca.h: {line}")
     found = [header.count(there) == 1 and len(differences(header.replace(there, other))[1]) > 0 for there, other in WRONG]

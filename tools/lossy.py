@@ -7,11 +7,12 @@ Usage: lossy.py BIN [COMMANDS] [SEED]     so many commands one at a time, with a
        lossy.py BIN directed [WINDOW..]   16 under way, of which the last overtakes the others and stays unanswered
                                           while they are answered and 15 more are executed; then a copy of it comes
 
-Of each run it prints a table, and at the end 'N passed, M failed' over the runs. One at a time, each answer must be what the second implementation of the profile says,
-and the last two commands read back what was set. With 16 under way the commands may be executed in any order, so they
-are such whose answers tell them apart in every order. The exit status is 1 if a command was executed twice, was too
-old, an answer was wrong, or one is missing; of `directed`, if with a window of 31 or more the copy is not answered from
-the window, or with a smaller one is not too old."""
+Of each run it prints a table, and at the end 'N passed, M failed' over the runs. One at a time, each answer must be
+what the second implementation of the profile says, and the last two commands read back what was set. With 16 under way
+the commands may be executed in any order, so they are such whose answers tell them apart in every order. The exit
+status is 1 if a command was executed twice, a copy was too old whose command's answer had not been carried yet, an
+answer was wrong, or one is missing; of `directed`, if with a window of 31 or more the copy is not answered from the
+window, or with a smaller one is not too old."""
 import heapq
 import random
 import re
@@ -22,9 +23,25 @@ import sys
 import time
 
 import oca_profile as oca
+from own_ports import free_port
 
 LOSS, DOUBLING, SLOW = 0.2, 0.2, 0.15
 TURNS = 20000
+
+
+class Behind:
+    """The copies of commands that are carried behind an answer to their command. Only those may be too old: nobody waits for them."""
+
+    def __init__(self):
+        self.answered, self.copies = set(), 0
+
+    def note(self, inward, data):
+        """A datagram is carried to the device, or to the controller."""
+        for kind, *message in oca.check(data):
+            if inward and kind == "command":
+                self.copies += message[1].handle in self.answered
+            elif not inward and kind == "response":
+                self.answered.add(message[0])
 
 
 class Network:
@@ -38,6 +55,7 @@ class Network:
         self.due, self.number = [], 0
         self.latest = {True: -1, False: -1}
         self.lost = self.doubled = self.overtaken = self.carried = 0
+        self.behind = Behind()
 
     @staticmethod
     def bound():
@@ -59,6 +77,7 @@ class Network:
         self.number += 1
 
     def carry(self, inward, data):
+        self.behind.note(inward, data)
         if inward:
             self.back.sendto(data, self.device)
         elif self.controller:
@@ -151,11 +170,6 @@ def line_of(c):
     return f"{c.target} {c.level} {c.index} {c.count} {oca.hex_text(c.params)}"
 
 
-def free_port():
-    with Network.bound() as s:
-        return s.getsockname()[1]
-
-
 def listening(device):
     """The address that the device printed once it was bound."""
     line = device.stderr.readline().decode()
@@ -200,7 +214,8 @@ class Run:
         self.missing = len(made) - len(self.answers)
 
     def is_as_promised(self, count):
-        return (self.report.get("executed"), self.report.get("old")) == (count, 0) and self.wrong == 0 \
+        """A copy may be too old only where it came behind its command's answer: nobody waits for it."""
+        return self.report.get("executed") == count and self.report.get("old", count) <= self.network.behind.copies and self.wrong == 0 \
             and self.missing == 0 and self.status == 0
 
 
@@ -211,9 +226,10 @@ def told(folder, made, window, seed, words):
     rows = [("commands", len(made)), ("window", window), ("datagrams sent", network.carried), ("  lost", network.lost),
             ("  doubled", network.doubled), ("  overtaken", network.overtaken),
             ("commands executed", run.report.get("executed")), ("duplicates answered", run.report.get("kept")),
-            ("too old", run.report.get("old")), ("wrong answers", run.wrong), ("missing answers", run.missing)]
+            ("copies behind the answer", network.behind.copies), ("  too old", run.report.get("old")), ("wrong answers", run.wrong),
+            ("missing answers", run.missing), ("exit status", run.status)]
     for name, n in rows:
-        print(f"{name:23} {n}")
+        print(f"{name:24} {n}")
     good = run.is_as_promised(len(made))
     print("each command was executed once and got its own answer" if good else "NOT as promised", flush=True)
     return good

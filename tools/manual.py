@@ -1,6 +1,6 @@
 #!/usr/bin/env python3
 """Holds man/ocadev.1 and man/ocactl.1 against `--help`: the same commands, and of each the same options with the same
-values.
+values and the same defaults, those that stand before `unless given`.
 
 Usage: manual.py BIN     BIN is the folder with the two programs
 
@@ -47,6 +47,27 @@ def commands_in_page(text):
     return commands
 
 
+def default_of(text):
+    """The number that an option has unless it is given, where its text says one."""
+    found = re.search(r"\b(\d[\d.]*) unless given", text)
+    return found[1] if found else None
+
+
+def defaults_in_help(text):
+    """The default of each option that has one."""
+    found = [re.match(r"\s+(?:-\w, )?--([a-z-]+)(.*)", line) for line in section(text, "Options")]
+    return {m[1]: default_of(m[2]) for m in found if m and default_of(m[2])}
+
+
+def defaults_in_page(text, name):
+    """The default of each option of a command that has one, and the options that are said to be as those of another."""
+    body = re.search(r"^\.SH COMMANDS\n(.*?)^\.SH ", text, re.MULTILINE | re.DOTALL)[1]
+    part = re.search(rf"^{name}\n(.*)", next(p for p in re.split(r"^\.SS ", body, flags=re.MULTILINE) if p.startswith(f"{name}\n")), re.DOTALL)[1]
+    blocks = re.findall(r"^\.BI? ((?:\\-)+[a-z\\-]+)[^\n]*\n((?:(?!\.TP).*\n)*)", part, re.MULTILINE)
+    said = {option.replace("\\", "").lstrip("-"): block for option, block in blocks}
+    return {o: default_of(b) for o, b in said.items() if default_of(b)}, {o for o, b in said.items() if "As of" in b}
+
+
 def faults_of(page, program):
     """What differs, a line each, and how much was compared."""
     text = page.read_text()
@@ -56,6 +77,11 @@ def faults_of(page, program):
     for name in sorted(documented.keys() & there):
         said = options_in_help(help_of(program, name))
         count += len(said)
+        defaults, others = defaults_in_page(text, name)
+        wanted = {option: value for option, value in defaults_in_help(help_of(program, name)).items() if option not in others}
+        count += len(wanted)
+        if defaults != wanted:
+            faults.append(f"{name}: the defaults are {defaults} in the page, {wanted} in the help")
         for option in sorted(documented[name].keys() | said.keys()):
             page_has, help_has = documented[name].get(option, "nothing"), said.get(option, "nothing")
             if page_has != help_has:

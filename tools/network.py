@@ -18,11 +18,14 @@ import time
 from pathlib import Path
 
 import oca_profile as oca
+from own_ports import free_port
 
 HERE = Path(__file__).resolve().parent
 GET = (4097, 4, 1, 0, b"")
 WAIT_MS = 50
 TRIES = 12
+# turns in which a command and its copy come, also on a machine that is busy: five seconds
+TURNS_OF_A_COPY = 100
 
 
 def bound(ip="127.0.0.1", port=0):
@@ -32,32 +35,33 @@ def bound(ip="127.0.0.1", port=0):
     return s
 
 
-def free_port():
-    with bound() as s:
-        return s.getsockname()[1]
-
-
-def command(handle, *of):
-    return oca.pdu(1, [oca.Command(handle, *of).body()])
-
-
 def get_command(handle):
-    return command(handle, *GET)
+    return oca.pdu(1, [oca.Command(handle, *GET).body()])
 
 
 def response(handle, params=b"\1"):
     return oca.pdu(3, [oca.response_body(handle, 0, 1, params)])
 
 
-def answer(peer, data, to):
-    """What a device answers to a datagram, which is sent again each 300 ms, as links send theirs."""
-    for _ in range(20):
-        peer.sendto(data, to)
-        peer.settimeout(0.3)
-        try:
-            return peer.recvfrom(2000)
-        except TimeoutError:
-            pass
+def answers_earlier(data, handle):
+    """Whether a datagram is a response under an earlier handle."""
+    return data[7:8] == b"\3" and int.from_bytes(data[14:18], "big") < handle
+
+
+def answer(peer, handle, to):
+    """What a device answers to GetState under a handle, and from where. The command is sent again each 300 ms, as links send theirs;
+    what answers a copy of an earlier one is no answer to it, and a machine that is busy may bring it late."""
+    for _ in range(40):
+        peer.sendto(get_command(handle), to)
+        until = time.monotonic() + 0.3
+        while (left := until - time.monotonic()) > 0:
+            peer.settimeout(left)
+            try:
+                got = peer.recvfrom(2000)
+            except TimeoutError:
+                break
+            if not answers_earlier(got[0], handle):
+                return got
     return None, None
 
 
@@ -132,18 +136,22 @@ def quiet_turns(checks):
     for failing, settings in ((0, {}), (0, {"SIGNALS": 30}), (0, {"SIGNALS": 1000}), (0, {"INTERRUPT": 5}),
                               (7, {"FAIL_RECEIVE": 7, "ERRNO": errno.ENETDOWN}),
                               (20, {"FAIL_RECEIVE": 99, "ERRNO": errno.ENOBUFS, "SIGNALS": 1000})):
-        took = []
+        took, short = [], False
         for _ in range(TRIES):
+            begun = time.monotonic()
             run, _ = checks.serve(turns, **settings)
             with Waits() as waits:
-                begun = time.monotonic()
+                listening = time.monotonic()
                 counts = report(run)
-            took.append((time.monotonic() - begun) * 1000 / turns / waits.one)
+            ended = time.monotonic()
+            took.append((ended - listening) * 1000 / turns / waits.one)
+            # the turns lie between the start and the end of the run, however late this script hears of either
+            short = short or (ended - begun) * 1000 / turns < 0.9 * WAIT_MS
             if {name: counts.get(name) for name in ("quiet", "failed-receives")} != {"quiet": turns - failing, "failed-receives": failing}:
                 checks.expect(f"{settings}: quiet turns and failed ones", False, counts)
             if took[-1] < 1.2:
                 break
-        checks.expect(f"{settings}: a turn takes as long as a wait of 50 ms", 0.9 < min(took) < 1.2, f"{took} of such a wait")
+        checks.expect(f"{settings}: a turn takes as long as a wait of 50 ms", min(took) < 1.2 and not short, f"{took} of such a wait")
 
 
 def signals(checks):
@@ -152,7 +160,7 @@ def signals(checks):
         run, port = checks.serve(100000, **settings)
         with bound() as peer:
             for handle in range(1, 31):
-                checks.same(f"{settings}: answer {handle} of `serve`", answer(peer, get_command(handle), ("127.0.0.1", port))[0], response(handle))
+                checks.same(f"{settings}: answer {handle} of `serve`", answer(peer, handle, ("127.0.0.1", port))[0], response(handle))
         for handle in range(1, 4):
             got = checks.send(f"127.0.0.1:{port}", handle, **settings)
             checks.same(f"{settings}: `send`", got, ("answer 0 1 01\n", "", 0))
@@ -162,16 +170,17 @@ def signals(checks):
 def refused_sends(checks):
     """A send that the system refuses is counted, and the command is answered when it comes again."""
     for number in (errno.ENETUNREACH, errno.ENOBUFS, errno.EPERM):
-        run, port = checks.serve(30, FAIL_SEND=1, ERRNO=number)
+        run, port = checks.serve(TURNS_OF_A_COPY, FAIL_SEND=1, ERRNO=number)
         with bound() as peer:
-            checks.same(f"error {number}: the answer to a copy", answer(peer, get_command(5), ("127.0.0.1", port))[0], response(5))
+            checks.same(f"error {number}: the answer to a copy", answer(peer, 5, ("127.0.0.1", port))[0], response(5))
         out, told = run.communicate(timeout=60)
         counts = dict(zip(out.split()[::2], map(int, out.split()[1::2])))
-        checks.same(f"error {number}: counts", [counts[name] for name in ("executed", "kept", "failed-sends")], [1, 1, 1])
+        counted = [counts.get("executed"), counts.get("kept", 0) > 0, counts.get("failed-sends")]
+        checks.same(f"error {number}: executed, kept, failed sends", counted, [1, True, 1])
         checks.expect(f"error {number}: a note", re.fullmatch(r"note: failed sends: 1, the last: .+\n", told), told)
-    run, port = checks.serve(30, "--verbose", FAIL_SEND=1, ERRNO=errno.EPERM)
+    run, port = checks.serve(TURNS_OF_A_COPY, "--verbose", FAIL_SEND=1, ERRNO=errno.EPERM)
     with bound() as peer:
-        checks.same("--verbose: the answer to a copy", answer(peer, get_command(5), ("127.0.0.1", port))[0], response(5))
+        checks.same("--verbose: the answer to a copy", answer(peer, 5, ("127.0.0.1", port))[0], response(5))
     told = run.communicate(timeout=60)[1].splitlines()
     checks.expect("--verbose: the failed send, and a note", "failed-sends 1" in told[0] and told[-1].startswith("note: failed sends: 1, the last: "), told)
 
@@ -187,7 +196,7 @@ def a_stalled_neighbour(checks):
                     for copy in range(5):
                         stalled.sendto(get_command(5 * handle + copy), ("127.0.0.1", port))
                     begun = time.monotonic()
-                    checks.same(f"behind a stalled neighbour: answer {handle}", answer(peer, get_command(handle), ("127.0.0.1", port))[0], response(handle))
+                    checks.same(f"behind a stalled neighbour: answer {handle}", answer(peer, handle, ("127.0.0.1", port))[0], response(handle))
                     slowest.append((time.monotonic() - begun) * 1000)
             soon = sorted(slowest[-20:])[10] / waits.one
             if soon < 1.2:
@@ -236,7 +245,7 @@ def other_addresses(checks):
     run, port = checks.serve(100000, "--ip", "127.0.0.2")
     checks.same("a device at 127.0.0.2", checks.send(f"127.0.0.2:{port}", 1), ("answer 0 1 01\n", "", 0))
     with bound() as peer:
-        checks.same("its answer comes from there", answer(peer, get_command(9), ("127.0.0.2", port)), (response(9), ("127.0.0.2", port)))
+        checks.same("its answer comes from there", answer(peer, 9, ("127.0.0.2", port)), (response(9), ("127.0.0.2", port)))
     run.kill()
 
 

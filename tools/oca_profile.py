@@ -202,11 +202,23 @@ def some(value, fault):
     return value
 
 
+HIDDEN = {*range(0x20), *range(0x7f, 0xa0), 0x61c, 0x200e, 0x200f, *range(0x2028, 0x202f), *range(0x2066, 0x206a)}
+
+
+def escaped(text):
+    """How a text of a device is printed."""
+    short = {"\n": "\\n", "\r": "\\r", "\t": "\\t", "\\": "\\\\"}
+    return "".join(short.get(c) or (f"\\u{{{ord(c):0{2 if ord(c) < 256 else 4}x}}}" if ord(c) in HIDDEN else c) for c in text)
+
+
 def utf8(data):
     try:
-        return data.decode("utf-8")
+        text = data.decode("utf-8")
     except UnicodeDecodeError:
         raise ValueError("text") from None
+    if any(ord(c) in HIDDEN for c in text):
+        raise ValueError("text")
+    return text
 
 
 def whole_number(data, low, high):

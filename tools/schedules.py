@@ -189,6 +189,27 @@ def crowd(r, window, span):
     return schedule
 
 
+def visitors(r, window, span):
+    """Links go on while others come one after another, more than have room; most are forgotten when the next comes."""
+    schedule = Schedule(window, span, starts(r, r.choice([1, 1, 2])), r.choice(PEERS))
+    network, links, pace = schedule.network, range(len(schedule.starts)), r.choice([[60001], [1, 60001], [119999, 120000]])
+    for n in range(min(schedule.peers + 3, 20)):
+        schedule.timed("other", peer(16 + n), r.choice([oca.pdu(4, [oca.u16(1)]), others_bytes(r)]))
+        for i in links:
+            for _ in range(r.choice([1, 1, 2])):
+                submit(r, schedule, i)
+            schedule.timed("due", i)
+        for _ in range(3):
+            if network.to_device:
+                schedule.timed("to-device", some_datagram(r, len(network.to_device), ()))
+            if network.to_links:
+                schedule.timed("to-link", some_datagram(r, len(network.to_links), ()))
+        if r.randrange(3) == 0:
+            schedule.take_all()
+        schedule.now += r.choice(pace)
+    return schedule
+
+
 def lossy(r, window, span):
     """Links that are asked at least every 250 ms until no command is left, over a network that loses most datagrams."""
     schedule = Schedule(window, span, starts(r, r.choice([1, 1, 2])), r.choice(PEERS))

@@ -19,8 +19,11 @@ import time
 from pathlib import Path
 
 import oca_profile as oca
+import own_ports
+from own_ports import free_port
 
 TURNS = 80
+KEEP_ALIVE = oca.pdu(4, [(5).to_bytes(2, "big")])
 EXAMPLES = Path(__file__).resolve().parent.parent / "examples"
 
 
@@ -29,11 +32,6 @@ def bound(port=0):
     s.bind(("127.0.0.1", port))
     s.settimeout(10)
     return s
-
-
-def free_port():
-    with bound() as s:
-        return s.getsockname()[1]
 
 
 def response(handle, status, count, params):
@@ -108,52 +106,98 @@ def runs_ahead(checks):
         checks.same("run --ahead: its answers", (*out, run.returncode), ("answer 1 0 -\nanswer 2 0 -\nanswer 3 0 -\n", "", 0))
 
 
-def waits_before_it_reads(checks):
-    """`run --ahead` with an input that is kept open and has no further command: the command is sent again until it is answered, and its
-    answer is printed. What stands behind it is no command yet, or none."""
-    for behind in ("", "# done\n", "\n", "\n# a comment without an end", "1 2 3 0"):
+def drives_while_it_waits(checks):
+    """`run --ahead` with an input that comes in pieces and is kept open: commands that came one after another are under way together, each is
+    sent again until it is answered, its answer is printed, and keep-alives go out then, all before more comes. What stands behind the last
+    command is no command yet, or none."""
+    for behind, rest in (("", ""), ("# done\n", ""), ("\n", ""), ("\n# a comment without an end", "\n"), ("1 2 3 0", " -\n")):
+        name = f"run --ahead, {behind!r} behind a command"
+        wanted = [oca.pdu(1, [oca.Command(handle, 1, 2, 3, 0, b"").body()]) for handle in (1, 2, 3)]
         with bound() as device:
             run = checks.start("ocactl", "run", "--device", f"127.0.0.1:{device.getsockname()[1]}", "--first-handle", 1, "--ahead", 16, "--port", free_port())
-            run.stdin.write(f"1 2 3 0 -\n1 2 3 0 -\n{behind}")
-            run.stdin.flush()
-            wanted = [oca.pdu(1, [oca.Command(handle, 1, 2, 3, 0, b"").body()]) for handle in (1, 2)]
             heard = []
+            for piece in ("1 2", " 3 0 -", "\n"):
+                run.stdin.write(piece)
+                run.stdin.flush()
+                time.sleep(0.02)
+            data, sender = device.recvfrom(2000)
+            checks.same(f"{name}: one of a line that came in pieces", data, wanted[0])
+            run.stdin.write(f"1 2 3 0 -\n{behind}")
+            run.stdin.flush()
             with contextlib.suppress(TimeoutError):
-                for _ in range(6):
-                    data, sender = device.recvfrom(2000)
-                    heard.append(data)
-            checks.same(f"run --ahead, {behind!r} behind a command: it is sent again", (len(heard), set(heard)), (6, set(wanted)))
+                while heard.count(wanted[1]) < 3:
+                    heard.append(device.recvfrom(2000)[0])
+            checks.same(f"{name}: it is sent again, and the one before it", (set(heard), heard.count(wanted[0]) >= 2), (set(wanted[:2]), True))
             for handle in (1, 2):
                 device.sendto(response(handle, handle, 0, b""), sender)
             said = b""
             while said.count(b"\n") < 2 and select.select([run.stdout], [], [], 10)[0]:
                 said += os.read(run.stdout.fileno(), 4096) or b"\n" * 9
-            checks.same(f"run --ahead, {behind!r} behind a command: its answer is printed", said, b"answer 1 0 -\nanswer 2 0 -\n")
-            run.kill()
+            checks.same(f"{name}: its answer is printed", said, b"answer 1 0 -\nanswer 2 0 -\n")
+            heard = []
+            with contextlib.suppress(TimeoutError):
+                while heard.count(KEEP_ALIVE) < 2:
+                    heard.append(device.recvfrom(2000)[0])
+            checks.same(f"{name}: keep-alives while nothing is under way", (set(heard) <= {KEEP_ALIVE, *wanted[:2]}, heard.count(KEEP_ALIVE)), (True, 2))
+            run.stdin.write(rest or "1 2 3 0 -\n")
+            run.stdin.close()
+            run.stdin = None
+            if rest != "\n":
+                while data != wanted[2]:
+                    data = device.recvfrom(2000)[0]
+                device.sendto(response(3, 0, 0, b""), sender)
+            out = run.communicate(timeout=30)
+            checks.same(f"{name}: what comes then", (*out, run.returncode), ("" if rest == "\n" else "answer 0 0 -\n", "", 0))
 
 
-def own_ports(checks):
-    """`run` and `lock` without a port are at 65001, or at another where that is in use; the first handle is the clock's."""
+ALIVE = oca.pdu(4, [b"\0\5"])  # a keep-alive of five seconds
+
+
+def next_command(device, before=b""):
+    """The next command of a run, and its sender; keep-alives are echoed, and copies of the one before left."""
+    while True:
+        data, sender = device.recvfrom(2000)
+        if data not in (ALIVE, before):
+            return data, sender
+        if data == ALIVE:
+            device.sendto(ALIVE, sender)
+
+
+def at_own_ports(checks):
+    """`run` and `lock` without a port are at 65001 or 65002, by turns of the clock, and ask first whether the device answers; where the
+    port is in use, `run` is at another, and `lock` is refused. The first handle is the clock's."""
+    root = (100, 1, 1, 0, b"")
+    own = own_ports.by_turns()[0]
     for taken in (False, True):
         with bound() as device, contextlib.ExitStack() as more:
             if taken:
-                more.enter_context(bound(65001))
-            run = checks.start("ocactl", "run", "--device", f"127.0.0.1:{device.getsockname()[1]}")
-            run.stdin.write("1 2 3 0 -\n")
-            run.stdin.close()
-            run.stdin = None
-            data, sender = device.recvfrom(2000)
-            handle = int.from_bytes(data[14:18], "big")
-            checks.same("run: its own port", sender[1] == 65001, not taken)
-            checks.same("run: a handle by the clock", (int(time.time() * 100000) - handle) % 2**31 < 60 * 100000, True)
-            device.sendto(response(handle, 0, 0, b""), sender)
-            out = run.communicate(timeout=30)
-            checks.same("run: an answer", (*out, run.returncode), ("answer 0 0 -\n", "", 0))
-            run = checks.start("ocactl", "lock", "--device", f"127.0.0.1:{device.getsockname()[1]}", 4097)
-            data, sender = device.recvfrom(2000)
-            checks.same("lock: its own port", sender[1] == 65001, not taken)
-            device.sendto(response(int.from_bytes(data[14:18], "big"), 0, 0, b""), sender)
-            checks.same("lock: what it prints", (*run.communicate(timeout=30), run.returncode), ("4097 locked\n", "", 0))
+                more.enter_context(bound(own))
+            for words, written, command, printed in ((["run"], "1 2 3 0 -\n", (1, 2, 3, 0, b""), "answer 0 0 -\n"),
+                                                     (["lock", 4097], "", (4097, 1, 3, 0, b""), "4097 locked\n")):
+                run = checks.start("ocactl", words[0], "--device", f"127.0.0.1:{device.getsockname()[1]}", *words[1:])
+                run.stdin.write(written)
+                run.stdin.close()
+                run.stdin = None
+                if taken and words[0] == "lock":
+                    out, said = run.communicate(timeout=30)
+                    checks.same("lock: its own port is in use", (out, said[:17], said.splitlines()[1:], run.returncode),
+                                ("", f"note: port {own}:", ["socket failed"], 1))
+                    continue
+                data = b""
+                if not taken:
+                    data, sender = next_command(device)
+                    first = int.from_bytes(data[14:18], "big")
+                    checks.same(f"{words[0]}: what is asked first", data, oca.pdu(1, [oca.Command(first, *root).body()]))
+                    device.sendto(response(first, 0, 0, b""), sender)
+                data, sender = next_command(device, data)
+                handle = int.from_bytes(data[14:18], "big")
+                checks.same(f"{words[0]}: its bytes", data, oca.pdu(1, [oca.Command(handle, *command).body()]))
+                checks.same(f"{words[0]}: its own port", sender[1] == own, not taken)
+                checks.same(f"{words[0]}: a handle by the clock", (int(time.time() * 100000) - handle) % 2**31 < 60 * 100000, True)
+                if not taken:
+                    checks.same(f"{words[0]}: the handle behind the first", handle, first + 1)
+                device.sendto(response(handle, 0, 0, b""), sender)
+                checks.same(f"{words[0]}: what it prints", (*run.communicate(timeout=30), run.returncode), (printed, "", 0))
 
 
 def faults(checks):
@@ -171,7 +215,46 @@ def faults(checks):
             checks.same(f"faults of {words}", (out, lines[-1:], len(lines), said[:6], run.returncode), ("", [fault], 2, "note: ", code))
     for program in ("ocadev", "ocactl"):
         done = subprocess.run([f"{checks.folder}/{program}".encode(), b"\xff"], capture_output=True, timeout=30)
-        checks.same(f"{program}: words that are no UTF-8", (done.stdout, done.stderr, done.returncode), (b"", b"bad words\n", 2))
+        checks.same(f"{program}: words that are no UTF-8", (done.stdout, done.stderr, done.returncode), (b"", b"note: a word is not UTF-8\nbad words\n", 2))
+
+
+def bad_options(checks):
+    """An option whose value is not of its form is named with its value; so is one that is missing."""
+    to = ("--device", "127.0.0.1:65000")
+    sent = ("--target", "1", "--level", "1", "--index", "1", "--count", "0")
+    rows = [(("ocactl", "get", "--device", device, "4097"), f"--device {device} ") for device in
+            ("127.0.0.1:0", "0.0.0.0:65000", "0.1.2.3:65000", "224.0.0.1:65000", "239.255.255.255:1", "255.255.255.255:65000", "127.0.0.1:65536", "localhost:1", "127.0.0.1")]
+    rows += [(("ocactl", "send", *to, *sent, f"--{name}", value), f"--{name} {value} ") for name, value in
+             (("ip", "224.0.0.1"), ("ip", "255.255.255.255"), ("ip", "1.2.3"), ("port", "65536"), ("first-handle", "4294967296"),
+              ("span", "0"), ("span", "33"), ("turns", "4294967296"), ("params", "5"), ("params", "5g"))]
+    rows += [(("ocactl", "run", *to, "--ahead", "0"), "--ahead 0 "), (("ocactl", "run", *to, "--ahead", "33"), "--ahead 33 "),
+             (("ocactl", "run", *to, "--ahead", "17"), "--ahead is more than the span"),
+             (("ocactl", "set", *to, "--ahead", "3", "--span", "2", "4097", "muted"), "--ahead is more than the span"),
+             (("ocactl", "replay", "--device", "x", "--first-handle", "1"), "--device x "),
+             (("ocactl", "replay", *to, "--first-handle", "x"), "--first-handle x "),
+             (("ocactl", "send", *to, *sent, "--params", "5a" * 1446), "--params is not of its form"),
+             (("ocactl", "send", *to, "--target", "1"), "error: the following required arguments were not provided: --level <L>"),
+             (("ocactl", "get", "4097"), "error: the following required arguments were not provided: --device <"),
+             (("ocadev", "serve"), "error: the following required arguments were not provided: --port <PORT>"),
+             (("ocadev", "show", "--tree", "x", "--channels", "3"), "--tree and --channels "), (("ocadev", "show", "--channels", "1023"), "--channels 1023 ")]
+    rows += [(("ocadev", "serve", "--port", "0", f"--{name}", value), f"--{name} {value} ") for name, value in
+             (("ip", "224.0.0.1"), ("ip", "255.255.255.255"), ("window", "0"), ("window", "65"), ("peers", "0"), ("peers", "65"), ("turns", "x"))]
+    rows += [(("ocadev", "serve", "--port", "65536"), "--port 65536 ")]
+    for words, note in rows:
+        done = subprocess.run([f"{checks.folder}/{words[0]}", *words[1:]], capture_output=True, text=True, timeout=30)
+        lines = done.stderr.splitlines()
+        checks.same(f"bad option of {words}", (done.stdout, lines[0].startswith(f"note: {note}"), lines[1:], done.returncode), ("", True, ["bad words"], 2))
+
+
+def versions(checks):
+    """`--version` prints the number of `include/oca.pc.in` and the toolchain's line of README."""
+    top = EXAMPLES.parent
+    number = re.search(r"^Version: (.*)$", (top / "include/oca.pc.in").read_text(), re.MULTILINE)[1]
+    toolchain = re.search(r"^Checked with the toolchain `([^`]*)`", (top / "README.md").read_text(), re.MULTILINE)[1]
+    for program in ("ocadev", "ocactl"):
+        for word in ("--version", "-V"):
+            done = subprocess.run([f"{checks.folder}/{program}", word], capture_output=True, text=True, timeout=30)
+            checks.same(f"{program} {word}", (done.stdout, done.stderr, done.returncode), (f"{program} {number}\nchecked with {toolchain}\n", "", 0))
 
 
 def serves(checks):
@@ -260,7 +343,8 @@ def defaults(checks):
             run = checks.start("ocactl", "send", "--device", f"127.0.0.1:{device.getsockname()[1]}", "--first-handle", 1, "--target", 1,
                                "--level", 1, "--index", 1, "--count", 0, *turns)
             out = run.communicate(timeout=30)
-            checks.same(f"send {turns}: its end", (*out, run.returncode), (said, "", 3))
+            note = f"note: nothing was heard from 127.0.0.1:{device.getsockname()[1]}\n"
+            checks.same(f"send {turns}: its end", (*out, run.returncode), (said, note, 3))
             device.setblocking(False)
             heard = []
             with contextlib.suppress(BlockingIOError):
@@ -345,14 +429,14 @@ def listed_line(r, onos):
     if kind in oca.WORDS:
         value = [r.choice(list(oca.WORDS[kind]) * 12 + ["up"])]
     elif kind == "switch":
-        names = [r.choice(["a", "Line", "Stage left", "Off", "B\u00fchne", "", "n" * r.choice([64] * 30 + [65])]) for _ in range(r.choice([1, 2, 3, 5, 9, 12, 16, 17]))]
+        names = [r.choice(["a", "Line", "Stage left", "Off", "B\u00fchne", "", *r.choice([[]] * 19 + [["b\x7f", "\u202eb"]]), "n" * r.choice([64] * 30 + [65])]) for _ in range(r.choice([1, 2, 3, 5, 9, 12, 16, 17]))]
         value = [",".join(names), r.choice(names * 9 + ["nowhere"])]
     elif kind != "block":
         size, signed = oca.WIDTHS[kind]
         least, greatest = (-2**(8 * size - 1), 2**(8 * size - 1) - 1) if signed else (0, 2**(8 * size) - 1)
         value = [str(n) for n in (r.choice([least, 0, 5] * 6 + [least - 1]), r.choice([greatest, 100, 6] * 6 + [greatest + 1]), r.choice([5, 6] * 9 + [50, least, greatest]))]
     fields = [str(ono), str(r.choice([100] * 9 + [4096] * 6 + onos[-12:])), kind, *value, r.choice(["lockable", "no-lock"] * 15 + ["yes"]),
-              r.choice(["mute", "a role", "B\u00fchne 1", "x" * r.choice([64] * 30 + [65])] * 15 + [""])]
+              r.choice(["mute", "a role", "B\u00fchne 1", "x" * r.choice([64] * 30 + [65])] * 15 + ["", "a\u2028b"])]
     onos.append(ono)
     line = " ".join(f'"{f}"' if " " in f or not f or r.randrange(9) == 0 else f for f in fields).encode()
     damage = r.randrange(90)
@@ -397,9 +481,10 @@ def trees(checks):
 
 def main():
     checks = Checks(sys.argv[1])
-    for part in (sends, runs, runs_ahead, waits_before_it_reads, typed, own_ports, limits, defaults, faults, unwritten, serves, serves_until_stopped, trees):
+    for part in (sends, runs, runs_ahead, drives_while_it_waits, typed, at_own_ports, limits, defaults, faults, bad_options, versions, unwritten, serves, serves_until_stopped, trees):
         try:
-            part(checks)
+            with own_ports.alone() if part in (at_own_ports, unwritten) else contextlib.nullcontext():
+                part(checks)
         except (OSError, TypeError, subprocess.TimeoutExpired) as fault:  # nothing came, or other words than those that were waited for
             checks.failed += 1
             print(f"{part.__name__}: {fault!r}")

@@ -13,7 +13,10 @@ made on a transcript alone. A peer keeps its session where its admitted datagram
  only        where the peer kept its session, it is the only execution for that peer under that handle
  untaken     a delivered command that its link holds untaken is executed now or answered from the window, and gets one
              datagram with the reply of an execution of that command: where 2 * S <= W + 1, the peer kept its session,
-             and no more peers came than have room
+             and the datagram finds room: its peer is known when it comes, or fewer peers are than have room. (Some find
+             room although more peers came since the device was made than have room: these are counted)
+ room        where the well-formed datagrams of the last 120,000 ms came from at most as many peers as have room, the
+             latest finds room
  round trip  where that datagram comes to the link, at any later step, the link has the command's answer; where the peer
              kept its session till then, the answer is the reply that the datagram carries
  through     while a link is asked at least every ms milliseconds until no command is left (for each run the least ms that it
@@ -21,7 +24,8 @@ made on a transcript alone. A peer keeps its session where its admitted datagram
              bytes, less than 250 + ms ago; and after ms + 20 * (250 + ms) it is answered, or its link is lost
  once        no command is executed twice where the peer kept its session
  second      the transcript is, byte for byte, that of the second implementation
- premises    there are schedules within the premises that lose, double and overtake datagrams
+ premises    there are schedules in which every datagram of a link is within the premises, and that lose, double and
+             overtake datagrams
  sizes       with W = 2 * S - 2 a schedule breaks 'untaken', at each of the 31 pairs; random ones do at (2, 2) and
              (4, 3)
  lines       bad lines are refused with their number
@@ -38,7 +42,7 @@ import subprocess
 import sys
 
 import oca_profile as oca
-from schedules import PAIRS, PEERS, Schedule, crowd, directed, lossy, wander
+from schedules import PAIRS, PEERS, Schedule, crowd, directed, lossy, visitors, wander
 
 BATCH = 40
 
@@ -82,6 +86,7 @@ class Laws:
         self.untaken = [{} for _ in self.peers]
         self.executions = {p: [] for p in self.peers}  # (command, reply)
         self.clock, self.came, self.admitted, self.refused, self.forgotten = 0, set(), {}, set(), set()
+        self.spoke = {}  # by peer, when its last well-formed datagram came
         self.within = False
         self.trips, self.answered, self.owed = {}, [set() for _ in self.peers], [{} for _ in self.peers]
         self.answers_sent = 0
@@ -104,7 +109,7 @@ class Laws:
         for way in self.heard:
             self.count["losses"] += len(self.sent[way]) - len(self.heard[way])
             self.count["doubles"] += sum(n - 1 for n in self.heard[way].values())
-        self.within = not self.forgotten and len(self.came) <= self.most
+        self.within = not self.forgotten and self.refused.isdisjoint(self.peers)
         if self.fit and self.within:
             self.count["premises met"] = 1
             self.count["premises met, with loss, double and overtaking"] = \
@@ -121,22 +126,34 @@ class Laws:
         self.heard[way][k] += 1
         self.latest[key] = max(self.latest.get(key, -1), k)
 
-    def came_from(self, p, now, data):
-        """A datagram of p came to the device. It is admitted where it is well-formed and p is known, or fewer than have
-        room are; and p does not keep its session where it is admitted more than 120,000 ms after the one before it."""
+    def came_from(self, p, now, data, said):
+        """A datagram of p came to the device; whether it finds room: it is well-formed, and p is known, or fewer than
+        have room are. It is admitted then; and p does not keep its session where that is more than 120,000 ms after the
+        one before it."""
         self.clock = max(self.clock, now)
         self.came.add(p)
         try:
             oca.check(data)
         except oca.Fault:
-            return
+            return False
+        self.few_find_room(p, said)
         known = [q for q, at in self.admitted.items() if self.clock - at <= 120000]
         if p not in known and len(known) >= self.most:
             self.refused.add(p)
-            return
+            return False
         if p in self.admitted and p not in known:
             self.forgotten.add(p)
         self.admitted[p] = self.clock
+        return True
+
+    def few_find_room(self, p, said):
+        """A well-formed datagram of p came. Where at most as many peers spoke of late as have room, it finds room."""
+        self.spoke[p] = self.clock
+        if sum(self.clock - at <= 120000 for at in self.spoke.values()) <= self.most:
+            self.count["room"] += 1
+            self.count["room, of more peers ever"] += len(self.came) > self.most
+            if said == "no-room":
+                raise Break("room", 0, f"few spoke of late, and a datagram of {oca.peer_text(p)} finds no room")
 
     def submit(self, step, said):
         if said.startswith("handle "):
@@ -188,7 +205,7 @@ class Laws:
         pass
 
     def other(self, step, said):
-        self.came_from(step[2], step[1], step[3])
+        self.came_from(step[2], step[1], step[3], said)
 
     def to_link(self, step, said):
         self.note_delivery("to-link", step[2])
@@ -219,7 +236,7 @@ class Laws:
         _, now, k = step
         p, data = self.sent["to-device"][k]
         self.note_delivery("to-device", k)
-        self.came_from(p, now, data)
+        finds_room = self.came_from(p, now, data, said)
         (message,) = oca.check(data)
         executed, kept = {"served 1 0 0": (1, 0), "served 0 1 0": (0, 1)}.get(said, (0, 0))
         answered = said.startswith("served") and (executed + kept > 0 or message[0] == "keep-alive")
@@ -238,7 +255,7 @@ class Laws:
             self.count["once"] += p not in self.forgotten
         link = self.peers.index(p)
         held = self.untaken[link].get(command.handle)
-        if held and data == oca.pdu(1, [held.body()]):
+        if finds_room and held and data == oca.pdu(1, [held.body()]):
             self.untaken_came(p, command, said, reply)
 
     def next_answer(self, p):
@@ -250,10 +267,11 @@ class Laws:
         return messages[0][1:] if len(messages) == 1 and messages[0][0] == "response" else None
 
     def untaken_came(self, p, command, said, reply):
-        """A copy came of a command that the link of p holds untaken."""
-        if not self.fit or p in self.forgotten or len(self.came) > self.most:
+        """A copy came, and found room, of a command that the link of p holds untaken."""
+        if not self.fit or p in self.forgotten:
             return
         self.count["untaken"] += 1
+        self.count["untaken, of more peers ever"] += len(self.came) > self.most
         if said == "served 0 1 0":
             self.places["untaken"].append(self.number)
             places = [i for i, (c, _) in enumerate(self.executions[p]) if c.handle == command.handle]
@@ -337,7 +355,7 @@ def made(seed, number):
         window, span = r.randrange(1, 65), r.randrange(1, 33)
     if r.randrange(3) == 0:
         return [directed(window, span, r).take_all()]
-    schedule = r.choice([crowd, lossy] + [wander] * 10)(r, window, span)
+    schedule = r.choice([crowd, visitors, lossy] + [wander] * 10)(r, window, span)
     if r.randrange(20) == 0:
         return [schedule.refused(r)]
     if len(schedule.steps) <= 24 and r.randrange(8) == 0:
@@ -422,6 +440,21 @@ def wrong_rules():
             return "no-room", []
         return serve(device, sender, data, now)
 
+    def never_given_up(device, sender, data, now):
+        device.ever = getattr(device, "ever", set())
+        if sender not in device.ever and len(device.ever) >= device.peers:
+            return "no-room", []
+        said, packets = serve(device, sender, data, now)
+        device.ever |= {sender} if said.startswith("served") else set()
+        return said, packets
+
+    def shut_for_all(device, sender, data, now):
+        if getattr(device, "shut", None) == max(device.now, now) and any(s.peer == sender for s in device.sessions):
+            return "no-room", []
+        said, packets = serve(device, sender, data, now)
+        device.shut = device.now if said == "no-room" else None
+        return said, packets
+
     def hears_once(link, sender, data, now):
         again = [u for u in link.untaken if u[1] > 1]
         for u in again:
@@ -462,7 +495,9 @@ def wrong_rules():
         "a copy gets the latest reply": ("untaken", oca.Session, "judge", latest_reply),
         "a span that is one larger": ("untaken", oca.Link, "submit", wider),
         "an answer goes to the lowest command": ("answers", oca.Link, "datagram", lowest),
-        "room for one fewer": ("untaken", oca.Device, "datagram", fewer_sessions),
+        "room for one fewer": ("room", oca.Device, "datagram", fewer_sessions),
+        "a place is never given up": ("room", oca.Device, "datagram", never_given_up),
+        "where one finds no room a known peer finds none": ("untaken", oca.Device, "datagram", shut_for_all),
         "no answer to what was given out twice": ("round trip", oca.Link, "datagram", hears_once),
         "one answer at a time": ("round trip", oca.Link, "datagram", one_answer),
         "an answer takes the others' place": ("round trip", oca.Link, "datagram", last_answer),
@@ -569,6 +604,9 @@ HELD = [("answers", "answers"), ("only", "answers of an only execution"),
         ("only, of a peer that found no room before", "of these, of a peer that found no room before"),
         ("untaken", "deliveries of untaken commands"),
         ("untaken, the oldest of a full window", "of these, of the oldest command of a full window"),
+        ("untaken, of more peers ever", "of these, after more peers than have room"),
+        ("room", "datagrams where few spoke of late"),
+        ("room, of more peers ever", "of these, after more peers than have room"),
         ("round trips", "round trips"),
         ("round trips of a command that is still untaken", "of these, of a command that is still untaken"),
         ("waiting", "times that a command waits after a call"),
@@ -638,7 +676,8 @@ def main():
     print("altered transcripts refused by the law that they break: {} of {}".format(*altered_lines))
     return verdicts({
         "answers": total["answers"], "only": total["only"] and total["only, of a peer that found no room before"],
-        "untaken": total["untaken, the oldest of a full window"], "once": total["once"],
+        "untaken": total["untaken, the oldest of a full window"] and total["untaken, of more peers ever"],
+        "room": total["room, of more peers ever"], "once": total["once"],
         "round trip": total["round trips of a command that is still untaken"],
         "through": total["waiting, asked so, and given out again"],
         "second": total["schedules"] >= count and total["refused"],

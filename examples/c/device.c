@@ -21,8 +21,8 @@ static uint64_t now_ms(void) {
 static const uint8_t *text(const char *words) { return (const uint8_t *)words; }
 
 /* The objects: for each channel a block with a mute and a gain. */
-static uint32_t build(struct oca_device *device) {
-    uint32_t answer = oca_device_open(device, 128);
+static enum oca_result build(struct oca_device *device) {
+    enum oca_result answer = oca_device_open(device, 128);
     for (uint32_t channel = 0; channel < 2 && answer == OCA_DONE; channel++) {
         uint32_t block = 4096 + 16 * channel;
         char role[16];
@@ -94,12 +94,11 @@ static bool turn(struct oca_device *device, int file) {
 }
 
 int main(int count, char **words) {
-    struct oca_device device;
+    struct oca_device device = OCA_DEVICE_INIT;
     struct channels channels = {{true, true}, {0, 0}};
-    memset(&device, 0, sizeof device);
-    uint32_t answer = build(&device);
+    enum oca_result answer = build(&device);
     if (answer != OCA_DONE) {
-        fprintf(stderr, "not started: %u\n", answer);
+        fprintf(stderr, "not started: %u\n", (unsigned)answer);
         oca_device_close(&device);
         return 1;
     }

@@ -1,5 +1,6 @@
 //! What the amplifier's electronics do, and the objects by which a controller sets it.
-ghost use Rattle.std.specs.Prelude.{◌<◌};
+ghost use Rattle.std.specs.Prelude.{◌≡◌};
+ghost use Rattle.amplifier.specs.Channels.{block_of, mute_of, gain_of, is_muted, tenths_set, levels_in, channels_in};
 
 use oca_device::Electronics;
 use oca_tree::{AddFault, Kind, MuteState, Setting, Spec, Tree, TreeBuilder};
@@ -9,41 +10,65 @@ use std::alloc::Global;
 /// The root block.
 const ROOT: Ono = Ono(100);
 
-/// One channel: a mute, and a gain in tenths of a decibel.
+/// One of the two channels.
 #[derive(Clone, Copy, Debug, PartialEq, Eq)]
-pub struct Channel {
-    pub muted: bool,
-    pub gain: i16,
+pub enum Channel {
+    One,
+    Two,
 }
 
-/// The block of the first channel. A mute stands behind the block of each, and a gain behind that.
-pub const FIRST: u32 = 4096;
+impl Channel {
+    /// The block of its objects.
+    fn block(self) -> Ono
+        ensures { result.0 ≡ block_of self }
+    {
+        match self {
+            Channel::One => Ono(4096),
+            Channel::Two => Ono(5096),
+        }
+    }
 
-/// The block of the second.
-pub const SECOND: u32 = 5096;
+    /// Its mute.
+    pub fn mute(self) -> Ono
+        ensures { result.0 ≡ mute_of self }
+    {
+        Ono(self.block().0 + 1)
+    }
 
-/// Both channels, as the electronics were last told, and whether an object was set since that was last asked.
+    /// Its gain, in tenths of a decibel.
+    pub fn gain(self) -> Ono
+        ensures { result.0 ≡ gain_of self }
+    {
+        Ono(self.block().0 + 2)
+    }
+}
+
+/// How a channel is set. The gain is in tenths of a decibel.
+#[derive(Clone, Copy, Debug, PartialEq, Eq)]
+pub struct Levels {
+    pub muted: bool,
+    pub gain: i128,
+}
+
+/// Both channels, as the objects say.
 #[derive(Clone, Copy, Debug, PartialEq, Eq)]
 pub struct Channels {
-    pub first: Channel,
-    pub second: Channel,
-    is_set: bool,
+    pub one: Levels,
+    pub two: Levels,
 }
 
-/// The objects: a block for each channel, 4096 and 5096, with a mute and a gain behind it.
+/// The objects: a block for each channel, with a mute and a gain in it.
 pub fn build(alloc: Global) -> Result<Tree, AddFault> {
     let mut builder = TreeBuilder::new(alloc)?;
-    add_channel(&mut builder, FIRST, "channel 1")?;
-    add_channel(&mut builder, SECOND, "channel 2")?;
+    add_channel(&mut builder, Channel::One, "channel 1")?;
+    add_channel(&mut builder, Channel::Two, "channel 2")?;
     Ok(builder.finish())
 }
 
-/// Adds a channel: its block at this ONo with this role, a mute at the next ONo and a gain from -80 to 10 dB, in
-/// tenths, after it. Refusals: those of `add`, and what was added before stays.
-fn add_channel(builder: &mut TreeBuilder, block: u32, role: &str) -> Result<(), AddFault>
-    requires { block < 4294967290 }
-{
-    let channel = Spec {
+/// Adds a channel: its block with this role, a mute, and a gain from -80 to 10 dB. Refusals: those of `add`, and what
+/// was added before stays.
+fn add_channel(builder: &mut TreeBuilder, channel: Channel, role: &str) -> Result<(), AddFault> {
+    let block = Spec {
         role,
         lockable: true,
         kind: Kind::Block,
@@ -62,40 +87,20 @@ fn add_channel(builder: &mut TreeBuilder, block: u32, role: &str) -> Result<(), 
             greatest: 100,
         },
     };
-    builder.add(ROOT, Ono(block), &channel)?;
-    builder.add(Ono(block), Ono(block + 1), &mute)?;
-    builder.add(Ono(block), Ono(block + 2), &gain)
+    builder.add(ROOT, channel.block(), &block)?;
+    builder.add(channel.block(), channel.mute(), &mute)?;
+    builder.add(channel.block(), channel.gain(), &gain)
 }
 
 impl Channels {
-    /// Both muted, at 0 dB.
-    pub fn new() -> Channels {
-        let channel = Channel {
-            muted: true,
-            gain: 0,
-        };
+    /// Both channels, as the objects say.
+    pub fn new(tree: &Tree) -> Channels
+        ensures { result ≡ channels_in tree.now }
+    {
         Channels {
-            first: channel,
-            second: channel,
-            is_set: false,
+            one: levels_of(tree, Channel::One),
+            two: levels_of(tree, Channel::Two),
         }
-    }
-
-    /// Whether an object was set since this was last asked.
-    pub fn take_set(&mut self) -> bool {
-        let is_set = self.is_set;
-        self.is_set = false;
-        is_set
-    }
-
-    /// Brings the channel that this object belongs to to what the objects say.
-    fn bring(&mut self, tree: &Tree, ono: Ono) {
-        if ono.0 < SECOND {
-            self.first = wanted(tree, FIRST);
-        } else {
-            self.second = wanted(tree, SECOND);
-        }
-        self.is_set = true;
     }
 }
 
@@ -104,23 +109,40 @@ impl Electronics for Channels {
 
     ghost state = { λ _. record { tells = false; followed = [] } };
 
-    /// Brings the channels to what the objects that were written to say. No other object is read.
-    fn follow(&mut self, tree: &Tree, written: &[Ono]) {
-        for ono in written {
-            self.bring(tree, *ono);
-        }
+    /// Brings both channels to what the objects say.
+    fn follow(&mut self, tree: &Tree, _written: &[Ono])
+        ensures { self.new ≡ channels_in tree.now }
+    {
+        *self = Channels::new(tree);
     }
 }
 
 /// What the objects say of a channel.
-fn wanted(tree: &Tree, block: u32) -> Channel
-    requires { block < 4294967290 }
+fn levels_of(tree: &Tree, channel: Channel) -> Levels
+    ensures { result ≡ levels_in tree.now channel }
 {
-    Channel {
-        muted: tree.setting_of(Ono(block + 1)) == Some(Setting::State(MuteState::Muted as u8)),
-        gain: match tree.setting_of(Ono(block + 2)) {
-            Some(Setting::Number { setting, .. }) => i16::try_from(setting).unwrap_or(0),
-            _ => 0,
-        },
+    Levels {
+        muted: is_muted(tree.setting_of(channel.mute())),
+        gain: tenths(tree.setting_of(channel.gain())),
+    }
+}
+
+/// Whether a channel with this mute is muted: unless it says Unmuted.
+fn is_muted(mute: Option<Setting>) -> bool
+    ensures { result ≡ is_muted mute }
+{
+    match mute {
+        Some(Setting::State(state)) => state != MuteState::Unmuted as u8,
+        _ => true,
+    }
+}
+
+/// How a gain is set, in tenths of a decibel: at 0 where there is none.
+fn tenths(gain: Option<Setting>) -> i128
+    ensures { result ≡ tenths_set gain }
+{
+    match gain {
+        Some(Setting::Number { setting, .. }) => setting,
+        _ => 0,
     }
 }

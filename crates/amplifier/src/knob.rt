@@ -1,51 +1,110 @@
 //! The amplifier's own knobs, which lines of text turn.
-use super::channels::{Channels, FIRST, SECOND};
+ghost use Rattle.std.specs.Prelude.{◌≡◌, IfOk, OnErr};
+ghost use Rattle.std.specs.Result.{result_err};
+ghost use Rattle.oca_model.specs.Values.{mute_number};
+ghost use Rattle.oca_tree.specs.Settings.{set_fault};
+ghost use Rattle.amplifier.specs.Channels.{channels_in};
+ghost use Rattle.amplifier.specs.Knobs.{mute_at, channel_of, tenths_of, gain_by, knob_by, knob_of};
+
+use super::channels::{Channel, Channels};
 use oca_device::{Device, Electronics};
-use oca_tree::LocalValue;
+use oca_script::field::{number, split_at_byte};
+use oca_tree::{LocalValue, MuteState, SetFault};
 use oca_types::Ono;
 
 /// What a line turns: the object, and what it is set to.
 #[derive(Clone, Copy, Debug, PartialEq, Eq)]
 pub struct Knob {
-    ono: Ono,
-    value: LocalValue,
+    pub ono: Ono,
+    pub value: LocalValue,
 }
 
 impl Knob {
-    /// What a line says: `mute CHANNEL`, `open CHANNEL` or `gain CHANNEL TENTHS`, the channel being 1 or 2, or nothing.
-    pub fn read(line: &str) -> Option<Knob> {
-        let mut words = line.split_ascii_whitespace();
-        let word = words.next()?;
-        let block = block_of(words.next()?)?;
-        let (behind, value) = match word {
-            "mute" => (1, LocalValue::State(1)),
-            "open" => (1, LocalValue::State(2)),
-            "gain" => (2, LocalValue::Number(words.next()?.parse::<i128>().ok()?)),
-            _ => return None,
-        };
-        match words.next() {
-            Some(_) => None,
-            None => Some(Knob {
-                ono: Ono(block.saturating_add(behind)),
-                value,
-            }),
-        }
+    /// What a line says: `mute CHANNEL`, `open CHANNEL` or `gain CHANNEL TENTHS`, the channel being 1 or 2 and the tenths
+    /// of a decibel of one to four digits. Nothing for any other line.
+    #[tactic(auto, unfolding(crate::specs::Knobs::knob_of))]
+    pub fn read(line: &[u8]) -> Option<Knob>
+        ensures { result ≡ knob_of line.now }
+    {
+        let (word, rest) = split_at_byte(line, b' ')?;
+        knob_with(word, rest)
     }
 
-    /// Turns the knob: the object is set at the device's own front, and the electronics follow. A gain out of range
-    /// changes nothing.
-    pub fn turn(self, device: &mut Device, channels: &mut Channels) {
-        if device.set(self.ono, self.value).is_ok() {
-            channels.follow(device.tree(), &[self.ono]);
-        }
+    /// Turns the knob: the object is set at the device's own front, and the electronics follow. A refusal changes
+    /// nothing.
+    pub fn turn(self, device: &mut Device, channels: &mut Channels) -> Result<(), SetFault>
+        ensures told { result_err result ≡ set_fault device.old.tree self.ono.0 self.value }
+        ensures follows { IfOk result (λ _. channels.new ≡ channels_in device.new.tree) }
+        ensures refused { OnErr result (device.new ≡ device.old) }
+        ensures kept { OnErr result (channels.new ≡ channels.old) }
+    {
+        device.set(self.ono, self.value)?;
+        channels.follow(device.tree(), &[self.ono]);
+        Ok(())
     }
 }
 
-/// The block of a channel.
-fn block_of(channel: &str) -> Option<u32> {
-    match channel {
-        "1" => Some(FIRST),
-        "2" => Some(SECOND),
-        _ => None,
+/// The knob by a line's first word and the rest.
+#[tactic(auto, unfolding(crate::specs::Knobs::knob_by))]
+fn knob_with(word: &[u8], rest: &[u8]) -> Option<Knob>
+    ensures { result ≡ knob_by word.now rest.now }
+{
+    if word == b"mute".as_slice() {
+        return Some(mute(channel(rest)?, MuteState::Muted));
     }
+    if word == b"open".as_slice() {
+        return Some(mute(channel(rest)?, MuteState::Unmuted));
+    }
+    if word == b"gain".as_slice() {
+        return gain(rest);
+    }
+    None
+}
+
+/// The knob that sets the mute of a channel.
+fn mute(channel: Channel, state: MuteState) -> Knob
+    ensures { result ≡ mute_at (mute_number state) channel }
+{
+    Knob {
+        ono: channel.mute(),
+        value: LocalValue::State(state as u8),
+    }
+}
+
+/// The knob that sets a gain, by what stands behind the word `gain`.
+#[tactic(auto, unfolding(crate::specs::Knobs::gain_by))]
+fn gain(text: &[u8]) -> Option<Knob>
+    ensures { result ≡ gain_by text.now }
+{
+    let (digit, number) = split_at_byte(text, b' ')?;
+    let channel = channel(digit)?;
+    let tenths = tenths(number)?;
+    Some(Knob {
+        ono: channel.gain(),
+        value: LocalValue::Number(tenths),
+    })
+}
+
+/// A channel by its digit.
+fn channel(text: &[u8]) -> Option<Channel>
+    ensures { result ≡ channel_of text.now }
+{
+    if text == b"1".as_slice() {
+        return Some(Channel::One);
+    }
+    if text == b"2".as_slice() {
+        return Some(Channel::Two);
+    }
+    None
+}
+
+/// Tenths of a decibel.
+fn tenths(text: &[u8]) -> Option<i128>
+    ensures { result ≡ tenths_of text.now }
+{
+    let (first, digits) = text.split_first()?;
+    if *first == b'-' {
+        return Some(-i128::from(number(digits, 4, 9999)?));
+    }
+    Some(i128::from(number(text, 4, 9999)?))
 }

@@ -1,33 +1,33 @@
 //! A two-channel amplifier as an OCA device at a UDP socket: an example of embedding.
 //!
 //! `amplifier [PORT TURNS]` binds 127.0.0.1, says where on standard error, and serves so many turns; a line is printed
-//! whenever a controller or a knob set an object. Where standard input is no terminal, its lines turn knobs: `mute 1`,
-//! `open 2`, `gain 2 -60` in tenths of a decibel. They are read to their end at first, since reading waits, and one is
-//! turned before each turn.
+//! whenever a controller or a knob changed a channel. Lines of standard input turn knobs: `mute 1`, `open 2`, `gain 2
+//! -60` in tenths of a decibel. One is turned before each turn, where its whole line is there: input is never awaited.
 #![tactic(auto)]
 
 mod channels;
 mod knob;
+mod lines;
+mod wait;
 
 use channels::{Channels, build};
 use knob::Knob;
+use lines::Lines;
 use oca_device::{Device, Outbox, serve_with};
-use oca_net::UdpEnd;
+use oca_net::{UdpEnd, fill_standard_descriptors};
 use oca_types::{LOOPBACK, Window};
-use std::io::IsTerminal;
+use std::io::Read;
 use std::net::Net;
+use std::os::fd::AsRawFd;
 use std::process::ExitCode;
 use std::rt::Runtime;
 use std::{env, io};
 
 /// Serves the channels at the port and for the turns that the words say, and ends with 1 where that fails.
 fn main(rt: HostRuntime) -> ExitCode {
+    let _ = fill_standard_descriptors(&rt);
     let (port, turns) = words(&rt);
-    let Some(knobs) = knobs(&rt, rt.stdin().is_terminal()) else {
-        let _ = eprintln!(rt; "read failed");
-        return ExitCode::FAILURE;
-    };
-    match serve(&rt, port, turns, &knobs) {
+    match serve(&rt, port, turns, &mut Lines::new(rt.stdin())) {
         Ok(()) => ExitCode::SUCCESS,
         Err(text) => {
             let _ = eprintln!(rt; "{text}");
@@ -53,70 +53,70 @@ fn words<R: Runtime + AllocGlobal>(rt: &R) -> (u16, u32) {
     }
 }
 
-/// The knobs that standard input turns, in order, unless it is a terminal; a line that turns none is left out. Nothing
-/// where reading fails or memory is refused.
-fn knobs<R: Runtime + AllocGlobal>(rt: &R, is_terminal: bool) -> Option<Vec<Knob>> {
-    let mut knobs = Vec::new(rt.alloc());
-    if is_terminal {
-        return Some(knobs);
-    }
-    for line in rt.lines(rt.alloc()) {
-        let line = line.ok()?;
-        if let Some(knob) = Knob::read(line.as_str()) {
-            knobs.push(knob).ok()?;
-        }
-    }
-    Some(knobs)
-}
-
-/// Makes the device and serves it. Before each turn a knob is turned, while there are any.
-fn serve<R: Runtime + AllocGlobal + Net>(
+/// Makes the device and serves it. Before each turn a knob is turned, where a line says one.
+fn serve<R: Runtime + AllocGlobal + Net, I: Read + AsRawFd + Drop>(
     rt: &R,
     port: u16,
     turns: u32,
-    knobs: &[Knob],
+    lines: &mut Lines<I>,
 ) -> Result<(), &'static str> {
-    let Ok(tree) = build(rt.alloc()) else {
-        return Err("no memory");
-    };
-    let Ok(mut device) = Device::new(rt.alloc(), tree, Window::default()) else {
-        return Err("no memory");
-    };
-    let Ok(mut outbox) = Outbox::new(rt.alloc()) else {
-        return Err("no memory");
-    };
-    let Ok(mut end) = UdpEnd::bind(rt.alloc(), rt, LOOPBACK, port) else {
-        return Err("socket failed");
-    };
+    let tree = build(rt.alloc()).map_err(|_| "no memory")?;
+    let mut device = Device::new(rt.alloc(), tree, Window::default()).map_err(|_| "no memory")?;
+    let mut outbox = Outbox::new(rt.alloc()).map_err(|_| "no memory")?;
+    let mut end = UdpEnd::bind(rt.alloc(), rt, LOOPBACK, port).map_err(|_| "socket failed")?;
     let _ = eprintln!(rt; "listening 127.0.0.1:{}", end.local().port);
-    let mut channels = Channels::new();
-    for turn in 0..turns {
-        if let Some(knob) = knobs.get(turn as usize) {
-            knob.turn(&mut device, &mut channels);
-            shown(rt, &mut channels)?;
-        }
+    let mut channels = Channels::new(device.tree());
+    for _turn in 0..turns {
+        let before = channels;
+        turn_next(rt, lines, &mut device, &mut channels)?;
+        show_changed(rt, before, channels)?;
+        let before = channels;
         let _ = serve_with(&mut device, &mut end, &mut outbox, &mut channels, 1);
-        shown(rt, &mut channels)?;
+        show_changed(rt, before, channels)?;
     }
     Ok(())
 }
 
-/// Prints what the channels do, where an object was set since that was last asked.
-fn shown<R: Runtime>(rt: &R, channels: &mut Channels) -> Result<(), &'static str> {
-    if channels.take_set() && show(rt, channels).is_err() {
-        return Err("write failed");
+/// Turns the knob of the next line, where one is there. A line that turns none, and a value out of range, are told.
+fn turn_next<R: Runtime, I: Read + AsRawFd + Drop>(
+    rt: &R,
+    lines: &mut Lines<I>,
+    device: &mut Device,
+    channels: &mut Channels,
+) -> Result<(), &'static str> {
+    let Some(line) = lines.next().map_err(|_| "read failed")? else {
+        return Ok(());
+    };
+    let Some(knob) = Knob::read(line.as_slice()) else {
+        let _ = eprintln!(rt; "note: a line turns no knob");
+        return Ok(());
+    };
+    if let Err(fault) = knob.turn(device, channels) {
+        let _ = eprintln!(rt; "note: {fault}");
     }
     Ok(())
+}
+
+/// Prints what the channels do, where that is not as before.
+fn show_changed<R: Runtime>(
+    rt: &R,
+    before: Channels,
+    channels: Channels,
+) -> Result<(), &'static str> {
+    if channels == before {
+        return Ok(());
+    }
+    show(rt, channels).map_err(|_| "write failed")
 }
 
 /// Prints the mutes and the gains, in tenths of a decibel.
-fn show<R: Runtime>(rt: &R, channels: &Channels) -> io::Result<()> {
-    let (first, second) = (channels.first, channels.second);
+fn show<R: Runtime>(rt: &R, channels: Channels) -> io::Result<()> {
+    let (one, two) = (channels.one, channels.two);
     println!(rt;
         "1: {} {} dB/10, 2: {} {} dB/10",
-        if first.muted { "muted" } else { "open" },
-        first.gain,
-        if second.muted { "muted" } else { "open" },
-        second.gain
+        if one.muted { "muted" } else { "open" },
+        one.gain,
+        if two.muted { "muted" } else { "open" },
+        two.gain
     )
 }

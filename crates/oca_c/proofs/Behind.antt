@@ -1,13 +1,19 @@
 -- What a call makes of what is behind a handle holds of the handle.
-use Rattle.std.proofs.Common.{◌≡◌, ℕ, ◌≤◌, Bool, List, length, map, Option, Some, inl, inr, refl}
+use Rattle.std.proofs.Common.{◌≡◌, ℕ, ◌≤◌, Bool, List, length, map, Option, Some, None, inl, inr, refl}
 use Rattle.std.specs.List.{AllByRecursion}
 use Rattle.oca_tree.specs.declared.builder.Kind.{Kind}
 use Rattle.oca_tree.specs.Objects.{Store}
 use Rattle.oca_c.specs.declared.answer.Answer.{Answer}
 use Rattle.oca_c.specs.declared.device.DeviceBehind.{DeviceBehind}
 use Rattle.oca_c.specs.declared.name.Name.{Name}
+use Rattle.oca_types.specs.Sizes.{DeviceSizes}
+use Rattle.oca_tree.specs.declared.object.Object.{Object}
+use Rattle.oca_device.specs.Events.{Event}
+use Rattle.oca_model.specs.declared.value.Value.{Value}
+use Rattle.oca_c.specs.declared.value_words.ValueWords.{ValueWords}
+use Rattle.oca_c.specs.CValues.{AreWordsOf, HandleSetsTo, HandleSetsWords, SetsTo}
 use Rattle.oca_c.specs.Numbers.{answer_number}
-use Rattle.oca_c.specs.Calls.{AddedBy, Builds, HandleBuilds, HandleStarts, IsName, IsSwitch, Starts, SwitchAddedBy, name_bytes}
+use Rattle.oca_c.specs.Calls.{AddedBy, Builds, HandleBuilds, HandleStarts, Runs, IsName, IsSwitch, Starts, SwitchAddedBy, name_bytes}
 
 -- an addition
 pub adds_behind : (old new : Option DeviceBehind) (u u' : DeviceBehind) (number : ℕ) (answer : Answer) (By : Answer → Store → Store → Type 0)
@@ -36,3 +42,15 @@ pub added_switch : (u : DeviceBehind) (answer : Answer) (B : Store) (container o
     → (B' : Store) × Builds u B' × SwitchAddedBy answer B B' container ono role lockable names position
 added_switch u answer B container ono role lockable names position kind few all is r =
     (r.0, r.1, inr (inr (few, all, kind, is, r.2)))
+
+-- a change at the front by words
+pub sets_behind : (old new : Option DeviceBehind) (u u' : DeviceBehind) (number : ℕ) (answer : Answer) (ono : ℕ) (words : ValueWords)
+    → old ≡ Some u → new ≡ Some u' → number ≡ answer_number answer
+    → ((w : DeviceSizes) (T : List Object) (E : List Event) → Runs w u T E → (value : Option Value) × AreWordsOf words value × SetsTo w answer u' T E ono value)
+    → HandleSetsWords number old new ono words
+sets_behind old new u u' number answer ono words o n e k w T E h =
+    let r = k w T E (rw o at h) in (r.0, r.1, rw (n, e) (told r.0 r.2))
+  where
+    told : (value : Option Value) → SetsTo w answer u' T E ono value → HandleSetsTo w (answer_number answer) (Some u') T E ono value
+    told None (is, runs) = (rw is refl, runs)
+    told (Some value) (is, runs) = (rw is refl, runs)

@@ -10,10 +10,10 @@ use Rattle.oca_tree.specs.declared.builder.Kind.{Kind}
 use Rattle.oca_tree.specs.declared.builder.Kind.TheVariants as kinds
 use Rattle.oca_tree.specs.declared.setting.SetFault.{SetFault}
 use Rattle.oca_tree.specs.declared.setting.LocalValue.{LocalValue}
-use Rattle.oca_tree.specs.declared.object.MuteState.{MuteState}
-use Rattle.oca_tree.specs.declared.object.MuteState.TheVariants as mutes
-use Rattle.oca_tree.specs.declared.object.PolarityState.{PolarityState}
-use Rattle.oca_tree.specs.declared.object.PolarityState.TheVariants as polarities
+use Rattle.oca_model.specs.declared.value.MuteState.{MuteState}
+use Rattle.oca_model.specs.declared.value.MuteState.TheVariants as mutes
+use Rattle.oca_model.specs.declared.value.PolarityState.{PolarityState}
+use Rattle.oca_model.specs.declared.value.PolarityState.TheVariants as polarities
 use Rattle.oca_tree.specs.Building.{Adds, root}
 use Rattle.oca_tree.specs.Objects.{Store}
 use Rattle.oca_tree.specs.Settings.{set_fault}

@@ -4,3 +4,4 @@ pub mod Numbers
 pub mod Told
 pub mod Calls
 pub mod LinkCalls
+pub mod CValues

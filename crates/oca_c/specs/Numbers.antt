@@ -34,6 +34,7 @@ answer_number answers.Lost = 20
 answer_number answers.HandlesSpent = 21
 answer_number answers.SpanFull = 22
 answer_number answers.TooLong = 23
+answer_number answers.NoValue = 24
 
 abbrev pub add_answer : AddFault → Answer
 add_answer adds.Full = answers.Full

@@ -1,5 +1,5 @@
 -- What the calls of a device tell, and how it is put where C wants it.
-use Rattle.std.specs.Prelude.{◌≡◌, ◌⊎◌, ℕ, ◌<◌, ◌^◌, nat_le, List, [], ◌∷◌, ◌++◌, take, drop, length, min, Option, Some, None, pos, nat_abs, int_lt, if◌then◌else◌}
+use Rattle.std.specs.Prelude.{◌≡◌, ◌⊎◌, ℕ, ◌<◌, ◌≤◌, ◌^◌, nat_le, List, [], ◌∷◌, ◌++◌, take, drop, length, min, Option, Some, None, pos, nat_abs, int_lt, if◌then◌else◌}
 use Rattle.oca_types.specs.declared.class.Class.{Class}
 use Rattle.oca_types.specs.declared.class.Class.TheVariants as classes
 use Rattle.oca_tree.specs.declared.object.Lock.{Lock}
@@ -25,6 +25,13 @@ put_words words place =
 abbrev pub TellsWords : List ℕ → List ℕ → List ℕ → ℕ → ℕ → Type 0
 TellsWords words old new count number =
     (new ≡ put_words words old) × (count ≡ length words) × (number ≡ (if nat_le (length words) (length old) then 0 else 14))
+
+-- Bytes are told: they stand at the front of the place, where it has room for them, and else it is as it was; and how
+-- many they are.
+abbrev pub TellsBytes : List ℕ → List ℕ → List ℕ → ℕ → ℕ → Type 0
+TellsBytes bytes old new size number =
+    (size ≡ length bytes) × (((length bytes ≤ length old) × (number ≡ 0) × (take (length bytes) new ≡ bytes))
+    ⊎ ((length old < length bytes) × (number ≡ 14) × (new ≡ old)))
 
 -- what is told of a verdict
 abbrev pub verdict_words : Verdict → List ℕ

@@ -39,6 +39,8 @@ pub enum Answer {
     HandlesSpent = 21,
     SpanFull = 22,
     TooLong = 23,
+    /// The words are those of no value, or no answer gives one of the class.
+    NoValue = 24,
 }
 
 impl Answer {

@@ -1,5 +1,5 @@
 //! What is behind an open handle of a device.
-ghost use Rattle.std.specs.Prelude.{◌≡◌, ◌≤◌, ◌<◌, ◌∷◌, List, Some, None, IfSome, IfNone, length, take, slice_get};
+ghost use Rattle.std.specs.Prelude.{◌≡◌, ◌≤◌, ◌<◌, ◌∷◌, List, Option, Some, None, IfSome, IfNone, length, take, slice_get};
 ghost use Rattle.oca_types.specs.Sizes.{DeviceSizes};
 ghost use Rattle.oca_tree.specs.Room.{room_size};
 ghost use Rattle.oca_tree.specs.declared.object.Object.{Object};
@@ -13,11 +13,14 @@ ghost use Rattle.oca_device.specs.Written.{written};
 ghost use Rattle.oca_c.specs.declared.answer.Answer.TheVariants.{Done, NotStarted, Nothing, Started, TooSmall, BadSize, NoMemory};
 ghost use Rattle.oca_c.specs.Numbers.{answer_number};
 ghost use Rattle.oca_c.specs.Calls.{AddedBy, AddsSo, Builds, Runs, Starts, SwitchAddedBy, IsSize, root_alone, set_answers};
+ghost use Rattle.oca_model.specs.declared.value.Value.{Value};
+ghost use Rattle.oca_c.specs.CValues.{AreWordsOf, SetsTo};
 ghost use Rattle.oca_c.specs.Told.{TellsLock, TellsNextLapse, TellsObject, TellsSetting, TellsWords, put_words, verdict_words};
 
 use crate::answer::Answer;
 use crate::name::{MOST_POSITIONS, Name, texts_of};
 use crate::reading::Reading;
+use crate::value_words::{ValueWords, local_of};
 use crate::words::{lock_number, object_words, put_numbers, put_words, words_of};
 use oca_device::{Device, Outbox};
 use oca_tree::{AddFault, Kind, LocalValue, Room, Spec, TreeBuilder};
@@ -196,6 +199,22 @@ impl DeviceBehind {
             Ok(()) => Answer::Done,
             Err(fault) => Answer::of_set(fault),
         }
+    }
+
+    /// Sets an object at the device's own front to the value with these words.
+    pub fn set_words(&mut self, ono: u32, words: ValueWords) -> Answer
+        ensures sets { (w : DeviceSizes) (T : List Object) (E : List Event) → Runs w self.old T E →
+            (value : Option Value) × AreWordsOf words value × SetsTo w result self.new T E ono value }
+        ensures packets { self.new.outbox ≡ self.old.outbox }
+        ensures building { self.old.device ≡ None → (result ≡ NotStarted) × (self.new ≡ self.old) }
+    {
+        if self.device.is_none() {
+            return Answer::NotStarted;
+        }
+        let Some(value) = words.value() else {
+            return Answer::NoValue;
+        };
+        self.set(ono, local_of(value))
     }
 
     /// How many packets the last datagram was answered with.

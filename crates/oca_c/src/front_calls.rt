@@ -2,9 +2,11 @@
 ghost use Rattle.std.specs.Prelude.{pos};
 ghost use Rattle.oca_tree.specs.declared.setting.LocalValue.TheVariants as values;
 ghost use Rattle.oca_c.specs.Calls.{HandleSets, KeepsPackets, RefusesBuilding, RefusesClosed};
+ghost use Rattle.oca_c.specs.CValues.{HandleSetsWords};
 
 use crate::answer::Answer;
 use crate::device_handle::DeviceHandle;
+use crate::value_words::ValueWords;
 use oca_tree::LocalValue;
 use std::alloc::Global;
 
@@ -101,4 +103,25 @@ pub extern "C" fn oca_device_set_unsigned(
     ensures sets { HandleSets result handle.old.slot.inner handle.new.slot.inner ono (values.Number (pos number)) }
 {
     set(alloc, handle, ono, LocalValue::Number(i128::from(number)))
+}
+
+/// Sets an object at the device's own front to a value.
+#[unsafe(no_mangle)]
+pub extern "C" fn oca_device_set(
+    alloc: Global,
+    handle: &mut DeviceHandle,
+    ono: u32,
+    value: &ValueWords,
+) -> u32
+    ensures closed { RefusesClosed handle.old.slot.inner handle.new.slot.inner result }
+    ensures building { RefusesBuilding handle.old.slot.inner handle.new.slot.inner result }
+    ensures packets { KeepsPackets handle.old.slot.inner handle.new.slot.inner }
+    ensures sets { HandleSetsWords result handle.old.slot.inner handle.new.slot.inner ono value.now }
+{
+    let Some(mut behind) = handle.take(alloc) else {
+        return Answer::Closed.number();
+    };
+    let answer = behind.set_words(ono, *value);
+    handle.put(behind);
+    answer.number()
 }

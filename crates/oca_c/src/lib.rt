@@ -19,5 +19,7 @@ mod name;
 mod object_calls;
 mod parts;
 mod reading;
+mod value_calls;
+mod value_words;
 mod version;
 mod words;

@@ -11,6 +11,7 @@ ghost use Rattle.oca_control.specs.Untaken.{answer_under, first_answered};
 ghost use Rattle.oca_c.specs.LinkCalls.{LiesIn, TellsNextDue, TellsNumber, TellsAnswer, TellsSubmission, answered_count, due_handle, due_kind, reception_kind};
 
 use crate::answer::Answer;
+use crate::words::put_front;
 use oca_control::{Due, Link, Reception};
 use oca_types::{Handle, MOST_BYTES, MOST_PARAMETER_BYTES, MethodId, Ono, Packet, Peer};
 
@@ -149,16 +150,14 @@ impl LinkBehind {
         *moment = self.link.last_heard();
         Answer::Done.number()
     }
-}
 
-/// Copies bytes to the front of a place that has room for them, and returns how many.
-fn put_front(bytes: &[u8], place: &mut [u8]) -> usize
-    requires { length bytes.now ≤ length place.old }
-    ensures { LiesIn bytes.now place.new result }
-{
-    let (front, _) = place.split_at_mut(bytes.len());
-    front.copy_from_slice(bytes);
-    bytes.len()
+    /// Tells whether the link is lost.
+    pub fn is_lost(&self, lost: &mut bool) -> u32
+        ensures { (result ≡ 0) × (lost.new ≡ self.now.link.lost) }
+    {
+        *lost = self.link.is_lost();
+        Answer::Done.number()
+    }
 }
 
 /// What is told of what is due.

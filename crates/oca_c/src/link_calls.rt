@@ -208,3 +208,18 @@ pub extern "C" fn oca_link_last_heard(
     handle.put(behind);
     number
 }
+
+/// Tells whether the link is lost.
+#[unsafe(no_mangle)]
+pub extern "C" fn oca_link_is_lost(alloc: Global, handle: &mut LinkHandle, lost: &mut bool) -> u32
+    ensures closed { RefusesClosed handle.old.slot.inner handle.new.slot.inner result }
+    ensures kept { handle.new.slot.inner ≡ handle.old.slot.inner }
+    ensures told { IfSome handle.old.slot.inner (λ b. (result ≡ 0) × (lost.new ≡ b.link.lost)) }
+{
+    let Some(behind) = handle.take(alloc) else {
+        return Answer::Closed.number();
+    };
+    let number = behind.is_lost(lost);
+    handle.put(behind);
+    number
+}

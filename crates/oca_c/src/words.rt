@@ -1,8 +1,11 @@
 //! What C reads of a verdict and of an object: words, so that a later version can tell more to those who ask for it.
-ghost use Rattle.std.specs.Prelude.{◌≡◌};
+ghost use Rattle.std.specs.Prelude.{◌≡◌, ◌≤◌, ◌<◌, length};
 ghost use Rattle.oca_device.specs.Written.{numbers_of};
-ghost use Rattle.oca_c.specs.Told.{class_number, lock_number, object_words, put_words, verdict_words};
+ghost use Rattle.oca_c.specs.LinkCalls.{LiesIn};
+ghost use Rattle.oca_c.specs.Numbers.{answer_number};
+ghost use Rattle.oca_c.specs.Told.{TellsBytes, class_number, lock_number, object_words, put_words, verdict_words};
 
+use crate::answer::Answer;
 use oca_device::Verdict;
 use oca_tree::{LockKind, ObjectInfo};
 use oca_types::{Class, Ono};
@@ -99,4 +102,26 @@ pub fn put_numbers(onos: &[Ono], place: &mut [u32])
     for i in 0..count {
         place[i] = onos[i].0;
     }
+}
+
+/// Copies bytes to the front of a place that has room for them, and returns how many.
+pub fn put_front(bytes: &[u8], place: &mut [u8]) -> usize
+    requires { length bytes.now ≤ length place.old }
+    ensures { LiesIn bytes.now place.new result }
+{
+    let (front, _) = place.split_at_mut(bytes.len());
+    front.copy_from_slice(bytes);
+    bytes.len()
+}
+
+/// Copies bytes to the front of a place, where it has room for them, and tells how many they are.
+pub fn put_bytes(bytes: &[u8], place: &mut [u8], len: &mut usize) -> Answer
+    ensures { TellsBytes bytes.now place.old place.new len.new (answer_number result) }
+{
+    *len = bytes.len();
+    if place.len() < bytes.len() {
+        return Answer::TooSmall;
+    }
+    put_front(bytes, place);
+    Answer::Done
 }

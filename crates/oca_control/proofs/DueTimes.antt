@@ -1,12 +1,13 @@
 -- From which moment on something is due, and which answer is there first.
-use Rattle.std.proofs.Common.{◌≡◌, ℕ, ◌+◌, ◌-◌, ◌^◌, ◌<◌, ◌≤◌, Bool, true, false, cond, ◌||◌, min, max, List, [], ◌∷◌, ◌++◌, Option, Some, None, refl, sym, ap, ◌∙◌, subst, arith, append-nil}
+use Rattle.std.proofs.Common.{◌≡◌, ℕ, ◌+◌, ◌-◌, ◌^◌, ◌<◌, ◌≤◌, Bool, true, false, cond, ◌||◌, max, List, [], ◌∷◌, ◌++◌, Option, Some, None, refl, sym, ap, ◌∙◌, subst, arith, append-nil}
 use Rattle.std.specs.Prelude.{nat_lt, nat_le, is_some}
+use Rattle.std.specs.List.{list_any}
 use Rattle.std.proofs.lemmas.Bool.{le-leb, lt-leb}
 use Rattle.oca_types.specs.Moments.{HoldsFrom}
 use Rattle.oca_types.proofs.MomentTests.{same_test}
-use Rattle.oca_control.specs.Untaken.{Untaken, is_due, first_due, first_answered}
+use Rattle.oca_control.specs.Untaken.{Untaken, is_due, is_late, first_due, first_answered}
 use Rattle.oca_control.specs.Links.{LinkState, command_under, GivesCommand, GivesKeepAlive, GivesNothing, IsLost, decision_among, decision, IsNextDue, NeverIsDue}
-use Rattle.oca_control.specs.PrivateSlots.{Held, held_at, held_is_due, held_answer, untaken_at, untaken_from, some_due}
+use Rattle.oca_control.specs.PrivateSlots.{Held, held_at, held_is_due, held_is_late, held_answer, untaken_at, untaken_from, some_due}
 use Rattle.oca_control.proofs.Places.{split, step, done}
 
 -- ---- a walk through the handles
@@ -70,6 +71,26 @@ answered_here lo hi slots below so = ap first_answered (step lo hi slots below) 
 
 pub none_answered : (lo hi : ℕ) (slots : List (Option Held)) → hi ≤ lo → first_answered (untaken_from lo (hi - lo) slots) ≡ None
 none_answered lo hi slots p = ap first_answered (done lo hi slots p)
+
+pub not_late : (now lo hi : ℕ) (slots : List (Option Held)) → lo < hi → held_is_late now (held_at lo slots) ≡ false →
+    list_any (is_late now) (untaken_from lo (hi - lo) slots) ≡ list_any (is_late now) (untaken_from (lo + 1) (hi - (lo + 1)) slots)
+not_late now lo hi slots below not_so = ap (list_any (is_late now)) (step lo hi slots below) ∙ by (held_at lo slots) not_so
+  where
+    by : (o : Option Held) → held_is_late now o ≡ false →
+        list_any (is_late now) (untaken_at lo o ++ untaken_from (lo + 1) (hi - (lo + 1)) slots) ≡ list_any (is_late now) (untaken_from (lo + 1) (hi - (lo + 1)) slots)
+    by None not_so = refl
+    by (Some k) not_so = ap (λ b. b || list_any (is_late now) (untaken_from (lo + 1) (hi - (lo + 1)) slots)) not_so
+
+pub late_here : (now lo hi : ℕ) (slots : List (Option Held)) → lo < hi → held_is_late now (held_at lo slots) ≡ true →
+    list_any (is_late now) (untaken_from lo (hi - lo) slots) ≡ true
+late_here now lo hi slots below so = ap (list_any (is_late now)) (step lo hi slots below) ∙ by (held_at lo slots) so
+  where
+    by : (o : Option Held) → held_is_late now o ≡ true → list_any (is_late now) (untaken_at lo o ++ untaken_from (lo + 1) (hi - (lo + 1)) slots) ≡ true
+    by None so = cc
+    by (Some k) so = ap (λ b. b || list_any (is_late now) (untaken_from (lo + 1) (hi - (lo + 1)) slots)) so
+
+pub none_late : (now lo hi : ℕ) (slots : List (Option Held)) → hi ≤ lo → list_any (is_late now) (untaken_from lo (hi - lo) slots) ≡ false
+none_late now lo hi slots p = ap (list_any (is_late now)) (done lo hi slots p)
 
 -- ---- what is decided at a moment
 

@@ -12,7 +12,7 @@ use Rattle.oca_control.specs.declared.due.Due.TheVariants as dues
 use Rattle.oca_control.specs.Answers.{AnswerFields}
 use Rattle.oca_control.specs.Links.{LinkState, Request}
 use Rattle.oca_control.specs.Histories.{Call, Submits, GivesOut, Receives, TakesAnswer, IsHistory, clock, commands, Sending, sending_of, sendings, answers_of, answers_to, first_of, is_untaken, has_rested, says_lost, is_lost, NoneIsDue, IsDueAnswer}
-use Rattle.oca_control.specs.Answering.{says_none_left, last_asked, IsAskedEvery, Waits, IsGivenOutInTime}
+use Rattle.oca_control.specs.Answering.{says_none_left, last_asked, IsAskedEvery, IsInFlight, IsGivenOutInTime}
 use Rattle.oca_control.proofs.Following.{both_true}
 use Rattle.oca_control.proofs.Histories.{IsMadeBy, is_made_by, stands_made}
 
@@ -159,7 +159,7 @@ module _ (device : Peer) (first opened s : ℕ) (some : 0 < s) (before : List Ca
 
   -- a call of `due`, whatever it answers
   by_due : (later : List Call) (n : ℕ) (a : Due) (bytes : List ℕ) → clock since (GivesOut n a bytes ∷ later) ≤ last_asked since (GivesOut n a bytes ∷ later) + ms →
-      IsDueAnswer device opened (max (clock opened (later ++ base)) n) bytes (later ++ base) a → Waits device h.0 (GivesOut n a bytes ∷ (later ++ base)) → GivenAfter later →
+      IsDueAnswer device opened (max (clock opened (later ++ base)) n) bytes (later ++ base) a → IsInFlight device h.0 (GivesOut n a bytes ∷ (later ++ base)) → GivenAfter later →
       GivenAfter (GivesOut n a bytes ∷ later)
   by_due later n a bytes soon d w g = by a soon d w
     where
@@ -191,14 +191,14 @@ module _ (device : Peer) (first opened s : ℕ) (some : 0 < s) (before : List Ca
       left u none d = rw t_is at (none_left ms since (last_asked since later) t (sendings opened h.0 (later ++ base)) (resting u none d) g)
 
       by : (a : Due) → clock since (GivesOut n a bytes ∷ later) ≤ last_asked since (GivesOut n a bytes ∷ later) + ms →
-          IsDueAnswer device opened (max (clock opened (later ++ base)) n) bytes (later ++ base) a → Waits device h.0 (GivesOut n a bytes ∷ (later ++ base)) →
+          IsDueAnswer device opened (max (clock opened (later ++ base)) n) bytes (later ++ base) a → IsInFlight device h.0 (GivesOut n a bytes ∷ (later ++ base)) →
           GivenAfter (GivesOut n a bytes ∷ later)
       by (dues.Send x) soon d w = sent x bytes (nat_eq h.0 x.0) soon
       by dues.KeepAlive soon d w = left w.untaken w.unanswered d.1
       by dues.Nothing soon d w = left w.untaken w.unanswered d.1
       by dues.Lost soon d w = let q : true ≡ false = w.not_lost in cc
 
-  given : (later : List Call) (after : LinkState) → IsMadeBy device first opened s (later ++ base) after → IsAskedEvery ms since later → Waits device h.0 (later ++ base) → GivenAfter later
+  given : (later : List Call) (after : LinkState) → IsMadeBy device first opened s (later ++ base) after → IsAskedEvery ms since later → IsInFlight device h.0 (later ++ base) → GivenAfter later
   given [] after p e w = rw none (record { rested = at_most since; early = tt })
     where
       at_most : (n : ℕ) → n ≤ n
@@ -230,7 +230,7 @@ module _ (device : Peer) (first opened s : ℕ) (some : 0 < s) (before : List Ca
   })
   given (TakesAnswer x None ∷ later) after p e w = given later p.0 p.1 e.1 (record { untaken = w.untaken; unanswered = w.unanswered; not_lost = w.not_lost })
 
-  pub in_time_made : (later : List Call) (after : LinkState) → IsMadeBy device first opened s (later ++ base) after → IsAskedEvery ms since later → Waits device h.0 (later ++ base) →
+  pub in_time_made : (later : List Call) (after : LinkState) → IsMadeBy device first opened s (later ++ base) after → IsAskedEvery ms since later → IsInFlight device h.0 (later ++ base) →
       IsGivenOutInTime ms since (clock opened (later ++ base)) (sendings opened h.0 (later ++ base))
   in_time_made later after p e w =
       in_time_by ms since (last_asked since later) (clock opened (later ++ base)) (sendings opened h.0 (later ++ base)) (rw (clock_from later) (lately later e))
@@ -238,7 +238,7 @@ module _ (device : Peer) (first opened s : ℕ) (some : 0 < s) (before : List Ca
 
 pub in_time : (device : Peer) (first opened span : ℕ) (before later : List Call) (after : LinkState) (r : Request) (now ms : ℕ) (h : Handle) → 0 < span →
     IsHistory device first opened span (later ++ Submits r now (Ok h) ∷ before) after → IsAskedEvery ms (max (clock opened before) now) later →
-    Waits device h.0 (later ++ Submits r now (Ok h) ∷ before) →
+    IsInFlight device h.0 (later ++ Submits r now (Ok h) ∷ before) →
     IsGivenOutInTime ms (max (clock opened before) now) (clock opened (later ++ Submits r now (Ok h) ∷ before)) (sendings opened h.0 (later ++ Submits r now (Ok h) ∷ before))
 in_time device first opened span before later after r now ms h some p e w =
     in_time_made device first opened span some before r now ms h later after (is_made_by device first opened span (later ++ Submits r now (Ok h) ∷ before) after p) e w

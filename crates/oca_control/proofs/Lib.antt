@@ -12,5 +12,10 @@ pub mod Views
 pub mod Messages
 pub mod Receiving
 pub mod Turns
+pub mod InTurn
 pub mod Asks
+pub mod Copies
 pub mod DueTimes
+pub mod Settling
+pub mod Asked
+pub mod Runs

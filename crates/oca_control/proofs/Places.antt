@@ -1,5 +1,5 @@
 -- What a write to one slot does to the untaken commands.
-use Rattle.std.proofs.Common.{◌≡◌, ℕ, zero, suc, ◌+◌, ◌-◌, ◌%◌, ◌<◌, ◌≤◌, ◌≢◌, Bool, true, false, cond, List, [], ◌∷◌, ◌++◌, length, map, get_or, set, refl, sym, ap, ◌∙◌, arith, subst, Option, Some, None, append_assoc, append-nil, ◌⊎◌, inl, inr}
+use Rattle.std.proofs.Common.{◌≡◌, ℕ, zero, suc, ◌+◌, ◌-◌, ◌%◌, ◌<◌, ◌≤◌, ◌≢◌, Bool, true, false, cond, List, [], ◌∷◌, ◌++◌, length, map, get_or, set, refl, sym, ap, ◌∙◌, arith, subst, Option, Some, None, append_assoc, append-nil, length-append, ◌⊎◌, inl, inr}
 use Rattle.std.specs.Prelude.{nat_lt, nat_eq, not, is_some, is_none, ◌&&◌, ◌||◌}
 use Rattle.std.specs.List.{list_any}
 use Rattle.std.proofs.lemmas.List.{get_or-set_same, get_or-set_other, get_or_default, map-append}
@@ -384,3 +384,17 @@ slot_read h p slots d all place = get_or_default slots (h % 32) None d (within h
   where
     within : (a : ℕ) → a % 32 < length slots
     within a = omega arith
+
+-- at most as many are untaken as there are handles
+pub length_from : (lo n : ℕ) (slots : List (Option Held)) → length (untaken_from lo n slots) ≤ n
+unfolding untaken_from
+length_from lo zero slots = omega arith
+length_from lo (suc n) slots =
+    rw (length-append (untaken_at lo (held_at lo slots)) (untaken_from (lo + 1) n slots)) (one_more (length (untaken_at lo (held_at lo slots))) (length (untaken_from (lo + 1) n slots)) (at_most_one (held_at lo slots)) (length_from (lo + 1) n slots))
+  where
+    at_most_one : (o : Option Held) → length (untaken_at lo o) ≤ 1
+    at_most_one None = omega arith
+    at_most_one (Some k) = omega arith
+
+    one_more : (a b : ℕ) → a ≤ 1 → b ≤ n → a + b ≤ suc n
+    one_more a b p q = omega arith

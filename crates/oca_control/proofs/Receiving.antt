@@ -1,10 +1,12 @@
 -- Taking messages in, and what a link answers.
-use Rattle.std.proofs.Common.{◌≡◌, ℕ, ◌+◌, ◌<◌, ◌≤◌, Bool, true, false, List, [], ◌∷◌, length, refl, sym, ap, ◌∙◌, arith, subst}
+use Rattle.std.proofs.Common.{◌≡◌, ℕ, suc, ◌+◌, ◌<◌, ◌≤◌, Bool, true, false, cond, not, List, [], ◌∷◌, length, map, is_some, refl, sym, ap, ◌∙◌, arith, subst}
 use Rattle.std.specs.Prelude.{nat_lt, ◌&&◌}
 use Rattle.std.proofs.lemmas.Bool.{lt-ltb, ltb-true}
-use Rattle.oca_pdu.specs.Messages.{Msg}
-use Rattle.oca_control.specs.Untaken.{Untaken, has_room, hears, hears_all, answers_by, answers_by_all}
-use Rattle.oca_control.specs.PrivateSlots.{AreShort, IsShort}
+use Rattle.std.proofs.Math.Dec.{eqb}
+use Rattle.oca_pdu.specs.Messages.{Msg, Command, Response, KeepAlive}
+use Rattle.oca_control.specs.Answers.{AnswerFields, answer_in}
+use Rattle.oca_control.specs.Untaken.{Untaken, has_room, answered, hears, hears_all, answers_by, answers_by_all, answer_under, without_handle}
+use Rattle.oca_control.specs.PrivateSlots.{AreShort, IsShort, TableState}
 
 pub record HearsOn (rest : List Msg) (us : List Untaken) (hi n : ℕ) (all : List Msg) (first : List Untaken) (start : ℕ) : Type 0 where
   pub few : n + length rest ≤ 146
@@ -45,3 +47,45 @@ room_in_all s h (u ∷ us) small room = by (nat_lt h (u.command.handle + s)) ref
         (nat_lt h (u.command.handle + 32) && has_room 32 h us) ≡ true
     by true p room more = ap (λ b. b && has_room 32 h us) (wider u.command.handle p) ∙ more room
     by false p room more = cc
+
+-- ---- how many are untaken
+
+as_many_answered : (h : ℕ) (a : AnswerFields) (us : List Untaken) → length (map (answered h a) us) ≡ length us
+as_many_answered h a [] = refl
+as_many_answered h a (u ∷ us) = ap suc (as_many_answered h a us)
+
+as_many_heard : (ms : List Msg) (us : List Untaken) → length (hears_all ms us) ≡ length us
+as_many_heard [] us = refl
+as_many_heard (Response x ∷ ms) us = as_many_heard ms (map (answered x.handle (answer_in x)) us) ∙ as_many_answered x.handle (answer_in x) us
+as_many_heard (KeepAlive form ∷ ms) us = as_many_heard ms us
+as_many_heard (Command respond c ∷ ms) us = as_many_heard ms us
+
+no_more_without : (h : ℕ) (us : List Untaken) → length (without_handle h us) ≤ length us
+no_more_without h [] = omega arith
+no_more_without h (u ∷ us) = by (eqb u.command.handle h) (no_more_without h us)
+  where
+    one_more : (a b : ℕ) → a ≤ b → suc a ≤ suc b
+    one_more a b p = omega arith
+
+    wider : (a b : ℕ) → a ≤ b → a ≤ suc b
+    wider a b p = omega arith
+
+    by : (b : Bool) → length (without_handle h us) ≤ length us → length (cond (not b) (u ∷ without_handle h us) (without_handle h us)) ≤ suc (length us)
+    by true p = wider (length (without_handle h us)) (length us) p
+    by false p = one_more (length (without_handle h us)) (length us) p
+
+-- within the span still
+pub heard_few : (ms : List Msg) (s : ℕ) (t new : TableState) → new ≡ (let x : TableState = record { next = t.next; untaken = hears_all ms t.untaken } in x) → length t.untaken ≤ s → length new.untaken ≤ s
+heard_few ms s t new e few =
+    subst (λ (k : ℕ). k ≤ s) (sym (ap (λ (x : TableState). length x.untaken) e ∙ as_many_heard ms t.untaken)) few
+
+pub taken_few : (h s : ℕ) (t new : TableState) →
+    new ≡ (let x : TableState = record { next = t.next; untaken = cond (is_some (answer_under h t.untaken)) (without_handle h t.untaken) t.untaken } in x) → length t.untaken ≤ s → length new.untaken ≤ s
+taken_few h s t new e few = subst (λ (x : TableState). length x.untaken ≤ s) (sym e) (by (is_some (answer_under h t.untaken)))
+  where
+    both : (a b : ℕ) → a ≤ b → b ≤ s → a ≤ s
+    both a b p q = omega arith
+
+    by : (b : Bool) → length (cond b (without_handle h t.untaken) t.untaken) ≤ s
+    by true = both (length (without_handle h t.untaken)) (length t.untaken) (no_more_without h t.untaken) few
+    by false = few

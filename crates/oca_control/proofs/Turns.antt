@@ -1,5 +1,5 @@
 -- What the parts of a turn, and the turns, add up to.
-use Rattle.std.proofs.Common.{◌≡◌, ℕ, suc, ◌+◌, ◌-◌, ◌<◌, ◌≤◌, Bool, true, false, cond, List, [], ◌∷◌, ◌++◌, length, refl, sym, ap, ◌∙◌, subst, arith, length-append}
+use Rattle.std.proofs.Common.{◌≡◌, ℕ, suc, ◌+◌, ◌-◌, ◌<◌, ◌≤◌, Bool, true, false, cond, ◌||◌, min, List, [], ◌∷◌, ◌++◌, length, refl, sym, ap, ◌∙◌, subst, arith, length-append}
 use Rattle.std.specs.Prelude.{IsTrue, ◌&&◌, not, nat_lt, count_by}
 use Rattle.std.proofs.Math.Bool.{and-false}
 use Rattle.std.proofs.lemmas.Bool.{lt-ltb, le-ltb}
@@ -23,8 +23,8 @@ use Rattle.oca_control.specs.declared.due.Due.{Due}
 use Rattle.oca_control.specs.declared.due.Due.TheVariants as dues
 use Rattle.oca_control.specs.declared.report.DriveReport.{DriveReport}
 use Rattle.oca_control.specs.Links.{LinkState, Decision, GivesCommand, GivesKeepAlive, GivesNothing, IsLost, decision, gone_on, due_answer, due_bytes, after_due, present}
-use Rattle.oca_control.specs.Driving.{answered_by, HearsDatagram, is_command, is_keep_alive, is_lost, goes_on, decisions_from, link_from, given_to, all_given_to, NoTurn, OneMore, is_failed_delivery, report_of, DrivesTurn, DrivesEnd, GivesOut, receives_of}
-use Rattle.oca_control.specs.PrivateDriving.{added, IsWithin, given_report, GivesOne, DrivesOnce, IsClosed}
+use Rattle.oca_control.specs.Driving.{answered_by, HearsDatagram, is_command, is_keep_alive, decides_lost, goes_on, decisions_from, link_from, given_to, all_given_to, NoTurn, OneMore, is_failed_delivery, report_of, DrivesTurn, DrivesEnd, GivesOut, receives_of, added, capped}
+use Rattle.oca_control.specs.PrivateDriving.{IsWithin, given_report, GivesOne, DrivesOnce, IsClosed}
 
 -- ---- one decision
 
@@ -85,7 +85,7 @@ gave_nothing {now} {l} {l'} e r link gives =
 pub added_reports : (xs ys : List Delivery) (ds es : List Decision) (n k a b : ℕ) → added (report_of xs ds n a) (report_of ys es k b) ≡ report_of (xs ++ ys) (ds ++ es) (n + k) (a + b)
 added_reports xs ys ds es n k a b =
     made (length xs + length ys) (length (xs ++ ys)) _ _ _ _ _ _ _ _ (n + k) (a + b)
-    (sym (length-append xs ys)) (sym (counts is_command)) (sym (counts is_keep_alive)) (sym (sum_by-append (λ d. cond (is_failed_delivery d) 1 0) xs ys)) (sym (list_any-append is_lost ds es))
+    (sym (length-append xs ys)) (sym (counts is_command)) (sym (counts is_keep_alive)) (sym (sum_by-append (λ d. cond (is_failed_delivery d) 1 0) xs ys)) (sym (list_any-append decides_lost ds es))
   where
     counts : (p : Decision → Bool) → count_by p (ds ++ es) ≡ count_by p ds + count_by p es
     counts p = sum_by-append (λ d. cond (p d) 1 0) ds es
@@ -253,26 +253,26 @@ wider m n r x le = record {
 
 -- ---- one turn
 
-datagram_reported : (from : Peer) (bytes : List ℕ) (now : ℕ) (ds : List Decision) (n : ℕ) (given : DriveReport) → given ≡ given_report ds given.failed_sends →
+pub datagram_reported : (from : Peer) (bytes : List ℕ) (now : ℕ) (ds : List Decision) (n : ℕ) (given : DriveReport) → given ≡ given_report ds given.failed_sends →
     (let r : DriveReport = record { turns = 1; sent = given.sent; keep_alives = given.keep_alives; answered = n; failed_receives = given.failed_receives; failed_sends = given.failed_sends; lost = given.lost } in r)
     ≡ report_of (Datagram from bytes now ∷ []) ds n given.failed_sends
 datagram_reported from bytes now ds n given e =
     ap (λ (q : DriveReport). let r : DriveReport = record { turns = 1; sent = q.sent; keep_alives = q.keep_alives; answered = n; failed_receives = q.failed_receives; failed_sends = given.failed_sends; lost = q.lost } in r) e
 
-silent_reported : (d : Delivery) (ds : List Decision) (given : DriveReport) → count_by is_failed_delivery (d ∷ []) ≡ 0 → given ≡ given_report ds given.failed_sends →
+pub silent_reported : (d : Delivery) (ds : List Decision) (given : DriveReport) → count_by is_failed_delivery (d ∷ []) ≡ 0 → given ≡ given_report ds given.failed_sends →
     (let r : DriveReport = record { turns = 1; sent = given.sent; keep_alives = given.keep_alives; answered = given.answered; failed_receives = given.failed_receives; failed_sends = given.failed_sends; lost = given.lost } in r)
     ≡ report_of (d ∷ []) ds 0 given.failed_sends
 silent_reported d ds given well e =
     ap (λ (q : DriveReport). let r : DriveReport = record { turns = 1; sent = q.sent; keep_alives = q.keep_alives; answered = q.answered; failed_receives = q.failed_receives; failed_sends = given.failed_sends; lost = q.lost } in r) e
-    ∙ ap (λ f. let r : DriveReport = record { turns = 1; sent = count_by is_command ds; keep_alives = count_by is_keep_alive ds; answered = 0; failed_receives = f; failed_sends = given.failed_sends; lost = list_any is_lost ds } in r) (sym well)
+    ∙ ap (λ f. let r : DriveReport = record { turns = 1; sent = count_by is_command ds; keep_alives = count_by is_keep_alive ds; answered = 0; failed_receives = f; failed_sends = given.failed_sends; lost = list_any decides_lost ds } in r) (sym well)
 
-failed_reported : (given : DriveReport) → given ≡ given_report [] 0 →
+pub failed_reported : (given : DriveReport) → given ≡ given_report [] 0 →
     (let r : DriveReport = record { turns = 1; sent = given.sent; keep_alives = given.keep_alives; answered = given.answered; failed_receives = 1; failed_sends = given.failed_sends; lost = given.lost } in r)
     ≡ report_of (Failed ∷ []) [] 0 given.failed_sends
 failed_reported given e =
     ap (λ (q : DriveReport). let r : DriveReport = record { turns = 1; sent = q.sent; keep_alives = q.keep_alives; answered = q.answered; failed_receives = 1; failed_sends = given.failed_sends; lost = q.lost } in r) e
 
-heard_datagram : (from : Peer) (bytes : List ℕ) (now : ℕ) (old mid : LinkState) (answer : Reception) (n : ℕ) → length bytes ≤ 1472 → ReceivesDatagram from bytes now old answer mid → n ≡ answered_by answer →
+pub heard_datagram : (from : Peer) (bytes : List ℕ) (now : ℕ) (old mid : LinkState) (answer : Reception) (n : ℕ) → length bytes ≤ 1472 → ReceivesDatagram from bytes now old answer mid → n ≡ answered_by answer →
     HearsDatagram from bytes now old mid n
 heard_datagram from bytes now old mid answer n short received count = record {
   short = λ _. (answer, received, count);
@@ -343,3 +343,17 @@ receives_closed r turns going below = ap (λ b. r.turns + cond (b && not r.lost)
 
 pub receives_all : (r : DriveReport) (turns : ℕ) → turns ≤ r.turns → receives_of r turns ≡ r.turns
 receives_all r turns over = ap (λ b. r.turns + cond (b && not r.lost) 1 0) (le-ltb r.turns turns over) ∙ none_more r.turns
+
+-- a sum that fits
+pub sum_fits : (a b r : DriveReport) → IsWithin 18446744069414584320 a → IsWithin 4294967295 b → r ≡ capped (added a b) → r ≡ added a b
+sum_fits a b r p q e =
+    e ∙ made _ _ _ _ _ _ _ _ _ _ _ _ (a.lost || b.lost) (fits a.turns b.turns p.turns q.turns) (fits a.sent b.sent p.sent q.sent) (fits a.keep_alives b.keep_alives p.keep_alives q.keep_alives)
+    (fits a.answered b.answered p.answered q.answered) (fits a.failed_receives b.failed_receives p.failed_receives q.failed_receives) (fits a.failed_sends b.failed_sends p.failed_sends q.failed_sends)
+  where
+    fits : (m n : ℕ) → m ≤ 18446744069414584320 → n ≤ 4294967295 → min (m + n) 18446744073709551615 ≡ m + n
+    fits m n p q = omega arith
+
+    made : (t t' s s' k k' n n' f f' g g' : ℕ) (l : Bool) → t ≡ t' → s ≡ s' → k ≡ k' → n ≡ n' → f ≡ f' → g ≡ g' →
+        (let x : DriveReport = record { turns = t; sent = s; keep_alives = k; answered = n; failed_receives = f; failed_sends = g; lost = l } in x)
+        ≡ (let x : DriveReport = record { turns = t'; sent = s'; keep_alives = k'; answered = n'; failed_receives = f'; failed_sends = g'; lost = l } in x)
+    made t t' s s' k k' n n' f f' g g' l e1 e2 e3 e4 e5 e6 = cc

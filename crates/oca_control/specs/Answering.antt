@@ -96,8 +96,8 @@ IsAskedEvery ms since [] = ⊤
 IsAskedEvery ms since (call ∷ before) =
     (clock since (call ∷ before) ≤ last_asked since (call ∷ before) + ms) × IsAskedEvery ms since before
 
--- A command WAITS while it is untaken, no answer came to it, and the link is not lost.
-pub record Waits (device : Peer) (h : ℕ) (calls : List Call) : Type 0 where
+-- A command IS IN FLIGHT while it is untaken, no answer came to it, and the link is not lost.
+pub record IsInFlight (device : Peer) (h : ℕ) (calls : List Call) : Type 0 where
   pub untaken : is_untaken h calls ≡ true
   pub unanswered : first_of (answers_to device h calls) ≡ None
   pub not_lost : is_lost calls ≡ false
@@ -121,5 +121,5 @@ EveryCommandIsGivenOutInTime =
     (request : Request) (now ms : ℕ) (h : Handle) →
     let since : ℕ = max (clock opened before) now in
     let calls : List Call = later ++ Submits request now (Ok h) ∷ before in
-    0 < span → IsHistory device first opened span calls after → IsAskedEvery ms since later → Waits device h.0 calls →
+    0 < span → IsHistory device first opened span calls after → IsAskedEvery ms since later → IsInFlight device h.0 calls →
     IsGivenOutInTime ms since (clock opened calls) (sendings opened h.0 calls)

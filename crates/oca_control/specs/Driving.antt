@@ -1,9 +1,9 @@
 -- What the loop makes of a link and an end (*profile*).
-use Rattle.std.specs.Prelude.{◌≡◌, ℕ, zero, suc, ◌+◌, ◌<◌, ◌≤◌, nat_lt, Bool, true, false, not, ◌&&◌, if◌then◌else◌, List, [], ◌∷◌, ◌++◌, length, count_by}
+use Rattle.std.specs.Prelude.{◌≡◌, ℕ, zero, suc, ◌+◌, ◌<◌, ◌≤◌, nat_lt, min, Bool, true, false, not, ◌&&◌, ◌||◌, if◌then◌else◌, List, [], ◌∷◌, ◌++◌, length, count_by}
 use Rattle.std.specs.List.{list_any, flat_map}
 use Rattle.oca_types.specs.declared.words.Peer.{Peer}
 use Rattle.oca_net.specs.Deliveries.{Delivery, Datagram, Quiet, Failed, Sent}
-use Rattle.oca_net.specs.Ends.{largest_datagram}
+use Rattle.oca_net.specs.Ends.{largest_datagram, last_u64}
 use Rattle.oca_net.specs.EndStates.{EndState, SendsAllBut, Runs}
 use Rattle.oca_control.specs.declared.reception.Reception.{Reception}
 use Rattle.oca_control.specs.declared.reception.Reception.TheVariants as receptions
@@ -30,11 +30,11 @@ is_keep_alive GivesKeepAlive = true
 is_keep_alive GivesNothing = false
 is_keep_alive IsLost = false
 
-abbrev pub is_lost : Decision → Bool
-is_lost (GivesCommand c) = false
-is_lost GivesKeepAlive = false
-is_lost GivesNothing = false
-is_lost IsLost = true
+abbrev pub decides_lost : Decision → Bool
+decides_lost (GivesCommand c) = false
+decides_lost GivesKeepAlive = false
+decides_lost GivesNothing = false
+decides_lost IsLost = true
 
 -- something was given out, so that `due` is asked again
 abbrev pub goes_on : Decision → Bool
@@ -89,7 +89,7 @@ pub record DrivesTurn (d : Delivery) (old new : LinkState) (decisions : List Dec
 pub data Drives : (deliveries : List Delivery) (old new : LinkState) (decisions : List Decision) (answered : ℕ) → Type 0 where
   NoTurn : {l : LinkState} → Drives [] l l [] 0
   OneMore : {ds : List Delivery} {old l new : LinkState} {gs hs : List Decision} {n k : ℕ} (d : Delivery) →
-      Drives ds old l gs n → list_any is_lost gs ≡ false → DrivesTurn d l new hs k → Drives (ds ++ d ∷ []) old new (gs ++ hs) (n + k)
+      Drives ds old l gs n → list_any decides_lost gs ≡ false → DrivesTurn d l new hs k → Drives (ds ++ d ∷ []) old new (gs ++ hs) (n + k)
 
 abbrev pub is_failed_delivery : Delivery → Bool
 is_failed_delivery (Datagram from bytes now) = false
@@ -106,7 +106,33 @@ report_of deliveries decisions answered failed_sends =
       answered = answered;
       failed_receives = count_by is_failed_delivery deliveries;
       failed_sends = failed_sends;
-      lost = list_any is_lost decisions;
+      lost = list_any decides_lost decisions;
+    }
+
+-- first the one, then the other
+abbrev pub added : DriveReport → DriveReport → DriveReport
+added a b =
+    record {
+      turns = a.turns + b.turns;
+      sent = a.sent + b.sent;
+      keep_alives = a.keep_alives + b.keep_alives;
+      answered = a.answered + b.answered;
+      failed_receives = a.failed_receives + b.failed_receives;
+      failed_sends = a.failed_sends + b.failed_sends;
+      lost = a.lost || b.lost;
+    }
+
+-- a number that would pass 64 bits stays at its last value
+abbrev pub capped : DriveReport → DriveReport
+capped r =
+    record {
+      turns = min r.turns last_u64;
+      sent = min r.sent last_u64;
+      keep_alives = min r.keep_alives last_u64;
+      answered = min r.answered last_u64;
+      failed_receives = min r.failed_receives last_u64;
+      failed_sends = min r.failed_sends last_u64;
+      lost = r.lost;
     }
 
 -- A LINK WAS DRIVEN OVER AN END: there are deliveries of which the turns are what was done and reported, and the report

@@ -4,6 +4,8 @@ pub use Rattle.oca_pdu.specs.Encoding
 pub mod Limits
 pub mod Answers
 pub mod Contents
+pub mod Copies
+pub mod Turning
 pub mod Untaken
 pub mod Links
 pub mod Steps
@@ -12,6 +14,8 @@ pub mod Answering
 pub mod Receptions
 pub mod Driving
 pub mod Asking
+pub mod Running
 pub mod PrivateSlots
+pub mod PrivateTurning
 pub mod PrivateDriving
 pub mod PrivateAsking

@@ -1,5 +1,6 @@
 -- THE CONTROLLER: its link to a device, and what each call makes of it (*profile*). Moments are in milliseconds.
 use Rattle.std.specs.Prelude.{◌≡◌, ℕ, ◌+◌, ◌-◌, ◌^◌, ◌==◌, ◌<◌, ◌≤◌, nat_lt, nat_le, max, Bool, true, false, ◌&&◌, if◌then◌else◌, List, [], ◌∷◌, ◌++◌, map, length, Option, Some, None, is_some, Result, Ok, Err}
+use Rattle.std.specs.List.{list_any}
 use Rattle.oca_types.specs.declared.words.Peer.{Peer}
 use Rattle.oca_types.specs.declared.words.Handle.{Handle}
 use Rattle.oca_types.specs.Peers.{CommandFields, RequestFields, same_peer}
@@ -14,7 +15,7 @@ use Rattle.oca_control.specs.declared.due.Due.TheVariants as dues
 use Rattle.oca_control.specs.declared.reception.Reception.{Reception}
 use Rattle.oca_control.specs.declared.reception.Reception.TheVariants as receptions
 use Rattle.oca_control.specs.Limits.{most_sendings, keep_alive_time, last_handle}
-use Rattle.oca_control.specs.Untaken.{Untaken, new_untaken, has_room, first_due, given_out, hears_all, answers_by_all, answer_under, without_handle}
+use Rattle.oca_control.specs.Untaken.{Untaken, new_untaken, has_room, is_late, first_due, given_out, hears_all, answers_by_all, answer_under, without_handle}
 
 -- The device's address, the present moment, the handle of the next command or none, the moment when something was given
 -- out last, that of the last well-formed datagram from the device, whether the link is lost, its span, and the untaken
@@ -37,6 +38,10 @@ new_link device first now span =
 -- A moment earlier than one already seen counts as the one already seen.
 abbrev pub present : ℕ → LinkState → ℕ
 present now l = max l.moment now
+
+-- LATE. A link is late at a moment at which a command of it is: to give that out once more would be unsafe.
+abbrev pub late_at : ℕ → LinkState → Bool
+late_at now l = list_any (is_late (present now l)) l.untaken
 
 -- SUBMIT. The command of a request, under a handle (AES70-3).
 abbrev pub command_under : ℕ → RequestFields → CommandFields

@@ -1,5 +1,5 @@
 -- For private contracts: what a part of a turn does and reports.
-use Rattle.std.specs.Prelude.{◌≡◌, ℕ, ◌+◌, ◌≤◌, Bool, ◌||◌, List, [], ◌∷◌, Option, Some, None}
+use Rattle.std.specs.Prelude.{◌≡◌, ℕ, ◌≤◌, Bool, List, [], ◌∷◌, Option, Some, None}
 use Rattle.oca_net.specs.declared.end.Heard.TheVariants as heard
 use Rattle.oca_net.specs.Deliveries.{Delivery}
 use Rattle.oca_net.specs.Ends.{one_more}
@@ -7,19 +7,6 @@ use Rattle.oca_net.specs.EndStates.{EndState, Receives, SendsAllBut, Runs}
 use Rattle.oca_control.specs.declared.report.DriveReport.{DriveReport}
 use Rattle.oca_control.specs.Links.{LinkState, Decision, decision, gone_on}
 use Rattle.oca_control.specs.Driving.{DrivesTurn, report_of, goes_on, given_to, all_given_to}
-
--- first the one, then the other
-abbrev pub added : DriveReport → DriveReport → DriveReport
-added a b =
-    record {
-      turns = a.turns + b.turns;
-      sent = a.sent + b.sent;
-      keep_alives = a.keep_alives + b.keep_alives;
-      answered = a.answered + b.answered;
-      failed_receives = a.failed_receives + b.failed_receives;
-      failed_sends = a.failed_sends + b.failed_sends;
-      lost = a.lost || b.lost;
-    }
 
 -- no number of the report is above m
 pub record IsWithin (m : ℕ) (r : DriveReport) : Type 0 where

@@ -1,12 +1,12 @@
 -- For private contracts: where the untaken commands lie in memory. The command of the handle h lies in the slot number
 -- h modulo 32, and the handle itself is not stored.
-use Rattle.std.specs.Prelude.{◌≡◌, ℕ, zero, suc, ◌+◌, ◌-◌, ◌%◌, ◌<◌, ◌≤◌, ◌==◌, nat_lt, nat_le, Bool, true, false, ◌&&◌, ◌||◌, if◌then◌else◌, List, [], ◌∷◌, ◌++◌, map, length, Option, Some, None, is_none, is_some, min, ◌^◌, slice_index_or}
+use Rattle.std.specs.Prelude.{◌≡◌, ℕ, zero, suc, ◌+◌, ◌-◌, ◌%◌, ◌<◌, ◌≤◌, ◌==◌, nat_lt, nat_le, Bool, true, false, not, ◌&&◌, ◌||◌, if◌then◌else◌, List, [], ◌∷◌, ◌++◌, map, length, Option, Some, None, is_none, is_some, slice_index_or}
 use Rattle.std.specs.List.{AllByRecursion}
 use Rattle.std.specs.Option.{option_map}
 use Rattle.oca_pdu.specs.Messages.{Msg, Command, Response, KeepAlive}
 use Rattle.oca_control.specs.Answers.{AnswerFields}
 use Rattle.oca_types.specs.Sizes.{most_parameter_bytes}
-use Rattle.oca_control.specs.Limits.{repeat_time, most_sendings}
+use Rattle.oca_control.specs.Limits.{repeat_time, most_sendings, longest_pause}
 use Rattle.oca_control.specs.Untaken.{Untaken, first_due, given_out}
 use Rattle.oca_control.specs.Links.{Request, command_under, due_bytes, Decision, GivesCommand, GivesKeepAlive, GivesNothing, IsLost}
 
@@ -23,6 +23,10 @@ new_held r = record { request = r; times = 0; last = 0; answer = None }
 abbrev pub held_is_due : ℕ → Option Held → Bool
 held_is_due now None = false
 held_is_due now (Some k) = is_none k.answer && (k.times == 0 || nat_le repeat_time (now - k.last))
+
+abbrev pub held_is_late : ℕ → Option Held → Bool
+held_is_late now None = false
+held_is_late now (Some k) = is_none k.answer && (not (k.times == 0) && nat_lt longest_pause (now - k.last))
 
 abbrev pub held_waits : Option Held → Bool
 held_waits None = false

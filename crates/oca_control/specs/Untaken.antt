@@ -3,7 +3,7 @@ use Rattle.std.specs.Prelude.{ℕ, ◌+◌, ◌-◌, ◌==◌, nat_lt, nat_le, B
 use Rattle.std.specs.List.{list_any, list_all}
 use Rattle.oca_types.specs.Peers.{CommandFields}
 use Rattle.oca_pdu.specs.Messages.{Msg, Command, Response, KeepAlive}
-use Rattle.oca_control.specs.Limits.{repeat_time}
+use Rattle.oca_control.specs.Limits.{repeat_time, longest_pause}
 use Rattle.oca_control.specs.Answers.{AnswerFields, answer_in}
 
 -- A command, how often and when last it was given out, and its answer where one came. Moments are in milliseconds; the
@@ -25,6 +25,10 @@ has_room s h us = list_all (λ u. nat_lt h (u.command.handle + s)) us
 -- A command is due while it is unanswered, and was never given out or was given out 250 ms ago or earlier.
 abbrev pub is_due : ℕ → Untaken → Bool
 is_due now u = is_none u.answer && (u.times == 0 || nat_le repeat_time (now - u.last))
+
+-- A command is late while it is in flight, unanswered and given out, the last time more than 100,000 ms ago.
+abbrev pub is_late : ℕ → Untaken → Bool
+is_late now u = is_none u.answer && (not (u.times == 0) && nat_lt longest_pause (now - u.last))
 
 -- the due command with the lowest handle
 abbrev pub first_due : ℕ → List Untaken → Option Untaken

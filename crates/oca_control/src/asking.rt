@@ -2,74 +2,91 @@
 ghost use Rattle.std.specs.Prelude.{◌≡◌, ◌<◌, ◌+◌};
 ghost use Rattle.oca_types.specs.Peers.{request_of};
 ghost use Rattle.oca_net.specs.Ends.{last_u64};
-ghost use Rattle.oca_control.specs.Links.{submission};
-ghost use Rattle.oca_control.specs.Asking.{TakesATurn, Waits, ReceivesSoOften, Asks, refused_by};
+ghost use Rattle.oca_control.specs.Asking.{TakesATurn, Waits, ReceivesSoOften, Begins, Asks, refused_by};
 ghost use Rattle.oca_control.specs.PrivateAsking.{Settles};
 
-use crate::driving::{drive, give_out};
+use crate::driving::give_out;
 use crate::fault::ControlFault;
 use crate::link::Link;
 use crate::outcome::Outcome;
+use crate::turning::turn;
 use oca_net::End;
 use oca_types::{Handle, Request};
 
-/// Submits a command, hands it to the end at once, and waits for its answer at most so many turns, each of which
-/// receives for at most 50 ms at a socket.
+/// Begins a command as [`begin`] does, and waits for its answer as [`wait_for`] does.
 ///
-/// The command is submitted and given out at the link's own moment, the greatest that it was told: where the end was
-/// not asked for 250 ms or longer, the first turn may give it out once more. All else that is due at that moment is
-/// given out with it. Where an older command is due and had 20 sendings, the link is lost, and this one is not given
-/// out. What the link refuses changes nothing and asks the end nothing: `Lost` where the link is lost,
-/// else `Refused`. Then it is as [`wait_for`] says; a command that got no answer stays in the link, and can be waited
-/// for again.
+/// What `begin` refuses changes nothing and sends nothing: `Lost` where the link is lost, or late, else `Refused`. A
+/// command that got no answer stays in the link, and can be waited for again.
 pub fn ask<E: End>(link: &mut Link, end: &mut E, request: Request<'_>, turns: u32) -> Outcome
-    ensures asks { Asks (request_of request.entry) turns (submission (request_of request.entry) link.old) link.old result link.new (E.state end.old) (E.state end.new) }
+    ensures asks { Asks (request_of request.entry) turns link.old result link.new (E.state end.old) (E.state end.new) }
     ensures receives { (E.state end.new).receives < last_u64 → ReceivesSoOften turns result (E.state end.old).receives (E.state end.new).receives }
 {
-    match link.submit(
-        request.target,
-        request.method,
-        request.count,
-        request.params,
-        0,
-    ) {
-        Ok(handle) => {
-            give_out(link, end, 0);
-            wait_for(link, end, handle, turns)
-        }
+    match begin(link, end, request) {
+        Ok(handle) => wait_for(link, end, handle, turns),
         Err(fault) => refused(fault),
     }
 }
 
-/// Waits for the answer under this handle, and takes it: looks for it first, then drives the link a turn at a time.
+/// Submits a command at the end's present moment and hands it to the end at once, and returns its handle.
 ///
-/// `Answered` as soon as the answer is there; `Lost` as soon as the link is lost and no answer is there; `Unanswered`
-/// after so many turns, each of which receives once (at a closed end too). A handle that the link does not hold is
-/// waited for in vain.
+/// An end that keeps no time has the link's own moment, the greatest that it was told. All else that is due at the moment
+/// is given out with the command. Where an older one is due and had 20 sendings, the link is lost, and this one is not
+/// given out; else nothing is left to give out at that moment (`law_of_running`). Refusals, which change nothing and
+/// send nothing: `Lost` where the link is late at the moment ([`is_late`](crate::is_late)), then those of
+/// [`submit`](Link::submit).
+pub fn begin<E: End>(
+    link: &mut Link,
+    end: &mut E,
+    request: Request<'_>,
+) -> Result<Handle, ControlFault>
+    ensures { Begins (request_of request.entry) result link.old link.new (E.state end.old) (E.state end.new) }
+{
+    let now = end.now();
+    if link.late_at(now) {
+        return Err(ControlFault::Lost);
+    }
+    let handle = link.submit(
+        request.target,
+        request.method,
+        request.count,
+        request.params,
+        now,
+    )?;
+    give_out(link, end, now);
+    Ok(handle)
+}
+
+/// Waits for the answer under this handle, and takes it: looks for it first, then takes turns ([`turn`]).
+///
+/// `Answered` as soon as the answer is there; `Lost` as soon as the link is lost, or a turn found it late, and no answer
+/// is there; `Unanswered` after so many turns, each of which receives once (at a closed end too), at a socket for at most
+/// 50 ms. A handle that the link does not hold is waited for in vain.
 pub fn wait_for<E: End>(link: &mut Link, end: &mut E, handle: Handle, turns: u32) -> Outcome
     ensures waits { Waits handle.0 turns link.old result link.new (E.state end.old) (E.state end.new) }
     ensures receives { (E.state end.new).receives < last_u64 → ReceivesSoOften turns result (E.state end.old).receives (E.state end.new).receives }
 {
+    let mut late = false;
     for _turn in 0..turns {
-        if let Some(outcome) = settled(link, handle) {
+        if let Some(outcome) = settled(link, handle, late) {
             return outcome;
         }
-        take_one(link, end);
+        late = take_one(link, end);
     }
-    match settled(link, handle) {
+    match settled(link, handle, late) {
         Some(outcome) => outcome,
         None => Outcome::Unanswered,
     }
 }
 
-/// What is known without a turn: the answer under the handle, which is taken, or that the link is lost.
-fn settled(link: &mut Link, handle: Handle) -> Option<Outcome>
-    ensures { Settles handle.0 link.old result link.new }
+/// What is known without a turn: the answer under the handle, which is taken, or that the link is lost, or was found
+/// late.
+fn settled(link: &mut Link, handle: Handle, late: bool) -> Option<Outcome>
+    ensures { Settles handle.0 late link.old result link.new }
 {
     match link.take(handle) {
         Some(answer) => Some(Outcome::Answered(answer)),
         None => {
-            if link.is_lost() {
+            if late || link.is_lost() {
                 Some(Outcome::Lost)
             } else {
                 None
@@ -78,11 +95,11 @@ fn settled(link: &mut Link, handle: Handle) -> Option<Outcome>
     }
 }
 
-/// Drives the link for one turn.
-fn take_one<E: End>(link: &mut Link, end: &mut E)
-    ensures { TakesATurn link.old link.new (E.state end.old) (E.state end.new) }
+/// Takes a turn, and returns whether the link was found lost, or late, in it.
+fn take_one<E: End>(link: &mut Link, end: &mut E) -> bool
+    ensures { TakesATurn result link.old link.new (E.state end.old) (E.state end.new) }
 {
-    drive(link, end, 1);
+    turn(link, end).lost
 }
 
 /// How a command fares that the link refuses: `Lost` where the link is lost, else `Refused`.

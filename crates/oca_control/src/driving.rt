@@ -1,9 +1,10 @@
 //! The loop that drives a link over an end.
-ghost use Rattle.std.specs.Prelude.{◌≡◌, ◌+◌, ◌-◌, ◌<◌, ◌≤◌, ◌^◌, ℕ, [], ◌∷◌, IsTrue, IfSome, false};
+ghost use Rattle.std.specs.Prelude.{◌≡◌, ◌+◌, ◌-◌, ◌<◌, ◌≤◌, ◌^◌, ℕ, [], ◌∷◌, IsTrue, IfSome, false, length};
 ghost use Rattle.oca_net.specs.Ends.{last_u64};
 ghost use Rattle.oca_net.specs.EndStates.{SendsAllBut};
-ghost use Rattle.oca_control.specs.Driving.{DrivesEnd, GivesOut, answered_by, receives_of};
-ghost use Rattle.oca_control.specs.PrivateDriving.{added, IsWithin, given_report, GivesOne, TakesTurn};
+ghost use Rattle.oca_control.specs.Driving.{DrivesEnd, GivesOut, added, answered_by, receives_of};
+ghost use Rattle.oca_control.specs.Running.{NothingIsLeft};
+ghost use Rattle.oca_control.specs.PrivateDriving.{IsWithin, given_report, GivesOne, TakesTurn};
 
 use crate::due::Due;
 use crate::link::Link;
@@ -46,10 +47,13 @@ pub fn drive<E: End>(link: &mut Link, end: &mut E, turns: u32) -> DriveReport
 ///
 /// `due` is called at this moment until it returns `Nothing` or `Lost`, and at most once more than the span has
 /// handles: these are all, since at most as many commands as the span has handles are untaken (`law_of_histories`), so
-/// that each is reached (`law_of_giving_out`). Where a send fails, it is counted. Nothing is received. A moment that is earlier than one already seen
-/// counts as the one already seen.
+/// that each is reached (`law_of_giving_out`). So nothing is left to give out at that moment, or the link is lost. Where a
+/// send fails, it is counted. Nothing is received. A moment that is earlier than one already seen counts as the one
+/// already seen.
 pub fn give_out<E: End>(link: &mut Link, end: &mut E, now: u64) -> DriveReport
-    ensures { GivesOut now (link.old.span + 1) link.old link.new (E.state end.old) (E.state end.new) result }
+    ensures gives { GivesOut now (link.old.span + 1) link.old link.new (E.state end.old) (E.state end.new) result }
+    ensures lost { result.lost ≡ link.new.lost }
+    ensures left { result.lost ≡ false → NothingIsLeft link.new }
 {
     let mut packet = Packet::new();
     give_all(link, end, &mut packet, now)
@@ -88,7 +92,7 @@ fn take_turn<E: End>(link: &mut Link, end: &mut E, packet: &mut Packet) -> Optio
 }
 
 /// How many commands were answered.
-fn count_of(reception: Reception) -> u64
+pub(crate) fn count_of(reception: Reception) -> u64
     ensures count { result ≡ answered_by reception }
     ensures fits { result ≤ 4294967295 }
 {
@@ -101,6 +105,7 @@ fn count_of(reception: Reception) -> u64
 /// Hands what is due at this moment to the end, for the device, and returns what was handed over.
 fn give_all<E: End>(link: &mut Link, end: &mut E, packet: &mut Packet, now: u64) -> DriveReport
     ensures gives { GivesOut now (link.old.span + 1) link.old link.new (E.state end.old) (E.state end.new) result }
+    ensures few { length link.old.untaken ≤ link.old.span }
     ensures fits { IsWithin 4294967295 result }
 {
     let mut report = nothing();
@@ -167,34 +172,18 @@ fn send<E: End>(end: &mut E, to: Peer, packet: &Packet) -> u64
     }
 }
 
-/// What both did.
+/// What both did, where the numbers fit.
 fn sum(a: DriveReport, b: DriveReport) -> DriveReport
     requires a { IsWithin (2 ^ 64 - 2 ^ 32) a }
     requires b { IsWithin (2 ^ 32 - 1) b }
     ensures { result ≡ added a b }
 {
-    DriveReport {
-        turns: a.turns + b.turns,
-        sent: a.sent + b.sent,
-        keep_alives: a.keep_alives + b.keep_alives,
-        answered: a.answered + b.answered,
-        failed_receives: a.failed_receives + b.failed_receives,
-        failed_sends: a.failed_sends + b.failed_sends,
-        lost: a.lost || b.lost,
-    }
+    a + b
 }
 
 /// Nothing was done.
-fn nothing() -> DriveReport
+pub(crate) fn nothing() -> DriveReport
     ensures { result ≡ given_report [] 0 }
 {
-    DriveReport {
-        turns: 0,
-        sent: 0,
-        keep_alives: 0,
-        answered: 0,
-        failed_receives: 0,
-        failed_sends: 0,
-        lost: false,
-    }
+    DriveReport::default()
 }

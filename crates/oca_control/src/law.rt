@@ -1,5 +1,7 @@
 //! The law of a link, over whole histories. Nothing here runs: the contracts are the law.
 ghost use Rattle.oca_control.specs.Answering.{EveryAnswerIsKept, EveryDueCommandIsGivenOut, EveryCommandIsGivenOutInTime};
+ghost use Rattle.oca_control.specs.Copies.{EveryCopyIsInTime, EveryStepIsInTime, EveryLateLinkStaysLate};
+ghost use Rattle.oca_control.specs.Running.{EveryCallRuns, EveryRunGoesOn, EveryRunIsAsked, EveryEndInTimeServes, EveryBegunCommandIsInTime, EveryScriptIsKept};
 ghost use Rattle.oca_control.specs.Receptions.{EveryDatagramIsCounted};
 ghost use Rattle.oca_control.specs.Histories.{EveryHistoryIsLawful, EveryLinkTellsOfItself, BytesHaveOneContent};
 
@@ -14,8 +16,9 @@ use oca_pdu::law_one_list_of_messages;
 /// times, and at least 250 ms apart by the clock, which is the greatest moment so far. `due` gives the lowest handle
 /// that is untaken and unanswered and has rested for 250 ms, or else a keep-alive after 2,500 ms, or else nothing; and
 /// the link is lost exactly where that handle was given out 20 times. A take of an untaken handle gives the first
-/// answer that came to it in a well-formed datagram of the device since its submit, and nothing where none came. The
-/// next handle is at most an untaken one plus the span.
+/// answer that came to it in a well-formed datagram of the device since its submit, and nothing where none came: also
+/// where that answers a command that an earlier link of this address and port had under this handle. The next handle is
+/// at most an untaken one plus the span.
 ///
 /// `datagram` says by the sender whether it is a stranger, by the bytes whether they are well-formed, and else how many
 /// untaken commands got their first answer in it.
@@ -54,4 +57,39 @@ pub fn law_of_answering()
 pub fn law_of_giving_out()
     ensures due { EveryDueCommandIsGivenOut }
     ensures in_time { EveryCommandIsGivenOutInTime }
+{}
+
+/// A link that runs over an end is asked in time.
+///
+/// What [`drive`](crate::drive), [`turn`](crate::turn), [`wait_for`](crate::wait_for), [`begin`](crate::begin) and
+/// [`ask`](crate::ask) do with a link is a run, over the moments of what the end delivered and those at which commands
+/// were begun. Where each of these moments is at most `ms` milliseconds after the latest one before it, and nothing was
+/// left to give out when the run began, the link is asked every `ms` milliseconds, which is the premise of
+/// [`law_of_giving_out`], or it is lost; `ms` is at most 99,750. After a [`begin`](crate::begin) nothing is left, so each
+/// command that is begun is given out at once, and from then on in time as long as it waits: with receives of at most
+/// 50 ms, again less than 300 ms after each sending.
+///
+/// Of an end that tells what it delivers the premise is a fact of its state: its receives return within `ms` of one
+/// another. An end in memory keeps it where its script does. Of an end at a socket it is a fact of what its receives
+/// returned, and it holds as long as the program comes back to receive in time.
+pub fn law_of_running()
+    ensures calls { EveryCallRuns }
+    ensures goes_on { EveryRunGoesOn }
+    ensures asked { EveryRunIsAsked }
+    ensures over_an_end { EveryEndInTimeServes }
+    ensures begun { EveryBegunCommandIsInTime }
+    ensures in_memory { EveryScriptIsKept }
+{}
+
+/// No copy of a command is given out too late. Where [`due`](crate::Link::due) is never called at a moment at which the
+/// link is late ([`is_late`](crate::is_late)), each copy of a command is given out at most 100,000 ms after the copy
+/// before it, by the clock, over every list of calls of a link.
+///
+/// What [`give_in_time`](crate::give_in_time), [`turn`](crate::turn), [`begin`](crate::begin),
+/// [`wait_for`](crate::wait_for) and [`ask`](crate::ask) make of a link, they make by such calls. And a link that is late
+/// at a moment is so at each later one.
+pub fn law_copies_in_time()
+    ensures copies { EveryCopyIsInTime }
+    ensures steps { EveryStepIsInTime }
+    ensures late { EveryLateLinkStaysLate }
 {}

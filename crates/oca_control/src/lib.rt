@@ -2,8 +2,9 @@
 //! over the datagrams of OCP.1 (AES70-3).
 //!
 //! Begin with [`Link`], which opens no socket and reads no clock: it is given datagrams and moments, and gives out
-//! datagrams. Over an end of a network [`ask`] sends a command and waits for its answer, [`give_out`] sends what is
-//! due, and [`drive`] runs the link for many turns. Nothing here takes memory.
+//! datagrams. Over an end of a network [`ask`] sends a command and waits for its answer; with several under way [`begin`]
+//! sends each, and [`turn`] runs the link. These, [`wait_for`] and [`give_in_time`] send no copy of a command too late
+//! ([`is_late`]); [`give_out`] and [`drive`] do not look at that. Nothing here takes memory.
 #![tactic(auto)]
 
 mod answer;
@@ -19,14 +20,18 @@ mod reception;
 mod report;
 mod slot;
 mod table;
+mod turning;
 
 pub use answer::Answer;
-pub use asking::{ask, refused, wait_for};
+pub use asking::{ask, begin, refused, wait_for};
 pub use driving::{drive, give_out};
 pub use due::Due;
 pub use fault::ControlFault;
-pub use law::{law_of_answering, law_of_giving_out, law_of_histories};
+pub use law::{
+    law_copies_in_time, law_of_answering, law_of_giving_out, law_of_histories, law_of_running,
+};
 pub use link::Link;
 pub use outcome::Outcome;
 pub use reception::Reception;
 pub use report::DriveReport;
+pub use turning::{give_in_time, is_late, turn};

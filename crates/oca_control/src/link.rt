@@ -9,7 +9,7 @@ ghost use Rattle.oca_pdu.specs.Datagrams.{messages_left};
 ghost use Rattle.oca_control.specs.Answers.{answer_fields};
 ghost use Rattle.oca_control.specs.Contents.{IsContent};
 ghost use Rattle.oca_control.specs.Untaken.{Untaken, hears, answers_by, hears_all, answers_by_all, first_answered, answer_under};
-ghost use Rattle.oca_control.specs.Links.{reception_counted, new_link, submission, submitted, decision, due_answer, due_bytes, gone_on, IsNextDue, NeverIsDue, reception, received, taken};
+ghost use Rattle.oca_control.specs.Links.{reception_counted, late_at, new_link, submission, submitted, decision, due_answer, due_bytes, gone_on, IsNextDue, NeverIsDue, reception, received, taken};
 ghost use Rattle.oca_control.specs.Steps.{ReceivesDatagram};
 ghost use Rattle.oca_control.specs.PrivateSlots.{AreShort, IsShort};
 
@@ -23,6 +23,7 @@ use oca_pdu::{Form, Message, Messages, check, write_keepalive};
 use oca_types::{
     Handle, MOST_COMMAND_PARAMETER_BYTES, MethodId, Ono, Packet, Peer, Request, Span, sooner,
 };
+use std::fmt;
 use std::marker::Model;
 
 /// A keep-alive is given out after so many milliseconds without anything.
@@ -47,6 +48,7 @@ pub struct Link {
 }
 
 impl Model for Link {
+    ghost use Rattle.std.specs.Prelude.{◌≤◌, length};
     ghost use Rattle.oca_types.specs.Sizes.{span_size};
     ghost use Rattle.oca_control.specs.Links.{LinkState};
     ghost use Rattle.oca_control.specs.PrivateSlots.{handle_left};
@@ -63,11 +65,18 @@ impl Model for Link {
       span = span_size l.span;
       untaken = l.table.untaken;
     } };
+
+    ghost invariant = { λ l. length l.table.untaken ≤ span_size l.span };
 }
 
 impl Link {
     /// A link to the device at this address, whose first command gets this handle, and whose handles stay
     /// below the lowest untaken one plus the span.
+    ///
+    /// A device remembers what it executed for an address and port until it heard nothing from there for 120 seconds. So
+    /// the first handle is to lie above all handles that an earlier link used from this address and port in that time:
+    /// a device is silent at a handle that it counts as old, or that another command had. And a late answer to a command
+    /// of an earlier link is taken for one to this link's command under that handle.
     pub fn new(device: Peer, first_handle: Handle, now: u64, span: Span) -> Link
         ensures { result ≡ new_link device first_handle.0 now (span_size span) }
     {
@@ -209,8 +218,10 @@ impl Link {
     }
 
     /// The moment at which the last well-formed datagram came from the device, and at first that of the link's making.
-    /// A datagram from another address does not move it, nor one that is not well-formed. A device echoes each
-    /// keep-alive, so at a device that is there it lags by little more than 2,500 ms while the link is driven.
+    /// A datagram from another address does not move it, nor one that is not well-formed. A device that is there and
+    /// has room echoes each keep-alive, so it lags by little more than 2,500 ms while the link is driven and no command
+    /// waits for its answer. While one waits it is given out again and no keep-alive leaves: a device that leaves it
+    /// unanswered, as one whose handle was used before from this address and port, is then not heard at all.
     pub fn last_heard(&self) -> u64
         ensures { result ≡ self.now.heard }
     {
@@ -234,12 +245,34 @@ impl Link {
         self.device
     }
 
-    /// The span, at most 32.
+    /// Whether a command is late at this moment.
+    pub(crate) fn late_at(&self, now: u64) -> bool
+        ensures { result ≡ late_at now self.now }
+    {
+        self.table.is_late(latest(self.moment, now))
+    }
+
+    /// The span, at most 32: at most as many commands are untaken.
     pub(crate) fn span(&self) -> u8
         ensures span { result ≡ self.now.span }
         ensures most { result ≤ 32 }
+        ensures few { length self.now.untaken ≤ self.now.span }
     {
         self.span.get()
+    }
+}
+
+impl fmt::Debug for Link {
+    /// The device's address, the span, the present moment, that of the last datagram from the device, and whether the
+    /// link is lost.
+    fn fmt<W: fmt::Write>(&self, f: &mut fmt::Formatter<W>) -> fmt::Result {
+        f.debug_struct("Link")
+            .field("device", &self.device)
+            .field("span", &self.span.get())
+            .field("moment", &self.moment)
+            .field("heard", &self.heard)
+            .field("lost", &self.lost)
+            .finish()
     }
 }
 

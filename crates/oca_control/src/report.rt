@@ -1,6 +1,8 @@
 //! What a loop did with a link.
+use std::ops::Add;
 
-/// What the loop [`drive`](crate::drive) did.
+/// What the loop [`drive`](crate::drive) did, or a [`turn`](crate::turn), or what was given out. Two are added number by
+/// number: a number that would pass 64 bits stays at its last value; lost is what either says.
 #[derive(Clone, Copy, Debug, PartialEq, Eq)]
 pub struct DriveReport {
     /// The turns: receives that delivered something: a datagram, an oversize one, silence or a failure.
@@ -15,6 +17,48 @@ pub struct DriveReport {
     pub failed_receives: u64,
     /// The sends that failed.
     pub failed_sends: u64,
-    /// Whether `due` returned `Lost`, which ends the loop.
+    /// Whether `due` returned `Lost`, which ends the loop; or the link was late, where that is looked at.
     pub lost: bool,
+}
+
+impl Default for DriveReport {
+    ghost use Rattle.std.specs.Prelude.{◌≡◌, []};
+    ghost use Rattle.oca_control.specs.Driving.{report_of};
+
+    ghost is_default = { λ r. r ≡ report_of [] [] 0 0 };
+
+    /// Nothing was done.
+    fn default() -> Self {
+        DriveReport {
+            turns: 0,
+            sent: 0,
+            keep_alives: 0,
+            answered: 0,
+            failed_receives: 0,
+            failed_sends: 0,
+            lost: false,
+        }
+    }
+}
+
+impl Add for DriveReport {
+    ghost use Rattle.std.specs.Prelude.{◌≡◌};
+    ghost use Rattle.oca_control.specs.Driving.{added, capped};
+
+    type Output = DriveReport;
+
+    ghost add_gives = { λ a b r. r ≡ capped (added a b) };
+
+    /// What both did.
+    fn add(self, rhs: DriveReport) -> DriveReport {
+        DriveReport {
+            turns: self.turns.saturating_add(rhs.turns),
+            sent: self.sent.saturating_add(rhs.sent),
+            keep_alives: self.keep_alives.saturating_add(rhs.keep_alives),
+            answered: self.answered.saturating_add(rhs.answered),
+            failed_receives: self.failed_receives.saturating_add(rhs.failed_receives),
+            failed_sends: self.failed_sends.saturating_add(rhs.failed_sends),
+            lost: self.lost || rhs.lost,
+        }
+    }
 }

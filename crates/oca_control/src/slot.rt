@@ -9,7 +9,7 @@ ghost use Rattle.oca_pdu.specs.Encoding.{pdu_encoding};
 ghost use Rattle.oca_control.specs.Limits.{most_sendings};
 ghost use Rattle.oca_control.specs.Answers.{answer_fields};
 ghost use Rattle.oca_control.specs.Links.{command_under};
-ghost use Rattle.oca_control.specs.PrivateSlots.{new_held, held_is_due, held_waits, held_answer, held_given, held_answered};
+ghost use Rattle.oca_control.specs.PrivateSlots.{new_held, held_is_due, held_is_late, held_waits, held_answer, held_given, held_answered};
 
 use crate::answer::Answer;
 use crate::moments::later;
@@ -22,6 +22,9 @@ use std::marker::Model;
 
 /// A command is given out again after so many milliseconds without an answer.
 const REPEAT_MS: u64 = 250;
+
+/// A command is given out again at most so many milliseconds after it was given out last.
+const LONGEST_PAUSE_MS: u64 = 100_000;
 
 /// A command is given out at most so often.
 const MOST_SENDINGS: u8 = 20;
@@ -91,6 +94,15 @@ impl Slot {
         self.held
             && !self.answered
             && (self.times == 0 || now.saturating_sub(self.last) >= REPEAT_MS)
+    }
+
+    /// Whether a command is held and late: unanswered and given out, the last time more than 100,000 ms ago.
+    pub fn is_late(&self, now: u64) -> bool
+        ensures { result ≡ held_is_late now self.now }
+    {
+        self.held
+            && !self.answered
+            && (self.times != 0 && now.saturating_sub(self.last) > LONGEST_PAUSE_MS)
     }
 
     /// From which moment on the command is due: from the first on where it was never given out, else 250 ms after it

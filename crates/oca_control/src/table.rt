@@ -1,12 +1,12 @@
 //! The untaken commands of a link, each in the place that its handle names.
-ghost use Rattle.std.specs.Prelude.{◌≡◌, ◌+◌, ◌-◌, ◌%◌, ◌<◌, ◌≤◌, [], ◌∷◌, ◌++◌, map, length, Option, Some, None, true, is_some, IfSome, if◌then◌else◌, slice_index_or};
+ghost use Rattle.std.specs.Prelude.{◌≡◌, ◌+◌, ◌-◌, ◌%◌, ◌<◌, ◌≤◌, [], ◌∷◌, ◌++◌, map, length, Option, Some, None, true, is_some, IfSome, IsTrue, if◌then◌else◌, slice_index_or};
 ghost use Rattle.std.specs.List.{list_any};
 ghost use Rattle.std.specs.Option.{option_map};
 ghost use Rattle.oca_types.specs.Peers.{request_of};
 ghost use Rattle.oca_types.specs.Sizes.{most_command_parameter_bytes, most_parameter_bytes};
 ghost use Rattle.oca_types.specs.Moments.{HoldsFrom};
 ghost use Rattle.oca_control.specs.Answers.{answer_fields};
-ghost use Rattle.oca_control.specs.Untaken.{new_untaken, has_room, first_due, waits, answered, first_answered, answer_under, without_handle};
+ghost use Rattle.oca_control.specs.Untaken.{new_untaken, has_room, is_late, first_due, waits, answered, first_answered, answer_under, without_handle};
 ghost use Rattle.oca_control.specs.Links.{command_under, due_answer};
 ghost use Rattle.oca_control.specs.PrivateSlots.{IsTable, untaken_from, untaken_at, held_at, held_is_due, some_due, handle_left, first_decided, after_decision, bytes_decided, IsLowestDue, IsPlaceOf};
 
@@ -58,7 +58,8 @@ impl Table {
 
     /// Whether the next handle lies below each untaken one plus the span.
     pub fn has_room(&self, span: u8) -> bool
-        ensures { result ≡ has_room span self.now.next self.now.untaken }
+        ensures room { result ≡ has_room span self.now.next self.now.untaken }
+        ensures few { IsTrue result → 0 < span → length self.now.untaken < span }
     {
         self.low == self.next || self.next < self.low + u64::from(span)
     }
@@ -95,6 +96,13 @@ impl Table {
         }
         slot.give_out(handle, now, packet);
         Some(Due::Send(handle))
+    }
+
+    /// Whether a command is late.
+    pub fn is_late(&self, now: u64) -> bool
+        ensures { result ≡ list_any (is_late now) self.now.untaken }
+    {
+        some_late(&self.slots, self.low, self.next, now)
     }
 
     /// From which moment on a command is due, where there is such a moment.
@@ -156,6 +164,19 @@ fn due_from(slots: &[Slot; 32], low: u64, next: u64) -> Option<u64>
         first = sooner(first, slots[place(handle)].due_from());
     }
     first
+}
+
+/// Whether a command is late of those from `low` on and below `next`.
+fn some_late(slots: &[Slot; 32], low: u64, next: u64, now: u64) -> bool
+    requires { low ≤ next }
+    ensures { result ≡ list_any (is_late now) (untaken_from low (next - low) slots.now) }
+{
+    for handle in low..next {
+        if slots[place(handle)].is_late(now) {
+            return true;
+        }
+    }
+    false
 }
 
 /// The lowest handle from `low` on and below `next` that has its answer.

@@ -7,7 +7,9 @@ mod ends;
 mod handles;
 mod links;
 mod questions;
+mod reports;
 mod sending;
+mod standstill;
 
 use oca_types::Peer;
 

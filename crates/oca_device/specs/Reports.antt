@@ -1,8 +1,8 @@
 -- What a report says of the turns of the loop: a turn is one delivery of the end (profile).
-use Rattle.std.specs.Prelude.{ℕ, ◌+◌, nat_le, nat_lt, if◌then◌else◌, List, [], ◌∷◌, length}
+use Rattle.std.specs.Prelude.{ℕ, ◌+◌, min, nat_le, nat_lt, if◌then◌else◌, List, [], ◌∷◌, length}
 use Rattle.oca_types.specs.Sizes.{DeviceSizes}
 use Rattle.oca_net.specs.Deliveries.{Delivery, Datagram, Quiet, Failed}
-use Rattle.oca_net.specs.Ends.{largest_datagram}
+use Rattle.oca_net.specs.Ends.{largest_datagram, last_u64}
 use Rattle.oca_tree.specs.declared.object.Object.{Object}
 use Rattle.oca_device.specs.declared.verdict.Verdict.{Verdict}
 use Rattle.oca_device.specs.declared.verdict.Verdict.TheVariants as verdicts
@@ -43,6 +43,23 @@ added a b =
       quiet = a.quiet + b.quiet;
       failed_receives = a.failed_receives + b.failed_receives;
       failed_sends = a.failed_sends + b.failed_sends;
+    }
+
+-- a number that would pass 64 bits stays at its last value
+abbrev pub capped : Report → Report
+capped r =
+    record {
+      turns = min r.turns last_u64;
+      executed = min r.executed last_u64;
+      kept = min r.kept last_u64;
+      old = min r.old last_u64;
+      reused = min r.reused last_u64;
+      malformed = min r.malformed last_u64;
+      no_room = min r.no_room last_u64;
+      oversize = min r.oversize last_u64;
+      quiet = min r.quiet last_u64;
+      failed_receives = min r.failed_receives last_u64;
+      failed_sends = min r.failed_sends last_u64;
     }
 
 abbrev pub one_turn : Report

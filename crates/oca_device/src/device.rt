@@ -29,6 +29,7 @@ use oca_types::{
     Command, MOST_PEERS, NoMemory, Ono, Params, Peer, Peers, Reply, Sizes, Status, Window, sooner,
 };
 use std::alloc::Global;
+use std::fmt;
 use std::marker::Model;
 
 /// The most objects that one datagram writes to: a command has 17 bytes, so a datagram of 1,472 bytes has at most 86.
@@ -347,6 +348,17 @@ impl Device {
             Judged::Reused => counts.reused += 1,
             Judged::Old => counts.old += 1,
         }
+    }
+}
+
+impl fmt::Debug for Device {
+    /// The numbers of objects and sessions, and the present moment.
+    fn fmt<W: fmt::Write>(&self, f: &mut fmt::Formatter<W>) -> fmt::Result {
+        f.debug_struct("Device")
+            .field("objects", &self.tree.len())
+            .field("sessions", &self.sessions.len())
+            .field("moment", &self.sessions.moment())
+            .finish()
     }
 }
 

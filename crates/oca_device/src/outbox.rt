@@ -12,6 +12,7 @@ ghost use Rattle.oca_device.specs.PrivateServing.{AreGrouped, IsGrouped, Joins, 
 use oca_pdu::{Form, extend_response, holds_responses, replace_response, write_keepalive};
 use oca_types::{Handle, NoMemory, Packet, Reply};
 use std::alloc::Global;
+use std::fmt;
 use std::marker::Model;
 
 /// The most packets that one datagram is answered with: a command has 17 bytes and a keep-alive PDU 12, so a datagram
@@ -111,6 +112,15 @@ impl Outbox {
         make_place(&mut self.places, self.count);
         put_keepalive(&mut self.places[self.count], form);
         self.count += 1;
+    }
+}
+
+impl fmt::Debug for Outbox {
+    /// The number of packets.
+    fn fmt<W: fmt::Write>(&self, f: &mut fmt::Formatter<W>) -> fmt::Result {
+        f.debug_struct("Outbox")
+            .field("packets", &self.len())
+            .finish()
     }
 }
 

@@ -1,6 +1,8 @@
 //! What a run of the loop did.
+use std::ops::Add;
 
-/// What [`serve`](crate::serve) did.
+/// What [`serve`](crate::serve) did. Two are added number by number: a number that would pass 64 bits stays at its last
+/// value.
 #[derive(Clone, Copy, Debug, PartialEq, Eq)]
 pub struct Report {
     /// Receives that delivered something: a datagram, an oversize one, silence or a failure.
@@ -25,4 +27,54 @@ pub struct Report {
     pub failed_receives: u64,
     /// Sends that failed.
     pub failed_sends: u64,
+}
+
+impl Default for Report {
+    ghost use Rattle.std.specs.Prelude.{◌≡◌};
+    ghost use Rattle.oca_device.specs.Reports.{no_turns};
+
+    ghost is_default = { λ r. r ≡ no_turns };
+
+    /// Nothing was done.
+    fn default() -> Self {
+        Report {
+            turns: 0,
+            executed: 0,
+            kept: 0,
+            old: 0,
+            reused: 0,
+            malformed: 0,
+            no_room: 0,
+            oversize: 0,
+            quiet: 0,
+            failed_receives: 0,
+            failed_sends: 0,
+        }
+    }
+}
+
+impl Add for Report {
+    ghost use Rattle.std.specs.Prelude.{◌≡◌};
+    ghost use Rattle.oca_device.specs.Reports.{added, capped};
+
+    type Output = Report;
+
+    ghost add_gives = { λ a b r. r ≡ capped (added a b) };
+
+    /// What both did.
+    fn add(self, rhs: Report) -> Report {
+        Report {
+            turns: self.turns.saturating_add(rhs.turns),
+            executed: self.executed.saturating_add(rhs.executed),
+            kept: self.kept.saturating_add(rhs.kept),
+            old: self.old.saturating_add(rhs.old),
+            reused: self.reused.saturating_add(rhs.reused),
+            malformed: self.malformed.saturating_add(rhs.malformed),
+            no_room: self.no_room.saturating_add(rhs.no_room),
+            oversize: self.oversize.saturating_add(rhs.oversize),
+            quiet: self.quiet.saturating_add(rhs.quiet),
+            failed_receives: self.failed_receives.saturating_add(rhs.failed_receives),
+            failed_sends: self.failed_sends.saturating_add(rhs.failed_sends),
+        }
+    }
 }

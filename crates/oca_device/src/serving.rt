@@ -124,44 +124,20 @@ fn send_all<E: End>(end: &mut E, to: Peer, outbox: &Outbox) -> u64
     failed
 }
 
-/// What both did.
+/// What both did, where the numbers fit.
 fn sum(a: Report, b: Report) -> Report
     requires a { IsWithin (2 ^ 64 - 2 ^ 32) a }
     requires b { IsWithin (2 ^ 32 - 1) b }
     ensures { result ≡ added a b }
 {
-    Report {
-        turns: a.turns + b.turns,
-        executed: a.executed + b.executed,
-        kept: a.kept + b.kept,
-        old: a.old + b.old,
-        reused: a.reused + b.reused,
-        malformed: a.malformed + b.malformed,
-        no_room: a.no_room + b.no_room,
-        oversize: a.oversize + b.oversize,
-        quiet: a.quiet + b.quiet,
-        failed_receives: a.failed_receives + b.failed_receives,
-        failed_sends: a.failed_sends + b.failed_sends,
-    }
+    a + b
 }
 
 /// No turns.
 fn nothing() -> Report
     ensures { result ≡ no_turns }
 {
-    Report {
-        turns: 0,
-        executed: 0,
-        kept: 0,
-        old: 0,
-        reused: 0,
-        malformed: 0,
-        no_room: 0,
-        oversize: 0,
-        quiet: 0,
-        failed_receives: 0,
-        failed_sends: 0,
-    }
+    Report::default()
 }
 
 /// One turn.

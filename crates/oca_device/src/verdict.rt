@@ -1,5 +1,6 @@
 //! What a datagram led to.
 use oca_pdu::PduFault;
+use std::fmt;
 
 /// What a device made of a datagram. In all cases the clock moved first: locks of peers that are silent for more than
 /// three heartbeats are released, and sessions that are silent for more than 120,000 ms forgotten.
@@ -22,4 +23,22 @@ pub enum Verdict {
     /// The sender has no session, and as many other peers as were chosen have one. No object and no session
     /// changed; nothing was written.
     NoRoom,
+}
+
+impl fmt::Display for Verdict {
+    fn fmt<W: fmt::Write>(&self, f: &mut fmt::Formatter<W>) -> fmt::Result {
+        match self {
+            Verdict::Served {
+                executed,
+                kept,
+                old,
+                reused,
+            } => write!(
+                f,
+                "{executed} executed, {kept} duplicates, {old} too old, {reused} under a handle that was used"
+            ),
+            Verdict::Malformed(fault) => write!(f, "malformed: {fault}"),
+            Verdict::NoRoom => write!(f, "no room for a session"),
+        }
+    }
 }

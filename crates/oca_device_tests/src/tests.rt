@@ -7,6 +7,7 @@ mod grouping;
 mod lapses;
 mod parts;
 mod play;
+mod reports;
 mod serving;
 mod sessions;
 

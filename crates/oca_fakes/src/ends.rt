@@ -7,6 +7,7 @@ use oca_script::field::split_at_byte;
 use oca_script::{ReadFailed, Sink, Source, WriteFailed};
 use std::io;
 use std::io::{ErrorKind, Read, Write};
+use std::os::fd::RawFd;
 
 /// Gives its bytes in pieces of at most `piece`, and fails once `before_fault` of them were given.
 #[derive(Drop)]
@@ -36,6 +37,11 @@ impl Source for PieceReader<'_> {
     ghost remaining = { λ r. Some r.rest.now };
 
     ghost failed = { λ r. r.failed };
+
+    /// No read waits.
+    fn await_input(&mut self, _beside: Option<RawFd>, _milliseconds: u64) -> bool {
+        true
+    }
 
     /// Gives the next piece, or fails where all that comes before the fault was given.
     fn read(&mut self, buf: &mut [u8]) -> Result<usize, ReadFailed> {
@@ -68,6 +74,52 @@ impl Read for PieceReader<'_> {
     }
 }
 
+/// A piece reader whose reads would wait: before each one it says so `pauses` times.
+#[derive(Drop)]
+pub struct PausedReader<'a> {
+    pub reader: PieceReader<'a>,
+    pub pauses: u32,
+    pub left: u32,
+    pub ready: bool,
+}
+
+impl<'a> PausedReader<'a> {
+    /// The reader, which pauses so often before each read.
+    pub fn new(reader: PieceReader<'a>, pauses: u32) -> PausedReader<'a> {
+        PausedReader {
+            reader,
+            pauses,
+            left: pauses,
+            ready: false,
+        }
+    }
+}
+
+impl Source for PausedReader<'_> {
+    ghost remaining = { λ r. Some r.reader.rest.now };
+
+    ghost failed = { λ r. r.reader.failed };
+
+    ghost ready = { λ r. r.ready };
+
+    /// Is ready once it has said often enough that it is not.
+    fn await_input(&mut self, _beside: Option<RawFd>, _milliseconds: u64) -> bool {
+        if self.left == 0 {
+            self.ready = true;
+        } else {
+            self.left -= 1;
+        }
+        self.ready
+    }
+
+    /// Reads, and is then not ready.
+    fn read(&mut self, buf: &mut [u8]) -> Result<usize, ReadFailed> {
+        self.ready = false;
+        self.left = self.pauses;
+        Source::read(&mut self.reader, buf)
+    }
+}
+
 /// Gives its pattern again and again, `left` bytes in all.
 #[derive(Drop)]
 pub struct PatternReader<'a> {
@@ -80,6 +132,11 @@ impl Source for PatternReader<'_> {
     ghost remaining = { λ _. None };
 
     ghost failed = { λ _. false };
+
+    /// No read waits.
+    fn await_input(&mut self, _beside: Option<RawFd>, _milliseconds: u64) -> bool {
+        true
+    }
 
     /// Gives what is left of the pattern, from its front again behind its end.
     fn read(&mut self, buf: &mut [u8]) -> Result<usize, ReadFailed> {

@@ -4,4 +4,4 @@
 
 mod ends;
 
-pub use ends::{Discard, PatternReader, PieceReader, ShortWriter, behind_notes};
+pub use ends::{Discard, PatternReader, PausedReader, PieceReader, ShortWriter, behind_notes};

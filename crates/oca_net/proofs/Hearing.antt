@@ -3,9 +3,11 @@ use Rattle.std.proofs.Common.{◌≡◌, ℕ, zero, suc, ◌<◌, Bool, true, fa
 use Rattle.std.specs.Prelude.{IsTrue}
 use Rattle.std.proofs.lemmas.Bool.{false≢true}
 use Rattle.oca_types.specs.declared.words.Peer.{Peer}
+use Rattle.oca_net.specs.declared.end.Heard.{Heard}
 use Rattle.oca_net.specs.declared.end.Heard.TheVariants as heard
 use Rattle.oca_net.specs.Deliveries.{Datagram}
-use Rattle.oca_net.specs.Ends.{Delivers, largest_datagram}
+use Rattle.oca_net.specs.Ends.{Delivers, IsHeardBy, largest_datagram}
+use Rattle.oca_net.specs.Sockets.{SaysMoment}
 use Rattle.oca_net.specs.EndStates.{EndState, Receives}
 
 -- a datagram of more than 1,472 bytes, which is what was delivered where the end tells
@@ -33,3 +35,11 @@ oversize_heard {now} {bytes} {old} {new} r = let d = by_tells old.tells r.delive
         (from : Peer) × (long : List ℕ) × (largest_datagram < length long) × (IsTrue b → new.delivered ≡ old.delivered ++ Datagram from long now ∷ [])
     by_tells true f = let d = f refl in (d.0, d.1, d.2, λ _. d.3)
     by_tells false f = (record { ip = 0; port = 0 }, zeros 1473, above_all 1473 (omega arith), λ told. absurd (false≢true told))
+
+-- what says this moment is heard by then
+pub heard_by : (h : Heard) (t : ℕ) → SaysMoment h t → IsHeardBy t h
+heard_by (heard.Datagram from now) t e = omega (arith, e)
+heard_by (heard.Quiet now) t e = omega (arith, e)
+heard_by (heard.Oversize now) t e = omega (arith, e)
+heard_by heard.Failed t e = tt
+heard_by heard.Closed t e = tt

@@ -1,3 +1,4 @@
 pub mod Sending
 pub mod Hearing
 pub mod Running
+pub mod Waiting

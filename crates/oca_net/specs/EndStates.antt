@@ -1,13 +1,14 @@
 -- What an end says of itself, and what its calls do to that (*profile*).
-use Rattle.std.specs.Prelude.{◌≡◌, ℕ, ◌+◌, ◌<◌, Bool, ◌||◌, List, ◌++◌, IsTrue}
+use Rattle.std.specs.Prelude.{◌≡◌, ℕ, ◌+◌, ◌<◌, Bool, ◌||◌, List, ◌++◌, IsTrue, Option}
 use Rattle.oca_types.specs.declared.words.Peer.{Peer}
 use Rattle.oca_net.specs.declared.end.Heard.{Heard}
 use Rattle.oca_net.specs.Deliveries.{Delivery, Sent}
-use Rattle.oca_net.specs.Ends.{Delivers, HoldsOnlyADatagram, is_closed, failures_after, failures_sent, taken_after, one_more, last_u64, TakesAllBut}
+use Rattle.oca_net.specs.Ends.{Delivers, KeepsTime, HoldsOnlyADatagram, is_closed, failures_after, failures_sent, taken_after, one_more, last_u64, TakesAllBut}
 
 -- Whether the end tells what it delivers and takes; what it delivered and what it took (the latest last), which say
 -- nothing of an end that does not tell; whether it has returned Closed; how many calls failed, and how often `receive`
--- was called, failed and closed calls too: 64-bit numbers that stay at their last value.
+-- was called, failed and closed calls too: 64-bit numbers that stay at their last value. And, where the end keeps time,
+-- the latest moment that it has said.
 pub record EndState : Type 0 where
   pub tells : Bool
   pub delivered : List Delivery
@@ -15,6 +16,7 @@ pub record EndState : Type 0 where
   pub closed : Bool
   pub failures : ℕ
   pub receives : ℕ
+  pub moment : Option ℕ
 
 -- A receive returned this, and the packet then held these bytes.
 pub record Receives (heard : Heard) (bytes : List ℕ) (old new : EndState) : Type 0 where
@@ -25,6 +27,7 @@ pub record Receives (heard : Heard) (bytes : List ℕ) (old new : EndState) : Ty
   pub closed : new.closed ≡ (old.closed || is_closed heard)
   pub failures : new.failures ≡ failures_after heard old.failures
   pub receives : new.receives ≡ one_more old.receives
+  pub moment : KeepsTime heard old.moment new.moment
 
 -- A send of these bytes to a peer returned whether the end took them.
 pub record Sends (was_taken : Bool) (to : Peer) (bytes : List ℕ) (old new : EndState) : Type 0 where
@@ -34,6 +37,7 @@ pub record Sends (was_taken : Bool) (to : Peer) (bytes : List ℕ) (old new : En
   pub closed : new.closed ≡ old.closed
   pub failures : new.failures ≡ failures_sent was_taken old.failures
   pub receives : new.receives ≡ old.receives
+  pub moment : new.moment ≡ old.moment
 
 -- These datagrams were sent, in order, and so many of the sends failed.
 pub record SendsAllBut (failed : ℕ) (old new : EndState) (all : List Sent) : Type 0 where

@@ -1,6 +1,6 @@
 -- What the calls of an end do to what it delivered, what it took, whether it is closed and its count of failures
 -- (*profile*); and what many sends do to what it took.
-use Rattle.std.specs.Prelude.{◌≡◌, ℕ, ◌+◌, ◌<◌, min, Bool, true, false, if◌then◌else◌, List, [], ◌∷◌, ◌++◌, length}
+use Rattle.std.specs.Prelude.{◌≡◌, ℕ, ◌+◌, ◌<◌, ◌≤◌, min, Option, Some, None, Bool, true, false, if◌then◌else◌, List, [], ◌∷◌, ◌++◌, length}
 use Rattle.oca_types.specs.declared.words.Peer.{Peer}
 pub use Rattle.oca_types.specs.Sizes.{largest_datagram}
 use Rattle.oca_net.specs.declared.end.Heard.{Heard}
@@ -24,6 +24,20 @@ HoldsOnlyADatagram (heard.Quiet now) bytes = bytes ≡ []
 HoldsOnlyADatagram (heard.Oversize now) bytes = bytes ≡ []
 HoldsOnlyADatagram heard.Failed bytes = bytes ≡ []
 HoldsOnlyADatagram heard.Closed bytes = bytes ≡ []
+
+-- the moment of what was heard, where it has one, is no later than this one
+abbrev pub IsHeardBy : ℕ → Heard → Type 0
+IsHeardBy t (heard.Datagram from now) = now ≤ t
+IsHeardBy t (heard.Quiet now) = now ≤ t
+IsHeardBy t (heard.Oversize now) = now ≤ t
+IsHeardBy t heard.Failed = Unit {0}
+IsHeardBy t heard.Closed = Unit {0}
+
+-- The latest moment that an end has said, over a receive: it is no earlier than before, and than that of what was
+-- heard. An end that keeps no time says none.
+abbrev pub KeepsTime : Heard → Option ℕ → Option ℕ → Type 0
+KeepsTime h None new = new ≡ None
+KeepsTime h (Some old) new = (t : ℕ) × (new ≡ Some t) × (old ≤ t) × IsHeardBy t h
 
 -- the receive returned Failed
 abbrev pub is_failed : Heard → Bool

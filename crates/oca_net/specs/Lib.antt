@@ -3,3 +3,4 @@ pub mod Ends
 pub mod EndStates
 pub mod Memory
 pub mod Sockets
+pub mod PrivateMoments

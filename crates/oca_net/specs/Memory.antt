@@ -24,7 +24,7 @@ pub record MemoryState : Type 0 where
   pub failures : ℕ
   pub receives : ℕ
 
--- An end in memory tells.
+-- An end in memory tells, and keeps no time.
 abbrev pub state_of_memory : MemoryState → EndState
 state_of_memory e =
     record {
@@ -34,6 +34,7 @@ state_of_memory e =
       closed = e.closed;
       failures = e.failures;
       receives = e.receives;
+      moment = None;
     }
 
 -- an entry of a script

@@ -1,5 +1,5 @@
 //! What the loops of device and controller ask of an end.
-ghost use Rattle.std.specs.Prelude.{◌≤◌, length};
+ghost use Rattle.std.specs.Prelude.{◌≤◌, ◌<◌, length, IfSome};
 ghost use Rattle.oca_net.specs.Ends.{largest_datagram};
 ghost use Rattle.oca_net.specs.EndStates.{EndState, Receives, Sends};
 
@@ -23,7 +23,8 @@ pub enum Heard {
 /// An end of a network: it receives and sends datagrams.
 ///
 /// Where an end tells, `delivered` and `taken` of its state are all that it delivered and took. Of an end that does not
-/// tell, these two say nothing; whether it has returned Closed, and its counts, are said of every end.
+/// tell, these two say nothing; whether it has returned Closed, and its counts, are said of every end. An end that keeps
+/// time says the latest moment that it has returned; of one that keeps none, nothing is said of its moments.
 pub trait End {
     /// What the end says of itself.
     ghost state: { Self → EndState };
@@ -31,6 +32,21 @@ pub trait End {
     /// Receives once, into the packet, which it empties first. The packet holds bytes at `Datagram` alone.
     fn receive(&mut self, packet: &mut Packet) -> Heard
         ensures { Receives result packet.new.items (state self.old) (state self.new) };
+
+    /// As `receive`, and an end that keeps time waits until this moment of its own at most. Others receive as ever.
+    fn receive_by(&mut self, packet: &mut Packet, moment: u64) -> Heard
+        ensures { Receives result packet.new.items (state self.old) (state self.new) }
+    {
+        let _ = moment;
+        self.receive(packet)
+    }
+
+    /// The end's present moment: no earlier than any that a receive has returned. 0 where the end keeps no time.
+    fn now(&self) -> u64
+        ensures { 0 < result → IfSome (state self.now).moment (λ m. m ≤ result) }
+    {
+        0
+    }
 
     /// Sends a datagram of at most 1,472 bytes: whether the end took it. `false` is a failure.
     fn send(&mut self, to: Peer, bytes: &[u8]) -> bool

@@ -26,7 +26,7 @@ pub enum Scripted {
     Failed,
 }
 
-/// An end that delivers a script, and keeps what it takes.
+/// An end that delivers a script, and keeps what it takes. It keeps no time: its moments are the script's.
 #[derive(Drop)]
 pub struct MemoryEnd {
     script: Vec<Scripted>,

@@ -1,61 +1,61 @@
-//! The moments of an end.
-ghost use Rattle.std.specs.Prelude.{◌≡◌, ◌≤◌, IfOk};
+//! The moments of an end: milliseconds since the start of its clock. None that is told is before one that was told
+//! earlier; where the clock can't be read, the latest one is told again.
+ghost use Rattle.std.specs.Prelude.{◌≡◌, ◌≤◌, max};
+ghost use Rattle.oca_net.specs.Ends.{one_more};
+ghost use Rattle.oca_net.specs.PrivateMoments.{IsFresh, milliseconds_of};
 
+use crate::socket::Socket;
 use std::rt::Clock;
-use std::time::{Duration, Instant};
-use std::{io, thread};
+use std::time::Duration;
 
-/// The milliseconds since a start. None that is told is before one that was told earlier; where the clock can't be
-/// read, the latest one is told again.
-#[derive(Drop)]
-pub(crate) struct Moments<'a, C: Clock> {
-    clock: &'a C,
-    start: Instant,
-    pub(crate) latest: u64,
-}
-
-impl<'a, C: Clock> Moments<'a, C> {
-    /// Moments that start now.
-    pub(crate) fn start(clock: &'a C) -> io::Result<Moments<'a, C>>
-        ensures { IfOk result (λ m. m.latest ≡ 0) }
-    {
-        let start = Instant::now(clock)?;
-        Ok(Moments {
-            clock,
-            start,
-            latest: 0,
-        })
-    }
-
+impl<'a, C: Clock> Socket<'a, C> {
     /// The present moment, which is not noted: no earlier one than was told.
     pub(crate) fn now(&self) -> u64
         ensures { self.now.latest ≤ result }
     {
-        match self.start.elapsed(self.clock) {
-            Ok(since) => milliseconds(since).max(self.latest),
-            Err(_) => self.latest,
-        }
+        milliseconds(self.system.peek()).max(self.latest)
     }
 
-    /// The present moment, and notes it, so that no later call gives an earlier one.
+    /// Looks at the clock: the present moment, which is not noted.
+    pub(crate) fn look(&mut self) -> u64
+        ensures fresh { IsFresh result self.new.latest (milliseconds_of self.new.system.reading) self.new.system.looked self.new.system.calls }
+        ensures later { self.old.latest ≤ result }
+        ensures latest { self.new.latest ≡ self.old.latest }
+        ensures until { self.new.until ≡ self.old.until }
+        ensures taken { self.new.system.taken ≡ self.old.system.taken }
+    {
+        milliseconds(self.system.look()).max(self.latest)
+    }
+
+    /// Looks at the clock, tells the present moment and notes it, so that no later call gives an earlier one.
     pub(crate) fn tell(&mut self) -> u64
         ensures told { result ≡ self.new.latest }
-        ensures later { self.old.latest ≤ self.new.latest }
+        ensures later { self.new.latest ≡ max self.old.latest (milliseconds_of self.new.system.reading) }
+        ensures looked { self.new.system.looked ≡ self.new.system.calls }
+        ensures behind { self.new.system.looked ≡ one_more self.old.system.calls }
+        ensures received { self.new.system.received ≡ self.old.system.received }
+        ensures waited { self.new.system.waited ≡ self.old.system.waited }
+        ensures taken { self.new.system.taken ≡ self.old.system.taken }
+        ensures fault { self.new.fault ≡ self.old.fault }
+        ensures until { self.new.until ≡ self.old.until }
     {
-        self.latest = self.now();
+        self.latest = self.latest.max(milliseconds(self.system.look()));
         self.latest
     }
 
     /// Waits until this moment.
     pub(crate) fn sleep_until(&self, moment: u64) {
         let left = moment.saturating_sub(self.now());
-        thread::sleep(self.clock, Duration::from_millis(left));
+        self.system.sleep(Duration::from_millis(left));
     }
 }
 
-/// Whole milliseconds.
-fn milliseconds(time: Duration) -> u64 {
-    time.as_secs()
-        .saturating_mul(1000)
-        .saturating_add(u64::from(time.subsec_millis()))
+/// Whole milliseconds, up to the last value.
+fn milliseconds(time: Duration) -> u64
+    ensures { result ≡ milliseconds_of time }
+{
+    match u64::try_from(time.as_millis()) {
+        Ok(count) => count,
+        Err(_) => u64::MAX,
+    }
 }

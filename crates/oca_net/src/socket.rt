@@ -1,96 +1,171 @@
 //! A UDP socket of IPv4, and how long its calls wait.
-ghost use Rattle.std.specs.Prelude.{◌≤◌, IfOk, length};
-ghost use Rattle.oca_net.specs.Sockets.{IsBoundAt};
+ghost use Rattle.std.specs.Prelude.{◌≡◌, ◌≢◌, ◌≤◌, ◌-◌, IfOk, IfErr, IsOk, OnOk, Some, None, length, true, false};
+ghost use Rattle.oca_net.specs.Ends.{one_more};
+ghost use Rattle.oca_net.specs.PrivateMoments.{IsFresh, milliseconds_of, wait_of};
+ghost use Rattle.oca_net.specs.Sockets.{IsBoundAt, is_taken};
 
 use crate::system;
+use crate::system::System;
 use oca_types::Peer;
 use std::io;
-use std::net::{Net, SocketAddr, SocketAddrV4, UdpSocket};
+use std::net::{Net, SocketAddr, SocketAddrV4};
 use std::os::fd::{AsFd, AsRawFd, BorrowedFd, RawFd};
-use std::time::Duration;
+use std::rt::Clock;
 
 /// How many bytes are asked for the send buffer, in which datagrams wait for hosts that do not answer.
 const SEND_BUFFER: u32 = 4_000_000;
 
-/// A socket.
+/// A socket and the clock beside it.
 #[derive(Drop)]
-pub(crate) struct Socket {
-    socket: UdpSocket,
-    /// How long a receive waits, in milliseconds. At 0 no call waits.
-    wait: u64,
+pub(crate) struct Socket<'a, C: Clock> {
+    pub(crate) system: System<'a, C>,
+    /// The latest moment that was told, in milliseconds since the start of the clock.
+    pub(crate) latest: u64,
+    /// Until which moment receives are to wait.
+    pub(crate) until: u64,
+    /// Why the last receive or send that failed did so.
+    pub(crate) fault: Option<io::Error>,
     /// How many bytes the system grants the send buffer, or 0 where it does not tell.
     pub(crate) send_buffer: u32,
 }
 
-impl Socket {
-    /// A socket at this address and port, at port 0 at one of the system's choice, with where it is bound.
-    pub(crate) fn open<R: Net>(rt: &R, asked: Peer, wait: u64) -> io::Result<(Socket, Peer)>
-        ensures { IfOk result (λ r. IsBoundAt asked.ip asked.port r.1) }
+impl<'a, C: Clock> Socket<'a, C> {
+    /// A socket at this address and port, at port 0 at one of the system's choice, with where it is bound. Its receives
+    /// wait so many milliseconds.
+    pub(crate) fn open(rt: &'a C, asked: Peer, wait: u64) -> io::Result<(Socket<'a, C>, Peer)>
+    where
+        C: Net,
+        ensures bound { IfOk result (λ r. IsBoundAt asked.ip asked.port r.1) }
+        ensures latest { IfOk result (λ r. r.0.latest ≡ 0) }
+        ensures until { IfOk result (λ r. r.0.until ≡ 0) }
+        ensures fault { IfOk result (λ r. r.0.fault ≡ None) }
+        ensures calls { IfOk result (λ r. r.0.system.calls ≡ 0) }
+        ensures looked { IfOk result (λ r. r.0.system.looked ≡ 0) }
+        ensures reading { IfOk result (λ r. milliseconds_of r.0.system.reading ≡ 0) }
+        ensures received { IfOk result (λ r. r.0.system.received ≡ 0) }
+        ensures taken { IfOk result (λ r. r.0.system.taken ≡ None) }
     {
-        let socket = UdpSocket::bind(rt, SocketAddrV4::from(asked))?;
-        socket.set_read_timeout(Some(Duration::from_millis(wait)))?;
-        let local = peer_of(socket.local_addr()?)?;
+        let mut system = System::open(rt, SocketAddrV4::from(asked))?;
+        system.set_timeout(wait)?;
+        let local = peer_of(system.local()?)?;
         if local.ip != asked.ip || (asked.port != 0 && local.port != asked.port) {
             return Err(io::Error::from(io::ErrorKind::AddrNotAvailable));
         }
-        let send_buffer = granted(socket.as_raw_fd());
+        let send_buffer = granted(system.as_raw_fd());
         let socket = Socket {
-            socket,
-            wait,
+            system,
+            latest: 0,
+            until: 0,
+            fault: None,
             send_buffer,
         };
         Ok((socket, local))
     }
 
     /// Lets a receive wait so many milliseconds.
-    fn set_wait(&mut self, wait: u64) -> io::Result<()> {
-        if wait == self.wait {
-            return Ok(());
-        }
+    fn set_wait(&mut self, wait: u64) -> io::Result<()>
+        ensures waits { IfOk result (λ _. wait_of self.new.system.blocking self.new.system.timeout ≡ wait) }
+        ensures same { self.new ≡ record self.old { system = record self.old.system { blocking = self.new.system.blocking; timeout = self.new.system.timeout } } }
+    {
         if wait == 0 {
-            self.socket.set_nonblocking(true)?;
-        } else {
-            self.socket
-                .set_read_timeout(Some(Duration::from_millis(wait)))?;
-            if self.wait == 0 {
-                self.socket.set_nonblocking(false)?;
-            }
+            return self.set_blocking(false);
         }
-        self.wait = wait;
-        Ok(())
+        if self.system.timeout() != wait {
+            self.system.set_timeout(wait)?;
+        }
+        self.set_blocking(true)
     }
 
-    /// Receives a datagram within so many milliseconds: its length, cut to the buffer's, and its sender.
-    pub(crate) fn receive(&mut self, buffer: &mut [u8], wait: u64) -> io::Result<(usize, Peer)>
-        ensures { IfOk result (λ d. d.0 ≤ length buffer.new) }
+    /// Lets a receive wait, or not.
+    fn set_blocking(&mut self, blocking: bool) -> io::Result<()>
+        ensures blocking { IfOk result (λ _. self.new.system.blocking ≡ blocking) }
+        ensures same { self.new ≡ record self.old { system = record self.old.system { blocking = self.new.system.blocking } } }
+    {
+        if self.system.is_blocking() == blocking {
+            return Ok(());
+        }
+        self.system.set_blocking(blocking)
+    }
+
+    /// Receives a datagram until the moment that receives are to wait for: its length, cut to the buffer's, and its
+    /// sender. The present moment is that of a look at the clock right before.
+    pub(crate) fn receive(&mut self, buffer: &mut [u8], now: u64) -> io::Result<(usize, Peer)>
+        requires fresh { IsFresh now self.old.latest (milliseconds_of self.old.system.reading) self.old.system.looked self.old.system.calls }
+        ensures length { IfOk result (λ d. d.0 ≤ length buffer.new) }
+        ensures waited { IfOk result (λ d. self.new.system.waited ≡ self.old.until - now) }
+        ensures received { IfOk result (λ d. self.new.system.received ≡ self.new.system.calls) }
+        ensures behind { IfOk result (λ d. self.new.system.received ≡ one_more self.old.system.looked) }
+        ensures fault { IfErr result (λ e. self.new.fault ≡ Some e) }
+        ensures latest { self.new.latest ≡ self.old.latest }
+        ensures until { self.new.until ≡ self.old.until }
+        ensures reading { self.new.system.reading ≡ self.old.system.reading }
+        ensures taken { self.new.system.taken ≡ self.old.system.taken }
+    {
+        let received = self.try_receive(buffer, self.until.saturating_sub(now));
+        if let Err(reason) = &received {
+            self.fault = Some(*reason);
+        }
+        received
+    }
+
+    /// Receives a datagram within so many milliseconds.
+    fn try_receive(&mut self, buffer: &mut [u8], wait: u64) -> io::Result<(usize, Peer)>
+        ensures length { IfOk result (λ d. d.0 ≤ length buffer.new) }
+        ensures waited { IfOk result (λ d. self.new.system.waited ≡ wait) }
+        ensures received { IfOk result (λ d. self.new.system.received ≡ self.new.system.calls) }
+        ensures behind { IfOk result (λ d. self.new.system.received ≡ one_more self.old.system.calls) }
+        ensures latest { self.new.latest ≡ self.old.latest }
+        ensures until { self.new.until ≡ self.old.until }
+        ensures reading { self.new.system.reading ≡ self.old.system.reading }
+        ensures taken { self.new.system.taken ≡ self.old.system.taken }
     {
         self.set_wait(wait)?;
-        let (n, from) = self.socket.recv_from(buffer)?;
+        let (n, from) = self.system.receive(buffer)?;
         Ok((n, peer_of(from)?))
     }
 
     /// Hands a datagram to the system, which takes the whole of it, and does not wait for room.
-    pub(crate) fn send(&self, to: Peer, bytes: &[u8]) -> io::Result<()> {
-        let n = system::send_now(self.socket.as_raw_fd(), bytes, SocketAddrV4::from(to))?;
-        if n == bytes.len() {
-            Ok(())
-        } else {
-            Err(io::Error::from(io::ErrorKind::WriteZero))
+    pub(crate) fn send(&mut self, to: Peer, bytes: &[u8]) -> io::Result<()>
+        ensures ok { IfOk result (λ _. is_taken (length bytes.now) self.new.system.taken ≡ true) }
+        ensures err { IfErr result (λ e. is_taken (length bytes.now) self.new.system.taken ≡ false) }
+        ensures fault { IfErr result (λ e. self.new.fault ≡ Some e) }
+        ensures calls { self.new.system ≡ record self.old.system { calls = one_more self.old.system.calls; taken = self.new.system.taken } }
+        ensures latest { self.new.latest ≡ self.old.latest }
+        ensures until { self.new.until ≡ self.old.until }
+    {
+        let sent = whole(self.system.send(bytes, SocketAddrV4::from(to)), bytes.len());
+        if let Err(reason) = &sent {
+            self.fault = Some(*reason);
         }
+        sent
     }
 }
 
-impl AsFd for Socket {
+impl<C: Clock> AsFd for Socket<'_, C> {
     /// The descriptor of the socket, borrowed.
     fn as_fd(&self) -> BorrowedFd<'_> {
-        self.socket.as_fd()
+        self.system.as_fd()
     }
 }
 
-impl AsRawFd for Socket {
+impl<C: Clock> AsRawFd for Socket<'_, C> {
     /// The number of the descriptor.
     fn as_raw_fd(&self) -> RawFd {
-        self.socket.as_raw_fd()
+        self.system.as_raw_fd()
+    }
+}
+
+/// Whether all of so many bytes were taken.
+fn whole(sent: io::Result<usize>, bytes: usize) -> io::Result<()>
+    ensures ok { IfOk result (λ _. IfOk sent (λ n. n ≡ bytes)) }
+    ensures sent { OnOk result (IsOk sent) }
+    ensures err { IfErr result (λ e. IfOk sent (λ n. n ≢ bytes)) }
+{
+    let n = sent?;
+    if n == bytes {
+        Ok(())
+    } else {
+        Err(io::Error::from(io::ErrorKind::WriteZero))
     }
 }
 

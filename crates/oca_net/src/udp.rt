@@ -1,11 +1,11 @@
 //! An end at a UDP socket.
-ghost use Rattle.std.specs.Prelude.{◌≡◌, ◌≤◌, ◌↔◌, [], IfOk, IfSome, IsSome, IsTrue, false, length};
-ghost use Rattle.oca_net.specs.Ends.{HoldsOnlyADatagram, is_closed, is_failed, largest_datagram};
-ghost use Rattle.oca_net.specs.Sockets.{IsBoundAt, SaysMoment, after_heard, after_sent, fault_of, new_socket, state_of_socket};
+ghost use Rattle.std.specs.Prelude.{◌≡◌, ◌≤◌, ◌+◌, ◌-◌, [], IfOk, IfErr, IfSome, Some, false, true, length, max, min};
+ghost use Rattle.oca_net.specs.Ends.{HoldsOnlyADatagram, is_closed, is_failed, largest_datagram, last_u64, one_more};
+ghost use Rattle.oca_net.specs.Sockets.{IsBoundAt, LooksBehind, SaysMoment, after_heard, after_sent, fault_of, is_taken, new_socket, state_of_socket};
+ghost use Rattle.oca_net.specs.PrivateMoments.{IsFresh, milliseconds_of, until_at_most};
 
 use crate::count::step;
 use crate::end::{End, Heard};
-use crate::moments::Moments;
 use crate::socket::Socket;
 use oca_types::{MOST_BYTES, Packet, Peer};
 use std::alloc::Global;
@@ -74,14 +74,13 @@ impl BindError {
 /// the system drops it, and nothing tells. Whatever else the system returns is `Failed`, once the 50 ms are over, and
 /// counts as a failure.
 ///
-/// A send does not wait. Where the system's buffer has no room, which datagrams to hosts that do not answer fill, it is
-/// `false`, as where a network can't be reached, and counts as a failure. `bind` asks for a buffer of 4,000,000 bytes;
-/// what the system granted, `send_buffer` says. That a send was taken does not say that the datagram arrives. No call
-/// but `bind` takes memory.
+/// A send does not wait, and one that a signal interrupts is begun again. Where the system's buffer has no room, which
+/// datagrams to hosts that do not answer fill, it is `false`, as where a network can't be reached, and counts as a
+/// failure. `bind` asks for a buffer of 4,000,000 bytes; what the system granted, `send_buffer` says. That a send was
+/// taken does not say that the datagram arrives. No call but `bind` takes memory.
 #[derive(Drop)]
 pub struct UdpEnd<'a, C: Clock> {
-    moments: Moments<'a, C>,
-    socket: Socket,
+    socket: Socket<'a, C>,
     local: Peer,
     buffer: Vec<u8>,
     failures: u64,
@@ -91,7 +90,7 @@ pub struct UdpEnd<'a, C: Clock> {
 }
 
 impl<'a, C: Clock> Model for UdpEnd<'a, C> {
-    ghost use Rattle.std.specs.Prelude.{is_some};
+    ghost use Rattle.oca_net.specs.PrivateMoments.{milliseconds_of};
     ghost use Rattle.oca_net.specs.Sockets.{SocketState};
 
     ghost Value = { SocketState };
@@ -100,9 +99,18 @@ impl<'a, C: Clock> Model for UdpEnd<'a, C> {
       local = a.local;
       failures = a.failures;
       receives = a.receives;
-      moment = a.moments.latest;
-      receive_failed = is_some a.failed_receive;
-      send_failed = is_some a.failed_send;
+      moment = a.socket.latest;
+      system = record {
+        calls = a.socket.system.calls;
+        looked = a.socket.system.looked;
+        reading = milliseconds_of a.socket.system.reading;
+        received = a.socket.system.received;
+        taken = a.socket.system.taken;
+      };
+      until = a.socket.until;
+      fault = a.socket.fault;
+      receive_fault = a.failed_receive;
+      send_fault = a.failed_send;
     } };
 }
 
@@ -140,12 +148,7 @@ impl<'a, C: Clock> UdpEnd<'a, C> {
             Ok(opened) => opened,
             Err(reason) => return Err(BindError::Io(reason)),
         };
-        let moments = match Moments::start(rt) {
-            Ok(moments) => moments,
-            Err(reason) => return Err(BindError::Io(reason)),
-        };
         Ok(UdpEnd {
-            moments,
             socket,
             local,
             buffer,
@@ -168,19 +171,19 @@ impl<'a, C: Clock> UdpEnd<'a, C> {
     pub fn now(&self) -> u64
         ensures { self.now.moment ≤ result }
     {
-        self.moments.now()
+        self.socket.now()
     }
 
     /// Why the last receive that failed did so.
     pub fn last_failed_receive(&self) -> Option<io::Error>
-        ensures { IsSome result ↔ IsTrue self.now.receive_failed }
+        ensures { result ≡ self.now.receive_fault }
     {
         self.failed_receive
     }
 
     /// Why the last send that failed did so.
     pub fn last_failed_send(&self) -> Option<io::Error>
-        ensures { IsSome result ↔ IsTrue self.now.send_failed }
+        ensures { result ≡ self.now.send_fault }
     {
         self.failed_send
     }
@@ -194,41 +197,47 @@ impl<'a, C: Clock> UdpEnd<'a, C> {
 
     /// As `receive`, and waits until this moment of its own in place of 50 ms: an hour at most, and not at all where
     /// the moment is not still to come.
+    #[tactic(auto, using(crate::proofs::Waiting::until_most, crate::proofs::Waiting::until_later))]
     pub fn receive_by(&mut self, packet: &mut Packet, moment: u64) -> Heard
         ensures packet { HoldsOnlyADatagram result packet.new.items }
         ensures open { is_closed result ≡ false }
         ensures said { SaysMoment result self.new.moment }
         ensures later { self.old.moment ≤ self.new.moment }
-        ensures end { self.new ≡ after_heard result self.new.moment self.old }
+        ensures end { self.new ≡ after_heard result self.new.system self.new.until self.new.fault self.old }
+        ensures behind { LooksBehind result self.new.system }
+        ensures most { self.new.until ≤ moment }
+        ensures least { until_at_most self.old.moment moment ≤ self.new.until }
     {
-        let now = self.moments.now();
-        self.hear(packet, now, moment.min(now.saturating_add(LONGEST_WAIT_MS)))
+        let now = self.socket.look();
+        self.hear(packet, now, end_of_wait(now, moment))
     }
 
-    /// Receives once, from this moment until that one at most.
+    /// Receives once, until this moment at most. The present moment is that of a look at the clock right before.
     fn hear(&mut self, packet: &mut Packet, now: u64, until: u64) -> Heard
+        requires fresh { IsFresh now self.old.moment self.old.system.reading self.old.system.looked self.old.system.calls }
         ensures packet { HoldsOnlyADatagram result packet.new.items }
         ensures open { is_closed result ≡ false }
         ensures said { SaysMoment result self.new.moment }
         ensures later { self.old.moment ≤ self.new.moment }
-        ensures end { self.new ≡ after_heard result self.new.moment self.old }
+        ensures end { self.new ≡ after_heard result self.new.system self.new.until self.new.fault self.old }
+        ensures behind { LooksBehind result self.new.system }
+        ensures until { self.new.until ≡ until }
     {
         packet.clear();
         step(&mut self.receives);
         let buffer = self.buffer.as_mut_slice();
-        match wait(&mut self.socket, &self.moments, buffer, now, until) {
+        match wait(&mut self.socket, buffer, now, until) {
             Ok(None) => Heard::Quiet {
-                now: self.moments.tell(),
+                now: self.socket.tell(),
             },
             Ok(Some((n, from))) => {
-                let now = self.moments.tell();
+                let now = self.socket.tell();
                 fill(packet, &self.buffer[..n], from, now)
             }
             Err(reason) => {
                 step(&mut self.failures);
                 self.failed_receive = Some(reason);
-                self.moments
-                    .sleep_until(until.min(now.saturating_add(WAIT_MS)));
+                self.socket.sleep_until(end_of_pause(now, until));
                 Heard::Failed
             }
         }
@@ -239,23 +248,48 @@ impl<'a, C: Clock> End for UdpEnd<'a, C> {
     ghost state = { state_of_socket };
 
     /// Waits up to 50 ms for a datagram. It never returns `Closed`.
+    #[tactic(auto, using(crate::proofs::Waiting::pause_later))]
     fn receive(&mut self, packet: &mut Packet) -> Heard
         ensures packet { HoldsOnlyADatagram result packet.new.items }
         ensures open { is_closed result ≡ false }
         ensures said { SaysMoment result self.new.moment }
         ensures later { self.old.moment ≤ self.new.moment }
-        ensures end { self.new ≡ after_heard result self.new.moment self.old }
+        ensures end { self.new ≡ after_heard result self.new.system self.new.until self.new.fault self.old }
+        ensures behind { LooksBehind result self.new.system }
+        ensures least { min (self.old.moment + 50) last_u64 ≤ self.new.until }
     {
-        let now = self.moments.now();
+        let now = self.socket.look();
         self.hear(packet, now, now.saturating_add(WAIT_MS))
+    }
+
+    /// Waits until this moment of its own, as [`UdpEnd::receive_by`].
+    fn receive_by(&mut self, packet: &mut Packet, moment: u64) -> Heard
+        ensures packet { HoldsOnlyADatagram result packet.new.items }
+        ensures open { is_closed result ≡ false }
+        ensures said { SaysMoment result self.new.moment }
+        ensures later { self.old.moment ≤ self.new.moment }
+        ensures end { self.new ≡ after_heard result self.new.system self.new.until self.new.fault self.old }
+        ensures behind { LooksBehind result self.new.system }
+        ensures most { self.new.until ≤ moment }
+        ensures least { until_at_most self.old.moment moment ≤ self.new.until }
+    {
+        UdpEnd::receive_by(self, packet, moment)
+    }
+
+    /// The milliseconds since `bind`, as [`UdpEnd::now`].
+    fn now(&self) -> u64
+        ensures { self.now.moment ≤ result }
+    {
+        UdpEnd::now(self)
     }
 
     /// Hands the datagram to the system, without waiting for room: whether it took the whole of it.
     fn send(&mut self, to: Peer, bytes: &[u8]) -> bool
         requires { length bytes.now ≤ largest_datagram }
-        ensures { self.new ≡ after_sent result self.old }
+        ensures end { self.new ≡ after_sent result self.new.system self.new.fault self.old }
+        ensures taken { result ≡ is_taken (length bytes.now) self.new.system.taken }
     {
-        match hand_over(&self.socket, to, bytes) {
+        match hand_over(&mut self.socket, to, bytes) {
             Ok(()) => true,
             Err(reason) => {
                 step(&mut self.failures);
@@ -280,20 +314,43 @@ impl<'a, C: Clock> AsRawFd for UdpEnd<'a, C> {
     }
 }
 
-/// Waits for a datagram from this moment until that one at most, and returns its length, cut to the buffer's, and its
-/// sender; nothing where none has come. A wait that a signal interrupts goes on for what is left.
+/// Until when a receive waits that begins now and is to wait until this moment: an hour at most.
+fn end_of_wait(now: u64, moment: u64) -> u64
+    ensures { result ≡ until_at_most now moment }
+{
+    moment.min(now.saturating_add(LONGEST_WAIT_MS))
+}
+
+/// Until when a receive that failed at this moment pauses: as long as one in which no datagram comes, and no longer than
+/// it was to wait.
+fn end_of_pause(now: u64, until: u64) -> u64
+    ensures { result ≡ min until (min (now + 50) last_u64) }
+{
+    until.min(now.saturating_add(WAIT_MS))
+}
+
+/// Waits for a datagram until this moment at most, and returns its length, cut to the buffer's, and its sender; nothing
+/// where none has come. A wait that a signal interrupts goes on for what is left: before each receive of the system there
+/// is a look at the clock, here the caller's before the first.
 fn wait<C: Clock>(
-    socket: &mut Socket,
-    moments: &Moments<'_, C>,
+    socket: &mut Socket<'_, C>,
     buffer: &mut [u8],
     begun: u64,
     until: u64,
 ) -> io::Result<Option<(usize, Peer)>>
-    ensures { IfOk result (λ o. IfSome o (λ d. d.0 ≤ length buffer.new)) }
+    requires fresh { IsFresh begun socket.old.latest (milliseconds_of socket.old.system.reading) socket.old.system.looked socket.old.system.calls }
+    ensures length { IfOk result (λ o. IfSome o (λ d. d.0 ≤ length buffer.new)) }
+    ensures received { IfOk result (λ o. IfSome o (λ d. socket.new.system.received ≡ socket.new.system.calls)) }
+    ensures waited { IfOk result (λ o. IfSome o (λ d. socket.new.system.waited ≡ until - max socket.new.latest (milliseconds_of socket.new.system.reading))) }
+    ensures fault { IfErr result (λ e. socket.new.fault ≡ Some e) }
+    ensures latest { socket.new.latest ≡ socket.old.latest }
+    ensures until { socket.new.until ≡ until }
+    ensures taken { socket.new.system.taken ≡ socket.old.system.taken }
 {
+    socket.until = until;
     let mut now = begun;
-    for _ in 0..TRIES {
-        match socket.receive(buffer, until.saturating_sub(now)) {
+    for _try in 0..TRIES {
+        match socket.receive(buffer, now) {
             Ok(found) => return Ok(Some(found)),
             Err(e) => match e.kind() {
                 io::ErrorKind::WouldBlock | io::ErrorKind::TimedOut => return Ok(None),
@@ -301,7 +358,7 @@ fn wait<C: Clock>(
                 _ => return Err(e),
             },
         }
-        now = moments.now();
+        now = socket.look();
         if until <= now {
             return Ok(None);
         }
@@ -324,12 +381,18 @@ fn fill(packet: &mut Packet, bytes: &[u8], from: Peer, now: u64) -> Heard
 }
 
 /// Hands a datagram to the system, once more where a signal interrupts it.
-fn hand_over(socket: &Socket, to: Peer, bytes: &[u8]) -> io::Result<()> {
-    for _ in 0..TRIES {
+fn hand_over<C: Clock>(socket: &mut Socket<'_, C>, to: Peer, bytes: &[u8]) -> io::Result<()>
+    ensures ok { IfOk result (λ _. is_taken (length bytes.now) socket.new.system.taken ≡ true) }
+    ensures err { IfErr result (λ e. is_taken (length bytes.now) socket.new.system.taken ≡ false) }
+    ensures fault { IfErr result (λ e. socket.new.fault ≡ Some e) }
+    ensures latest { socket.new.latest ≡ socket.old.latest }
+    ensures until { socket.new.until ≡ socket.old.until }
+{
+    for _try in 1..TRIES {
         match socket.send(to, bytes) {
             Err(e) if e.kind() == io::ErrorKind::Interrupted => {}
             sent => return sent,
         }
     }
-    Err(io::Error::from(io::ErrorKind::Interrupted))
+    socket.send(to, bytes)
 }

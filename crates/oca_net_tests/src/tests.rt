@@ -1,5 +1,6 @@
 //! What the clauses leave open: that a call succeeds, and what goes through a socket. A script is a list of calls with
 //! what each must answer, and an assertion tells which of them was answered otherwise.
+mod bounds;
 mod memory;
 mod moments;
 mod refusals;

@@ -9,7 +9,7 @@ use Rattle.oca_pdu.specs.declared.fault.PduFault.{PduFault}
 use Rattle.oca_pdu.specs.Messages.{Msg}
 use Rattle.oca_pdu.specs.Reading.{read_datagram}
 use Rattle.oca_device.specs.Events.{Event, Datagram, Tick, Local}
-use Rattle.oca_device.specs.Notes.{Note, notes_of, is_within}
+use Rattle.oca_device.specs.Notes.{Note, is_within}
 use Rattle.oca_device.specs.States.{State, moved_to, admits}
 use Rattle.oca_device.specs.LawByEvents.{Arrival, Happening, Passes, clock, admitted, session, last_moment, has_room}
 use Rattle.oca_device.proofs.Sessions.{latest, within, session_latest, Bridged, same_room, arrival}
@@ -114,6 +114,14 @@ Keeps p g = HasOneSession p (arrived g)
 -- the state when the datagram is looked at
 abbrev pub looked_at : ℕ → Past → State
 looked_at now g = moved_to (max (state_of g).moment now) (state_of g)
+
+-- what finds room is admitted
+pub found_room : (p : Peer) (now : ℕ) (g : Past) → has_room g.sizes (clock (Passes now ∷ happenings g.events)) p (arrived g) ≡ true → admits g.sizes (looked_at now g) p ≡ true
+found_room p now g finds =
+    same_room g.sizes (looked_at now g) p (arrived g) stands1.bridged ∙ ap (λ (m : ℕ). has_room g.sizes m p (arrived g)) stands1.clock_is ∙ finds
+  where
+    stands1 : Stands g.sizes g.tree (looked_at now g) (Passes now ∷ happenings g.events)
+    stands1 = passing g.sizes g.tree now (state_of g) (happenings g.events) (stands_by g.sizes g.tree g.events)
 
 pub arrived_read : (p : Peer) (ms : List Msg) (bytes : List ℕ) (now : ℕ) (g : Past) (room : Bool) → read_datagram bytes ≡ Ok ms → admits g.sizes (looked_at now g) p ≡ room →
     arrived (and_then (Datagram p bytes now) g) ≡ cond room (arrival p ms (looked_at now g).moment ∷ arrived g) (arrived g)

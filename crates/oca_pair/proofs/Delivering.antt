@@ -1,6 +1,6 @@
 -- What holds of one link, when its own datagram comes to the device, and when the link does something.
 use Rattle.std.proofs.Common.{append-nil, ◌≡◌, ℕ, ◌+◌, ◌-◌, ◌^◌, ◌<◌, ◌≤◌, Bool, true, false, cond, List, [], ◌∷◌, ◌++◌, length, Option, Some, None, refl, sym, ap, ◌∙◌, subst, arith, inl, inr}
-use Rattle.std.specs.Prelude.{nat_eq, nat_lt, nat_le, max, not, ◌&&◌, map, filter, is_some, is_none, Result, Ok, Err}
+use Rattle.std.specs.Prelude.{nat_eq, nat_lt, nat_le, not, ◌&&◌, map, filter, is_some, is_none, Result, Ok, Err}
 use Rattle.std.specs.List.{AllByRecursion}
 use Rattle.std.proofs.lemmas.Bool.Decides.{nat_tests}
 use Rattle.std.proofs.lemmas.List.{append_assoc, map-append}
@@ -19,7 +19,7 @@ use Rattle.oca_tree.specs.declared.object.Object.{Object}
 use Rattle.oca_session.specs.Accepted.{Judgement, Fresh, Duplicate, Reused, Old}
 use Rattle.oca_device.specs.Events.{Event, Datagram}
 use Rattle.oca_device.specs.Notes.{Admitted, Heartbeat, Executed, Note, run, accepted}
-use Rattle.oca_device.specs.States.{State, noted, moved_to, admits, judged_in, reply_of, after_command, after_message, after_reading, time_of}
+use Rattle.oca_device.specs.States.{State, noted, admits, judged_in, reply_of, after_command, after_message, after_reading, time_of}
 use Rattle.oca_device.specs.Answers.{response, answer_to_command, answers_to_messages, answers_to_reading, packets_of, packets}
 use Rattle.oca_control.specs.Answers.{AnswerFields, answer_in}
 use Rattle.oca_control.specs.Untaken.{Untaken, new_untaken, has_room, is_due, first_due, given_out, answered, answer_under, without_handle}

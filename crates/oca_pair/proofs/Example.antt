@@ -6,12 +6,12 @@ use Rattle.oca_types.specs.Peers.{CommandFields}
 use Rattle.oca_types.specs.Sizes.{DeviceSizes}
 use Rattle.oca_pdu.specs.declared.fault.PduFault.{PduFault}
 use Rattle.oca_pdu.specs.declared.message.Form.TheVariants.{Seconds}
-use Rattle.oca_pdu.specs.Messages.{Msg, Command, KeepAlive, Commands, OneKeepAlive}
+use Rattle.oca_pdu.specs.Messages.{Msg, Command, Commands, OneKeepAlive}
 use Rattle.oca_pdu.specs.Encoding.{pdu_encoding}
 use Rattle.oca_pdu.specs.Reading.{read_datagram}
 use Rattle.oca_pdu.specs.Laws.{WrittenIsReadBack}
 use Rattle.oca_tree.specs.declared.object.Object.{Object}
-use Rattle.oca_device.specs.LawByEvents.{Happening, Passes, admitted}
+use Rattle.oca_device.specs.LawByEvents.{Happening, Passes, clock, admitted, has_room}
 use Rattle.oca_control.specs.Untaken.{Untaken}
 use Rattle.oca_control.specs.Links.{Request, command_under}
 use Rattle.oca_pair.specs.declared.start.Start.{Start}
@@ -98,11 +98,23 @@ keeps law =
     subst (λ (r : Result (List Msg) PduFault). KeepsWhere r (read_datagram (bytes_of 3))) (sym (read_of law 1 (lit< tt)))
     (subst (λ (r : Result (List Msg) PduFault). KeepsWhere (said 1) r) (sym (read_of law 3 (lit< tt))) refl)
 
+-- and there is room for it at 400, when it has come before
+abbrev RoomWhere : Result (List Msg) PduFault → Result (List Msg) PduFault → Type 0
+RoomWhere first third =
+    let H : List Happening =
+    Passes 400 ∷ (sayings controller first ++ Passes 300 ∷ (sayings controller third ++ Passes 200 ∷ (sayings controller third ++ Passes 100 ∷ []))) in
+    has_room the_sizes (clock H) controller (admitted the_sizes H) ≡ true
+
+finds_room : WrittenIsReadBack → RoomWhere (read_datagram (bytes_of 1)) (read_datagram (bytes_of 3))
+finds_room law =
+    subst (λ (r : Result (List Msg) PduFault). RoomWhere r (read_datagram (bytes_of 3))) (sym (read_of law 1 (lit< tt)))
+    (subst (λ (r : Result (List Msg) PduFault). RoomWhere (said 1) r) (sym (read_of law 3 (lit< tt))) refl)
+
 -- so the third command, delivered once more, is answered
 pub repeated_is_answered : WrittenIsReadBack → (tree : List Object) → IsAnswered 2 400 (the_network tree) sent_third third
 repeated_is_answered law tree =
-    never_old_law law the_sizes 3 tree the_starts the_steps (lit< tt) (lit≤ tt) refl meets 2 400 0 sent_third the_link third (controller ∷ [])
-    refl refl carries_third (keeps law) (lit≤ tt) (refl, (refl, (refl, (refl, tt))))
+    never_old_law law the_sizes 3 tree the_starts the_steps (lit< tt) (lit≤ tt) refl meets 2 400 0 sent_third the_link third
+    refl refl carries_third (finds_room law) (keeps law)
 
 -- Before the device's datagram, the fourth that it sent, comes to the link, the first command is given out again, the third is asked
 -- for in vain, and the second comes to the device at last.
@@ -111,8 +123,8 @@ between = Due 0 410 ∷ Take 0 3 ∷ ToDevice 1 420 ∷ []
 
 pub repeated_comes_back : WrittenIsReadBack → (tree : List Object) → ComesBack 2 400 between 500 0 third controller (the_network tree)
 repeated_comes_back law tree =
-    round_trip_law law the_sizes 3 tree the_starts the_steps (lit< tt) (lit≤ tt) refl meets 2 400 0 sent_third the_link third (controller ∷ []) between 500
-    refl refl carries_third (keeps law) (lit≤ tt) (refl, (refl, (refl, (refl, tt)))) (tt, (tt, (tt, tt)))
+    round_trip_law law the_sizes 3 tree the_starts the_steps (lit< tt) (lit≤ tt) refl meets 2 400 0 sent_third the_link third between 500
+    refl refl carries_third (finds_room law) (keeps law) (tt, (tt, (tt, tt)))
 
 abbrev again : Untaken
 again = record { command = command_under 1 get_state; times = 2; last = 410; answer = None }
@@ -154,3 +166,37 @@ pub crowded_keeps : WrittenIsReadBack → (tree : List Object) → KeepsItsSessi
 crowded_keeps law tree =
     subst (λ (r : Result (List Msg) PduFault). KeepsInTheCrowd r (read_datagram alive)) (sym (read_of law 1 (lit< tt)))
     (subst (λ (r : Result (List Msg) PduFault). KeepsInTheCrowd (said 1) r) (sym (read_keep_alive law)) refl)
+
+-- And that command is answered then, although more peers came since the device was made than there is room for.
+abbrev before_room : List Step
+before_room = Other other alive 0 ∷ Submit 0 get_state 0 ∷ Due 0 0 ∷ ToDevice 0 0 ∷ []
+
+abbrev first : CommandFields
+first = command_under 1 get_state
+
+abbrev sent_first : SentDatagram
+sent_first = record { peer = controller; bytes = pdu_encoding (Commands true (first ∷ [])) }
+
+abbrev the_only_link : PeerLink
+the_only_link =
+    record {
+      peer = controller;
+      link = record { device = device_address; moment = 0; next = Some 2; sent = 0; heard = 0; lost = false; span = 3; untaken = held 1 ∷ [] };
+    }
+
+abbrev RoomInTheCrowd : Result (List Msg) PduFault → Result (List Msg) PduFault → Type 0
+RoomInTheCrowd command beat =
+    let H : List Happening = Passes 200000 ∷ (sayings controller command ++ Passes 0 ∷ (sayings other beat ++ Passes 0 ∷ [])) in
+    has_room the_sizes (clock H) controller (admitted the_sizes H) ≡ true
+
+room_in_the_crowd : WrittenIsReadBack → RoomInTheCrowd (read_datagram (bytes_of 1)) (read_datagram alive)
+room_in_the_crowd law =
+    subst (λ (r : Result (List Msg) PduFault). RoomInTheCrowd r (read_datagram alive)) (sym (read_of law 1 (lit< tt)))
+    (subst (λ (r : Result (List Msg) PduFault). RoomInTheCrowd (said 1) r) (sym (read_keep_alive law)) refl)
+
+pub crowded_is_answered : WrittenIsReadBack → (tree : List Object) → IsAnswered 0 200000 (after_steps before_room (opening the_sizes 3 tree the_starts)) sent_first first
+crowded_is_answered law tree =
+    never_old_law law the_sizes 3 tree the_starts before_room (lit< tt) (lit≤ tt) refl ((lit< tt, tt), (tt, (fits, (tt, (tt, tt)))))
+    0 200000 0 sent_first the_only_link first refl refl
+    (record { peer = refl; untaken = held 1; held = (0, lit< tt, refl); command = refl; bytes = refl })
+    (room_in_the_crowd law) (crowded_keeps law tree)

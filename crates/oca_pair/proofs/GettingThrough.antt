@@ -1,7 +1,7 @@
 -- Each link of a network has a history; and each command of a link that is asked often enough gets through.
 use Rattle.std.proofs.Common.{arith, append-nil, append_assoc, ◌≡◌, ℕ, ◌+◌, ◌*◌, ◌<◌, ◌≤◌, Bool, true, false, cond, max, List, [], ◌∷◌, ◌++◌, length, Option, Some, None, refl, sym, ap, ◌∙◌, subst, zero, suc, ◌⊎◌, inl, inr}
 use Rattle.std.specs.Prelude.{nat_eq, ◌||◌, map, Result, Ok, Err}
-use Rattle.std.specs.List.{AllByRecursion, Contains, slice_get, slice_set}
+use Rattle.std.specs.List.{AllByRecursion, slice_get, slice_set}
 use Rattle.std.proofs.lemmas.Option.{slice_get-map, same_Some}
 use Rattle.std.specs.Option.{option_map}
 use Rattle.std.proofs.lemmas.Bool.Decides.{nat_tests}
@@ -14,32 +14,30 @@ use Rattle.oca_pdu.specs.Encoding.{pdu_encoding}
 use Rattle.oca_pdu.specs.Laws.{WrittenIsReadBack}
 use Rattle.oca_tree.specs.declared.object.Object.{Object}
 use Rattle.oca_device.specs.Events.{Datagram}
-use Rattle.oca_device.specs.Answers.{packets}
 use Rattle.oca_control.specs.declared.fault.ControlFault.{ControlFault}
 use Rattle.oca_control.specs.Answers.{AnswerFields}
 use Rattle.oca_control.specs.Untaken.{Untaken, answer_under, holds}
 use Rattle.oca_control.specs.Links.{LinkState, Request, command_under, submission, after_submission, Decision, GivesCommand, GivesKeepAlive, GivesNothing, IsLost as LosesLink, decision, due_answer, due_bytes, gone_on, reception, received, taken}
 use Rattle.oca_control.specs.Histories.{Call, Submits, GivesOut, Receives, TakesAnswer, clock, commands, command_of, Sending, sending_of, sendings, answers_to, first_of, is_untaken, is_lost, IsCopy}
-use Rattle.oca_control.specs.Answering.{IsAskedEvery, Waits, IsGivenOutInTime}
+use Rattle.oca_control.specs.Answering.{IsAskedEvery, IsInFlight}
 use Rattle.oca_control.proofs.Calls.{answer_is}
 use Rattle.oca_control.proofs.Following.{each_both, IsSent}
 use Rattle.oca_control.proofs.Histories.{IsMade, IsMadeBy, Stands as StandsBy, stands_made}
 use Rattle.oca_control.proofs.InTime.{clock_from, sent_from, in_time_made}
 use Rattle.oca_pair.specs.declared.outcome.Outcome.TheVariants as outcomes
-use Rattle.oca_pair.specs.declared.outcome.Outcome.{Outcome}
 use Rattle.oca_pair.specs.declared.start.Start.{Start}
 use Rattle.oca_pair.specs.Networks.{Network, PeerLink, SentDatagram, SubmittedCommand, TakenAnswer, device_address, started, opening}
 use Rattle.oca_pair.specs.Steps.{Step, Submit, Due, ToDevice, ToLink, Other, Take, has_link, with_link, submitted_by, after_submit, submit_outcome, given_by, after_due_step, after_delivery, content_of, hears_datagram, after_reception, taken_by, after_take, after_step, after_steps, on_link, outcome_of}
 use Rattle.oca_pair.specs.Steps as steps
-use Rattle.oca_pair.specs.Premises.{are_apart, StepFits, Fit, KeepsItsSession, ComeFrom}
+use Rattle.oca_pair.specs.Premises.{are_apart, Fit}
 use Rattle.oca_pair.specs.RoundTrip.{IsAnswerTo, GotItsAnswer, ComesBack, RoundTrips}
 use Rattle.oca_pair.specs.GettingThrough.{called, received_from, receiving, call_in, calls_in, IsLost, copy_of, WasSent, IsUnderWay, GetsThrough}
-use Rattle.oca_pair.proofs.Lists.{IsIn, contains_in, in_contains, in_more, in_behind, in_last, each_at, each_in, equal_is, equal_self, neither}
+use Rattle.oca_pair.proofs.Lists.{IsIn, contains_in, in_contains, in_more, in_behind, in_last, each_at, each_in, equal_is, equal_self}
 use Rattle.oca_pair.proofs.Core.{each_map}
 use Rattle.oca_pair.proofs.Truths.{past, IsSubmitted, IsTrueAnswer}
 use Rattle.oca_pair.proofs.Fair.{IsFair}
 use Rattle.oca_pair.proofs.Delivering.{held_answer}
-use Rattle.oca_pair.proofs.Networks.{LinkSound, Sound, hears_peer, sound_after}
+use Rattle.oca_pair.proofs.Networks.{LinkSound, Sound, sound_after}
 use Rattle.oca_pair.proofs.Lawful.{true_answer}
 use Rattle.oca_pair.proofs.RoundTrip.{grown_steps, IsKept, Stands, stands_steps, round_trip_law}
 
@@ -306,19 +304,19 @@ module _ (s first i : ℕ) (some : 0 < s) (p : Peer) (before : List Call) (r : R
       }
 
   -- it waits
-  waits : (g : Runs first s i p all n) → Sound s n → IsSubmitted p c n.submitted → RoundTrips n → sendings 0 h.0 before ≡ [] → IsAskedEvery ms since calls → Waits device_address h.0 all →
+  waits : (g : Runs first s i p all n) → Sound s n → IsSubmitted p c n.submitted → RoundTrips n → sendings 0 h.0 before ≡ [] → IsAskedEvery ms since calls → IsInFlight device_address h.0 all →
       IsUnderWay ms since i c p calls n
   waits g sound sub trips none asked w = record {
     in_time = rw (clock_is, sent_is) at (in_time_made device_address first 0 s some before r now ms h calls g.link.link g.made asked w);
     copies = rw sent_is at copies;
-    enough = λ k moment peers between later there keeps few come fits. subst (λ (q : Peer). ComesBack k moment between later i c q n) g.peer
-        (trips k moment i (copy_of p c) g.link c peers between later there g.there (record {
+    enough = λ k moment between later there finds keeps fits. subst (λ (q : Peer). ComesBack k moment between later i c q n) g.peer
+        (trips k moment i (copy_of p c) g.link c between later there g.there (record {
           peer = g.peer;
           untaken = u.0;
           held = in_contains u.0 g.link.link.untaken u.1;
           command = command_is;
           bytes = refl;
-        }) keeps few come fits);
+        }) finds keeps fits);
   }
     where
       of : LinkSound s n g.link

@@ -1,5 +1,5 @@
 -- The laws of networks.
-use Rattle.std.proofs.Common.{◌≡◌, ℕ, ◌+◌, ◌*◌, ◌<◌, ◌≤◌, Bool, true, false, cond, List, [], ◌∷◌, ◌++◌, length, Option, Some, None, refl, sym, ap, ◌∙◌, subst, arith, ◌⊎◌, inl, inr}
+use Rattle.std.proofs.Common.{◌≡◌, ℕ, ◌+◌, ◌*◌, ◌<◌, ◌≤◌, Bool, true, false, cond, List, [], ◌∷◌, ◌++◌, Option, Some, None, refl, sym, ap, ◌∙◌, subst, arith, ◌⊎◌, inl, inr}
 use Rattle.std.specs.Prelude.{map, Ok}
 use Rattle.std.specs.List.{AllByRecursion, slice_get, IsDistinct}
 use Rattle.std.proofs.Math.Dec.{eqb}
@@ -30,11 +30,11 @@ use Rattle.oca_pair.specs.Steps as steps
 use Rattle.oca_control.specs.Links.{Request}
 use Rattle.oca_pair.specs.Steps.{Step, Submit, Due, ToDevice, ToLink, Other, Take, has_link, sendings, after_submit, after_due_step, after_delivery, after_reception, after_take, after_step, after_steps}
 use Rattle.oca_pair.specs.Happenings.{happenings}
-use Rattle.oca_pair.specs.Premises.{are_apart, Fit, KeepsItsSession, ComeFrom}
+use Rattle.oca_pair.specs.Premises.{are_apart, Fit, KeepsItsSession, FindsRoom}
 use Rattle.oca_pair.specs.Laws.{Execution, executions, executions_for, executions_under, IsAnswerOfItsCommand, handles_of, AreConsecutive, AnswersItsCommands, CarriesUntaken, IsAnswered, AnswersUntaken, ExecutesOnce}
 use Rattle.oca_pair.proofs.Core.{IsServed}
 use Rattle.oca_pair.proofs.Lists.{IsIn, contains_in, in_contains, each_at, each_in, equal_is}
-use Rattle.oca_pair.proofs.Arrivals.{Keeps, keeps_before, looked_at}
+use Rattle.oca_pair.proofs.Arrivals.{Keeps, keeps_before, looked_at, found_room}
 use Rattle.oca_pair.proofs.ByEvents.{stands_by}
 use Rattle.oca_pair.proofs.Executions.{executed_for, executions_are}
 use Rattle.oca_pair.proofs.Wire.{IsSendable, read_command}
@@ -43,7 +43,6 @@ use Rattle.oca_pair.proofs.Fair.{end_of, IsFair, AreOwn, Fair, owns_then, judged
 use Rattle.oca_pair.proofs.Delivering.{let_in, after_read, answers_read, held_answer}
 use Rattle.oca_pair.proofs.Keeping.{accepted_by, Kept, executed_noted, accepted_let_in}
 use Rattle.oca_pair.proofs.Span.{Good, untaken_served}
-use Rattle.oca_pair.proofs.Room.{noted_among, room_for}
 use Rattle.oca_pair.proofs.Networks.{LinkSound, Sound, sound_after}
 
 -- ---- the law of answers
@@ -132,11 +131,11 @@ once_law law w s tree starts es apart fit i l own keeps =
 -- ---- the law of commands in hand
 
 -- a delivery at the moment is answered
-answered_now : WrittenIsReadBack → (w : DeviceSizes) (s f : ℕ) (n : Network) (k now : ℕ) (d : SentDatagram) (next : Option ℕ) (us : List Untaken) (u : Untaken) (c : CommandFields) (peers : List Peer) →
+answered_now : WrittenIsReadBack → (w : DeviceSizes) (s f : ℕ) (n : Network) (k now : ℕ) (d : SentDatagram) (next : Option ℕ) (us : List Untaken) (u : Untaken) (c : CommandFields) →
     2 * s ≤ n.sizes.window + 1 → slice_get n.to_device k ≡ Some d → (fair : Fair d.peer next us (past n) n.to_device n.to_links n.taken) (kept : Kept d.peer (past n)) →
     Good s f d.peer next us n.submitted (accepted_by d.peer (past n)) → IsIn u us → u.command ≡ c → d.bytes ≡ pdu_encoding (Commands true (c ∷ [])) →
-    Keeps d.peer (and_then (Datagram d.peer d.bytes now) (past n)) → length peers ≤ n.sizes.peers → ComeFrom peers (Datagram d.peer d.bytes now ∷ n.events) → IsAnswered k now n d c
-answered_now law w s f n k now d next us u c peers wide there fair kept good held command bytes keeps small come =
+    FindsRoom d.peer now n → Keeps d.peer (and_then (Datagram d.peer d.bytes now) (past n)) → IsAnswered k now n d c
+answered_now law w s f n k now d next us u c wide there fair kept good held command bytes finds keeps =
     by_judgement (judged_in n.sizes s2 p c) refl (rw is_accepted served_by)
   where
     p : Peer
@@ -167,7 +166,7 @@ answered_now law w s f n k now d next us u c peers wide there fair kept good hel
     read = ap read_datagram bytes ∙ read_command law c sendable
 
     room : admits n.sizes (looked_at now g) p ≡ true
-    room = room_for n.sizes peers (looked_at now g) p small (noted_among peers n.sizes n.tree n.events come.1) come.0
+    room = found_room p now g finds
 
     own2 : AreOwn p (and_then e g) s2.notes
     own2 = ((λ same. tt), owns_then p g e (state_of g).notes fair.own)
@@ -243,18 +242,18 @@ answered_now law w s f n k now d next us u c peers wide there fair kept good hel
     by_judgement Reused q t = absurd t
     by_judgement Old q t = absurd t
 
-delivered : WrittenIsReadBack → (w : DeviceSizes) (s : ℕ) (n : Network) (k now : ℕ) (d : SentDatagram) (l : PeerLink) (c : CommandFields) (peers : List Peer) → 0 < s → 2 * s ≤ n.sizes.window + 1 →
+delivered : WrittenIsReadBack → (w : DeviceSizes) (s : ℕ) (n : Network) (k now : ℕ) (d : SentDatagram) (l : PeerLink) (c : CommandFields) → 0 < s → 2 * s ≤ n.sizes.window + 1 →
     slice_get n.to_device k ≡ Some d → LinkSound s n l → CarriesUntaken d l c →
-    Keeps d.peer (and_then (Datagram d.peer d.bytes now) (past n)) → length peers ≤ n.sizes.peers → ComeFrom peers (Datagram d.peer d.bytes now ∷ n.events) → IsAnswered k now n d c
-delivered law w s n k now d l c peers some wide there of of_untaken keeps small come =
+    FindsRoom d.peer now n → Keeps d.peer (and_then (Datagram d.peer d.bytes now) (past n)) → IsAnswered k now n d c
+delivered law w s n k now d l c some wide there of of_untaken finds keeps =
     let As : Peer → Type 0 = λ x. Keeps x (past n) in
     let before : Keeps l.peer (past n) = subst As (sym of_untaken.peer) (keeps_before d.peer (Datagram d.peer d.bytes now) (past n) keeps) in
     let FairAs : Peer → Type 0 = λ x. Fair x l.link.next l.link.untaken (past n) n.to_device n.to_links n.taken in
     let KeptAs : Peer → Type 0 = λ x. Kept x (past n) in
     let good = of.good some before in
     let GoodAs : Peer → Type 0 = λ x. Good s good.0 x l.link.next l.link.untaken n.submitted (accepted_by x (past n)) in
-    answered_now law w s good.0 n k now d l.link.next l.link.untaken of_untaken.untaken c peers wide there
-    (subst FairAs of_untaken.peer of.fair) (subst KeptAs of_untaken.peer (of.kept before)) (subst GoodAs of_untaken.peer good.1) (contains_in of_untaken.untaken l.link.untaken of_untaken.held) of_untaken.command of_untaken.bytes keeps small come
+    answered_now law w s good.0 n k now d l.link.next l.link.untaken of_untaken.untaken c wide there
+    (subst FairAs of_untaken.peer of.fair) (subst KeptAs of_untaken.peer (of.kept before)) (subst GoodAs of_untaken.peer good.1) (contains_in of_untaken.untaken l.link.untaken of_untaken.held) of_untaken.command of_untaken.bytes finds keeps
 
 sizes_kept : (es : List Step) (n : Network) → (after_steps es n).sizes ≡ n.sizes
 sizes_kept [] n = refl
@@ -296,9 +295,9 @@ sizes_kept (step ∷ es) n = sizes_kept es (after_step step n) ∙ one step
 
 pub never_old_law : WrittenIsReadBack → (w : DeviceSizes) (s : ℕ) (tree : List Object) (starts : List Start) (es : List Step) → 0 < s → 2 * s ≤ w.window + 1 → are_apart starts ≡ true → Fit starts es →
     AnswersUntaken (after_steps es (opening w s tree starts))
-never_old_law law w s tree starts es some wide apart fit k now i d l c peers there own of_untaken keeps small come =
+never_old_law law w s tree starts es some wide apart fit k now i d l c there own of_untaken finds keeps =
     let n : Network = after_steps es (opening w s tree starts) in
     let sound : Sound s n = sound_after law w s tree starts es apart fit in
     let of : LinkSound s n l = each_at (LinkSound s n) n.links i l sound.each own in
     let sizes : n.sizes ≡ w = sizes_kept es (opening w s tree starts) in
-    delivered law w s n k now d l c peers some (rw sizes wide) there of of_untaken (rw there at keeps) small (rw there at come)
+    delivered law w s n k now d l c some (rw sizes wide) there of of_untaken finds (rw there at keeps)

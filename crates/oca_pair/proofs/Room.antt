@@ -1,20 +1,16 @@
--- With datagrams of at most as many peers as there is room for, there is room for each.
-use Rattle.std.proofs.Common.{◌≡◌, ℕ, ◌<◌, ◌≤◌, Bool, true, false, cond, List, [], ◌∷◌, ◌++◌, length, refl, sym, ap, ◌∙◌, arith, suc}
-use Rattle.std.specs.Prelude.{nat_lt, max, not, ◌||◌, filter}
+-- Where few peers speak there is room for each.
+use Rattle.std.proofs.Common.{◌≡◌, ℕ, ◌-◌, ◌<◌, ◌≤◌, Bool, true, false, cond, List, [], ◌∷◌, ◌++◌, length, refl, sym, ap, ◌∙◌, arith, suc}
+use Rattle.std.specs.Prelude.{nat_le, nat_lt, not, ◌||◌, filter}
 use Rattle.std.specs.List.{AllByRecursion}
 use Rattle.std.proofs.lemmas.Bool.Decides.{nat_tests}
 use Rattle.oca_types.specs.declared.words.Peer.{Peer}
 use Rattle.oca_types.specs.Peers.{same_peer}
 use Rattle.oca_types.specs.Sizes.{DeviceSizes}
-use Rattle.oca_pdu.specs.Reading.{read_datagram}
-use Rattle.oca_tree.specs.declared.object.Object.{Object}
-use Rattle.oca_device.specs.Events.{Event, Datagram, Tick, Local}
-use Rattle.oca_device.specs.Notes.{Note, is_known, peers_except, opened, known}
-use Rattle.oca_device.specs.States.{State, moved_to, admits, after_reading, state_after}
-use Rattle.oca_pair.specs.Premises.{is_among, ComeFrom}
+use Rattle.oca_device.specs.Notes.{peers_except}
+use Rattle.oca_device.specs.LawByEvents.{Happening, Passes, Says, Sets, Arrival, clock, session, is_open, is_known, opened, known, has_room, admitted}
+use Rattle.oca_pair.specs.Premises.{is_among, SpeakLately, FewFindRoom}
 use Rattle.oca_pair.proofs.Core.{each_map, each_append}
 use Rattle.oca_pair.proofs.Lists.{same_is, same_turned, not_true, differs}
-use Rattle.oca_pair.proofs.Clocks.{Grows, grows_reading}
 
 -- Lists of which no two are the same.
 abbrev pub Differ : List Peer → Type 0
@@ -52,23 +48,15 @@ differ_last : (p : Peer) (xs : List Peer) → AllByRecursion (λ y. same_peer y 
 differ_last p [] a d = (tt, tt)
 differ_last p (x ∷ xs) a d = (each_append (λ y. same_peer y x ≡ false) xs (p ∷ []) d.0 (turned x p a.0, tt), differ_last p xs a.1 d.1)
 
-opened_differ : (ns : List Note) → Differ (opened ns)
+opened_differ : (D : List Arrival) → Differ (opened D)
 opened_differ [] = tt
-opened_differ (n ∷ ns) = by_known (is_known n.at ns n.peer) (opened_differ ns)
+opened_differ (a ∷ D) = by_known (is_known a.at a.from D) (opened_differ D)
   where
-    by_known : (b : Bool) → Differ (opened ns) → Differ (cond b (opened ns) (peers_except n.peer (opened ns) ++ n.peer ∷ []))
+    by_known : (b : Bool) → Differ (opened D) → Differ (cond b (opened D) (peers_except a.from (opened D) ++ a.from ∷ []))
     by_known true d = d
-    by_known false d = differ_last n.peer (peers_except n.peer (opened ns))
-        (each_map (λ q e. not_true (same_peer q n.peer) e) (peers_except n.peer (opened ns)) (passes (λ q. not (same_peer q n.peer)) (opened ns)))
-        (differ_filter (λ q. not (same_peer q n.peer)) (opened ns) d)
-
-opened_among : (P : Peer → Type 0) (ns : List Note) → AllByRecursion (λ n. P n.peer) ns → AllByRecursion P (opened ns)
-opened_among P [] a = tt
-opened_among P (n ∷ ns) a = by_known (is_known n.at ns n.peer) (opened_among P ns a.1)
-  where
-    by_known : (b : Bool) → AllByRecursion P (opened ns) → AllByRecursion P (cond b (opened ns) (peers_except n.peer (opened ns) ++ n.peer ∷ []))
-    by_known true r = r
-    by_known false r = each_append P (peers_except n.peer (opened ns)) (n.peer ∷ []) (each_filter P (λ q. not (same_peer q n.peer)) (opened ns) r) (a.0, tt)
+    by_known false d = differ_last a.from (peers_except a.from (opened D))
+        (each_map (λ q e. not_true (same_peer q a.from) e) (peers_except a.from (opened D)) (passes (λ q. not (same_peer q a.from)) (opened D)))
+        (differ_filter (λ q. not (same_peer q a.from)) (opened D) d)
 
 -- Different ones among others are no more than those.
 none_out : (y : Peer) (xs : List Peer) → AllByRecursion (λ z. same_peer z y ≡ false) xs → peers_except y xs ≡ xs
@@ -105,45 +93,68 @@ few (y ∷ ys) xs d a =
         by_test true e r = r
         by_test false e r = (later_than x e a.0, r)
 
--- All that is noted is of peers whose datagrams came.
-pub noted_among : (peers : List Peer) (w : DeviceSizes) (tree : List Object) (events : List Event) → ComeFrom peers events →
-    AllByRecursion (λ n. is_among peers n.peer ≡ true) (state_after w tree events).notes
-noted_among peers w tree [] a = tt
-noted_among peers w tree (Tick now ∷ events) a = noted_among peers w tree events a.1
-noted_among peers w tree (Local ono value ∷ events) a = noted_among peers w tree events a.1
-noted_among peers w tree (Datagram from bytes now ∷ events) a =
-    let s : State = state_after w tree events in
-    let s1 : State = moved_to (max s.moment now) s in
-    let g : Grows from s1.moment s1.notes (after_reading w from (read_datagram bytes) s1).notes = grows_reading w from (read_datagram bytes) s1 in
-    rw g.is (each_append _ g.more s1.notes (each_map (λ n h. ap (is_among peers) h.0 ∙ a.0) g.more g.own) (noted_among peers w tree events a.1))
+-- An arrival of the 120,000 ms before t is of one of the peers.
+abbrev IsLatelyOf : List Peer → ℕ → Arrival → Type 0
+IsLatelyOf peers t a = t - a.at ≤ 120000 → is_among peers a.from ≡ true
 
--- So there is room for one of these peers.
-pub room_for : (w : DeviceSizes) (peers : List Peer) (s : State) (p : Peer) → length peers ≤ w.peers → AllByRecursion (λ n. is_among peers n.peer ≡ true) s.notes → is_among peers p ≡ true → admits w s p ≡ true
-room_for w peers s p small noted among = by_known (is_known t ns p) refl
+arrive_lately : (w : DeviceSizes) (peers : List Peer) (t : ℕ) (H : List Happening) → SpeakLately peers t H → AllByRecursion (IsLatelyOf peers t) (admitted w H)
+arrive_lately w peers t [] s = tt
+arrive_lately w peers t (Passes now ∷ H) s = arrive_lately w peers t H s
+arrive_lately w peers t (Sets ono value ∷ H) s = arrive_lately w peers t H s
+arrive_lately w peers t (Says p ms ∷ H) s = by_room (has_room w (clock H) p (admitted w H)) (arrive_lately w peers t H s.1)
+  where
+    by_room : (b : Bool) → AllByRecursion (IsLatelyOf peers t) (admitted w H) →
+        AllByRecursion (IsLatelyOf peers t) (cond b ((record { from = p; messages = ms; at = clock H }) ∷ admitted w H) (admitted w H))
+    by_room true r = (s.0, r)
+    by_room false r = r
+
+-- so each peer that is known at t is one of them
+known_among : (peers : List Peer) (t : ℕ) (q : Peer) (D : List Arrival) → AllByRecursion (IsLatelyOf peers t) D → is_known t q D ≡ true → is_among peers q ≡ true
+known_among peers t q [] l e = cc
+known_among peers t q (a ∷ D) l e = by_peer (λ h. known_among peers t q D l.1 h) (same_peer a.from q) refl e
+  where
+    near : (n : ℕ) → nat_le n 120000 ≡ true → n ≤ 120000
+    near n h = grind (arith, nat_tests)
+
+    by_time : (b : Bool) → nat_le (t - a.at) 120000 ≡ b → a.from ≡ q → is_open (cond b (a ∷ session a.at q D) []) ≡ true → is_among peers q ≡ true
+    by_time true h same e = ap (is_among peers) (sym same) ∙ l.0 (near (t - a.at) h)
+    by_time false h same e = cc
+
+    by_peer : (is_known t q D ≡ true → is_among peers q ≡ true) → (b : Bool) → same_peer a.from q ≡ b → is_open (cond (not b) (session t q D) (cond (nat_le (t - a.at) 120000) (a ∷ session a.at q D) [])) ≡ true →
+        is_among peers q ≡ true
+    by_peer before false h e = before e
+    by_peer before true h e = by_time (nat_le (t - a.at) 120000) refl (same_is a.from q h) e
+
+pub few_find_room : FewFindRoom
+few_find_room w H peers p small lately among = by_known (is_known t p D) refl
   where
     t : ℕ
-    t = s.moment
+    t = clock H
 
-    ns : List Note
-    ns = s.notes
+    D : List Arrival
+    D = admitted w H
 
-    other_than : (q : Peer) → is_known t ns p ≡ false → is_known t ns q ≡ true → same_peer q p ≡ false
+    other_than : (q : Peer) → is_known t p D ≡ false → is_known t q D ≡ true → same_peer q p ≡ false
     other_than q unknown sure = by_same (same_peer q p) refl
       where
         by_same : (b : Bool) → same_peer q p ≡ b → b ≡ false
-        by_same true e = let same : q ≡ p = same_is q p e in differs (sym (ap (is_known t ns) (sym same) ∙ sure) ∙ unknown)
+        by_same true e = let same : q ≡ p = same_is q p e in differs (sym (ap (λ (x : Peer). is_known t x D) (sym same) ∙ sure) ∙ unknown)
         by_same false e = refl
 
     lower : (a b : ℕ) → a < b → nat_lt a b ≡ true
     lower a b h = grind (arith, nat_tests)
 
-    less : is_known t ns p ≡ false → length (known t ns) < w.peers
+    knows : Peer → Bool
+    knows q = is_known t q D
+
+    less : is_known t p D ≡ false → length (known t D) < w.peers
     less unknown =
-        let size : length (p ∷ known t ns) ≤ length peers = few peers (p ∷ known t ns)
-        (each_map (λ q e. other_than q unknown e) (known t ns) (passes (is_known t ns) (opened ns)), differ_filter (is_known t ns) (opened ns) (opened_differ ns))
-        (among, each_filter (λ q. is_among peers q ≡ true) (is_known t ns) (opened ns) (opened_among (λ q. is_among peers q ≡ true) ns noted)) in
+        let all : AllByRecursion (λ q. knows q ≡ true) (known t D) = passes knows (opened D) in
+        let size : length (p ∷ known t D) ≤ length peers = few peers (p ∷ known t D)
+        (each_map (λ q e. other_than q unknown e) (known t D) all, differ_filter knows (opened D) (opened_differ D))
+        (among, each_map (λ q e. known_among peers t q D (arrive_lately w peers t H lately) e) (known t D) all) in
         omega arith
 
-    by_known : (b : Bool) → is_known t ns p ≡ b → (b || nat_lt (length (known t ns)) w.peers) ≡ true
+    by_known : (b : Bool) → is_known t p D ≡ b → (b || nat_lt (length (known t D)) w.peers) ≡ true
     by_known true e = refl
-    by_known false e = lower (length (known t ns)) w.peers (less e)
+    by_known false e = lower (length (known t D)) w.peers (less e)

@@ -623,7 +623,7 @@ comes_back law s n k now i later d l c between sound devices sent_to own carries
 
 pub round_trip_law : WrittenIsReadBack → (w : DeviceSizes) (s : ℕ) (tree : List Object) (starts : List Start) (es : List Step) → 0 < s → 2 * s ≤ w.window + 1 → are_apart starts ≡ true → Fit starts es →
     RoundTrips (after_steps es (opening w s tree starts))
-round_trip_law law w s tree starts es some wide apart fit k now i d l c peers between later sent_to own carries keeps small come fits =
+round_trip_law law w s tree starts es some wide apart fit k now i d l c between later sent_to own carries finds keeps fits =
     comes_back law s (after_steps es (opening w s tree starts)) k now i later d l c between (sound_after law w s tree starts es apart fit)
     (to_device_steps es (opening w s tree starts) (to_device_opening w s tree starts)) sent_to own carries fits
-    (never_old_law law w s tree starts es some wide apart fit k now i d l c peers sent_to own carries keeps small come)
+    (never_old_law law w s tree starts es some wide apart fit k now i d l c sent_to own carries finds keeps)

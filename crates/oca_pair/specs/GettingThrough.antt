@@ -1,7 +1,7 @@
 -- THE LAW OF GETTING THROUGH (profile), over every schedule: a link that is asked often enough gives each command out
 -- to the device until it has the command's answer or is lost; and one copy that arrives, and the one response that
 -- comes back, are enough.
-use Rattle.std.specs.Prelude.{◌≡◌, ◌⊎◌, ℕ, ◌+◌, ◌*◌, ◌==◌, ◌<◌, ◌≤◌, max, Bool, true, if◌then◌else◌, List, [], ◌∷◌, ◌++◌, length, Option, Some, None}
+use Rattle.std.specs.Prelude.{◌≡◌, ◌⊎◌, ℕ, ◌+◌, ◌*◌, ◌==◌, ◌<◌, ◌≤◌, max, true, if◌then◌else◌, List, [], ◌∷◌, ◌++◌, Option, Some, None}
 use Rattle.std.specs.List.{slice_get, AllByRecursion, Contains}
 use Rattle.oca_types.specs.declared.words.Peer.{Peer}
 use Rattle.oca_types.specs.declared.words.Handle.{Handle}
@@ -12,13 +12,13 @@ use Rattle.oca_pdu.specs.Encoding.{pdu_encoding}
 use Rattle.oca_tree.specs.declared.object.Object.{Object}
 use Rattle.oca_control.specs.Untaken.{answer_under}
 use Rattle.oca_control.specs.Links.{LinkState, Request, command_under, submission, decision, due_answer, due_bytes, reception}
-use Rattle.oca_control.specs.Histories.{Call, Submits, GivesOut, Receives, TakesAnswer, clock, Sending, sendings}
+use Rattle.oca_control.specs.Histories.{Call, Submits, GivesOut, Receives, TakesAnswer, clock, sendings}
 use Rattle.oca_control.specs.Answering.{IsAskedEvery, IsGivenOutInTime}
 use Rattle.oca_pair.specs.declared.outcome.Outcome.TheVariants as outcomes
 use Rattle.oca_pair.specs.declared.start.Start.{Start}
 use Rattle.oca_pair.specs.Networks.{Network, PeerLink, SentDatagram, device_address, opening}
 use Rattle.oca_pair.specs.Steps.{Step, Submit, Due, ToDevice, ToLink, Other, Tick, Local, Take, content_of, after_step, after_steps, outcome_of}
-use Rattle.oca_pair.specs.Premises.{are_apart, StepFits, Fit, KeepsItsSession, ComeFrom}
+use Rattle.oca_pair.specs.Premises.{are_apart, StepFits, Fit, KeepsItsSession, FindsRoom}
 use Rattle.oca_pair.specs.RoundTrip.{GotItsAnswer, asked, ComesBack}
 
 -- ---- THE CALLS OF A LINK in a schedule: what its steps make of the link of a number. As in a history the latest
@@ -85,9 +85,9 @@ pub record IsUnderWay (ms since i : ℕ) (c : CommandFields) (p : Peer) (calls :
   pub copies : AllByRecursion (λ x. WasSent p c x.bytes n) (sendings since c.handle calls)
   -- One copy that is delivered now, under the premises of the law of untaken commands, and the one datagram that the
   -- device then sends, whenever that is delivered, are enough: the round trip of `ComesBack`.
-  pub enough : (k now : ℕ) (peers : List Peer) (between : List Step) (later : ℕ) →
-      slice_get n.to_device k ≡ Some (copy_of p c) → KeepsItsSession p (asked k now n) →
-      length peers ≤ n.sizes.peers → ComeFrom peers (asked k now n).events → AllByRecursion StepFits between →
+  pub enough : (k now : ℕ) (between : List Step) (later : ℕ) →
+      slice_get n.to_device k ≡ Some (copy_of p c) → FindsRoom p now n → KeepsItsSession p (asked k now n) →
+      AllByRecursion StepFits between →
       ComesBack k now between later i c p n
 
 -- The link got the command's answer, or is lost, or the command is under way.

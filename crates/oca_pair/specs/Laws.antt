@@ -1,5 +1,5 @@
 -- THE LAWS OF A NETWORK (profile), over every schedule.
-use Rattle.std.specs.Prelude.{◌≡◌, ◌==◌, ◌⊎◌, ℕ, ◌+◌, ◌*◌, ◌<◌, ◌≤◌, true, if◌then◌else◌, List, [], ◌∷◌, ◌++◌, map, filter, length, Some}
+use Rattle.std.specs.Prelude.{◌≡◌, ◌==◌, ◌⊎◌, ℕ, ◌+◌, ◌*◌, ◌<◌, ◌≤◌, true, if◌then◌else◌, List, [], ◌∷◌, ◌++◌, map, filter, Some}
 use Rattle.std.specs.List.{slice_get, Contains, IsDistinct}
 use Rattle.oca_types.specs.declared.words.Peer.{Peer}
 use Rattle.oca_types.specs.declared.words.Reply.{Reply}
@@ -26,7 +26,7 @@ use Rattle.oca_pair.specs.declared.start.Start.{Start}
 use Rattle.oca_pair.specs.Networks.{Network, PeerLink, SentDatagram, SubmittedCommand, TakenAnswer, opening}
 use Rattle.oca_pair.specs.Steps.{Step, ToDevice, after_step, after_steps, outcome_of}
 use Rattle.oca_pair.specs.Happenings.{happenings}
-use Rattle.oca_pair.specs.Premises.{are_apart, Fit, KeepsItsSession, ComeFrom}
+use Rattle.oca_pair.specs.Premises.{are_apart, Fit, KeepsItsSession, FindsRoom}
 
 -- ---- what the device executed
 
@@ -150,14 +150,12 @@ pub record IsAnswered (k now : ℕ) (n : Network) (d : SentDatagram) (c : Comman
   pub sent : (after_step (ToDevice k now) n).to_links
       ≡ n.to_links ++ (record { peer = d.peer; bytes = pdu_encoding (pdu_of (response c.handle execution.reply)) }) ∷ []
 
--- A delivery of a datagram that carries an untaken command is answered, where the link's peer kept its session, this
--- datagram counted, and the datagrams that came to the device came from at most as many peers as the device has room
--- for.
+-- A delivery of a datagram that carries an untaken command is answered, where it finds room, and the link's peer kept
+-- its session, this datagram counted.
 abbrev pub AnswersUntaken : Network → Type 0
-AnswersUntaken n = (k now i : ℕ) (d : SentDatagram) (l : PeerLink) (c : CommandFields) (peers : List Peer) →
+AnswersUntaken n = (k now i : ℕ) (d : SentDatagram) (l : PeerLink) (c : CommandFields) →
     slice_get n.to_device k ≡ Some d → slice_get n.links i ≡ Some l → CarriesUntaken d l c →
-    KeepsItsSession d.peer (after_step (ToDevice k now) n) → length peers ≤ n.sizes.peers → ComeFrom peers (after_step (ToDevice k now) n).events →
-    IsAnswered k now n d c
+    FindsRoom d.peer now n → KeepsItsSession d.peer (after_step (ToDevice k now) n) → IsAnswered k now n d c
 
 -- Over every schedule, for all sizes where the window is at least twice the span less one:
 abbrev pub NoUntakenCommandIsTooOld : Type 0

@@ -1,10 +1,12 @@
 -- WHAT THE LAWS ASK of a schedule (profile), said by the steps and by the datagrams that came to the device.
-use Rattle.std.specs.Prelude.{◌≡◌, ℕ, ◌<◌, ◌^◌, Bool, true, not, ◌&&◌, List, [], ◌∷◌, filter}
+use Rattle.std.specs.Prelude.{◌≡◌, ℕ, ◌-◌, ◌<◌, ◌≤◌, ◌^◌, Bool, true, not, ◌&&◌, List, [], ◌∷◌, filter, length}
 use Rattle.std.specs.List.{list_any, list_all, AllByRecursion}
 use Rattle.oca_types.specs.declared.words.Peer.{Peer}
 use Rattle.oca_types.specs.Peers.{same_peer}
-use Rattle.oca_device.specs.Events.{Event, Datagram, Tick, Local}
-use Rattle.oca_device.specs.LawByEvents.{Arrival, admitted, session, last_moment}
+use Rattle.oca_types.specs.Sizes.{DeviceSizes}
+use Rattle.oca_session.specs.Limits.{longest_silence}
+use Rattle.oca_device.specs.LawByEvents.{Happening, Passes, Says, Sets, Arrival, clock, admitted}
+use Rattle.oca_device.specs.LawByEvents.{session, last_moment, has_room}
 use Rattle.oca_control.specs.Links.{Request}
 use Rattle.oca_pair.specs.declared.start.Start.{Start}
 use Rattle.oca_pair.specs.Networks.{Network, device_address}
@@ -49,14 +51,30 @@ KeepsItsSession p n =
     let arrivals = admitted n.sizes (happenings n.events) in
     session (last_moment (arrivals_of p arrivals)) p arrivals ≡ arrivals_of p arrivals
 
--- ---- few peers: all datagrams came from peers of a list, as long as the law says
+-- ---- there is room
+-- A DELIVERY FINDS ROOM: when a datagram of this peer comes at this moment, the peer is known, or fewer peers are than
+-- there is room for. A peer is known where its last admitted datagram came at most 120,000 ms before.
+abbrev pub FindsRoom : Peer → ℕ → Network → Type 0
+FindsRoom p now n =
+    let came = Passes now ∷ happenings n.events in
+    has_room n.sizes (clock came) p (admitted n.sizes came) ≡ true
+
+-- ---- few peers speak
 abbrev pub is_among : List Peer → Peer → Bool
 is_among peers p = list_any (λ q. same_peer q p) peers
 
-abbrev pub IsFrom : List Peer → Event → Type 0
-IsFrom peers (Datagram from bytes now) = is_among peers from ≡ true
-IsFrom peers (Tick now) = Unit {0}
-IsFrom peers (Local ono value) = Unit {0}
+-- Each well-formed datagram of the 120,000 ms before t came from one of these peers.
+abbrev pub SpeakLately : List Peer → ℕ → List Happening → Type 0
+SpeakLately peers t [] = Unit {0}
+SpeakLately peers t (Says p messages ∷ before) =
+    (t - clock before ≤ longest_silence → is_among peers p ≡ true) × SpeakLately peers t before
+SpeakLately peers t (Passes now ∷ before) = SpeakLately peers t before
+SpeakLately peers t (Sets ono value ∷ before) = SpeakLately peers t before
 
-abbrev pub ComeFrom : List Peer → List Event → Type 0
-ComeFrom peers events = AllByRecursion (IsFrom peers) events
+-- WHERE FEW SPEAK THERE IS ROOM: no more peers spoke in the last 120,000 ms than there is room for, and each of them
+-- finds room.
+abbrev pub FewFindRoom : Type 0
+FewFindRoom =
+    (w : DeviceSizes) (H : List Happening) (peers : List Peer) (p : Peer) →
+    length peers ≤ w.peers → SpeakLately peers (clock H) H → is_among peers p ≡ true →
+    has_room w (clock H) p (admitted w H) ≡ true

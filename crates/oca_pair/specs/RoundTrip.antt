@@ -15,7 +15,7 @@ use Rattle.oca_control.specs.Untaken.{Untaken, answer_under}
 use Rattle.oca_pair.specs.declared.start.Start.{Start}
 use Rattle.oca_pair.specs.Networks.{Network, PeerLink, SentDatagram, opening}
 use Rattle.oca_pair.specs.Steps.{Step, ToDevice, ToLink, after_step, after_steps}
-use Rattle.oca_pair.specs.Premises.{are_apart, StepFits, Fit, KeepsItsSession, ComeFrom}
+use Rattle.oca_pair.specs.Premises.{are_apart, StepFits, Fit, KeepsItsSession, FindsRoom}
 use Rattle.oca_pair.specs.Laws.{answer_of, IsAnswerOfItsCommand, WasTaken, CarriesUntaken}
 
 -- The link of this number holds the command untaken.
@@ -84,10 +84,9 @@ pub record ComesBack (k now : ℕ) (between : List Step) (later i : ℕ) (c : Co
 -- Each delivery of a datagram that carries an untaken command comes back, under the premises of `AnswersUntaken`. Of
 -- what happens after that delivery nothing is asked.
 abbrev pub RoundTrips : Network → Type 0
-RoundTrips n = (k now i : ℕ) (d : SentDatagram) (l : PeerLink) (c : CommandFields) (peers : List Peer) (between : List Step) (later : ℕ) →
+RoundTrips n = (k now i : ℕ) (d : SentDatagram) (l : PeerLink) (c : CommandFields) (between : List Step) (later : ℕ) →
     slice_get n.to_device k ≡ Some d → slice_get n.links i ≡ Some l → CarriesUntaken d l c →
-    KeepsItsSession d.peer (asked k now n) → length peers ≤ n.sizes.peers → ComeFrom peers (asked k now n).events →
-    AllByRecursion StepFits between → ComesBack k now between later i c l.peer n
+    FindsRoom d.peer now n → KeepsItsSession d.peer (asked k now n) → AllByRecursion StepFits between → ComesBack k now between later i c l.peer n
 
 -- Over every schedule, for all sizes where the window is at least twice the span less one:
 abbrev pub EveryRoundTripBringsTheAnswer : Type 0

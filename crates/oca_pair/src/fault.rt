@@ -2,6 +2,9 @@
 ghost use Rattle.std.specs.Prelude.{◌≡◌};
 ghost use Rattle.oca_pair.specs.Transcripts.{fault_number};
 
+use std::error::Error;
+use std::fmt;
+
 /// Why a schedule does not run to its end. The numbers are promised (*profile*).
 #[derive(Clone, Copy, Debug, PartialEq, Eq)]
 pub enum PairFault {
@@ -26,3 +29,18 @@ impl PairFault {
         }
     }
 }
+
+impl fmt::Display for PairFault {
+    fn fmt<W: fmt::Write>(&self, f: &mut fmt::Formatter<W>) -> fmt::Result {
+        match self {
+            PairFault::NoMemory => write!(f, "no memory"),
+            PairFault::BadStep(step) => write!(
+                f,
+                "step {step} names what is not there, or is from a link's peer"
+            ),
+            PairFault::SamePeer => write!(f, "two starts have one peer, or one has the device's"),
+        }
+    }
+}
+
+impl Error for PairFault {}

@@ -1,6 +1,11 @@
 //! The laws of networks. The functions run nothing: their contracts are the laws.
+//!
+//! A schedule begins with a device that has heard nothing, and with links that gave nothing out. So the laws speak of
+//! links whose handles no earlier link used from their address and port, as long as the device remembers that one.
 ghost use Rattle.oca_pair.specs.Happenings.{TheseHappened};
-ghost use Rattle.oca_pair.specs.Laws.{EveryScheduleAnswersItsCommands, NoUntakenCommandIsTooOld, EveryCommandIsExecutedOnce};
+ghost use Rattle.oca_pair.specs.Premises.{FewFindRoom};
+ghost use Rattle.oca_pair.specs.Laws.{EveryScheduleAnswersItsCommands};
+ghost use Rattle.oca_pair.specs.Laws.{NoUntakenCommandIsTooOld, EveryCommandIsExecutedOnce};
 ghost use Rattle.oca_pair.specs.RoundTrip.{EveryRoundTripBringsTheAnswer};
 ghost use Rattle.oca_pair.specs.GettingThrough.{EveryCommandGetsThrough};
 
@@ -24,13 +29,17 @@ pub fn law_answers()
 
 /// Over every schedule, where the window `w` and the span `s` have `0 < s` and `2 * s <= w + 1`: a delivered datagram
 /// with a command that its link still holds untaken is answered. It is executed now, or its reply is found in the
-/// window; it is never too old, never met without room, and never taken for another command under its handle. This
-/// holds where the link's peer kept its session (as [`law_answers`] says), this datagram counted, and where all
-/// datagrams came from at most as many peers as the device has room for. And no command is executed twice, for all
-/// sizes, where its peer kept its session.
+/// window; it is never too old, and never taken for another command under its handle. This holds where the datagram
+/// finds room, and where the link's peer kept its session (as [`law_answers`] says), this datagram counted. And no
+/// command is executed twice, for all sizes, where its peer kept its session.
+///
+/// A datagram finds room where its peer is known when it comes, or fewer peers are known than the device has room for.
+/// A peer is known for 120,000 ms after each of its admitted datagrams. So where the well-formed datagrams of the last
+/// 120,000 ms, this one counted, came from at most as many peers as there is room for, it finds room.
 pub fn law_never_old()
     ensures answered { NoUntakenCommandIsTooOld }
     ensures once { EveryCommandIsExecutedOnce }
+    ensures room { FewFindRoom }
 {
     law_written_is_read_back();
 }

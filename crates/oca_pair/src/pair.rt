@@ -20,7 +20,7 @@ use oca_types::{NoMemory, Peer, Peers, Sizes, Span, Window};
 use std::alloc::Global;
 
 /// What a schedule led to.
-#[derive(Drop)]
+#[derive(Debug, Drop)]
 pub struct Transcript {
     /// The device at the end.
     pub device: Device,

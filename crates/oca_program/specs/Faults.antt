@@ -1,6 +1,8 @@
 -- Why a run of a program fails: its exit status, and the lines that are printed (*profile*).
 use Rattle.std.specs.Prelude.{ℕ, List, [], ◌++◌, Option, None, Some, codes, decimal, length, nat_le, if◌then◌else◌, string_bytes}
 use Rattle.std.specs.Option.{option_map}
+use Rattle.clap.specs.declared.error.kind.ErrorKind.{ErrorKind}
+use Rattle.clap.specs.declared.error.kind.ErrorKind.TheVariants as kinds
 use Rattle.oca_net.specs.declared.udp.BindFault.{BindFault}
 use Rattle.oca_net.specs.declared.udp.BindFault.TheVariants as binds
 use Rattle.oca_script.specs.declared.fault.ReplayFault.{ReplayFault}
@@ -36,6 +38,13 @@ run_fault replays.TooMuch = TooMuch
 abbrev pub bind_fault : BindFault → RunFault
 bind_fault binds.Io = Socket
 bind_fault binds.NoMemory = NoMemory
+
+-- the fault of the run, where the words were not matched: no memory also where a help text found none
+abbrev pub words_fault : ErrorKind → RunFault
+words_fault kinds.DisplayHelp = NoMemory
+words_fault kinds.DisplayVersion = NoMemory
+words_fault kinds.OutOfMemory = NoMemory
+words_fault other = BadWords
 
 -- the fault of the run, where the objects were not listed
 abbrev pub tree_fault : TreeFault → RunFault

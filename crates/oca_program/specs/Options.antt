@@ -1,8 +1,13 @@
 -- What the options of a command line say (*profile*).
-use Rattle.std.specs.Prelude.{ℕ, List, Option, Some, None, nat_le, ◌&&◌, if◌then◌else◌}
+use Rattle.std.specs.Prelude.{ℕ, ◌==◌, List, Option, Some, None, is_some, nat_le, nat_lt, Bool, false, not, length, ◌&&◌, ◌||◌, if◌then◌else◌}
 use Rattle.std.specs.Option.{option_map}
 use Rattle.clap.specs.declared.parser.matches.ArgMatches.{ArgMatches}
 use Rattle.clap.specs.Words.{found_of, first_value}
+use Rattle.oca_types.specs.declared.words.Peer.{Peer}
+use Rattle.oca_script.specs.Fields.{number_of, address_of, peer_of, hex_of, then_in}
+use Rattle.oca_program.specs.declared.form.Form.{Form}
+use Rattle.oca_program.specs.declared.form.Form.TheVariants as form
+use Rattle.oca_program.specs.declared.form.Rule.{Rule}
 
 -- the text that the words give for an option, where they give it
 unfoldable pub given : ArgMatches → List ℕ → Option (List ℕ)
@@ -26,3 +31,45 @@ read_if read (Some text) = option_map Some (read text)
 -- a size from 1 to `most`
 abbrev pub sized : ℕ → ℕ → Option ℕ
 sized most n = if nat_le 1 n && nat_le n most then Some n else None
+
+-- ---- addresses
+
+-- the address of one host: 1.0.0.0 to 223.255.255.255
+abbrev pub is_host : ℕ → Bool
+is_host ip = nat_le 16777216 ip && nat_lt ip 3758096384
+
+abbrev pub at_host : Peer → Option Peer
+at_host p = if is_host p.ip && not (p.port == 0) then Some p else None
+
+-- where a device is: the address of one host, and a port that is not 0
+abbrev pub host_of : List ℕ → Option Peer
+host_of text = then_in (peer_of text) at_host
+
+abbrev pub at_own : ℕ → Option ℕ
+at_own ip = if (ip == 0) || is_host ip then Some ip else None
+
+-- the address of a socket: that of one host, or 0.0.0.0, every one of the machine
+abbrev pub own_of : List ℕ → Option ℕ
+own_of text = then_in (address_of text) at_own
+
+-- ---- forms
+
+abbrev pub is_from : ℕ → Option ℕ → Bool
+is_from least None = false
+is_from least (Some n) = nat_le least n
+
+-- whether a text is of a form
+abbrev pub is_of : Form → List ℕ → Bool
+is_of (form.Number digits least largest) text = is_from least (number_of digits largest text)
+is_of form.Host text = is_some (host_of text)
+is_of form.Own text = is_some (own_of text)
+is_of form.AnyPeer text = is_some (peer_of text)
+is_of form.Bytes text = nat_le (length text) 2890 && is_some (hex_of text)
+
+abbrev pub is_unlike : Form → Option (List ℕ) → Bool
+is_unlike f None = false
+is_unlike f (Some text) = not (is_of f text)
+
+-- whether an option is given whose text is not of its form
+abbrev pub breaks : ArgMatches → Rule → Bool
+breaks words rule = is_unlike rule.form (given words rule.name.now)

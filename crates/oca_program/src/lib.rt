@@ -7,9 +7,13 @@
 
 pub mod fault;
 pub mod field;
+pub mod form;
 pub mod options;
 pub mod socket;
 pub mod start;
+mod version;
 
 pub use fault::{Failure, RunFault, print_note, report};
+pub use form::{Form, Rule};
 pub use start::words_of;
+pub use version::VERSION;

@@ -1,15 +1,18 @@
 //! The values of options.
-ghost use Rattle.std.specs.Prelude.{◌≡◌, ◌≤◌, IfSome};
+ghost use Rattle.std.specs.Prelude.{◌≡◌, ◌≤◌, IfSome, IfErr};
 ghost use Rattle.std.specs.Option.{option_map};
-ghost use Rattle.oca_script.specs.Fields.{number_of, peer_of, address_of};
-ghost use Rattle.oca_program.specs.Options.{given, read_as, read_or, read_if};
+ghost use Rattle.oca_script.specs.Fields.{number_of, peer_of};
+ghost use Rattle.oca_program.specs.Faults.{words_fault};
+ghost use Rattle.oca_program.specs.Options.{given, read_as, read_or, read_if, host_of, own_of};
+ghost use Rattle.clap.specs.Words.{kind_of};
 
 use super::fault::{Failure, RunFault};
+use super::form::{host, own};
 use clap::error::ErrorKind;
 use clap::{Arg, ArgAction, ArgMatches, Error};
-use oca_script::field::{address, number, peer};
+use oca_script::field::{number, peer};
 use oca_types::Peer;
-use std::alloc::Global;
+use std::alloc::{AllocError, Global};
 
 /// An option with a value.
 pub fn option<'a>(alloc: Global, name: &'a str, value: &'a str, help: &'a str) -> Arg<'a> {
@@ -81,25 +84,54 @@ pub fn peer_in(words: &ArgMatches<'_>, name: &str) -> Option<Peer>
     peer(text_of(words, name)?.as_bytes())
 }
 
-/// The address that an option gives, `a.b.c.d`, or another where it is not given. `None` where it is not of this form.
-pub fn address_or(words: &ArgMatches<'_>, name: &str, other: u32) -> Option<u32>
-    ensures { result ≡ read_or other address_of (given words.now name.now) }
+/// Where the device is that an option names: the address of one host, 1.0.0.0 to 223.255.255.255, and a port that is not
+/// 0. `None` where the option is not given, or not of this form.
+pub fn host_in(words: &ArgMatches<'_>, name: &str) -> Option<Peer>
+    ensures { result ≡ read_as host_of (given words.now name.now) }
+{
+    host(text_of(words, name)?.as_bytes())
+}
+
+/// The address of a socket that an option gives, that of one host or 0.0.0.0, or another where it is not given. `None`
+/// where it is not of this form.
+pub fn own_or(words: &ArgMatches<'_>, name: &str, other: u32) -> Option<u32>
+    ensures { result ≡ read_or other own_of (given words.now name.now) }
 {
     match text_of(words, name) {
-        Some(text) => address(text.as_bytes()),
+        Some(text) => own(text.as_bytes()),
         None => Some(other),
     }
 }
 
-/// What words that were not matched come to: a help text, or why the run fails.
-pub fn help_or_failure(alloc: Global, error: &Error) -> Result<String, Failure> {
-    let text = error.to_string(alloc);
+/// What words that were not matched come to: the text of `--help` or `--version`, or why the run fails.
+pub fn help_or_failure(alloc: Global, error: &Error) -> Result<String, Failure>
+    ensures { IfErr result (λ failure. failure.fault ≡ words_fault (kind_of error.now)) }
+{
     match error.kind() {
-        ErrorKind::DisplayHelp => text.map_err(|_| Failure::from(RunFault::NoMemory)),
+        ErrorKind::DisplayHelp | ErrorKind::DisplayVersion => error
+            .to_string(alloc)
+            .map_err(|_| Failure::from(RunFault::NoMemory)),
         ErrorKind::OutOfMemory => Err(Failure::from(RunFault::NoMemory)),
-        _ => Err(match text {
-            Ok(text) => Failure::noted(RunFault::BadWords, text),
+        _ => Err(match first_paragraph(alloc, error) {
+            Ok(note) => Failure::noted(RunFault::BadWords, note),
             Err(_) => Failure::from(RunFault::BadWords),
         }),
     }
+}
+
+/// What is said of words that were not matched, up to the first empty line, in one line: the options that are missing
+/// have lines of their own.
+fn first_paragraph(alloc: Global, error: &Error) -> Result<String, AllocError> {
+    let text = error.to_string(alloc)?;
+    let mut note = String::new(alloc);
+    for line in text.as_str().lines() {
+        if line.is_empty() {
+            return Ok(note);
+        }
+        if !note.is_empty() {
+            note.push(' ')?;
+        }
+        note.push_str(line.trim())?;
+    }
+    Ok(note)
 }

@@ -1,6 +1,7 @@
 //! The socket of a program, and what is told of sends that failed.
 ghost use Rattle.std.specs.Prelude.{◌≡◌, ◌⊎◌, IfOk, IfErr};
 ghost use Rattle.oca_net.specs.Sockets.{IsBoundAt, new_socket};
+ghost use Rattle.oca_program.specs.Sockets.{refusal, kind_fault};
 ghost use Rattle.oca_program.specs.declared.fault.RunFault.TheVariants.{Socket, NoMemory};
 
 use super::fault::{Failure, RunFault, print_note};
@@ -11,8 +12,8 @@ use std::io;
 use std::net::Net;
 use std::rt::Clock;
 
-/// An end at this address and port; at port 0 the system chooses one. A refusal is `Socket`, with the system's reason
-/// as its note where there is memory for that, or `NoMemory`.
+/// An end at this address and port; at port 0 the system chooses one. A refusal is `NoMemory` where memory was refused,
+/// to the program or to the system, else `Socket`; the system's reason is its note where there is memory for that.
 pub fn bind<N: Net + Clock>(
     alloc: Global,
     system: &N,
@@ -31,14 +32,27 @@ pub fn bind<N: Net + Clock>(
 
 /// Why a run fails that got no socket.
 fn refused(alloc: Global, error: &BindError) -> Failure
-    ensures { (result.fault ≡ Socket) ⊎ (result.fault ≡ NoMemory) }
+    ensures { result.fault ≡ refusal error.now }
 {
     match error {
         BindError::NoMemory => Failure::from(RunFault::NoMemory),
-        BindError::Io(reason) => match format!(in alloc; "{reason}") {
-            Ok(note) => Failure::noted(RunFault::Socket, note),
-            Err(_) => Failure::from(RunFault::Socket),
-        },
+        BindError::Io(reason) => {
+            let fault = fault_for(reason.kind());
+            match format!(in alloc; "{reason}") {
+                Ok(note) => Failure::noted(fault, note),
+                Err(_) => Failure::from(fault),
+            }
+        }
+    }
+}
+
+/// The fault of a run whose socket the system refused for a reason of this kind.
+fn fault_for(kind: io::ErrorKind) -> RunFault
+    ensures { result ≡ kind_fault kind }
+{
+    match kind {
+        io::ErrorKind::OutOfMemory => RunFault::NoMemory,
+        _ => RunFault::Socket,
     }
 }
 

@@ -1,7 +1,7 @@
 //! What the clauses leave open: printed texts, and faults where memory or the writer refuses.
 use oca_fakes::ShortWriter;
 use oca_net::BindFault;
-use oca_program::{Failure, RunFault, report};
+use oca_program::{Failure, Form, RunFault, report};
 use oca_script::{LineFault, Printer, ReplayFault};
 use oca_textree::ObjectFault;
 use std::alloc::Global;
@@ -81,6 +81,55 @@ const FAULTS: &[(Cause, u8, &str)] = &[
 #[test]
 fn statuses_and_texts(rt: HostRuntime) {
     assert_eq!(rt; first_wrong(rt.alloc(), FAULTS), None);
+}
+
+/// The first text that is of its form where it must not be, or is not where it must.
+fn first_misread(rows: &[(Form, &str, bool)]) -> Option<usize> {
+    for (at, row) in rows.iter().enumerate() {
+        let (form, text, wanted) = *row;
+        if form.takes(text.as_bytes()) != wanted {
+            return Some(at);
+        }
+    }
+    None
+}
+
+const SPAN: Form = Form::Number {
+    digits: 3,
+    least: 1,
+    largest: 32,
+};
+
+const FORMS: &[(Form, &str, bool)] = &[
+    (SPAN, "1", true),
+    (SPAN, "032", true),
+    (SPAN, "0", false),
+    (SPAN, "33", false),
+    (SPAN, "0001", false),
+    (SPAN, "", false),
+    (SPAN, "x", false),
+    (Form::Host, "1.0.0.0:1", true),
+    (Form::Host, "223.255.255.255:65535", true),
+    (Form::Host, "0.255.255.255:1", false),
+    (Form::Host, "224.0.0.0:1", false),
+    (Form::Host, "255.255.255.255:1", false),
+    (Form::Host, "127.0.0.1:0", false),
+    (Form::Host, "127.0.0.1", false),
+    (Form::Own, "0.0.0.0", true),
+    (Form::Own, "192.0.2.1", true),
+    (Form::Own, "0.0.0.1", false),
+    (Form::Own, "239.0.0.1", false),
+    (Form::AnyPeer, "0.0.0.0:0", true),
+    (Form::AnyPeer, "0.0.0.0", false),
+    (Form::Bytes, "-", true),
+    (Form::Bytes, "00fF", true),
+    (Form::Bytes, "", false),
+    (Form::Bytes, "0", false),
+];
+
+#[test]
+fn forms_of_options(rt: HostRuntime) {
+    assert_eq!(rt; first_misread(FORMS), None);
 }
 
 const LINES_AND_SOCKETS: &[(Cause, u8, &str)] = &[

@@ -10,3 +10,4 @@ pub mod ScriptLemmas
 pub mod StepLemmas
 pub mod PieceLemmas
 pub mod ReadLemmas
+pub mod EscapeLemmas

@@ -1,27 +1,28 @@
 -- A replay, by what the source gave so far.
 use Rattle.std.proofs.Common.{◌≡◌, ℕ, ◌+◌, ◌-◌, ◌≤◌, Bool, true, false, List, [], ◌∷◌, ◌++◌, length, Option, Some, None, Result, Ok, Err, refl, sym, ap, ◌∙◌, arith, append_assoc, append-nil, subst, length-append}
 use Rattle.std.specs.Prelude.{OnOk, IfSome}
-use Rattle.std.specs.Io.KnownBytes.{Appends, Consumes, Keeps, IsAtEnd}
+use Rattle.std.specs.Io.KnownBytes.{Consumes, Keeps, IsAtEnd}
 use Rattle.std.proofs.KnownBytes.{Consumes-nil, Consumes-trans, Consumes-kept}
 use Rattle.oca_script.specs.declared.fault.LineFault.{LineFault}
 use Rattle.oca_script.specs.declared.fault.ReplayFault.{ReplayFault}
 use Rattle.oca_script.specs.declared.fault.ReplayFault.TheVariants.{Line, Read, Write, TooMuch}
+use Rattle.oca_script.specs.declared.fault.WriteFailed.{WriteFailed}
 use Rattle.oca_script.specs.declared.progress.Progress.{Progress}
 use Rattle.oca_script.specs.Ends.{Input, Output}
-use Rattle.oca_script.specs.Printing.{PrintsAll, PrintsPart, WritesWhole, WritesFront}
+use Rattle.oca_script.specs.Printing.{Prints, PrintsAll, PrintsPart, WritesFront}
 use Rattle.oca_script.specs.PrivateScript.{script_from}
 use Rattle.oca_script.specs.Script.{Script, script, behind, ends_by, line_then, parsed}
-use Rattle.oca_script.specs.Replaying.{Runs, BeginsWith, Ends, known_bytes, Outcome, Replays, ReadFails, Writes}
+use Rattle.oca_script.specs.Replaying.{Runs, NoneLeft, Awaited, BeginsWith, Ends, known_bytes, Outcome, Replays, ReadFails, Writes}
 use Rattle.oca_script.specs.PrivateSteps.{Printed, PrintedAtEnd, AccountsFor, Step, Performs, Performance, is_end_failure}
-use Rattle.oca_script.proofs.PrintLemmas.{PrintsAll-nil, PrintsAll-then, PrintsPart-then, whole, written, front}
+use Rattle.oca_script.proofs.PrintLemmas.{PrintsAll-nil, PrintsPart-then, whole, written, front}
 use Rattle.oca_script.proofs.ScriptLemmas.{script-from, script_from-end, script_from-too_much}
-use Rattle.oca_script.proofs.StepLemmas.{Runs-then, Printed-then, Step-then, Step-at, Step-as, Step-nothing, Step-unread, behind-behind}
+use Rattle.oca_script.proofs.StepLemmas.{Runs-then, Runs-on, Printed-then, Step-then, Step-at, Step-as, Step-nothing, Step-unread, behind-behind}
 
 known-end : (o : Option (List ℕ)) → IsAtEnd o → known_bytes o ≡ []
 known-end None h = refl
 known-end (Some xs) h = h
 
-module _ {S R : Type 0} (asked : List (List ℕ) → Result R LineFault) (serves : S → R → S → List ℕ → Type 0) where
+module _ {S R : Type 0} (asked : List (List ℕ) → Result R LineFault) (serves : S → R → S → List ℕ → Type 0) (idles : S → S → List ℕ → Type 0) where
   -- so far
   pub record Reading (old new : S) (was is : Output) (had has : Input) (progress : Progress) (left : ℕ) : Type 0 where
     pub taken : List ℕ
@@ -29,7 +30,7 @@ module _ {S R : Type 0} (asked : List (List ℕ) → Result R LineFault) (serves
     pub unfailed : has.failed ≡ had.failed
     pub counted : length taken + left ≡ 16777216
     pub numbered : progress.number + left ≤ 16777217
-    pub step : Step {X = List ℕ} serves old new was is (Ok tt) (λ more. script asked (taken ++ more)) (λ more. script_from asked progress.number progress.line left more)
+    pub step : Step {X = List ℕ} serves idles old new was is (Ok tt) (λ more. script asked (taken ++ more)) (λ more. script_from asked progress.number progress.line left more)
 
   pub reading-start : (d : S) (w : Output) (r : Input) (p : Progress) → p.line ≡ [] → p.number ≡ 1 → Reading d d w w r r p 16777216
   reading-start d w r p e f = record {
@@ -38,27 +39,27 @@ module _ {S R : Type 0} (asked : List (List ℕ) → Result R LineFault) (serves
     unfailed = refl;
     counted = refl;
     numbered = omega arith;
-    step = Step-nothing serves d w (Ok tt) _ _ (PrintsAll-nil w) (λ more.
+    step = Step-nothing serves idles d w (Ok tt) _ _ (PrintsAll-nil w) (λ more.
         script-from asked more ∙ ap (λ n. script_from asked n [] 16777216 more) (sym f) ∙ ap (λ (l : List ℕ). script_from asked p.number l 16777216 more) (sym e));
   }
 
-  -- what is held is handed to the sink
-  pub reading-flushed : (a b : S) (u v w : Output) (had has : Input) (p : Progress) (left : ℕ) → Reading a b u v had has p left
-      → PrintsAll v w [] → Reading a b u w had has p left
-  reading-flushed a b u v w had has p left h e = record {
+  -- the state went on by itself, what it printed went to the sink, and nothing was read
+  pub reading-awaited : (a b c : S) (u v w : Output) (had has after : Input) (p : Progress) (left : ℕ) (r : Result Unit WriteFailed) (o : Unit {0}) → r ≡ Ok o
+      → Reading a b u v had has p left → Awaited idles b c r v w → after ≡ has → Reading a c u w had after p left
+  reading-awaited a b c u v w had has after p left r o is h e same = subst (λ (x : Input). Reading a c u w had x p left) (sym same) (record {
     taken = h.taken;
     consumes = h.consumes;
     unfailed = h.unfailed;
     counted = h.counted;
     numbered = h.numbered;
-    step = Step-then serves a b b u v w (Ok tt) _ _ _ h.step
-        (record { requests = []; text = []; runs = (refl, refl); prints = e; accounts = λ more. refl });
-  }
+    step = Step-then serves idles a b c u v w (Ok tt) _ _ _ h.step
+        (record { requests = []; text = e.text; runs = Runs-on serves idles b c e.text e.goes_on; prints = subst (λ (z : Result Unit WriteFailed). Prints z v w e.text) is e.prints; accounts = λ more. refl });
+  })
 
   -- a further piece
   pub reading-more : (a b c : S) (u v w : Output) (had has after : Input) (p q : Progress) (left rest : ℕ) (piece : List ℕ) → Reading a b u v had has p left → Consumes has.remaining after.remaining piece → after.failed ≡ has.failed
       → rest + length piece ≡ left → q.number ≤ p.number + length piece
-      → Step {X = ℕ × List ℕ} serves b c v w (Ok tt) (λ m. script_from asked p.number p.line (length piece + m.0) (piece ++ m.1)) (λ m. script_from asked q.number q.line m.0 m.1)
+      → Step {X = ℕ × List ℕ} serves idles b c v w (Ok tt) (λ m. script_from asked p.number p.line (length piece + m.0) (piece ++ m.1)) (λ m. script_from asked q.number q.line m.0 m.1)
       → Reading a c u w had after q rest
   reading-more a b c u v w had has after p q left rest piece h k f n few d = record {
     taken = h.taken ++ piece;
@@ -66,13 +67,13 @@ module _ {S R : Type 0} (asked : List (List ℕ) → Result R LineFault) (serves
     unfailed = f ∙ h.unfailed;
     counted = let e = h.counted in omega (arith, length-append h.taken piece);
     numbered = let e = h.numbered in omega arith;
-    step = Step-as serves a c u w (Ok tt) _ _ _ _ (λ more. ap (script asked) (append_assoc h.taken piece more)) (λ more. refl)
-        (Step-then serves a b c u v w (Ok tt) (λ more. script asked (h.taken ++ (piece ++ more))) (λ more. script_from asked p.number p.line left (piece ++ more))
+    step = Step-as serves idles a c u w (Ok tt) _ _ _ _ (λ more. ap (script asked) (append_assoc h.taken piece more)) (λ more. refl)
+        (Step-then serves idles a b c u v w (Ok tt) (λ more. script asked (h.taken ++ (piece ++ more))) (λ more. script_from asked p.number p.line left (piece ++ more))
         (λ more. script_from asked q.number q.line rest more)
-        (Step-at serves (λ more. piece ++ more) a b u v (Ok tt) _ _ h.step)
-        (Step-as serves b c v w (Ok tt) _ _ _ _
+        (Step-at serves idles (λ more. piece ++ more) a b u v (Ok tt) _ _ h.step)
+        (Step-as serves idles b c v w (Ok tt) _ _ _ _
         (λ more. ap (λ m. script_from asked p.number p.line m (piece ++ more)) same) (λ more. refl)
-        (Step-at serves (λ (more : List ℕ). at_rest more) b c v w (Ok tt) _ _ d)));
+        (Step-at serves idles (λ (more : List ℕ). at_rest more) b c v w (Ok tt) _ _ d)));
   }
     where
       same : left ≡ length piece + rest
@@ -98,7 +99,7 @@ module _ {S R : Type 0} (asked : List (List ℕ) → Result R LineFault) (serves
 
   -- a fault
   performs-fault : (a b : S) (u v : Output) (fault : ReplayFault) (asks after : List ℕ → Script R) (given rest : List ℕ) → asks rest ≡ script asked given
-      → Step {X = List ℕ} serves a b u v (Err fault) asks after → Performs asked serves a b u v (Err fault) given
+      → Step {X = List ℕ} serves idles a b u v (Err fault) asks after → Performs asked serves idles a b u v (Err fault) given
   performs-fault a b u v fault asks after given rest e h = record {
     requests = h.requests;
     text = h.text;
@@ -117,31 +118,31 @@ module _ {S R : Type 0} (asked : List (List ℕ) → Result R LineFault) (serves
   -- a fault behind a piece
   fails : (a b c : S) (u v w : Output) (had has after : Input) (p : Progress) (left : ℕ) (piece : List ℕ) (fault : ReplayFault) (rest : List ℕ → Script R)
       → Reading a b u v had has p left → Consumes has.remaining after.remaining piece → after.failed ≡ has.failed → length piece ≤ left + 1
-      → Step {X = List ℕ} serves b c v w (Err fault) (λ more. script_from asked p.number p.line left (piece ++ more)) rest → Performance asked serves a c u w had after (Err fault)
+      → Step {X = List ℕ} serves idles b c v w (Err fault) (λ more. script_from asked p.number p.line left (piece ++ more)) rest → Performance asked serves idles a c u w had after (Err fault)
   fails a b c u v w had has after p left piece fault rest h k f n d = (
     h.taken ++ piece,
     record {
       consumes = Consumes-trans had.remaining has.remaining after.remaining h.taken piece h.consumes k;
       bounded = let e = h.counted in omega (arith, length-append h.taken piece);
       ended = tt;
-      failed = not_read fault had.failed after.failed (λ e. Step-unread serves b c v w (Err fault) _ rest d (ap Err e)) (f ∙ h.unfailed);
+      failed = not_read fault had.failed after.failed (λ e. Step-unread serves idles b c v w (Err fault) _ rest d (ap Err e)) (f ∙ h.unfailed);
     },
     performs-fault a c u w fault (λ more. script asked (h.taken ++ (piece ++ more))) rest ((h.taken ++ piece) ++ known_bytes after.remaining) (known_bytes after.remaining)
         (ap (script asked) (sym (append_assoc h.taken piece (known_bytes after.remaining))))
-        (Step-then serves a b c u v w (Err fault) (λ more. script asked (h.taken ++ (piece ++ more))) (λ more. script_from asked p.number p.line left (piece ++ more)) rest
-        (Step-at serves (λ more. piece ++ more) a b u v (Ok tt) _ _ h.step) d),
+        (Step-then serves idles a b c u v w (Err fault) (λ more. script asked (h.taken ++ (piece ++ more))) (λ more. script_from asked p.number p.line left (piece ++ more)) rest
+        (Step-at serves idles (λ more. piece ++ more) a b u v (Ok tt) _ _ h.step) d),
   )
 
   -- a fault in a piece
   pub reading-fails : (a b c : S) (u v w : Output) (had has after : Input) (p : Progress) (left : ℕ) (piece : List ℕ) (r : Result Unit ReplayFault) (fault : ReplayFault) (rest : ℕ × List ℕ → Script R)
       → r ≡ Err fault → Reading a b u v had has p left → Consumes has.remaining after.remaining piece → after.failed ≡ has.failed → length piece ≤ left
-      → Step {X = ℕ × List ℕ} serves b c v w (Err fault) (λ m. script_from asked p.number p.line (length piece + m.0) (piece ++ m.1)) rest → Performance asked serves a c u w had after r
+      → Step {X = ℕ × List ℕ} serves idles b c v w (Err fault) (λ m. script_from asked p.number p.line (length piece + m.0) (piece ++ m.1)) rest → Performance asked serves idles a c u w had after r
   reading-fails a b c u v w had has after p left piece r fault rest is h k f n d =
-      subst (Performance asked serves a c u w had after) (sym is)
+      subst (Performance asked serves idles a c u w had after) (sym is)
       (fails a b c u v w had has after p left piece fault (λ more. rest (at_rest more)) h k f (omega arith)
-      (Step-as serves b c v w (Err fault) _ _ _ _
+      (Step-as serves idles b c v w (Err fault) _ _ _ _
       (λ more. ap (λ m. script_from asked p.number p.line m (piece ++ more)) same) (λ more. refl)
-      (Step-at serves (λ (more : List ℕ). at_rest more) b c v w (Err fault) _ _ d)))
+      (Step-at serves idles (λ (more : List ℕ). at_rest more) b c v w (Err fault) _ _ d)))
     where
       same : left ≡ length piece + (left - length piece)
       same = omega arith
@@ -151,8 +152,8 @@ module _ {S R : Type 0} (asked : List (List ℕ) → Result R LineFault) (serves
 
   -- a read failed
   pub reading-read_failed : (a b : S) (u v : Output) (had has after : Input) (p : Progress) (left : ℕ) (r : Result Unit ReplayFault) → r ≡ Err Read
-      → Reading a b u v had has p left → v.held ≡ [] → Keeps has.remaining after.remaining → after.failed ≡ true → Performance asked serves a b u v had after r
-  reading-read_failed a b u v had has after p left r is h none k f = subst (Performance asked serves a b u v had after) (sym is) (
+      → Reading a b u v had has p left → v.held ≡ [] → Keeps has.remaining after.remaining → after.failed ≡ true → Performance asked serves idles a b u v had after r
+  reading-read_failed a b u v had has after p left r is h none k f = subst (Performance asked serves idles a b u v had after) (sym is) (
     h.taken,
     record {
       consumes = Consumes-kept had.remaining has.remaining after.remaining h.taken h.consumes k;
@@ -169,10 +170,9 @@ module _ {S R : Type 0} (asked : List (List ℕ) → Result R LineFault) (serves
     },
   )
 
-  -- a write failed
-  pub reading-write_failed : (a b : S) (u v w : Output) (had has : Input) (p : Progress) (left : ℕ)
-      → Reading a b u v had has p left → PrintsPart v w [] → Performance asked serves a b u w had has (Err Write)
-  reading-write_failed a b u v w had has p left h e = (
+  unwritten : (a b c : S) (u v w : Output) (had has : Input) (p : Progress) (left : ℕ) (text : List ℕ)
+      → Reading a b u v had has p left → Runs serves idles b [] c text → PrintsPart v w text → Performance asked serves idles a c u w had has (Err Write)
+  unwritten a b c u v w had has p left text h on e = (
     h.taken,
     record {
       consumes = h.consumes;
@@ -181,22 +181,30 @@ module _ {S R : Type 0} (asked : List (List ℕ) → Result R LineFault) (serves
       failed = h.unfailed;
     },
     record {
-      requests = h.step.requests;
-      text = h.step.text ++ [];
-      runs = subst (λ (t : List ℕ). Runs serves a h.step.requests b t) (sym (append-nil h.step.text)) h.step.runs;
-      prints = PrintsPart-then u v w h.step.text [] h.step.prints e;
-      ends = (script_from asked p.number p.line left (known_bytes has.remaining), h.step.accounts (known_bytes has.remaining));
+      requests = h.step.requests ++ [];
+      text = h.step.text ++ text;
+      runs = Runs-then serves idles a b c h.step.requests [] h.step.text text h.step.runs on;
+      prints = PrintsPart-then u v w h.step.text text h.step.prints e;
+      ends = subst (λ (l : List R). BeginsWith l (script asked (h.taken ++ known_bytes has.remaining))) (sym (append-nil h.step.requests))
+          (script_from asked p.number p.line left (known_bytes has.remaining), h.step.accounts (known_bytes has.remaining));
     },
   )
+
+  -- a write failed, of what was held or of what the state printed by itself
+  pub reading-unwritten : (a b c : S) (u v w : Output) (had has after : Input) (p : Progress) (left : ℕ) (r : Result Unit WriteFailed) (f : WriteFailed) → r ≡ Err f
+      → Reading a b u v had has p left → Awaited idles b c r v w → after ≡ has → Performance asked serves idles a c u w had after (Err Write)
+  reading-unwritten a b c u v w had has after p left r f is h e same =
+      subst (λ (x : Input). Performance asked serves idles a c u w had x (Err Write)) (sym same)
+      (unwritten a b c u v w had has p left e.text h (Runs-on serves idles b c e.text e.goes_on) (subst (λ (z : Result Unit WriteFailed). Prints z v w e.text) is e.prints))
 
   -- a byte more than counts
   pub reading-too_much : (a b : S) (u v : Output) (had has after : Input) (p : Progress) (left : ℕ) (piece : List ℕ) → Reading a b u v had has p left
       → Consumes has.remaining after.remaining piece → after.failed ≡ has.failed → left ≡ 0
-      → length piece ≡ 1 → length p.line ≤ 4096 → Performance asked serves a b u v had after (Err TooMuch)
+      → length piece ≡ 1 → length p.line ≤ 4096 → Performance asked serves idles a b u v had after (Err TooMuch)
   reading-too_much a b u v had has after p left [] h k f none one short = absurd (omega arith)
   reading-too_much a b u v had has after p left (x ∷ xs) h k f none one short =
       fails a b b u v v had has after p left (x ∷ xs) TooMuch (λ more. script_from asked p.number p.line left more) h k f (omega arith)
-      (Step-nothing serves b v (Err TooMuch) _ _ (PrintsAll-nil v) (λ more. ap (λ n. script_from asked p.number p.line n (x ∷ (xs ++ more))) none ∙ script_from-too_much asked p.number p.line x (xs ++ more) short))
+      (Step-nothing serves idles b v (Err TooMuch) _ _ (PrintsAll-nil v) (λ more. ap (λ n. script_from asked p.number p.line n (x ∷ (xs ++ more))) none ∙ script_from-too_much asked p.number p.line x (xs ++ more) short))
 
   last-ends : (r : Result Unit ReplayFault) (k : ℕ) (line : List ℕ) (xs ys : List R) (s : Script R) (left : ℕ) → s ≡ behind xs (script_from asked k line left [])
       → AccountsFor {X = Script R} r (λ s. line_then k (parsed asked line) s) (λ s. s) ys → Ends r s (xs ++ ys)
@@ -221,7 +229,7 @@ module _ {S R : Type 0} (asked : List (List ℕ) → Result R LineFault) (serves
   -- the end of the input, and the last line
   ends : (a b c : S) (u v w : Output) (had has after : Input) (p : Progress) (left : ℕ) (line : List ℕ) (r : Result Unit ReplayFault) → Reading a b u v had has p left
       → Consumes has.remaining after.remaining [] → after.failed ≡ has.failed → IsAtEnd after.remaining → line ≡ p.line
-      → Step {X = Script R} serves b c v w r (λ s. line_then p.number (parsed asked line) s) (λ s. s) → Performance asked serves a c u w had after r
+      → Step {X = Script R} serves idles b c v w r (λ s. line_then p.number (parsed asked line) s) (λ s. s) → Performance asked serves idles a c u w had after r
   ends a b c u v w had has after p left line r h k f end same d =
       let accounts : AccountsFor {X = Script R} r (λ s. line_then p.number (parsed asked p.line) s) (λ s. s) d.requests =
       subst (λ (l : List ℕ). AccountsFor {X = Script R} r (λ s. line_then p.number (parsed asked l) s) (λ s. s) d.requests) same d.accounts in (
@@ -230,12 +238,12 @@ module _ {S R : Type 0} (asked : List (List ℕ) → Result R LineFault) (serves
           consumes = subst (Consumes had.remaining after.remaining) (append-nil h.taken) (Consumes-trans had.remaining has.remaining after.remaining h.taken [] h.consumes k);
           bounded = let e = h.counted in omega arith;
           ended = on_ok r;
-          failed = unread r (Step-unread serves b c v w r _ _ d);
+          failed = unread r (Step-unread serves idles b c v w r _ _ d);
         },
         record {
           requests = h.step.requests ++ d.requests;
           text = h.step.text ++ d.text;
-          runs = Runs-then serves a b c h.step.requests d.requests h.step.text d.text h.step.runs d.runs;
+          runs = Runs-then serves idles a b c h.step.requests d.requests h.step.text d.text h.step.runs d.runs;
           prints = at_end r u w (h.step.text ++ d.text) (Printed-then r u v w h.step.text d.text h.step.prints d.prints);
           ends = last-ends r p.number p.line h.step.requests d.requests (script asked (h.taken ++ known_bytes after.remaining)) left
               (h.step.accounts (known_bytes after.remaining) ∙ ap (λ (l : List ℕ). behind h.step.requests (script_from asked p.number p.line left l)) (known-end after.remaining end)) accounts;
@@ -252,7 +260,7 @@ module _ {S R : Type 0} (asked : List (List ℕ) → Result R LineFault) (serves
 
   pub reading-ends : (a b c : S) (u v w : Output) (had has after : Input) (p : Progress) (left : ℕ) (piece line : List ℕ) (r : Result Unit ReplayFault) → Reading a b u v had has p left
       → Consumes has.remaining after.remaining piece → after.failed ≡ has.failed → length piece ≡ 0 → (length piece ≡ 0 → IsAtEnd after.remaining) → line ≡ p.line
-      → Step {X = Script R} serves b c v w r (λ s. line_then p.number (parsed asked line) s) (λ s. s) → Performance asked serves a c u w had after r
+      → Step {X = Script R} serves idles b c v w r (λ s. line_then p.number (parsed asked line) s) (λ s. s) → Performance asked serves idles a c u w had after r
   reading-ends a b c u v w had has after p left [] line r h k f none end same d = ends a b c u v w had has after p left line r h k f (end refl) same d
   reading-ends a b c u v w had has after p left (x ∷ xs) line r h k f none end same d = absurd (omega arith)
 
@@ -276,7 +284,7 @@ module _ {S R : Type 0} (asked : List (List ℕ) → Result R LineFault) (serves
 
   -- a read or a write failed within the replay
   pub outcome-failed : (a b : S) (u v : Output) (had has : Input) (r : Result Unit ReplayFault) → is_end_failure r ≡ true
-      → Performance asked serves a b u v had has r → Outcome asked serves a b u v had has r
+      → Performance asked serves idles a b u v had has r → Outcome asked serves idles a b u v had has r
   outcome-failed a b u v had has r is h = (
     h.0,
     h.1,
@@ -298,7 +306,7 @@ module _ {S R : Type 0} (asked : List (List ℕ) → Result R LineFault) (serves
 
   -- all was handed on
   pub outcome-flushed : (a b : S) (u v w : Output) (had has : Input) (r : Result Unit ReplayFault) → is_end_failure r ≡ false
-      → Performance asked serves a b u v had has r → PrintsAll v w [] → w.held ≡ [] → Outcome asked serves a b u w had has r
+      → Performance asked serves idles a b u v had has r → PrintsAll v w [] → w.held ≡ [] → Outcome asked serves idles a b u w had has r
   outcome-flushed a b u v w had has r is h e empty = (
     h.0,
     h.1,
@@ -327,7 +335,7 @@ module _ {S R : Type 0} (asked : List (List ℕ) → Result R LineFault) (serves
 
   -- the last write failed
   pub outcome-unflushed : (a b : S) (u v w : Output) (had has : Input) (r : Result Unit ReplayFault) → is_end_failure r ≡ false
-      → Performance asked serves a b u v had has r → PrintsPart v w [] → Outcome asked serves a b u w had has (Err Write)
+      → Performance asked serves idles a b u v had has r → PrintsPart v w [] → Outcome asked serves idles a b u w had has (Err Write)
   outcome-unflushed a b u v w had has r is h e = (
     h.0,
     record { consumes = h.1.consumes; bounded = h.1.bounded; ended = tt; failed = unfailed r had.failed has.failed is h.1.failed },
@@ -351,11 +359,11 @@ module _ {S R : Type 0} (asked : List (List ℕ) → Result R LineFault) (serves
       by_result (Err TooMuch) is p = lost p
 
   -- what was known is what was given
-  pub outcome-known : (a b : S) (u v : Output) (had has : Input) (r : Result Unit ReplayFault) → Outcome asked serves a b u v had has r
-      → IfSome had.remaining (λ given. Replays asked serves a b u v r given)
+  pub outcome-known : (a b : S) (u v : Output) (had has : Input) (r : Result Unit ReplayFault) → Outcome asked serves idles a b u v had has r
+      → IfSome had.remaining (λ given. Replays asked serves idles a b u v r given)
   outcome-known a b u v had has r h = known had.remaining has.remaining h.1.consumes h.2
     where
-      known : (x y : Option (List ℕ)) → Consumes x y h.0 → Replays asked serves a b u v r (h.0 ++ known_bytes y) → IfSome x (λ given. Replays asked serves a b u v r given)
+      known : (x y : Option (List ℕ)) → Consumes x y h.0 → Replays asked serves idles a b u v r (h.0 ++ known_bytes y) → IfSome x (λ given. Replays asked serves idles a b u v r given)
       known None y e k = tt
       known (Some xs) None e k = absurd e
-      known (Some xs) (Some ys) e k = subst (λ (l : List ℕ). Replays asked serves a b u v r l) (sym e) k
+      known (Some xs) (Some ys) e k = subst (λ (l : List ℕ). Replays asked serves idles a b u v r l) (sym e) k

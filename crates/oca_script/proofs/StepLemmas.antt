@@ -1,17 +1,18 @@
 -- Steps of a replay, one after another.
-use Rattle.std.proofs.Common.{◌≡◌, ℕ, ◌<◌, Bool, true, false, List, [], ◌∷◌, ◌++◌, length, Result, Ok, Err, refl, sym, ap, ◌∙◌, append_assoc, append-nil, subst}
+use Rattle.std.proofs.Common.{◌≡◌, inl, inr, ℕ, ◌<◌, Bool, true, false, List, [], ◌∷◌, ◌++◌, length, Result, Ok, Err, refl, sym, ap, ◌∙◌, append_assoc, append-nil, subst}
 use Rattle.oca_script.specs.declared.fault.LineFault.{LineFault}
 use Rattle.oca_script.specs.declared.fault.LineFault.TheVariants.{TooLong}
 use Rattle.oca_script.specs.declared.fault.ReplayFault.{ReplayFault}
 use Rattle.oca_script.specs.declared.fault.ReplayFault.TheVariants.{Line, Read, Write, TooMuch}
+use Rattle.oca_script.specs.declared.fault.WriteFailed.{WriteFailed}
 use Rattle.oca_script.specs.declared.fault.Stop.{Stop}
 use Rattle.oca_script.specs.declared.fault.Stop.TheVariants as stop
 use Rattle.oca_script.specs.Ends.{Output}
-use Rattle.oca_script.specs.Printing.{PrintsAll}
+use Rattle.oca_script.specs.Printing.{Prints, PrintsAll}
 use Rattle.oca_script.specs.Script.{Script, behind, ends_by, line_then, parsed, parsed_by}
-use Rattle.oca_script.specs.Replaying.{Runs, ServesLine}
+use Rattle.oca_script.specs.Replaying.{Runs, NoneLeft, OneServed, OneIdled, GoesOn, Awaited, ServesLine}
 use Rattle.oca_script.specs.PrivateSteps.{Printed, AccountsFor, Step}
-use Rattle.oca_script.proofs.PrintLemmas.{PrintsAll-nil, PrintsAll-then, PrintsPart-then}
+use Rattle.oca_script.proofs.PrintLemmas.{PrintsAll-nil, PrintsAll-then, PrintsPart-then, prints-then, not-printed}
 use Rattle.oca_script.proofs.ScriptLemmas.{asks-long}
 
 -- ---- what is printed
@@ -25,15 +26,28 @@ Printed-then (Err TooMuch) a b c x y h k = PrintsAll-then a b c x y h k
 
 -- ---- requests
 
-module _ {S R : Type 0} (serves : S → R → S → List ℕ → Type 0) where
-  pub Runs-then : (a b c : S) (xs ys : List R) (s t : List ℕ) → Runs serves a xs b s → Runs serves b ys c t → Runs serves a (xs ++ ys) c (s ++ t)
-  Runs-then a b c [] ys s t h k =
-      subst (λ (l : List ℕ). Runs serves a ys c (l ++ t)) (sym h.1) (subst (λ (d : S). Runs serves d ys c t) h.0 k)
-  Runs-then a b c (x ∷ xs) ys s t h k =
-      (h.0, h.1, h.2 ++ t, h.3, Runs-then h.0 b c xs ys h.2 t h.4 k, ap (λ (l : List ℕ). l ++ t) h.5 ∙ append_assoc h.1 h.2 t)
+module _ {S R : Type 0} (serves : S → R → S → List ℕ → Type 0) (idles : S → S → List ℕ → Type 0) where
+  pub Runs-then : (a b c : S) (xs ys : List R) (s t : List ℕ) → Runs serves idles a xs b s → Runs serves idles b ys c t → Runs serves idles a (xs ++ ys) c (s ++ t)
+  Runs-then a b c xs ys s t NoneLeft k = k
+  Runs-then a b c xs ys s t (OneServed {b = m} {requests = rs} {t = v} {u = w} x h more) k =
+      subst (λ (l : List ℕ). Runs serves idles a ((x ∷ rs) ++ ys) c l) (sym (append_assoc v w t)) (OneServed x h (Runs-then m b c rs ys w t more k))
+  Runs-then a b c xs ys s t (OneIdled {b = m} {requests = rs} {t = v} {u = w} h more) k =
+      subst (λ (l : List ℕ). Runs serves idles a (rs ++ ys) c l) (sym (append_assoc v w t)) (OneIdled h (Runs-then m b c rs ys w t more k))
 
-  pub Runs-one : (a b : S) (x : R) (t : List ℕ) → serves a x b t → Runs serves a (x ∷ []) b t
-  Runs-one a b x t h = (b, t, [], h, (refl, refl), sym (append-nil t))
+  pub Runs-one : (a b : S) (x : R) (t : List ℕ) → serves a x b t → Runs serves idles a (x ∷ []) b t
+  Runs-one a b x t h = subst (λ (l : List ℕ). Runs serves idles a (x ∷ []) b l) (append-nil t) (OneServed x h NoneLeft)
+
+  pub Runs-on : (a b : S) (t : List ℕ) → GoesOn idles a b t → Runs serves idles a [] b t
+  Runs-on a b t (inl h) = subst (λ (l : List ℕ). Runs serves idles a [] b l) (sym h.1) (subst (λ (d : S). Runs serves idles a [] d []) (sym h.0) NoneLeft)
+  Runs-on a b t (inr h) = subst (λ (l : List ℕ). Runs serves idles a [] b l) (append-nil t) (OneIdled h NoneLeft)
+
+  -- what is held was handed on, and then the state went on by itself
+  pub awaited-then : (a b : S) (u v w : Output) (r : Result Unit WriteFailed) → PrintsAll u v [] → Awaited idles a b r v w → Awaited idles a b r u w
+  awaited-then a b u v w r h k = record { text = k.text; goes_on = k.goes_on; prints = prints-then r u v w [] k.text h k.prints }
+
+  -- what is held was not handed on
+  pub awaited-not : (a : S) (u v : Output) (r : Result Unit WriteFailed) (e f : WriteFailed) → r ≡ Err e → Prints (Err f) u v [] → Awaited idles a a r u v
+  awaited-not a u v r e f is h = record { text = []; goes_on = inl (refl, refl); prints = not-printed r e f u v [] is h }
 
 pub behind-behind : {R : Type 0} (xs ys : List R) (s : Script R) → behind xs (behind ys s) ≡ behind (xs ++ ys) s
 behind-behind {R} xs ys s = ap behind_as (sym (append_assoc xs ys s.requests))
@@ -75,15 +89,15 @@ AccountsFor-err TooMuch asks rest rest' xs h = h
 
 -- ---- steps
 
-module _ {S R : Type 0} (serves : S → R → S → List ℕ → Type 0) where
+module _ {S R : Type 0} (serves : S → R → S → List ℕ → Type 0) (idles : S → S → List ℕ → Type 0) where
   -- nothing was done
   pub Step-nothing : {X : Type 0} (a : S) (u : Output) (r : Result Unit ReplayFault) (asks rest : X → Script R)
-      → Printed r u u [] → AccountsFor r asks rest [] → Step serves a a u u r asks rest
-  Step-nothing a u r asks rest p h = record { requests = []; text = []; runs = (refl, refl); prints = p; accounts = h }
+      → Printed r u u [] → AccountsFor r asks rest [] → Step serves idles a a u u r asks rest
+  Step-nothing a u r asks rest p h = record { requests = []; text = []; runs = NoneLeft; prints = p; accounts = h }
 
   -- no step reads
   pub Step-unread : {X : Type 0} (a b : S) (u v : Output) (r : Result Unit ReplayFault) (asks rest : X → Script R)
-      → Step serves a b u v r asks rest → r ≡ Err Read → ⊥
+      → Step serves idles a b u v r asks rest → r ≡ Err Read → ⊥
   Step-unread a b u v (Ok x) asks rest h e = cc e
   Step-unread a b u v (Err (Line n w)) asks rest h e = cc e
   Step-unread a b u v (Err Read) asks rest h e = h.prints
@@ -92,18 +106,18 @@ module _ {S R : Type 0} (serves : S → R → S → List ℕ → Type 0) where
 
   -- a step, and then another
   pub Step-then : {X : Type 0} (a b c : S) (u v w : Output) (r : Result Unit ReplayFault) (asks mid rest : X → Script R)
-      → Step serves a b u v (Ok tt) asks mid → Step serves b c v w r mid rest → Step serves a c u w r asks rest
+      → Step serves idles a b u v (Ok tt) asks mid → Step serves idles b c v w r mid rest → Step serves idles a c u w r asks rest
   Step-then a b c u v w r asks mid rest h k = record {
     requests = h.requests ++ k.requests;
     text = h.text ++ k.text;
-    runs = Runs-then serves a b c h.requests k.requests h.text k.text h.runs k.runs;
+    runs = Runs-then serves idles a b c h.requests k.requests h.text k.text h.runs k.runs;
     prints = Printed-then r u v w h.text k.text h.prints k.prints;
     accounts = AccountsFor-then r asks mid rest h.requests k.requests h.accounts k.accounts;
   }
 
   -- the same, whatever else is asked
   pub Step-at : {X Y : Type 0} (f : Y → X) (a b : S) (u v : Output) (r : Result Unit ReplayFault) (asks rest : X → Script R)
-      → Step serves a b u v r asks rest → Step serves a b u v r (λ y. asks (f y)) (λ y. rest (f y))
+      → Step serves idles a b u v r asks rest → Step serves idles a b u v r (λ y. asks (f y)) (λ y. rest (f y))
   Step-at f a b u v r asks rest h = record {
     requests = h.requests;
     text = h.text;
@@ -114,7 +128,7 @@ module _ {S R : Type 0} (serves : S → R → S → List ℕ → Type 0) where
 
   -- the same, said otherwise
   pub Step-as : {X : Type 0} (a b : S) (u v : Output) (r : Result Unit ReplayFault) (asks asks' rest rest' : X → Script R)
-      → ((x : X) → asks' x ≡ asks x) → ((x : X) → rest x ≡ rest' x) → Step serves a b u v r asks rest → Step serves a b u v r asks' rest'
+      → ((x : X) → asks' x ≡ asks x) → ((x : X) → rest x ≡ rest' x) → Step serves idles a b u v r asks rest → Step serves idles a b u v r asks' rest'
   Step-as a b u v r asks asks' rest rest' e f h = record {
     requests = h.requests;
     text = h.text;
@@ -125,7 +139,7 @@ module _ {S R : Type 0} (serves : S → R → S → List ℕ → Type 0) where
 
   -- at a fault it does not matter what would have been left
   pub Step-err : {X : Type 0} (a b : S) (u v : Output) (r : Result Unit ReplayFault) (fault : ReplayFault) (asks rest rest' : X → Script R)
-      → r ≡ Err fault → Step serves a b u v r asks rest → Step serves a b u v r asks rest'
+      → r ≡ Err fault → Step serves idles a b u v r asks rest → Step serves idles a b u v r asks rest'
   Step-err {X} a b u v r fault asks rest rest' e h = record {
     requests = h.requests;
     text = h.text;
@@ -138,33 +152,33 @@ module _ {S R : Type 0} (serves : S → R → S → List ℕ → Type 0) where
   -- ---- a line
 
   served : (a b : S) (u v : Output) (k : ℕ) (x : Result R LineFault) → ServesLine x serves a b (Ok tt) u v
-      → Step {X = Script R} serves a b u v (Ok tt) (λ s. line_then k (parsed_by (Ok true) x) s) (λ s. s)
+      → Step {X = Script R} serves idles a b u v (Ok tt) (λ s. line_then k (parsed_by (Ok true) x) s) (λ s. s)
   served a b u v k (Err fault) h = cc (h.0)
   served a b u v k (Ok request) h = record {
     requests = request ∷ [];
     text = h.text;
-    runs = Runs-one serves a b request h.text h.serves_it;
+    runs = Runs-one serves idles a b request h.text h.serves_it;
     prints = h.prints;
     accounts = λ s. refl;
   }
 
   failed : (a b : S) (u v : Output) (k : ℕ) (x : Result R LineFault) → ServesLine x serves a b (Err stop.Write) u v
-      → Step {X = Script R} serves a b u v (Err Write) (λ s. line_then k (parsed_by (Ok true) x) s) (λ s. s)
+      → Step {X = Script R} serves idles a b u v (Err Write) (λ s. line_then k (parsed_by (Ok true) x) s) (λ s. s)
   failed a b u v k (Err fault) h = cc (h.0)
   failed a b u v k (Ok request) h = record {
     requests = request ∷ [];
     text = h.text;
-    runs = Runs-one serves a b request h.text h.serves_it;
+    runs = Runs-one serves idles a b request h.text h.serves_it;
     prints = h.prints;
     accounts = λ s. (s, refl);
   }
 
   refused : (a b : S) (u v : Output) (k : ℕ) (x : Result R LineFault) (fault : LineFault) → ServesLine x serves a b (Err (stop.Line fault)) u v
-      → Step {X = Script R} serves a b u v (Err (Line k fault)) (λ s. line_then k (parsed_by (Ok true) x) s) (λ s. s)
+      → Step {X = Script R} serves idles a b u v (Err (Line k fault)) (λ s. line_then k (parsed_by (Ok true) x) s) (λ s. s)
   refused a b u v k (Err other) fault h =
       let same : other ≡ fault = cc (h.0) in
-      subst (λ (d : S). Step {X = Script R} serves a d u v (Err (Line k fault)) (λ s. line_then k (parsed_by (Ok true) (Err other)) s) (λ s. s)) (sym h.1)
-      (subst (λ (w : Output). Step {X = Script R} serves a a u w (Err (Line k fault)) (λ s. line_then k (parsed_by (Ok true) (Err other)) s) (λ s. s)) (sym h.2)
+      subst (λ (d : S). Step {X = Script R} serves idles a d u v (Err (Line k fault)) (λ s. line_then k (parsed_by (Ok true) (Err other)) s) (λ s. s)) (sym h.1)
+      (subst (λ (w : Output). Step {X = Script R} serves idles a a u w (Err (Line k fault)) (λ s. line_then k (parsed_by (Ok true) (Err other)) s) (λ s. s)) (sym h.2)
       (Step-nothing a u (Err (Line k fault)) _ _ (PrintsAll-nil u) (λ s. ap (λ (f : LineFault). by_fault f) same)))
     where
       by_fault : LineFault → Script R
@@ -173,35 +187,35 @@ module _ {S R : Type 0} (serves : S → R → S → List ℕ → Type 0) where
 
   -- what a language's `serve_line` answered
   pub line-served : (a b : S) (u v : Output) (k : ℕ) (x : Result R LineFault) (r : Result Unit Stop) (o : Unit {0}) → r ≡ Ok o
-      → ServesLine x serves a b r u v → Step {X = Script R} serves a b u v (Ok tt) (λ s. line_then k (parsed_by (Ok true) x) s) (λ s. s)
+      → ServesLine x serves a b r u v → Step {X = Script R} serves idles a b u v (Ok tt) (λ s. line_then k (parsed_by (Ok true) x) s) (λ s. s)
   line-served a b u v k x r o e h = served a b u v k x (subst (λ (z : Result Unit Stop). ServesLine x serves a b z u v) e h)
 
   pub line-failed : (a b : S) (u v : Output) (k : ℕ) (x : Result R LineFault) (r : Result Unit Stop) → r ≡ Err stop.Write
-      → ServesLine x serves a b r u v → Step {X = Script R} serves a b u v (Err Write) (λ s. line_then k (parsed_by (Ok true) x) s) (λ s. s)
+      → ServesLine x serves a b r u v → Step {X = Script R} serves idles a b u v (Err Write) (λ s. line_then k (parsed_by (Ok true) x) s) (λ s. s)
   line-failed a b u v k x r e h = failed a b u v k x (subst (λ (z : Result Unit Stop). ServesLine x serves a b z u v) e h)
 
   pub line-refused : (a b : S) (u v : Output) (k : ℕ) (x : Result R LineFault) (r : Result Unit Stop) (fault : LineFault) → r ≡ Err (stop.Line fault)
-      → ServesLine x serves a b r u v → Step {X = Script R} serves a b u v (Err (Line k fault)) (λ s. line_then k (parsed_by (Ok true) x) s) (λ s. s)
+      → ServesLine x serves a b r u v → Step {X = Script R} serves idles a b u v (Err (Line k fault)) (λ s. line_then k (parsed_by (Ok true) x) s) (λ s. s)
   line-refused a b u v k x r fault e h = refused a b u v k x fault (subst (λ (z : Result Unit Stop). ServesLine x serves a b z u v) e h)
 
   -- a line with that fault whatever its fields are
   pub line-bad : (a : S) (u : Output) (k : ℕ) (fault : LineFault) (p : Result Bool LineFault) (x : Result R LineFault) → p ≡ Err fault
-      → Step {X = Script R} serves a a u u (Err (Line k fault)) (λ s. line_then k (parsed_by p x) s) (λ s. s)
+      → Step {X = Script R} serves idles a a u u (Err (Line k fault)) (λ s. line_then k (parsed_by p x) s) (λ s. s)
   line-bad a u k fault p x e = Step-nothing a u (Err (Line k fault)) _ _ (PrintsAll-nil u) (λ s. ap (λ q. line_then k (parsed_by q x) s) e)
 
   -- a line that is skipped
   pub line-skipped : (a : S) (u : Output) (k : ℕ) (p : Result Bool LineFault) (x : Result R LineFault) → p ≡ Ok false
-      → Step {X = Script R} serves a a u u (Ok tt) (λ s. line_then k (parsed_by p x) s) (λ s. s)
+      → Step {X = Script R} serves idles a a u u (Ok tt) (λ s. line_then k (parsed_by p x) s) (λ s. s)
   line-skipped a u k p x e = Step-nothing a u (Ok tt) _ _ (PrintsAll-nil u) (λ s. ap (λ q. line_then k (parsed_by q x) s) e)
 
   -- a line that asks for something
   pub line-asks : (a b : S) (u v : Output) (k : ℕ) (r : Result Unit ReplayFault) (p : Result Bool LineFault) (x : Result R LineFault) → p ≡ Ok true
-      → Step {X = Script R} serves a b u v r (λ s. line_then k (parsed_by (Ok true) x) s) (λ s. s) → Step {X = Script R} serves a b u v r (λ s. line_then k (parsed_by p x) s) (λ s. s)
+      → Step {X = Script R} serves idles a b u v r (λ s. line_then k (parsed_by (Ok true) x) s) (λ s. s) → Step {X = Script R} serves idles a b u v r (λ s. line_then k (parsed_by p x) s) (λ s. s)
   line-asks a b u v k r p x e h = Step-as a b u v r _ _ _ _ (λ s. ap (λ q. line_then k (parsed_by q x) s) e) (λ s. refl) h
 
   -- a line that is too long already
   pub line-too_long : (a : S) (u : Output) (k : ℕ) (line : List ℕ) (asked : List (List ℕ) → Result R LineFault) (r : Result Unit ReplayFault) → 4096 < length line
-      → r ≡ Err (Line k TooLong) → Step {X = Script R} serves a a u u r (λ s. line_then k (parsed asked line) s) (λ s. s)
+      → r ≡ Err (Line k TooLong) → Step {X = Script R} serves idles a a u u r (λ s. line_then k (parsed asked line) s) (λ s. s)
   line-too_long a u k line asked r long e =
-      subst (λ (q : Result Unit ReplayFault). Step {X = Script R} serves a a u u q (λ s. line_then k (parsed asked line) s) (λ s. s)) (sym e)
+      subst (λ (q : Result Unit ReplayFault). Step {X = Script R} serves idles a a u u q (λ s. line_then k (parsed asked line) s) (λ s. s)) (sym e)
       (line-bad a u k TooLong _ _ (asks-long line long))

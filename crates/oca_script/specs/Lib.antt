@@ -1,5 +1,6 @@
 pub mod Faults
 pub mod Fields
+pub mod Escapes
 pub mod FieldAnswers
 pub mod Script
 pub mod Ends

@@ -25,17 +25,12 @@ AccountsFor {R} {X} (Err Write) asks rest requests = (x : X) → BeginsWith requ
 AccountsFor {R} {X} (Err TooMuch) asks rest requests = (x : X) → asks x ≡ record { requests = requests; ending = Err TooMuch }
 
 -- some requests were served and their text printed, and they account for what was asked
-pub record Step {S R X : Type 0} (serves : S → R → S → List ℕ → Type 0) (old new : S) (was is : Output) (result : Result Unit ReplayFault) (asks rest : X → Script R) : Type 0 where
+pub record Step {S R X : Type 0} (serves : S → R → S → List ℕ → Type 0) (idles : S → S → List ℕ → Type 0) (old new : S) (was is : Output) (result : Result Unit ReplayFault) (asks rest : X → Script R) : Type 0 where
   pub requests : List R
   pub text : List ℕ
-  pub runs : Runs serves old requests new text
+  pub runs : Runs serves idles old requests new text
   pub prints : Printed result was is text
   pub accounts : AccountsFor result asks rest requests
-
--- a line that is skipped leaves the state as it was; another one leaves it at rest where no further one is at hand
-abbrev pub RestsAfter : {S : Type 0} → (S → Type 0) → Bool → Bool → S → S → Type 0
-RestsAfter rests true more old new = new ≡ old
-RestsAfter rests false more old new = more ≡ false → rests new
 
 -- the text was printed, or a write failed; where a read failed nothing is held
 abbrev pub PrintedAtEnd : Result Unit ReplayFault → Output → Output → List ℕ → Type 0
@@ -46,17 +41,17 @@ PrintedAtEnd (Err Write) old new text = PrintsPart old new text
 PrintedAtEnd (Err TooMuch) old new text = PrintsAll old new text
 
 -- the script of `given` was replayed as far as the result says, and its text printed
-pub record Performs {S R : Type 0} (asked : List (List ℕ) → Result R LineFault) (serves : S → R → S → List ℕ → Type 0) (old new : S) (was is : Output) (result : Result Unit ReplayFault) (given : List ℕ) : Type 0 where
+pub record Performs {S R : Type 0} (asked : List (List ℕ) → Result R LineFault) (serves : S → R → S → List ℕ → Type 0) (idles : S → S → List ℕ → Type 0) (old new : S) (was is : Output) (result : Result Unit ReplayFault) (given : List ℕ) : Type 0 where
   pub requests : List R
   pub text : List ℕ
-  pub runs : Runs serves old requests new text
+  pub runs : Runs serves idles old requests new text
   pub prints : PrintedAtEnd result was is text
   pub ends : Ends result (script asked given) requests
 
 -- there are bytes, those that the source gave where it tells them, and the script of these and of what it has left was
 -- performed
-abbrev pub Performance : {S R : Type 0} → (List (List ℕ) → Result R LineFault) → (S → R → S → List ℕ → Type 0) → S → S → Output → Output → Input → Input → Result Unit ReplayFault → Type 0
-Performance asked serves old new was is had has result = (taken : List ℕ) × Reads had has result taken × Performs asked serves old new was is result (taken ++ known_bytes has.remaining)
+abbrev pub Performance : {S R : Type 0} → (List (List ℕ) → Result R LineFault) → (S → R → S → List ℕ → Type 0) → (S → S → List ℕ → Type 0) → S → S → Output → Output → Input → Input → Result Unit ReplayFault → Type 0
+Performance asked serves idles old new was is had has result = (taken : List ℕ) × Reads had has result taken × Performs asked serves idles old new was is result (taken ++ known_bytes has.remaining)
 
 -- a read or a write failed
 abbrev pub is_end_failure : Result Unit ReplayFault → Bool

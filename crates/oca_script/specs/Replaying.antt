@@ -1,13 +1,14 @@
 -- What a replay does (profile).
-use Rattle.std.specs.Prelude.{◌≡◌, ◌≤◌, ℕ, Bool, true, List, [], ◌∷◌, ◌++◌, length, Option, None, Some, Result, Ok, Err, OnOk}
+use Rattle.std.specs.Prelude.{◌≡◌, ◌⊎◌, ◌≤◌, ℕ, Bool, true, List, [], ◌∷◌, ◌++◌, length, Option, None, Some, Result, Ok, Err, OnOk}
 use Rattle.std.specs.Io.KnownBytes.{Consumes, IsAtEnd}
 use Rattle.oca_script.specs.declared.fault.LineFault.{LineFault}
 use Rattle.oca_script.specs.declared.fault.Stop.{Stop}
 use Rattle.oca_script.specs.declared.fault.Stop.TheVariants as stop
 use Rattle.oca_script.specs.declared.fault.ReplayFault.{ReplayFault}
+use Rattle.oca_script.specs.declared.fault.WriteFailed.{WriteFailed}
 use Rattle.oca_script.specs.declared.fault.ReplayFault.TheVariants.{Line, Read, Write, TooMuch}
 use Rattle.oca_script.specs.Ends.{Input, Output}
-use Rattle.oca_script.specs.Printing.{PrintsAll, PrintsPart, WritesWhole, WritesFront}
+use Rattle.oca_script.specs.Printing.{Prints, PrintsAll, PrintsPart, WritesWhole, WritesFront}
 use Rattle.oca_script.specs.Script.{Script, script, behind}
 
 -- ---- a line
@@ -27,11 +28,30 @@ ServesLine (Ok request) serves old new (Err (stop.Line fault)) was is = ⊥
 
 -- ---- requests
 
--- from a the requests lead to c, one after another, and print the text
-abbrev pub Runs : {S R : Type 0} → (S → R → S → List ℕ → Type 0) → S → List R → S → List ℕ → Type 0
-Runs serves a [] c text = (c ≡ a) × (text ≡ [])
-Runs {S} {R} serves a (request ∷ requests) c text =
-    (b : S) × (t : List ℕ) × (u : List ℕ) × serves a request b t × Runs serves b requests c u × (text ≡ t ++ u)
+-- From one state the requests lead to another, one after another, and print the text. Before a request, and behind the
+-- last, the state may go on by itself as often as it likes: that is what it does while the next request is awaited.
+pub data Runs {S R : Type 0} (serves : S → R → S → List ℕ → Type 0) (idles : S → S → List ℕ → Type 0) : (old : S) (requests : List R) (new : S) (text : List ℕ) → Type 0 where
+  NoneLeft : {a : S} → Runs serves idles a [] a []
+  OneServed : {a b c : S} {requests : List R} {t u : List ℕ} (request : R) →
+      serves a request b t → Runs serves idles b requests c u → Runs serves idles a (request ∷ requests) c (t ++ u)
+  OneIdled : {a b c : S} {requests : List R} {t u : List ℕ} →
+      idles a b t → Runs serves idles b requests c u → Runs serves idles a requests c (t ++ u)
+
+-- nothing goes on by itself
+abbrev pub NeverIdles : {S : Type 0} → S → S → List ℕ → Type 0
+NeverIdles a b text = ⊥
+
+-- ---- between requests
+
+-- a state stayed as it was, or went on by itself, and printed this
+abbrev pub GoesOn : {S : Type 0} → (S → S → List ℕ → Type 0) → S → S → List ℕ → Type 0
+GoesOn idles old new text = ((new ≡ old) × (text ≡ [])) ⊎ idles old new text
+
+-- what a language did before a read, and what was printed, as far as the writes went
+pub record Awaited {S : Type 0} (idles : S → S → List ℕ → Type 0) (old new : S) (result : Result Unit WriteFailed) (was is : Output) : Type 0 where
+  pub text : List ℕ
+  pub goes_on : GoesOn idles old new text
+  pub prints : Prints result was is text
 
 -- ---- a replay
 
@@ -56,10 +76,10 @@ Ends (Err Write) s requests = BeginsWith requests s
 Ends (Err TooMuch) s requests = s ≡ record { requests = requests; ending = Err TooMuch }
 
 -- From old to new the script was replayed, as far as the result says, and its text was written.
-pub record Replays {S R : Type 0} (asked : List (List ℕ) → Result R LineFault) (serves : S → R → S → List ℕ → Type 0) (old new : S) (was is : Output) (result : Result Unit ReplayFault) (given : List ℕ) : Type 0 where
+pub record Replays {S R : Type 0} (asked : List (List ℕ) → Result R LineFault) (serves : S → R → S → List ℕ → Type 0) (idles : S → S → List ℕ → Type 0) (old new : S) (was is : Output) (result : Result Unit ReplayFault) (given : List ℕ) : Type 0 where
   pub requests : List R
   pub text : List ℕ
-  pub runs : Runs serves old requests new text
+  pub runs : Runs serves idles old requests new text
   pub writes : Writes result was is text
   pub ends : Ends result (script asked given) requests
 
@@ -85,5 +105,5 @@ pub record Reads (had has : Input) (result : Result Unit ReplayFault) (taken : L
 
 -- There are bytes, those that the source gave where it tells them, and the script of these and of what it has left was
 -- replayed.
-abbrev pub Outcome : {S R : Type 0} → (List (List ℕ) → Result R LineFault) → (S → R → S → List ℕ → Type 0) → S → S → Output → Output → Input → Input → Result Unit ReplayFault → Type 0
-Outcome asked serves old new was is had has result = (taken : List ℕ) × Reads had has result taken × Replays asked serves old new was is result (taken ++ known_bytes has.remaining)
+abbrev pub Outcome : {S R : Type 0} → (List (List ℕ) → Result R LineFault) → (S → R → S → List ℕ → Type 0) → (S → S → List ℕ → Type 0) → S → S → Output → Output → Input → Input → Result Unit ReplayFault → Type 0
+Outcome asked serves idles old new was is had has result = (taken : List ℕ) × Reads had has result taken × Replays asked serves idles old new was is result (taken ++ known_bytes has.remaining)

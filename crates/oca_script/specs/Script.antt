@@ -47,12 +47,6 @@ parsed asked line = parsed_by (asks line) (asked (fields line))
 abbrev pub lines : List ℕ → List (List ℕ)
 lines text = split_on 10 text
 
--- of these lines one that a line feed ends is not skipped
-abbrev pub some_asks : List (List ℕ) → Bool
-some_asks [] = false
-some_asks (line ∷ []) = false
-some_asks (line ∷ next ∷ more) = if is_skipped line then some_asks (next ∷ more) else true
-
 -- The lines that count where more bytes follow: those that a line feed ends, and the last where it is too long already.
 abbrev pub counted : List (List ℕ) → List (List ℕ)
 counted [] = []

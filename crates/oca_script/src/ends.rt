@@ -1,11 +1,14 @@
 //! Where a script comes from, and where what it prints goes.
-ghost use Rattle.std.specs.Prelude.{◌≡◌, ◌<◌, ℕ, List, Option, Bool, IfOk, false, length};
+ghost use Rattle.std.specs.Prelude.{◌≡◌, ◌<◌, ℕ, List, Option, Bool, IfOk, IsFalse, OnErr, Some, false, true, length};
 ghost use Rattle.std.specs.Io.{ReadsAtMost, WritesAtMost};
 ghost use Rattle.std.specs.Io.KnownBytes.{ReadConsumes, WriteAppends};
-ghost use Rattle.oca_script.specs.Ends.{Remembers};
+ghost use Rattle.oca_script.specs.Ends.{Remembers, input};
 
 use super::fault::{ReadFailed, WriteFailed};
+use oca_wait::{Ready, is_in_foreground, is_terminal, wait_for};
+use std::io;
 use std::io::{Read, Write};
+use std::os::fd::{AsRawFd, RawFd};
 
 /// What a script is read from.
 pub trait Source {
@@ -14,6 +17,15 @@ pub trait Source {
 
     // Whether a read has failed.
     ghost failed: { Self → Bool };
+
+    // Whether it is known that a read does not wait: since there are bytes, or the end is reached, or it never waits.
+    ghost ready: { Self → Bool } = { λ _. true };
+
+    /// Waits at most so many milliseconds until a read does not wait, or until the descriptor beside, where there is
+    /// one, has something. Returns whether a read does not wait, and reads nothing.
+    fn await_input(&mut self, beside: Option<RawFd>, milliseconds: u64) -> bool
+        ensures ready { ready self.new ≡ result }
+        ensures source { input (remaining self.new) (failed self.new) ≡ input (remaining self.old) (failed self.old) };
 
     /// Puts the next bytes at the front of the buffer and returns how many there are: none only at the end, or where
     /// the buffer has no room. `ReadFailed` where nothing can be read.
@@ -40,22 +52,48 @@ pub trait Sink {
         ensures failed { Remembers result (failed self.old) (failed self.new) };
 }
 
-/// Any reader, with whether a read of it has failed. That the flag is raised only where the reader failed is shown by
-/// tests: the standard library's readers have no word for a failure.
+/// Any reader, with whether a read of it has failed, and its descriptor where it is to be awaited. That the flag is
+/// raised only where the reader failed is shown by tests: the standard library's readers have no word for a failure.
 pub struct FromReader<R> {
     reader: R,
     failed: bool,
+    descriptor: Option<RawFd>,
+    is_terminal: bool,
+    ready: bool,
 }
 
 impl<R: Read> FromReader<R> {
-    /// The reader, of which no read has failed.
+    /// The reader, of which no read has failed. It is taken for one of which no read waits, as those of files and of
+    /// memory.
     pub fn new(reader: R) -> FromReader<R>
         ensures reader { result.reader ≡ reader }
         ensures unfailed { result.failed ≡ false }
+        ensures ready { result.ready ≡ true }
     {
         FromReader {
             reader,
             failed: false,
+            descriptor: None,
+            is_terminal: false,
+            ready: true,
+        }
+    }
+
+    /// The same of a reader that is awaited by its descriptor: a read of it may wait.
+    pub fn awaited(reader: R) -> FromReader<R>
+    where
+        R: AsRawFd,
+        ensures reader { result.reader ≡ reader }
+        ensures unfailed { result.failed ≡ false }
+        ensures unready { result.ready ≡ false }
+    {
+        let descriptor = reader.as_raw_fd();
+        FromReader {
+            reader,
+            failed: false,
+            descriptor: Some(descriptor),
+            is_terminal: is_terminal(descriptor),
+            ready: false,
         }
     }
 }
@@ -66,6 +104,9 @@ impl<R: Drop> Drop for FromReader<R> {
         let FromReader {
             reader: _,
             failed: _,
+            descriptor: _,
+            is_terminal: _,
+            ready: _,
         } = self;
     }
 }
@@ -75,8 +116,21 @@ impl<R: Read> Source for FromReader<R> {
 
     ghost failed = { λ s. s.failed };
 
+    ghost ready = { λ s. s.ready };
+
+    /// Asks the system, where the descriptor is known. Where the system can't tell, a read is taken not to wait. A
+    /// terminal in whose background the program is has nothing to read.
+    fn await_input(&mut self, beside: Option<RawFd>, milliseconds: u64) -> bool {
+        if let Some(descriptor) = self.descriptor {
+            let asked = readable(descriptor, self.is_terminal);
+            self.ready = says_ready(wait_for(asked, beside, milliseconds));
+        }
+        self.ready
+    }
+
     /// Reads once, and raises the flag where that fails.
     fn read(&mut self, buf: &mut [u8]) -> Result<usize, ReadFailed> {
+        self.ready = self.descriptor.is_none();
         match self.reader.read(buf) {
             Ok(count) => Ok(count),
             Err(_) => {
@@ -85,6 +139,27 @@ impl<R: Read> Source for FromReader<R> {
             }
         }
     }
+}
+
+/// Whether a read does not wait, by what the system said.
+fn says_ready(said: io::Result<Ready>) -> bool
+    ensures told { IfOk said (λ ready. result ≡ ready.input) }
+    ensures untold { OnErr said (result ≡ true) }
+{
+    match said {
+        Ok(ready) => ready.input,
+        Err(_) => true,
+    }
+}
+
+/// The descriptor, where a read of it does not stop the program.
+fn readable(descriptor: RawFd, is_terminal: bool) -> Option<RawFd>
+    ensures { IsFalse is_terminal → result ≡ Some descriptor }
+{
+    if is_terminal && !is_in_foreground(descriptor) {
+        return None;
+    }
+    Some(descriptor)
 }
 
 /// Any writer, with whether a write to it has failed. A write that takes nothing has. That the flag is raised only

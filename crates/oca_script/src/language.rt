@@ -1,12 +1,13 @@
 //! What the lines of a script ask for.
-ghost use Rattle.std.specs.Prelude.{◌≡◌, ◌≤◌, ℕ, List, Result, length, OnOk, false};
+ghost use Rattle.std.specs.Prelude.{◌≡◌, ◌≤◌, ℕ, List, [], Result, length, OnOk, false};
+ghost use Rattle.oca_script.specs.Ends.{input};
 ghost use Rattle.oca_script.specs.Fields.{fields};
 ghost use Rattle.oca_script.specs.Script.{longest_line};
-ghost use Rattle.oca_script.specs.Replaying.{ServesLine};
+ghost use Rattle.oca_script.specs.Replaying.{Awaited, NeverIdles, ServesLine};
 ghost use Rattle.oca_script.specs.declared.fault.LineFault.{LineFault};
 
-use super::ends::Sink;
-use super::fault::{LineFault, Stop};
+use super::ends::{Sink, Source};
+use super::fault::{LineFault, Stop, WriteFailed};
 use super::printer::Printer;
 
 /// What the fields of a line ask for, and what serving that does to a state and prints.
@@ -25,20 +26,34 @@ pub trait Language {
     // A state in which nothing is under way, so that it may be left for as long as a read takes.
     ghost rests: { Self.State → Type 0 } = { λ _. Unit {0} };
 
+    // By itself, between requests, a state leads to a state, and prints a text.
+    ghost idles: { Self.State → Self.State → List ℕ → Type 0 } = { NeverIdles };
+
     // From a state a request leads to a state, and prints a text.
     ghost serves: { Self.State → Self.Request → Self.State → List ℕ → Type 0 };
 
     /// Serves what the line asks for and prints its text; or returns the fault of its fields, and then does nothing.
-    /// Lines that are skipped or are not ASCII do not come here. `more` tells whether a further line that asks
-    /// for something is at hand: where none is, the next line may be long in coming, and the state is left at rest.
+    /// Lines that are skipped or are not ASCII do not come here.
     fn serve_line<W: Sink>(
         state: &mut Self::State,
         room: &mut Self::Room,
         line: &[u8],
-        more: bool,
         printer: &mut Printer<W>,
     ) -> Result<(), Stop>
         requires { length line.now ≤ longest_line }
-        ensures line { ServesLine (asked (fields line.now)) serves state.old state.new result printer.old printer.new }
-        ensures rests { OnOk result (more ≡ false → rests state.new) };
+        ensures { ServesLine (asked (fields line.now)) serves state.old state.new result printer.old printer.new };
+
+    /// Is called before each read, where nothing is held: drives what is under way until a read does not wait, or until
+    /// nothing is under way, and prints what comes of it, so that nothing is held again. It reads nothing. A language
+    /// of which nothing is ever under way has nothing to do here.
+    fn before_read<R: Source, W: Sink>(
+        state: &mut Self::State,
+        reader: &mut R,
+        printer: &mut Printer<W>,
+    ) -> Result<(), WriteFailed>
+        requires { printer.old.held ≡ [] }
+        ensures awaited { Awaited idles state.old state.new result printer.old printer.new }
+        ensures empty { OnOk result (printer.new.held ≡ []) }
+        ensures source { input (R.remaining reader.new) (R.failed reader.new) ≡ input (R.remaining reader.old) (R.failed reader.old) }
+        ensures rests { OnOk result (R.ready reader.new ≡ false → rests state.new) };
 }

@@ -8,6 +8,7 @@
 
 mod buffer;
 pub mod ends;
+pub mod escape;
 pub mod fault;
 pub mod field;
 pub mod language;
@@ -16,6 +17,7 @@ pub mod printer;
 mod progress;
 
 pub use ends::{FromReader, Sink, Source, ToWriter};
+pub use escape::Escaped;
 pub use fault::{LineFault, ReadFailed, ReplayFault, Stop, WriteFailed};
 pub use language::Language;
 pub use printer::Printer;

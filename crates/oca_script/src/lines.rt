@@ -5,13 +5,13 @@ ghost use Rattle.std.specs.Prelude.{true, false, Ok as ok};
 ghost use Rattle.std.specs.Io.KnownBytes.{Consumes, Keeps, IsAtEnd};
 ghost use Rattle.oca_script.specs.Ends.{input, Remembers};
 ghost use Rattle.oca_script.specs.Fields.{fields};
-ghost use Rattle.oca_script.specs.Script.{longest_line, Script, is_skipped as skipped_line, is_ascii as ascii_line, lines, some_asks, asks, parsed, parsed_by, line_then};
+ghost use Rattle.oca_script.specs.Script.{longest_line, Script, is_skipped as skipped_line, is_ascii as ascii_line, asks, parsed, parsed_by, line_then};
 ghost use Rattle.oca_script.specs.PrivateScript.{script_from};
-ghost use Rattle.oca_script.specs.Replaying.{Outcome, Replays};
-ghost use Rattle.oca_script.specs.PrivateSteps.{Step, RestsAfter, Performance, is_end_failure};
+ghost use Rattle.oca_script.specs.Replaying.{Awaited, Outcome, Replays};
+ghost use Rattle.oca_script.specs.PrivateSteps.{Step, Performance, is_end_failure};
 
 use super::ends::{Sink, Source};
-use super::fault::{LineFault, ReplayFault, Stop};
+use super::fault::{LineFault, ReplayFault, Stop, WriteFailed};
 use super::field::split_at_byte;
 use super::language::Language;
 use super::printer::Printer;
@@ -61,72 +61,42 @@ fn line_asks(line: &[u8], ascii: bool) -> Result<bool, LineFault>
     }
 }
 
-/// Whether a further line that asks for something stands whole in these bytes.
-#[tactic(auto, using(crate::proofs::PieceLemmas::asks_past, crate::proofs::PieceLemmas::asks_here, crate::proofs::PieceLemmas::asks_none))]
-fn asks_more(bytes: &[u8]) -> bool
-    ensures { result ≡ some_asks (lines bytes.now) }
-{
-    let mut rest = bytes;
-    while let Some((line, after)) = split_at_byte(rest, b'\n') {
-        if !is_skipped(line) {
-            return true;
-        }
-        rest = after;
-    }
-    false
-}
-
-/// The same, but nothing is looked for behind the end of a line that may be skipped, so that no byte is looked at often.
-fn goes_on(end: &[u8], after: &[u8]) -> bool
-    ensures { some_asks (lines after.now) ≡ false → result ≡ false }
-{
-    if is_skipped(end) {
-        return false;
-    }
-    asks_more(after)
-}
-
-/// Serves a line that asks for something. `more` tells whether a further one is at hand.
+/// Serves a line that asks for something.
 fn serve_asking<L: Language, W: Sink>(
     state: &mut L::State,
     room: &mut L::Room,
     number: u64,
     line: &[u8],
-    more: bool,
     printer: &mut Printer<W>,
 ) -> Result<(), ReplayFault>
     requires { length line.now ≤ longest_line }
-    ensures step { Step L.serves state.old state.new printer.old printer.new result
+    ensures { Step L.serves L.idles state.old state.new printer.old printer.new result
         (λ (s : Script L.Request). line_then number (parsed_by (ok true) (L.asked (fields line.now))) s) (λ s. s) }
-    ensures rests { OnOk result (more ≡ false → L.rests state.new) }
 {
-    match L::serve_line(state, room, line, more, printer) {
+    match L::serve_line(state, room, line, printer) {
         Ok(()) => Ok(()),
         Err(Stop::Line(fault)) => Err(ReplayFault::Line(number, fault)),
         Err(Stop::Write) => Err(ReplayFault::Write),
     }
 }
 
-/// Serves a line. `ascii` tells that each of its bytes is known to be below 128, `more` whether a further line that
-/// asks for something is at hand.
+/// Serves a line. `ascii` tells that each of its bytes is known to be below 128.
 fn serve_line<L: Language, W: Sink>(
     state: &mut L::State,
     room: &mut L::Room,
     number: u64,
     line: &[u8],
     ascii: bool,
-    more: bool,
     printer: &mut Printer<W>,
 ) -> Result<(), ReplayFault>
     requires { IsTrue ascii → ascii_line line.now ≡ true }
-    ensures step { Step L.serves state.old state.new printer.old printer.new result
+    ensures { Step L.serves L.idles state.old state.new printer.old printer.new result
         (λ (s : Script L.Request). line_then number (parsed L.asked line.now) s) (λ s. s) }
-    ensures rests { OnOk result (RestsAfter L.rests (skipped_line line.now) more state.old state.new) }
 {
     match line_asks(line, ascii) {
         Err(fault) => Err(ReplayFault::Line(number, fault)),
         Ok(false) => Ok(()),
-        Ok(true) => serve_asking::<L, W>(state, room, number, line, more, printer),
+        Ok(true) => serve_asking::<L, W>(state, room, number, line, printer),
     }
 }
 
@@ -152,21 +122,19 @@ fn serve_ended<L: Language, W: Sink>(
     progress: &mut Progress,
     end: &[u8],
     ascii: bool,
-    more: bool,
     printer: &mut Printer<W>,
 ) -> Result<(), ReplayFault>
     requires { IsTrue ascii → ascii_line end.now ≡ true }
-    ensures step { Step L.serves state.old state.new printer.old printer.new result
+    ensures step { Step L.serves L.idles state.old state.new printer.old printer.new result
         (λ (s : Script L.Request). line_then progress.old.number (parsed L.asked (progress.old.line ++ end.now)) s) (λ s. s) }
-    ensures rests { OnOk result (RestsAfter L.rests (skipped_line (progress.old.line ++ end.now)) more state.old state.new) }
     ensures number { progress.new.number ≡ progress.old.number }
 {
     if progress.line.is_empty() {
-        return serve_line::<L, W>(state, room, progress.number, end, ascii, more, printer);
+        return serve_line::<L, W>(state, room, progress.number, end, ascii, printer);
     }
     keep(progress, end)?;
     let line = progress.line.as_slice();
-    serve_line::<L, W>(state, room, progress.number, line, false, more, printer)
+    serve_line::<L, W>(state, room, progress.number, line, false, printer)
 }
 
 /// Serves the lines that end in a piece of the script, and keeps what stands behind the last.
@@ -178,18 +146,15 @@ fn serve_piece<L: Language, W: Sink>(
     printer: &mut Printer<W>,
 ) -> Result<(), ReplayFault>
     requires number { progress.old.number + length piece.now ≤ 16777217 }
-    requires rests { L.rests state.old }
-    ensures step { Step L.serves state.old state.new printer.old printer.new result
+    ensures step { Step L.serves L.idles state.old state.new printer.old printer.new result
         (λ (m : ℕ × List ℕ). script_from L.asked progress.old.number progress.old.line (length piece.now + m.0) (piece.now ++ m.1))
         (λ m. script_from L.asked progress.new.number progress.new.line m.0 m.1) }
     ensures number { progress.new.number ≤ progress.old.number + length piece.now }
-    ensures rests { OnOk result (L.rests state.new) }
 {
     let ascii = is_ascii(piece);
     let mut rest = piece;
     while let Some((end, after)) = split_at_byte(rest, b'\n') {
-        let more = goes_on(end, after);
-        serve_ended::<L, W>(state, room, progress, end, ascii, more, printer)?;
+        serve_ended::<L, W>(state, room, progress, end, ascii, printer)?;
         progress.line.clear();
         progress.number += 1;
         rest = after;
@@ -201,7 +166,8 @@ fn serve_piece<L: Language, W: Sink>(
 /// of the requests before the first bad line is written, and before it what the printer held. Faults: `Line` with the
 /// first bad line and its fault; `TooMuch` beyond 16,777,216 bytes where no line within them is bad; `Read` and `Write`
 /// where a read or a write of ends that had not failed before failed in this call, and nowhere else: some first
-/// requests were served then, and their text was written, or at `Write` a front of it. (The form of a script is the
+/// requests were served then, and their text was written, or at `Write` a front of it. Before each read the language's
+/// `before_read` is called: a read that may wait is begun only where nothing is under way. (The form of a script is the
 /// profile's.)
 pub fn serve_lines<L: Language, R: Source, W: Sink>(
     state: &mut L::State,
@@ -209,15 +175,13 @@ pub fn serve_lines<L: Language, R: Source, W: Sink>(
     reader: &mut R,
     printer: &mut Printer<W>,
 ) -> Result<(), ReplayFault>
-    // Nothing is under way, so that the first read may take as long as it will.
-    requires rests { L.rests state.old }
     // Whatever source: there are bytes, those that it gave where it tells them, and the rest of what it had, and their
     // script was replayed.
-    ensures reads { Outcome L.asked L.serves state.old state.new printer.old printer.new
+    ensures reads { Outcome L.asked L.serves L.idles state.old state.new printer.old printer.new
         (input (R.remaining reader.old) (R.failed reader.old)) (input (R.remaining reader.new) (R.failed reader.new)) result }
     // Where the bytes that it had are known, their script was.
     ensures known { IfSome (R.remaining reader.old) (λ given.
-        Replays L.asked L.serves state.old state.new printer.old printer.new result given) }
+        Replays L.asked L.serves L.idles state.old state.new printer.old printer.new result given) }
 {
     serve_script::<L, R, W>(state, room, reader, printer)
 }
@@ -229,8 +193,7 @@ fn serve_script<L: Language, R: Source, W: Sink>(
     reader: &mut R,
     printer: &mut Printer<W>,
 ) -> Result<(), ReplayFault>
-    requires { L.rests state.old }
-    ensures { Outcome L.asked L.serves state.old state.new printer.old printer.new
+    ensures { Outcome L.asked L.serves L.idles state.old state.new printer.old printer.new
         (input (R.remaining reader.old) (R.failed reader.old)) (input (R.remaining reader.new) (R.failed reader.new)) result }
 {
     let ended = read_script::<L, R, W>(state, room, reader, printer);
@@ -257,8 +220,7 @@ fn read_script<L: Language, R: Source, W: Sink>(
     reader: &mut R,
     printer: &mut Printer<W>,
 ) -> Result<(), ReplayFault>
-    requires { L.rests state.old }
-    ensures { Performance L.asked L.serves state.old state.new printer.old printer.new
+    ensures { Performance L.asked L.serves L.idles state.old state.new printer.old printer.new
         (input (R.remaining reader.old) (R.failed reader.old)) (input (R.remaining reader.new) (R.failed reader.new)) result }
 {
     let mut progress = Progress::new();
@@ -266,18 +228,18 @@ fn read_script<L: Language, R: Source, W: Sink>(
     let mut buffer = [0u8; PIECE];
     while left > 0 {
         let most = left.min(PIECE as u64) as usize;
-        let Ok(()) = printer.flush() else {
+        let Ok(()) = await_read::<L, R, W>(state, reader, printer) else {
             return Err(ReplayFault::Write);
         };
         let piece = read_piece::<L, R>(state, reader, &mut buffer, most)?;
         if piece.is_empty() {
             let line = progress.line.as_slice();
-            return serve_line::<L, W>(state, room, progress.number, line, false, false, printer);
+            return serve_line::<L, W>(state, room, progress.number, line, false, printer);
         }
         left -= piece.len() as u64;
         serve_piece::<L, W>(state, room, &mut progress, piece, printer)?;
     }
-    let Ok(()) = printer.flush() else {
+    let Ok(()) = await_read::<L, R, W>(state, reader, printer) else {
         return Err(ReplayFault::Write);
     };
     let last = progress.line.as_slice();
@@ -285,17 +247,32 @@ fn read_script<L: Language, R: Source, W: Sink>(
     if !over.is_empty() {
         return Err(ReplayFault::TooMuch);
     }
-    serve_line::<L, W>(state, room, progress.number, last, false, false, printer)
+    serve_line::<L, W>(state, room, progress.number, last, false, printer)
 }
 
-/// The next bytes, and none only at the end. It is called where nothing is under way alone, since it may take as long as it will.
+/// Hands on what is held, and lets the state go on by itself until a read does not wait or nothing is under way.
+fn await_read<L: Language, R: Source, W: Sink>(
+    state: &mut L::State,
+    reader: &mut R,
+    printer: &mut Printer<W>,
+) -> Result<(), WriteFailed>
+    ensures awaited { Awaited L.idles state.old state.new result printer.old printer.new }
+    ensures empty { OnOk result (printer.new.held ≡ []) }
+    ensures source { input (R.remaining reader.new) (R.failed reader.new) ≡ input (R.remaining reader.old) (R.failed reader.old) }
+    ensures rests { OnOk result (R.ready reader.new ≡ false → L.rests state.new) }
+{
+    printer.flush()?;
+    L::before_read(state, reader, printer)
+}
+
+/// The next bytes, and none only at the end. It may take as long as it will only where nothing is under way.
 fn read_piece<'a, L: Language, R: Source>(
     _state: &L::State,
     reader: &mut R,
     buffer: &'a mut [u8],
     most: usize,
 ) -> Result<&'a [u8], ReplayFault>
-    requires rests { L.rests _state.now }
+    requires rests { R.ready reader.old ≡ false → L.rests _state.now }
     requires some { 0 < most }
     requires within { most ≤ length buffer.old }
     ensures consumes { IfOk result (λ piece. Consumes (R.remaining reader.old) (R.remaining reader.new) piece.now) }

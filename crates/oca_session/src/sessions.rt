@@ -16,6 +16,7 @@ use crate::window::Judged;
 use arrayvec::ArrayVec;
 use oca_types::{Command, MOST_PEERS, NoMemory, Peer, Peers, Reply, Sizes, Window, sooner};
 use std::alloc::{AllocError, Global};
+use std::fmt;
 use std::marker::Model;
 
 /// What hearing a peer did.
@@ -410,4 +411,15 @@ fn spare_slots(alloc: Global, window: usize, count: usize) -> Result<Vec<Slot>, 
         slots.push_reserved(Slot::spare(alloc, window)?);
     }
     Ok(slots)
+}
+
+impl fmt::Debug for Sessions {
+    /// The sizes, the number of sessions, and the present moment.
+    fn fmt<W: fmt::Write>(&self, f: &mut fmt::Formatter<W>) -> fmt::Result {
+        f.debug_struct("Sessions")
+            .field("sizes", &self.sizes)
+            .field("sessions", &self.count)
+            .field("moment", &self.moment)
+            .finish()
+    }
 }

@@ -15,7 +15,7 @@ use Rattle.oca_tree.specs.declared.object.Object.{Object}
 use Rattle.oca_tree.specs.Objects.{Store}
 use Rattle.oca_textree.specs.declared.fault.TreeFault.{TreeFault}
 use Rattle.oca_textree.specs.declared.fault.TreeFault.TheVariants.{Line, NoMemory}
-use Rattle.oca_textree.specs.Lines.{names_after, place_of, after_line}
+use Rattle.oca_textree.specs.Lines.{names_after, is_text, place_of, after_line}
 use Rattle.oca_textree.specs.Texts.{after_lines, go_on}
 use Rattle.oca_textree.specs.PrivateLines.{IsRead, IsReadSoFar, names_view}
 
@@ -48,7 +48,7 @@ go_on_with (Ok names) more = names_after names more
 go_on_with (Err f) more = Err f
 
 pub names-more : (names : List (List ℕ)) (n : List ℕ) (more : List (List ℕ)) → names_after names (n ∷ more) ≡ go_on_with (names_after names (n ∷ [])) more
-names-more names n more = by_tests (not (is_utf8 n)) (nat_le 16 (length names))
+names-more names n more = by_tests (not (is_text n)) (nat_le 16 (length names))
   where
     by_tests : (a b : Bool) → cond a (Err fault.Text) (cond b (Err fault.Range) (names_after (names ++ n ∷ []) more))
         ≡ go_on_with (cond a (Err fault.Text) (cond b (Err fault.Range) (Ok (names ++ n ∷ [])))) more

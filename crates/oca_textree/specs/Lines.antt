@@ -5,9 +5,10 @@ use Rattle.std.specs.List.{list_any}
 use Rattle.std.specs.Str.{bytes_eq, is_utf8}
 use Rattle.oca_types.specs.declared.class.Class.{Class}
 use Rattle.oca_types.specs.declared.class.Class.TheVariants as class
+use Rattle.oca_script.specs.Escapes.{has_hidden}
 use Rattle.oca_script.specs.Fields.{split_at, split_on, number_of}
-use Rattle.oca_tree.specs.declared.object.MuteState.TheVariants.{Muted, Unmuted}
-use Rattle.oca_tree.specs.declared.object.PolarityState.TheVariants.{NonInverted, Inverted}
+use Rattle.oca_model.specs.declared.value.MuteState.TheVariants.{Muted, Unmuted}
+use Rattle.oca_model.specs.declared.value.PolarityState.TheVariants.{NonInverted, Inverted}
 use Rattle.oca_tree.specs.declared.object.NumberKind.{NumberKind}
 use Rattle.oca_tree.specs.declared.object.NumberKind.TheVariants as kind
 use Rattle.oca_tree.specs.declared.object.Object.{Object}
@@ -133,11 +134,15 @@ abbrev pub by_limits : NumberKind → ℤ → ℤ → Option (List ℕ) → Resu
 by_limits k low high rest =
     then_by (limits_of low high rest) (λ l. Ok (valued (number k l.setting l.least l.greatest) l.rest))
 
--- the names of positions, in order: each is UTF-8, and there are at most 16
+-- UTF-8 in which no character is printed as an escape, a backslash left aside
+abbrev pub is_text : List ℕ → Bool
+is_text bytes = is_utf8 bytes && not (has_hidden bytes)
+
+-- the names of positions, in order: each is a text, and there are at most 16
 abbrev pub names_after : List (List ℕ) → List (List ℕ) → Result (List (List ℕ)) ObjectFault
 names_after names [] = Ok names
 names_after names (n ∷ more) =
-    if not (is_utf8 n) then Err fault.Text
+    if not (is_text n) then Err fault.Text
     else if nat_le 16 (length names) then Err fault.Range
     else names_after (names ++ n ∷ []) more
 
@@ -198,7 +203,7 @@ ended None x = Ok x
 ended (Some rest) x = Err fault.Form
 
 abbrev pub checked : List ℕ → Option (List ℕ)
-checked text = if is_utf8 text then Some text else None
+checked text = if is_text text then Some text else None
 
 -- the end of the line: whether the object can be locked, and its role
 unfoldable pub last_of : Option (List ℕ) → Result (Bool × List ℕ) ObjectFault

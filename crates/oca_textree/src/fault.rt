@@ -24,7 +24,8 @@ pub enum ObjectFault {
     /// Neither `lockable` nor `no-lock`.
     #[error("lockable")]
     Lockable,
-    /// The role is empty, or the role or a position's name has more than 64 bytes or is not UTF-8.
+    /// The role is empty, or the role or a position's name has more than 64 bytes, is not UTF-8, or has a character that
+    /// is printed as an escape, a backslash left aside.
     #[error("text")]
     Text,
     /// 4,096 objects are there, the root counted.

@@ -1,12 +1,12 @@
 //! The fields of a line, one after another.
 ghost use Rattle.std.specs.Prelude.{◌≡◌, true, false, MatchOption};
-ghost use Rattle.std.specs.Str.{is_utf8};
 ghost use Rattle.std.specs.Option.{option_copied};
 ghost use Rattle.oca_script.specs.Fields.{split_at};
-ghost use Rattle.oca_textree.specs.Lines.{field_at, plain as plain_field, quoted as quoted_field, ono_of, class_of_word, has_control as has_control_byte};
+ghost use Rattle.oca_textree.specs.Lines.{field_at, plain as plain_field, quoted as quoted_field, ono_of, class_of_word, has_control as has_control_byte, is_text};
 ghost use Rattle.oca_textree.specs.PrivateLines.{field_view};
 
 use super::fault::ObjectFault;
+use oca_script::escape::has_hidden;
 use oca_script::field::{number, split_at_byte};
 use oca_types::Class;
 use std::str::from_utf8;
@@ -61,12 +61,12 @@ fn quoted(inside: &[u8]) -> Result<(&[u8], Option<&[u8]>), ObjectFault>
     }
 }
 
-/// A text, where the bytes are UTF-8.
-pub fn utf8(bytes: &[u8]) -> Option<&str>
-    ensures { MatchOption result (is_utf8 bytes.now ≡ false) (λ t. (t.now ≡ bytes.now) × (is_utf8 bytes.now ≡ true)) }
+/// A text, where the bytes are UTF-8 and no character is printed as an escape, a backslash left aside.
+pub fn text_of(bytes: &[u8]) -> Option<&str>
+    ensures { MatchOption result (is_text bytes.now ≡ false) (λ t. (t.now ≡ bytes.now) × (is_text bytes.now ≡ true)) }
 {
     match from_utf8(bytes) {
-        Ok(text) => Some(text),
+        Ok(text) => { if has_hidden(text) { None } else { Some(text) } }
         Err(_) => None,
     }
 }

@@ -6,7 +6,7 @@ ghost use Rattle.oca_textree.specs.Lines.{last_of, value_at, added_with, added_b
 ghost use Rattle.oca_textree.specs.PrivateLines.{last_view, Became, kind_valued};
 
 use super::fault::ObjectFault;
-use super::field::{class, field, has_control, ono, utf8};
+use super::field::{class, field, has_control, ono, text_of};
 use super::value::{Names, kind_at, lockable, positions};
 use oca_tree::{Kind, Spec, TreeBuilder};
 use oca_types::{Class, Ono};
@@ -24,7 +24,7 @@ fn last(rest: Option<&[u8]>) -> Result<(bool, &str), ObjectFault>
     if rest.is_some() {
         return Err(ObjectFault::Form);
     }
-    match utf8(role) {
+    match text_of(role) {
         Some(role) => Ok((lockable, role)),
         None => Err(ObjectFault::Text),
     }

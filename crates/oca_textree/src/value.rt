@@ -5,13 +5,13 @@ ghost use Rattle.std.specs.List.{position};
 ghost use Rattle.std.specs.Str.{bytes_eq};
 ghost use Rattle.oca_script.specs.Fields.{split_on};
 ghost use Rattle.oca_types.specs.declared.class.Class as classes;
-ghost use Rattle.oca_tree.specs.declared.object.MuteState.TheVariants.{Muted, Unmuted};
-ghost use Rattle.oca_tree.specs.declared.object.PolarityState.TheVariants.{NonInverted, Inverted};
+ghost use Rattle.oca_model.specs.declared.value.MuteState.TheVariants.{Muted, Unmuted};
+ghost use Rattle.oca_model.specs.declared.value.PolarityState.TheVariants.{NonInverted, Inverted};
 ghost use Rattle.oca_textree.specs.Lines.{one_of, signed_of, integer_of, limits_of, names_after, place_of, positions_of, value_at};
 ghost use Rattle.oca_textree.specs.PrivateLines.{limits_view, IsWithin, names_view, positions_view, kind_view};
 
 use super::fault::ObjectFault;
-use super::field::{field, utf8};
+use super::field::{field, text_of};
 use arrayvec::ArrayVec;
 use oca_script::field::{number, split_at_byte};
 use oca_tree::{Kind, MuteState, PolarityState};
@@ -139,7 +139,7 @@ fn read_limits<'a>(rest: Option<&'a [u8]>, low: i128, high: i128) -> Result<Limi
 fn add_name<'a>(name: &'a [u8], names: &mut Names<'a>) -> Result<(), ObjectFault>
     ensures { names_view result names.new.items ≡ names_after (map (λ n. n.now) names.old.items) (name.entry.now ∷ []) }
 {
-    let Some(name) = utf8(name) else {
+    let Some(name) = text_of(name) else {
         return Err(ObjectFault::Text);
     };
     match names.try_push(name) {

@@ -22,7 +22,7 @@ use Rattle.oca_tree.specs.Locks.{lock_refuses}
 use Rattle.oca_tree.specs.Places.{is_block_value}
 use Rattle.oca_tree.specs.Requests.{request_of, is_out_of_range, is_invalid}
 use Rattle.oca_tree.specs.Execution.{Execution, changed, execution, answer, joined, parameters, switch_parameters, kind_at, request_at, is_locked}
-use Rattle.oca_tree.specs.Settings.{request_for, is_set_by, fault_at, fault_in, set_fault, front, set_where, after_set, AnyPeerSetsTheSame, FrontSetsAsPeersDo}
+use Rattle.oca_tree.specs.Settings.{request_for, is_set_by, fault_at, fault_in, set_fault, front, set_where, after_set, AnyPeerSetsTheSame, status_for, SetsTheSame, FrontSetsAsPeersDo}
 use Rattle.oca_tree.specs.Trees.{IsTree}
 use Rattle.oca_tree.proofs.Asked.{FitsPositions}
 use Rattle.oca_tree.proofs.Takes.{taken}
@@ -139,21 +139,26 @@ as_peers tree peer c o value found free asked = by_kind (kind_at (Some o) c) ref
 
     by_range : (method : Method) → kind_at (Some o) c ≡ Known method (access method) → lock_refuses o.lock peer (access method) ≡ false →
         request_of o.value method c.count c.params ≡ Some (request_for value) → (out : Bool) → is_out_of_range o.value (request_for value) ≡ out →
-        (execution tree peer c).tree ≡ after_set tree c.target value
+        SetsTheSame tree c.target value (execution tree peer c)
     by_range method kind free asked true e =
         let refused = exec_refused tree peer c o found statuses.ParameterOutOfRange (λ t. rw (kind, free, asked, e) refl) in
-        ap (λ (x : Execution). x.tree) refused ∙ sym (unset tree c.target value faults.OutOfRange (fault_is true e))
+        record {
+          tree_is = ap (λ (x : Execution). x.tree) refused ∙ sym (unset tree c.target value faults.OutOfRange (fault_is true e));
+          status_is = ap (λ (x : Execution). x.status) refused ∙ sym (ap status_for (fault_is true e));
+        }
     by_range method kind free asked false e =
         let r = request_for value in
         let ok = request_ok o peer c method r (kind, free) asked e (valid o.lockable o.lock value) in
         let none : answer tree o r ≡ [] = ap joined (no_answer tree o value) in
         let short : length (answer tree o r) ≤ 1452 = rw none (omega arith) in
-        ap (λ (x : Execution). x.tree) (exec_ok tree peer c o found r ok short)
-        ∙ ap (with_object tree) (any_peer o peer value)
-        ∙ sym (set_here e)
+        let carried = exec_ok tree peer c o found r ok short in
+        record {
+          tree_is = ap (λ (x : Execution). x.tree) carried ∙ ap (with_object tree) (any_peer o peer value) ∙ sym (set_here e);
+          status_is = ap (λ (x : Execution). x.status) carried ∙ sym (ap status_for (fault_is false e));
+        }
 
     by_kind : (k : MethodKind) → kind_at (Some o) c ≡ k → is_locked (Some o) k peer ≡ false → request_at (Some o) k c ≡ Some (request_for value) →
-        (execution tree peer c).tree ≡ after_set tree c.target value
+        SetsTheSame tree c.target value (execution tree peer c)
     by_kind (Known method reached) kind free asked =
         let is = known_access (class_of o.value) (record { level = c.level; index = c.index }) method reached kind in
         by_range method (kind ∙ ap (Known method) is) (ap (lock_refuses o.lock peer) (sym is) ∙ free) asked (is_out_of_range o.value (request_for value)) refl

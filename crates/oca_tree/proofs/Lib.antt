@@ -7,6 +7,7 @@ pub mod Asked
 pub mod Sound
 pub mod Adding
 pub mod Starting
+pub mod Copying
 pub mod Plain
 pub mod Executing
 pub mod Endings
@@ -17,3 +18,4 @@ pub mod Keyed
 pub mod Takes
 pub mod Totals
 pub mod Fronts
+pub mod SetRequests

@@ -5,8 +5,8 @@ use Rattle.oca_types.specs.declared.words.Peer.{Peer}
 use Rattle.oca_types.specs.declared.class.Method.{Method}
 use Rattle.oca_types.specs.declared.class.Method.TheVariants as methods
 use Rattle.oca_tree.specs.declared.object.Lock.{Lock}
-use Rattle.oca_tree.specs.declared.object.MuteState.{MuteState}
-use Rattle.oca_tree.specs.declared.object.PolarityState.{PolarityState}
+use Rattle.oca_model.specs.declared.value.MuteState.{MuteState}
+use Rattle.oca_model.specs.declared.value.PolarityState.{PolarityState}
 use Rattle.oca_tree.specs.declared.object.Object.{Object}
 use Rattle.oca_tree.specs.declared.object.Range.{Range}
 use Rattle.oca_tree.specs.declared.object.Switch.{Switch}

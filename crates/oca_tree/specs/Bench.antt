@@ -1,7 +1,7 @@
 -- The bench device (profile): a desk with one object of each form.
 use Rattle.std.specs.Prelude.{ℕ, zero, suc, ◌+◌, ◌*◌, true, false, List, [], ◌∷◌, ◌++◌, codes, pos, negsuc}
-use Rattle.oca_tree.specs.declared.object.MuteState.TheVariants.{Muted}
-use Rattle.oca_tree.specs.declared.object.PolarityState.TheVariants.{NonInverted}
+use Rattle.oca_model.specs.declared.value.MuteState.TheVariants.{Muted}
+use Rattle.oca_model.specs.declared.value.PolarityState.TheVariants.{NonInverted}
 use Rattle.oca_tree.specs.declared.object.NumberKind.TheVariants.{Int16, Uint8}
 use Rattle.oca_tree.specs.declared.object.Object.{Object}
 use Rattle.oca_tree.specs.declared.object.Value.TheVariants.{Block, Mute, Polarity, Switch, Boolean}

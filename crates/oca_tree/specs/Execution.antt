@@ -13,10 +13,11 @@ use Rattle.oca_types.specs.Texts.{text_encoding}
 use Rattle.oca_types.specs.Classes.{class_identification_encoding}
 use Rattle.oca_types.specs.Methods.{method_kind}
 use Rattle.oca_types.specs.Peers.{CommandFields}
-use Rattle.oca_tree.specs.declared.object.MuteState.{MuteState}
-use Rattle.oca_tree.specs.declared.object.MuteState.TheVariants.{Muted, Unmuted}
-use Rattle.oca_tree.specs.declared.object.PolarityState.{PolarityState}
-use Rattle.oca_tree.specs.declared.object.PolarityState.TheVariants.{NonInverted, Inverted}
+use Rattle.oca_model.specs.Values.{mute_number, polarity_number}
+use Rattle.oca_model.specs.declared.value.MuteState.{MuteState}
+use Rattle.oca_model.specs.declared.value.MuteState.TheVariants.{Muted, Unmuted}
+use Rattle.oca_model.specs.declared.value.PolarityState.{PolarityState}
+use Rattle.oca_model.specs.declared.value.PolarityState.TheVariants.{NonInverted, Inverted}
 use Rattle.oca_tree.specs.declared.object.LockKind.TheVariants.{Total, Readonly}
 use Rattle.oca_tree.specs.declared.object.Object.{Object}
 use Rattle.oca_tree.specs.declared.object.Range.{Range}
@@ -45,14 +46,6 @@ block_member_encoding o = identification_encoding o ++ unsigned_encoding w32 o.c
 -- OcaList: the number of the items, then the items
 abbrev pub list_encoding : {X : Type 0} → (X → List ℕ) → List X → List ℕ
 list_encoding item xs = unsigned_encoding w16 (length xs) ++ flat_map item xs
-
-abbrev pub mute_number : MuteState → ℕ
-mute_number Muted = 1
-mute_number Unmuted = 2
-
-abbrev pub polarity_number : PolarityState → ℕ
-polarity_number NonInverted = 1
-polarity_number Inverted = 2
 
 -- ---- what each method answers
 

@@ -12,6 +12,8 @@ pub mod Building
 pub mod Starts
 pub mod Bench
 pub mod Readers
+pub mod Copies
 pub mod Settings
+pub mod SetRequests
 pub mod PrivateSteps
 pub mod PrivateObjects

@@ -10,7 +10,7 @@ use Rattle.oca_tree.specs.declared.tree.ObjectInfo.{ObjectInfo}
 use Rattle.oca_tree.specs.declared.tree.Setting.{Setting}
 use Rattle.oca_tree.specs.declared.tree.Setting.TheVariants.{State, Position, Truth, Number}
 use Rattle.oca_tree.specs.Objects.{class_of, object_of}
-use Rattle.oca_tree.specs.Execution.{mute_number, polarity_number}
+use Rattle.oca_model.specs.Values.{mute_number, polarity_number}
 
 abbrev pub info_of : Object → ObjectInfo
 info_of o = record { ono = o.ono; class = class_of o.value; container = o.container; role = o.role }

@@ -2,6 +2,8 @@
 -- (profile).
 use Rattle.std.specs.Prelude.{◌≡◌, ℕ, Bool, true, false, not, if◌then◌else◌, List, Option, Some, None}
 use Rattle.oca_types.specs.declared.words.Peer.{Peer}
+use Rattle.oca_types.specs.declared.status.Status.{Status}
+use Rattle.oca_types.specs.declared.status.Status.TheVariants as statuses
 use Rattle.oca_types.specs.Peers.{CommandFields}
 use Rattle.oca_tree.specs.declared.object.Object.{Object}
 use Rattle.oca_tree.specs.declared.object.Value.{Value}
@@ -16,7 +18,7 @@ use Rattle.oca_tree.specs.declared.setting.SetFault.TheVariants as faults
 use Rattle.oca_tree.specs.Places.{is_block_value}
 use Rattle.oca_tree.specs.Objects.{object_of, with_object}
 use Rattle.oca_tree.specs.Requests.{is_out_of_range}
-use Rattle.oca_tree.specs.Execution.{changed, execution, kind_at, request_at, is_locked}
+use Rattle.oca_tree.specs.Execution.{Execution, changed, execution, kind_at, request_at, is_locked}
 
 -- the request that a value stands for: SetState, SetPosition, or SetSetting of a truth or a number
 abbrev pub request_for : LocalValue → Request
@@ -66,8 +68,20 @@ after_set tree number value = set_where (set_fault tree number value) tree (obje
 abbrev pub AnyPeerSetsTheSame : Type 0
 AnyPeerSetsTheSame = (o : Object) (peer : Peer) (value : LocalValue) → changed o peer (request_for value) ≡ changed o front (request_for value)
 
--- What the front sets is what a peer's command sets that asks the same of the object, where no lock refuses it.
+-- the status of a command that asks for what the front was asked for: OK where there is no fault
+abbrev pub status_for : Option SetFault → Status
+status_for None = statuses.Ok
+status_for (Some fault) = statuses.ParameterOutOfRange
+
+-- The command made of the tree what setting the object with this number makes of it, and its status is that of the
+-- front's fault.
+pub record SetsTheSame (tree : List Object) (number : ℕ) (value : LocalValue) (x : Execution) : Type 0 where
+  pub tree_is : x.tree ≡ after_set tree number value
+  pub status_is : x.status ≡ status_for (set_fault tree number value)
+
+-- What the front sets is what a peer's command sets that asks the same of the object, where no lock refuses it; and the
+-- front refuses it exactly where the command's status is not OK.
 abbrev pub FrontSetsAsPeersDo : Type 0
 FrontSetsAsPeersDo = (tree : List Object) (peer : Peer) (c : CommandFields) (o : Object) (value : LocalValue) →
     object_of tree c.target ≡ Some o → is_locked (Some o) (kind_at (Some o) c) peer ≡ false →
-    request_at (Some o) (kind_at (Some o) c) c ≡ Some (request_for value) → (execution tree peer c).tree ≡ after_set tree c.target value
+    request_at (Some o) (kind_at (Some o) c) c ≡ Some (request_for value) → SetsTheSame tree c.target value (execution tree peer c)

@@ -6,7 +6,8 @@ ghost use Rattle.oca_types.specs.Numbers.{bool_encoding, unsigned_encoding};
 ghost use Rattle.oca_types.specs.Putting.{Puts};
 ghost use Rattle.oca_types.specs.Texts.{text_encoding};
 ghost use Rattle.oca_tree.specs.Requests.{is_out_of_range};
-ghost use Rattle.oca_tree.specs.Execution.{list_encoding, state_encoding, position_parameters, switch_parameters, setting_parameters, parameters, joined, mute_number, polarity_number};
+ghost use Rattle.oca_tree.specs.Execution.{list_encoding, state_encoding, position_parameters, switch_parameters, setting_parameters, parameters, joined};
+ghost use Rattle.oca_model.specs.Values.{mute_number, polarity_number};
 ghost use Rattle.oca_tree.specs.Requests.{is_bad_position};
 ghost use Rattle.oca_tree.specs.Trees.{IsTree, IsSoundValue, IsSoundSwitch, IsSoundRange};
 ghost use Rattle.oca_tree.specs.PrivateSteps.{is_listed, item_encoding, counted_as, PutsAll};
@@ -16,10 +17,11 @@ ghost use Rattle.oca_tree.specs.declared.object.Value.TheVariants.{Number};
 ghost use Rattle.oca_tree.specs.declared.request.Request.TheVariants.{Switch as AsSwitch};
 ghost use Rattle.oca_tree.specs.declared.request.SwitchRequest.TheVariants.{GetPosition};
 
-use crate::object::{MuteState, Object, PolarityState, Range, Switch, Value};
+use crate::object::{Object, Range, Switch, Value};
 use crate::objects::Objects;
 use crate::put::put_number;
 use crate::request::{Request, SwitchRequest};
+use oca_model::{MuteState, PolarityState};
 use oca_types::{
     MOST_PARAMETER_BYTES, Params, PutFault, Status, Text, put_bool, put_class_identification,
     put_text, put_u8, put_u16, put_u32,

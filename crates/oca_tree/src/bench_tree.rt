@@ -6,9 +6,9 @@ ghost use Rattle.oca_tree.specs.Building.{add_fault, object_of_spec};
 ghost use Rattle.oca_tree.specs.declared.builder.AddFault.TheVariants.{NoMemory, Full};
 
 use crate::builder::{AddFault, Kind, Spec, TreeBuilder};
-use crate::object::{MuteState, PolarityState};
 use crate::room::Room;
 use crate::tree::Tree;
+use oca_model::{MuteState, PolarityState};
 use oca_types::Ono;
 use std::alloc::Global;
 

@@ -11,13 +11,14 @@ ghost use Rattle.oca_tree.specs.Trees.{IsTree, IsSound, IsSoundValue};
 ghost use Rattle.oca_tree.specs.PrivateSteps.{Makes, MakesValue};
 ghost use Rattle.oca_tree.specs.declared.builder.AddFault.TheVariants.{NoMemory};
 
-use crate::object::{MuteState, NumberKind, Object, PolarityState, Range, Switch, Value};
+use crate::object::{NumberKind, Object, Range, Switch, Value};
 use crate::objects::Objects;
 use crate::place::{block_depth, contains};
 use crate::room::Room;
 use crate::start::{Start, StartFault, restore};
 use crate::tree::Tree;
 use arrayvec::ArrayVec;
+use oca_model::{MuteState, PolarityState};
 use oca_types::{Ono, Text};
 use std::alloc::Global;
 use std::marker::Model;

@@ -7,8 +7,9 @@ ghost use Rattle.oca_tree.specs.Requests.{is_bad_position};
 ghost use Rattle.oca_tree.specs.Trees.{IsSoundValue, IsSoundSwitch};
 
 use crate::marks::Marks;
-use crate::object::{LockKind, MuteState, Object, PolarityState, Switch, Value};
+use crate::object::{LockKind, Object, Switch, Value};
 use crate::request::{Request, SwitchRequest};
+use oca_model::{MuteState, PolarityState};
 use oca_types::Peer;
 
 /// The state of a mute with this number: 1 is muted.

@@ -1,4 +1,6 @@
 //! What the definitions of a tree say of one another.
+ghost use Rattle.oca_tree.specs.Copies.{ToldMakesAgain};
+ghost use Rattle.oca_tree.specs.SetRequests.{IsUnderstood, IsCarriedOut};
 ghost use Rattle.oca_tree.specs.Settings.{AnyPeerSetsTheSame, FrontSetsAsPeersDo};
 ghost use Rattle.oca_tree.specs.Starts.{PlainAddsTheSame};
 ghost use Rattle.oca_tree.specs.Trees.{DescendantsFollowChains};
@@ -13,15 +15,33 @@ pub fn law_of_descendants(tree: &Tree)
     let _sound = tree.len();
 }
 
-/// Laws: what is set at the device's own front is the same in whichever peer's name, and it is what a peer's command sets that asks
-/// the same and that no lock refuses.
+/// Laws: what is set at the device's own front is the same in whichever peer's name, and it is what a peer's command
+/// sets that asks the same and that no lock refuses; and the front is refused exactly where that command's status is
+/// not OK.
 pub fn law_of_settings()
     ensures any_peer { AnyPeerSetsTheSame }
     ensures as_peers { FrontSetsAsPeersDo }
 {}
 
+/// Laws: what [`set_request`](oca_model::set_request) gives, sent to an object of the value's class, is understood by a
+/// device of this profile as setting that very value, and sets it as the device's own front would, where no lock
+/// refuses it.
+pub fn law_of_set_requests()
+    ensures understood { IsUnderstood }
+    ensures carried_out { IsCarriedOut }
+{
+    law_of_settings();
+}
+
 /// Law: with the default of [`Start`](crate::Start) an object is added as without it: it is the same object, and the faults are
 /// the same.
 pub fn law_of_starts()
     ensures { PlainAddsTheSame }
+{}
+
+/// Law: an object that is added with what is told of it is the same object, but for its lock. What is told stands in
+/// [`Tree::object_at`](Tree::object_at), [`is_lockable`](Tree::is_lockable), [`setting_of`](Tree::setting_of),
+/// [`position_names_of`](Tree::position_names_of) and [`start_of`](Tree::start_of).
+pub fn law_of_copies()
+    ensures { ToldMakesAgain }
 {}

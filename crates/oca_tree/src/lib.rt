@@ -21,16 +21,21 @@ mod place;
 mod put;
 mod request;
 mod room;
+mod same;
 mod setting;
 mod start;
 mod take;
+mod told;
 mod tree;
 
 pub use bench_tree::{bench, bench_with_channels};
 pub use builder::{AddFault, Kind, Spec, TreeBuilder};
 pub use infos::ObjectInfos;
-pub use laws::{law_of_descendants, law_of_settings, law_of_starts};
-pub use object::{Lock, LockKind, MuteState, PolarityState};
+pub use laws::{
+    law_of_copies, law_of_descendants, law_of_set_requests, law_of_settings, law_of_starts,
+};
+pub use object::{Lock, LockKind};
+pub use oca_model::{MuteState, PolarityState};
 pub use room::Room;
 pub use setting::{LocalValue, SetFault};
 pub use start::{Start, StartFault};

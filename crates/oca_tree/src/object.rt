@@ -7,25 +7,8 @@ ghost use Rattle.oca_tree.specs.Places.{is_block_value};
 
 use crate::marks::Marks;
 use arrayvec::ArrayVec;
+use oca_model::{MuteState, PolarityState};
 use oca_types::{Access, Class, Ono, Peer, Text};
-
-/// The states of an OcaMute, by their numbers in AES70-2.
-#[derive(Clone, Copy, Debug, PartialEq, Eq)]
-pub enum MuteState {
-    /// Muted, 1.
-    Muted = 1,
-    /// Not muted, 2.
-    Unmuted = 2,
-}
-
-/// The states of an OcaPolarity, by their numbers in AES70-2.
-#[derive(Clone, Copy, Debug, PartialEq, Eq)]
-pub enum PolarityState {
-    /// Not inverted, 1.
-    NonInverted = 1,
-    /// Inverted, 2.
-    Inverted = 2,
-}
 
 /// The positions of an OcaSwitch, 1 to 16, each with a name and enabled or not, and the current one.
 #[derive(Drop)]

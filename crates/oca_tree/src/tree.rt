@@ -1,6 +1,6 @@
 //! The tree: executing commands, taking locks off, and reading its objects.
-ghost use Rattle.std.specs.Prelude.{◌≡◌, [], length, OnErr, map, slice_get};
-ghost use Rattle.std.specs.Option.{option_and_then};
+ghost use Rattle.std.specs.Prelude.{◌≡◌, [], length, OnErr, map, slice_get, IsTrue};
+ghost use Rattle.std.specs.Option.{option_and_then, option_map};
 ghost use Rattle.oca_types.specs.Peers.{fields_of};
 ghost use Rattle.std.specs.Result.{result_err};
 ghost use Rattle.oca_tree.specs.Locks.{released, lock_count};
@@ -9,6 +9,7 @@ ghost use Rattle.oca_tree.specs.Execution.{execution};
 ghost use Rattle.oca_tree.specs.Written.{wrote};
 ghost use Rattle.oca_tree.specs.Settings.{after_set, set_fault};
 ghost use Rattle.oca_tree.specs.Readers.{info_of, info_at, infos_left, lock_at, value_setting, setting_at};
+ghost use Rattle.oca_tree.specs.Copies.{stored_in, stored_at, names_at, lockable_at, all_unlocked};
 
 use crate::answer::{mute_number, polarity_number};
 use crate::execute::carry_out;
@@ -16,7 +17,10 @@ use crate::infos::ObjectInfos;
 use crate::marks::Marks;
 use crate::object::{Lock, Object, Value};
 use crate::objects::Objects;
+use crate::same::same_objects;
 use crate::setting::{LocalValue, SetFault, set};
+use crate::start::Start;
+use crate::told::{lockable_in, position_names_in, start_in};
 use oca_types::{Class, Command, Ono, Params, Peer, Status, Text};
 use std::marker::Model;
 
@@ -211,6 +215,37 @@ impl Tree {
         ensures { result ≡ setting_at self.now ono.0 }
     {
         setting_in(&self.objects, ono)
+    }
+
+    /// What [`TreeBuilder::add_with`](crate::TreeBuilder::add_with) and
+    /// [`with_root`](crate::TreeBuilder::with_root) restore of the object with this number: its label, whether it is
+    /// enabled, and of a switch which of its positions are; nothing where it is not there.
+    pub fn start_of(&self, ono: Ono) -> Option<Start<'_>>
+        ensures { option_map stored_in result ≡ stored_at self.now ono.0 }
+    {
+        start_in(&self.objects, ono)
+    }
+
+    /// The names of the positions of the switch with this number, in order: 1 to 16, each of at most 64 bytes; none
+    /// where it is not there or is no switch.
+    pub fn position_names_of(&self, ono: Ono) -> &[Text]
+        ensures { result.now ≡ names_at self.now ono.0 }
+    {
+        position_names_in(&self.objects, ono)
+    }
+
+    /// Whether the object with this number can be locked; nothing where it is not there.
+    pub fn is_lockable(&self, ono: Ono) -> Option<bool>
+        ensures { result ≡ lockable_at self.now ono.0 }
+    {
+        lockable_in(&self.objects, ono)
+    }
+
+    /// Whether the objects are those of another tree, in the same order and set the same; their locks are left aside.
+    pub fn is_but_for_locks(&self, other: &Tree) -> bool
+        ensures { IsTrue result → (all_unlocked self.now ≡ all_unlocked other.now) }
+    {
+        same_objects(self.objects.as_slice(), other.objects.as_slice())
     }
 }
 

@@ -2,6 +2,8 @@ pub mod Numbers
 pub mod Texts
 pub mod Characters
 pub mod Reading
+pub mod Fixed
+pub mod FixedNumbers
 pub mod Taking
 pub mod Putting
 pub mod Status

@@ -9,11 +9,20 @@ ghost use Rattle.oca_types.specs.Reading.{unsigned_at, signed_at, bool_at, text_
 ghost use Rattle.oca_types.specs.Taking.{bytes_left, Takes, TakesEach, IsCutShort, IsTextRefusal, ReadsAs};
 
 use crate::fault::ReadFault;
+use crate::field::Field;
 use crate::text::{Text, chars_at};
 use std::alloc::AllocError;
 
 /// What is left of a slice. Each take returns the value whose encoding is at the front (AES70-3) and
 /// goes past exactly that encoding; after a refusal the cursor is as it was.
+///
+/// ```
+/// let mut cursor = Cursor::new(&[0x00, 0x02, 0x4f, 0x6e, 0x01]);
+/// let label = cursor.take_text()?;
+/// let enabled = cursor.take_bool()?;
+/// cursor.finish()?;
+/// assert_eq!(rt; (label.as_str(), enabled), ("On", true));
+/// ```
 #[derive(Debug)]
 pub struct Cursor<'a> {
     rest: &'a [u8],
@@ -60,8 +69,20 @@ impl<'a> Cursor<'a> {
         Ok(front)
     }
 
+    /// A value of one length: an integer of 8 to 64 bits or a Boolean (AES70-3). Refusal: `Short`, and the cursor is
+    /// unchanged.
+    pub fn take<F: Field>(&mut self) -> Result<F, ReadFault>
+        ensures found { IfOk result (λ v. Takes F.codec.IsEncoding v (bytes_left self.old) (bytes_left self.new)) }
+        ensures only { TakesEach F.codec.IsEncoding (bytes_left self.old) result (bytes_left self.new) }
+        ensures short { IfErr result (λ e. (e ≡ Short) × IsCutShort F.codec.IsEncoding (bytes_left self.old)) }
+        ensures err { OnErr result (bytes_left self.new ≡ bytes_left self.old) }
+        ensures reads { ReadsAs result (bytes_left self.new) (F.codec.read_at (bytes_left self.old)) }
+    {
+        let front = self.take_bytes(F::SIZE)?;
+        Ok(F::from_front(front))
+    }
+
     /// A Uint8 (AES70-3). Refusal: `Short`, and the cursor is unchanged.
-    #[tactic(auto, using(crate::proofs::Fixed::short_u8))]
     pub fn take_u8(&mut self) -> Result<u8, ReadFault>
         ensures found { IfOk result (λ v. Takes (IsUnsignedEncoding w8) v (bytes_left self.old) (bytes_left self.new)) }
         ensures only { TakesEach (IsUnsignedEncoding w8) (bytes_left self.old) result (bytes_left self.new) }
@@ -69,12 +90,10 @@ impl<'a> Cursor<'a> {
         ensures err { OnErr result (bytes_left self.new ≡ bytes_left self.old) }
         ensures reads { ReadsAs result (bytes_left self.new) (unsigned_at w8 (bytes_left self.old)) }
     {
-        let front = self.take_bytes(1)?;
-        Ok(front[0])
+        self.take::<u8>()
     }
 
     /// A Uint16 (AES70-3). Refusal: `Short`, and the cursor is unchanged.
-    #[tactic(auto, using(crate::proofs::Fixed::short_u16))]
     pub fn take_u16(&mut self) -> Result<u16, ReadFault>
         ensures found { IfOk result (λ v. Takes (IsUnsignedEncoding w16) v (bytes_left self.old) (bytes_left self.new)) }
         ensures only { TakesEach (IsUnsignedEncoding w16) (bytes_left self.old) result (bytes_left self.new) }
@@ -82,12 +101,10 @@ impl<'a> Cursor<'a> {
         ensures err { OnErr result (bytes_left self.new ≡ bytes_left self.old) }
         ensures reads { ReadsAs result (bytes_left self.new) (unsigned_at w16 (bytes_left self.old)) }
     {
-        let front = self.take_bytes(2)?;
-        Ok(u16::from_be_bytes([front[0], front[1]]))
+        self.take::<u16>()
     }
 
     /// A Uint32 (AES70-3). Refusal: `Short`, and the cursor is unchanged.
-    #[tactic(auto, using(crate::proofs::Fixed::short_u32))]
     pub fn take_u32(&mut self) -> Result<u32, ReadFault>
         ensures found { IfOk result (λ v. Takes (IsUnsignedEncoding w32) v (bytes_left self.old) (bytes_left self.new)) }
         ensures only { TakesEach (IsUnsignedEncoding w32) (bytes_left self.old) result (bytes_left self.new) }
@@ -95,12 +112,10 @@ impl<'a> Cursor<'a> {
         ensures err { OnErr result (bytes_left self.new ≡ bytes_left self.old) }
         ensures reads { ReadsAs result (bytes_left self.new) (unsigned_at w32 (bytes_left self.old)) }
     {
-        let front = self.take_bytes(4)?;
-        Ok(u32::from_be_bytes([front[0], front[1], front[2], front[3]]))
+        self.take::<u32>()
     }
 
     /// A Uint64 (AES70-3). Refusal: `Short`, and the cursor is unchanged.
-    #[tactic(auto, using(crate::proofs::Fixed::short_u64))]
     pub fn take_u64(&mut self) -> Result<u64, ReadFault>
         ensures found { IfOk result (λ v. Takes (IsUnsignedEncoding w64) v (bytes_left self.old) (bytes_left self.new)) }
         ensures only { TakesEach (IsUnsignedEncoding w64) (bytes_left self.old) result (bytes_left self.new) }
@@ -108,14 +123,10 @@ impl<'a> Cursor<'a> {
         ensures err { OnErr result (bytes_left self.new ≡ bytes_left self.old) }
         ensures reads { ReadsAs result (bytes_left self.new) (unsigned_at w64 (bytes_left self.old)) }
     {
-        let front = self.take_bytes(8)?;
-        Ok(u64::from_be_bytes([
-            front[0], front[1], front[2], front[3], front[4], front[5], front[6], front[7],
-        ]))
+        self.take::<u64>()
     }
 
     /// An Int8 (AES70-3). Refusal: `Short`, and the cursor is unchanged.
-    #[tactic(auto, using(crate::proofs::Fixed::short_i8))]
     pub fn take_i8(&mut self) -> Result<i8, ReadFault>
         ensures found { IfOk result (λ v. Takes (IsSignedEncoding w8) v (bytes_left self.old) (bytes_left self.new)) }
         ensures only { TakesEach (IsSignedEncoding w8) (bytes_left self.old) result (bytes_left self.new) }
@@ -123,12 +134,10 @@ impl<'a> Cursor<'a> {
         ensures err { OnErr result (bytes_left self.new ≡ bytes_left self.old) }
         ensures reads { ReadsAs result (bytes_left self.new) (signed_at w8 (bytes_left self.old)) }
     {
-        let front = self.take_bytes(1)?;
-        Ok(i8::from_be_bytes([front[0]]))
+        self.take::<i8>()
     }
 
     /// An Int16 (AES70-3). Refusal: `Short`, and the cursor is unchanged.
-    #[tactic(auto, using(crate::proofs::Fixed::short_i16))]
     pub fn take_i16(&mut self) -> Result<i16, ReadFault>
         ensures found { IfOk result (λ v. Takes (IsSignedEncoding w16) v (bytes_left self.old) (bytes_left self.new)) }
         ensures only { TakesEach (IsSignedEncoding w16) (bytes_left self.old) result (bytes_left self.new) }
@@ -136,12 +145,10 @@ impl<'a> Cursor<'a> {
         ensures err { OnErr result (bytes_left self.new ≡ bytes_left self.old) }
         ensures reads { ReadsAs result (bytes_left self.new) (signed_at w16 (bytes_left self.old)) }
     {
-        let front = self.take_bytes(2)?;
-        Ok(i16::from_be_bytes([front[0], front[1]]))
+        self.take::<i16>()
     }
 
     /// An Int32 (AES70-3). Refusal: `Short`, and the cursor is unchanged.
-    #[tactic(auto, using(crate::proofs::Fixed::short_i32))]
     pub fn take_i32(&mut self) -> Result<i32, ReadFault>
         ensures found { IfOk result (λ v. Takes (IsSignedEncoding w32) v (bytes_left self.old) (bytes_left self.new)) }
         ensures only { TakesEach (IsSignedEncoding w32) (bytes_left self.old) result (bytes_left self.new) }
@@ -149,12 +156,10 @@ impl<'a> Cursor<'a> {
         ensures err { OnErr result (bytes_left self.new ≡ bytes_left self.old) }
         ensures reads { ReadsAs result (bytes_left self.new) (signed_at w32 (bytes_left self.old)) }
     {
-        let front = self.take_bytes(4)?;
-        Ok(i32::from_be_bytes([front[0], front[1], front[2], front[3]]))
+        self.take::<i32>()
     }
 
     /// An Int64 (AES70-3). Refusal: `Short`, and the cursor is unchanged.
-    #[tactic(auto, using(crate::proofs::Fixed::short_i64))]
     pub fn take_i64(&mut self) -> Result<i64, ReadFault>
         ensures found { IfOk result (λ v. Takes (IsSignedEncoding w64) v (bytes_left self.old) (bytes_left self.new)) }
         ensures only { TakesEach (IsSignedEncoding w64) (bytes_left self.old) result (bytes_left self.new) }
@@ -162,15 +167,11 @@ impl<'a> Cursor<'a> {
         ensures err { OnErr result (bytes_left self.new ≡ bytes_left self.old) }
         ensures reads { ReadsAs result (bytes_left self.new) (signed_at w64 (bytes_left self.old)) }
     {
-        let front = self.take_bytes(8)?;
-        Ok(i64::from_be_bytes([
-            front[0], front[1], front[2], front[3], front[4], front[5], front[6], front[7],
-        ]))
+        self.take::<i64>()
     }
 
     /// An OcaBoolean (AES70-3): 0 is false and any other byte is true (*profile*). Refusal: `Short`, and the cursor is
     /// unchanged.
-    #[tactic(auto, using(crate::proofs::Fixed::short_bool))]
     pub fn take_bool(&mut self) -> Result<bool, ReadFault>
         ensures found { IfOk result (λ v. Takes IsBoolEncoding v (bytes_left self.old) (bytes_left self.new)) }
         ensures only { TakesEach IsBoolEncoding (bytes_left self.old) result (bytes_left self.new) }
@@ -178,8 +179,7 @@ impl<'a> Cursor<'a> {
         ensures err { OnErr result (bytes_left self.new ≡ bytes_left self.old) }
         ensures reads { ReadsAs result (bytes_left self.new) (bool_at (bytes_left self.old)) }
     {
-        let front = self.take_bytes(1)?;
-        Ok(front[0] != 0)
+        self.take::<bool>()
     }
 
     /// An OcaString of at most 64 bytes: a Uint16 with the number of its Unicode scalar values, then its

@@ -9,6 +9,7 @@ mod bytes;
 mod class;
 mod cursor;
 mod fault;
+mod field;
 mod moments;
 mod peer;
 mod put;
@@ -21,6 +22,7 @@ pub use bytes::write_over;
 pub use class::{Access, Class, Method, MethodKind, access_of, class_fields, method_id, method_of};
 pub use cursor::Cursor;
 pub use fault::{PutFault, ReadFault};
+pub use field::Field;
 pub use moments::sooner;
 pub use put::{
     put_bool, put_class_identification, put_i8, put_i16, put_i32, put_i64, put_text, put_u8,

@@ -10,11 +10,12 @@ ghost use Rattle.oca_types.specs.Classes.{class_identification_encoding};
 
 use crate::class::{Class, class_fields};
 use crate::fault::PutFault;
+use crate::field::Field;
 use crate::text::Text;
 use crate::words::{MOST_PARAMETER_BYTES, Params};
 
 /// Appends bytes.
-fn put_bytes(params: &mut Params, bytes: &[u8]) -> Result<(), PutFault>
+pub(crate) fn put_bytes(params: &mut Params, bytes: &[u8]) -> Result<(), PutFault>
     ensures full { IsErr result ↔ (most_parameter_bytes < length params.old.items + length bytes.now) }
     ensures puts { Puts result params.old.items params.new.items bytes.now }
     ensures err { OnErr result (params.new ≡ params.old) }
@@ -30,7 +31,7 @@ pub fn put_u8(params: &mut Params, value: u8) -> Result<(), PutFault>
     ensures puts { Puts result params.old.items params.new.items (unsigned_encoding w8 value) }
     ensures err { OnErr result (params.new ≡ params.old) }
 {
-    put_bytes(params, &u8::to_be_bytes(value))
+    u8::put(value, params)
 }
 
 /// Appends a Uint16 (AES70-3). Refusal: `Full`, and the parameters are unchanged.
@@ -39,7 +40,7 @@ pub fn put_u16(params: &mut Params, value: u16) -> Result<(), PutFault>
     ensures puts { Puts result params.old.items params.new.items (unsigned_encoding w16 value) }
     ensures err { OnErr result (params.new ≡ params.old) }
 {
-    put_bytes(params, &u16::to_be_bytes(value))
+    u16::put(value, params)
 }
 
 /// Appends a Uint32 (AES70-3). Refusal: `Full`, and the parameters are unchanged.
@@ -48,7 +49,7 @@ pub fn put_u32(params: &mut Params, value: u32) -> Result<(), PutFault>
     ensures puts { Puts result params.old.items params.new.items (unsigned_encoding w32 value) }
     ensures err { OnErr result (params.new ≡ params.old) }
 {
-    put_bytes(params, &u32::to_be_bytes(value))
+    u32::put(value, params)
 }
 
 /// Appends a Uint64 (AES70-3). Refusal: `Full`, and the parameters are unchanged.
@@ -57,7 +58,7 @@ pub fn put_u64(params: &mut Params, value: u64) -> Result<(), PutFault>
     ensures puts { Puts result params.old.items params.new.items (unsigned_encoding w64 value) }
     ensures err { OnErr result (params.new ≡ params.old) }
 {
-    put_bytes(params, &u64::to_be_bytes(value))
+    u64::put(value, params)
 }
 
 /// Appends an Int8 (AES70-3). Refusal: `Full`, and the parameters are unchanged.
@@ -66,7 +67,7 @@ pub fn put_i8(params: &mut Params, value: i8) -> Result<(), PutFault>
     ensures puts { Puts result params.old.items params.new.items (signed_encoding w8 value) }
     ensures err { OnErr result (params.new ≡ params.old) }
 {
-    put_bytes(params, &i8::to_be_bytes(value))
+    i8::put(value, params)
 }
 
 /// Appends an Int16 (AES70-3). Refusal: `Full`, and the parameters are unchanged.
@@ -75,7 +76,7 @@ pub fn put_i16(params: &mut Params, value: i16) -> Result<(), PutFault>
     ensures puts { Puts result params.old.items params.new.items (signed_encoding w16 value) }
     ensures err { OnErr result (params.new ≡ params.old) }
 {
-    put_bytes(params, &i16::to_be_bytes(value))
+    i16::put(value, params)
 }
 
 /// Appends an Int32 (AES70-3). Refusal: `Full`, and the parameters are unchanged.
@@ -84,7 +85,7 @@ pub fn put_i32(params: &mut Params, value: i32) -> Result<(), PutFault>
     ensures puts { Puts result params.old.items params.new.items (signed_encoding w32 value) }
     ensures err { OnErr result (params.new ≡ params.old) }
 {
-    put_bytes(params, &i32::to_be_bytes(value))
+    i32::put(value, params)
 }
 
 /// Appends an Int64 (AES70-3). Refusal: `Full`, and the parameters are unchanged.
@@ -93,7 +94,7 @@ pub fn put_i64(params: &mut Params, value: i64) -> Result<(), PutFault>
     ensures puts { Puts result params.old.items params.new.items (signed_encoding w64 value) }
     ensures err { OnErr result (params.new ≡ params.old) }
 {
-    put_bytes(params, &i64::to_be_bytes(value))
+    i64::put(value, params)
 }
 
 /// Appends an OcaBoolean (AES70-3), as 0 or 1. Refusal: `Full`, and the parameters are unchanged.
@@ -102,7 +103,7 @@ pub fn put_bool(params: &mut Params, value: bool) -> Result<(), PutFault>
     ensures puts { Puts result params.old.items params.new.items (bool_encoding value) }
     ensures err { OnErr result (params.new ≡ params.old) }
 {
-    put_u8(params, u8::from(value))
+    bool::put(value, params)
 }
 
 /// The number of Unicode scalar values in a short text.

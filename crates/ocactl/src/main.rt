@@ -3,8 +3,8 @@
 //! runs a link over the script there.
 #![tactic(auto)]
 
-use oca_net::fill_standard_descriptors;
-use oca_program::{Failure, report as report_failure, words_of};
+use oca_net::{CountsSleep, fill_standard_descriptors};
+use oca_program::{report as report_failure, words_of};
 use oca_script::{FromReader, Printer, ToWriter};
 use ocactl_cli::run::run;
 use std::io;
@@ -17,13 +17,13 @@ fn main(rt: HostRuntime) -> ExitCode {
     let status = match words_of(&rt) {
         Ok(words) => run(
             rt.alloc(),
-            &rt,
+            &CountsSleep(&rt),
             words.as_slice(),
-            &mut FromReader::new(rt.stdin()),
+            &mut FromReader::awaited(rt.stdin()),
             &mut Printer::new(ToWriter::new(io::writer(&rt))),
             &mut faults,
         ),
-        Err(fault) => report_failure(&Failure::from(fault), &mut faults),
+        Err(failure) => report_failure(&failure, &mut faults),
     };
     ExitCode::from(status)
 }

@@ -1,5 +1,5 @@
 -- How commands fare, and are printed.
-use Rattle.std.proofs.Common.{◌≡◌, ℕ, ◌+◌, ◌-◌, ◌<◌, ◌≤◌, Bool, true, false, List, [], ◌∷◌, ◌++◌, length, Option, Some, None, Result, Ok, Err, refl, sym, ap, ◌∙◌, subst, arith, append-nil}
+use Rattle.std.proofs.Common.{◌≡◌, ℕ, ◌+◌, ◌-◌, ◌<◌, ◌≤◌, Bool, true, false, List, [], ◌∷◌, ◌++◌, length, Option, Some, None, Result, Ok, Err, refl, sym, ap, ◌∙◌, subst, arith, append-nil, append_assoc}
 use Rattle.std.specs.Prelude.{OnOk, IfSome, slice_index_or, ◌==◌, ◌||◌}
 use Rattle.std.specs.List.{remove}
 use Rattle.oca_types.specs.declared.words.Handle.{Handle}
@@ -13,14 +13,12 @@ use Rattle.oca_script.specs.Printing.{Prints, PrintsAll, PrintsPart, WritesOut}
 use Rattle.oca_script.proofs.PrintLemmas.{PrintsAll-nil, PrintsPart-then, prints-then, prints-less, written-out, front}
 use Rattle.oca_control.specs.declared.fault.ControlFault.{ControlFault}
 use Rattle.oca_control.specs.declared.outcome.Outcome.{Outcome}
-use Rattle.oca_control.specs.Links.{LinkState, submission, submitted, after_submission}
-use Rattle.oca_control.specs.declared.report.DriveReport.{DriveReport}
-use Rattle.oca_control.specs.Driving.{GivesOut}
+use Rattle.oca_control.specs.Links.{LinkState}
 use Rattle.oca_net.specs.Ends.{last_u64}
-use Rattle.oca_control.specs.Asking.{refused_by, Waits, ReceivesSoOften}
+use Rattle.oca_control.specs.Asking.{refused_by, Begins, Waits, ReceivesSoOften}
 use Rattle.ocactl_cli.specs.Requests.{LineAsked, Send}
-use Rattle.ocactl_cli.specs.Exchanges.{SessionState, AwaitsFirst, Awaits, NoneAwaited, OneAwaited, AwaitsUntil, Submits, Sends, Serves, Concludes, Finishes, ended_by, most_turns, outcome_text, outcome_status, WritesOutcome}
-use Rattle.ocactl_cli.specs.PrivateExchanges.{GoesOn, AwaitsAndPrints, SendsAndPrints, ServesAndPrints, Submitted, is_write_failure}
+use Rattle.ocactl_cli.specs.Exchanges.{SessionState, FirstIsOpen, TakesOne, Idles, NothingDone, OneTurned, OnePrinted, AwaitsFirst, Awaits, NoneAwaited, OneAwaited, AwaitsUntil, Submits, Sends, Serves, Refuses, Concludes, Finishes, ended_by, most_turns, outcome_text, outcome_status, WritesOutcome}
+use Rattle.ocactl_cli.specs.PrivateExchanges.{GoesOn, AwaitsAndPrints, IdlesAndPrints, SendsAndPrints, ServesAndPrints, Submitted, is_write_failure}
 
 -- ---- printing, unless a write has failed
 
@@ -57,24 +55,25 @@ pub first-removed : (xs ys : List ℕ) (h : ℕ) → 0 < length xs → h ≡ sli
 first-removed [] ys h some first rest = absurd (omega arith)
 first-removed (x ∷ xs) ys h some first rest = ap (λ (z : ℕ). z ∷ xs) (sym first) ∙ ap (λ (zs : List ℕ). h ∷ zs) (sym rest)
 
--- a link that refuses a command stays as it was
-pub refuses : (old mid : LinkState) (request : RequestFields) (answer : Result Handle ControlFault) (fault : ControlFault)
-    → answer ≡ Err fault → answer ≡ submission request old → mid ≡ submitted request 0 old → mid ≡ old
-refuses old mid request answer fault is e link = link ∙ ap (λ (z : Result Handle ControlFault). after_submission z request 0 old) (sym e ∙ is)
-
-pub session-refused : (old : SessionState) (mid : LinkState) → mid ≡ old.link → record old { link = mid } ≡ old
-session-refused old mid e = ap (λ (l : LinkState). record old { link = l }) e
-
-pub submits : (request : RequestFields) (h : Handle) (old new : SessionState) (l : LinkState) (report : DriveReport)
-    → l ≡ submitted request 0 old.link → GivesOut 0 (l.span + 1) l new.link old.end_state new.end_state report
-    → new.under_way ≡ old.under_way ++ h.0 ∷ [] → new.ahead ≡ old.ahead → new.unanswered ≡ old.unanswered → Submits request h old new
-submits request h old new l report link gives under_way ahead unanswered = record {
-  report = report;
-  gives = subst (λ (m : LinkState). GivesOut 0 (m.span + 1) m new.link old.end_state new.end_state report) link gives;
+pub submits : (request : RequestFields) (answer : Result Handle ControlFault) (h : Handle) (s old new : SessionState) → s ≡ old → answer ≡ Ok h
+    → Begins request answer s.link new.link s.end_state new.end_state
+    → new.under_way ≡ s.under_way ++ h.0 ∷ [] → new.ahead ≡ s.ahead → new.unanswered ≡ s.unanswered → Submitted request (Ok h) old new
+submits request answer h s old new e is begins under_way ahead unanswered = subst (λ (x : SessionState). Submits request h x new) e (record {
+  begins = subst (λ (z : Result Handle ControlFault). Begins request z s.link new.link s.end_state new.end_state) is begins;
   under_way = under_way;
   ahead = ahead;
   unanswered = unanswered;
-}
+})
+
+-- what is refused changes nothing
+pub refuses : (request : RequestFields) (answer : Result Handle ControlFault) (f : ControlFault) (s old new : SessionState) → s ≡ old → answer ≡ Err f
+    → Begins request answer s.link new.link s.end_state new.end_state
+    → new ≡ record s { link = new.link; end_state = new.end_state } → Submitted request (Err f) old new
+refuses request answer f s old new e is begins kept =
+    let b : Begins request (Err f) s.link new.link s.end_state new.end_state = subst (λ (z : Result Handle ControlFault). Begins request z s.link new.link s.end_state new.end_state) is begins in
+    let same : new ≡ s = kept ∙ ap (λ (l : LinkState). record s { link = l; end_state = new.end_state }) b.gives.0 ∙ ap (λ (d : EndState). record s { end_state = d }) b.gives.1 in
+    let there : Refuses request f s = subst (λ (x : SessionState). Begins request (Err f) s.link x.link s.end_state x.end_state) same b in
+    subst (λ (x : SessionState). (new ≡ x) × Refuses request f x) e (same, there)
 
 -- ---- waiting
 
@@ -103,40 +102,86 @@ awaited-from s old new o e h = subst (λ (x : SessionState). AwaitsFirst x new o
 pub some-under-way : (s old : SessionState) → s ≡ old → 0 < length old.under_way → 0 < length s.under_way
 some-under-way s old e h = subst (λ (x : SessionState). 0 < length x.under_way) (sym e) h
 
-pub submits-from : (request : RequestFields) (h : Handle) (s old new : SessionState) → s ≡ old → Submits request h s new → Submits request h old new
-submits-from request h s old new e k = subst (λ (x : SessionState). Submits request h x new) e k
+-- ---- idling
+
+pub idles-then : (r s t : SessionState) (x y : List ℕ) → Idles r s x → Idles s t y → Idles r t (x ++ y)
+idles-then r s t x y h NothingDone = subst (Idles r s) (sym (append-nil x)) h
+idles-then r s t x y h (OneTurned {s = m} k waits one) = OneTurned (idles-then r s m x y h k) waits one
+idles-then r s t x y h (OnePrinted {s = m} {text = z} o k first) =
+    subst (Idles r t) (append_assoc x z (outcome_text o)) (OnePrinted o (idles-then r s m x z h k) first)
+
+pub idles-awaited : (left : ℕ) (r s : SessionState) (x : List ℕ) → Awaits left r s x → Idles r s x
+idles-awaited left r s x NoneAwaited = NothingDone
+idles-awaited left r s x (OneAwaited {s = m} {text = z} o h more first) = OnePrinted o (idles-awaited left r m z h) first
+
+-- idled twice, and printed
+pub idles-and : (r s t : SessionState) (o : Unit {0}) (w : Result Unit WriteFailed) (a b c : Output) → IdlesAndPrints r s (Ok o) a b → IdlesAndPrints s t w b c → IdlesAndPrints r t w a c
+idles-and r s t o w a b c h k = record {
+  text = h.text ++ k.text;
+  idles = idles-then r s t h.text k.text h.idles k.idles;
+  prints = prints-then w a b c h.text k.text h.prints k.prints;
+}
+
+pub idles-not : (s : SessionState) (o : Unit {0}) (a : Output) → IdlesAndPrints s s (Ok o) a a
+idles-not s o a = record { text = []; idles = NothingDone; prints = PrintsAll-nil a }
+
+pub idles-as : (r s : SessionState) (w v : Result Unit WriteFailed) (a b : Output) → w ≡ v → IdlesAndPrints r s w a b → IdlesAndPrints r s v a b
+idles-as r s w v a b e h = subst (λ (z : Result Unit WriteFailed). IdlesAndPrints r s z a b) e h
+
+pub idles-turned : (r s t : SessionState) (o u : Unit {0}) (a b : Output) → IdlesAndPrints r s (Ok o) a b → FirstIsOpen s.link s.under_way → TakesOne s t → IdlesAndPrints r t (Ok u) a b
+idles-turned r s t o u a b h waits one = record { text = h.text; idles = OneTurned h.idles waits one; prints = h.prints }
+
+pub first-from : (s t : SessionState) → t ≡ s → FirstIsOpen s.link s.under_way → FirstIsOpen t.link t.under_way
+first-from s t e h = subst (λ (x : SessionState). FirstIsOpen x.link x.under_way) (sym e) h
+
+-- what was printed so far was handed on
+pub idles-handed : (r s : SessionState) (v z : Result Unit WriteFailed) (a b c : Output)
+    → ((text : List ℕ) × Idles r s text × GoesOn (Ok tt) v a b text) → GoesOn v z b c [] → IdlesAndPrints r s z a c
+idles-handed r s v z a b c h k = record {
+  text = h.0;
+  idles = h.1;
+  prints = subst (Prints z a c) (append-nil h.0) (goes-on (Ok tt) v z a b c h.0 [] h.2 k);
+}
+
+pub idles-from : (r s t : SessionState) (v : Result Unit WriteFailed) (a b : Output) → t ≡ s → IdlesAndPrints r s v a b → IdlesAndPrints r t v a b
+idles-from r s t v a b e h = subst (λ (x : SessionState). IdlesAndPrints r x v a b) (sym e) h
+
+pub idles-rest : (left : ℕ) (r s : SessionState) (v z : Result Unit WriteFailed) (a b c : Output)
+    → AwaitsAndPrints left (Ok tt) r s v a b → GoesOn v z b c [] → IdlesAndPrints r s z a c
+idles-rest left r s v z a b c h k = idles-handed r s v z a b c (h.text, idles-awaited left r s h.text h.awaits.0, h.prints) k
+
+pub idles-more : (r s t : SessionState) (v z : Result Unit WriteFailed) (a b c : Output) (o : Outcome)
+    → ((text : List ℕ) × Idles r s text × GoesOn (Ok tt) v a b text) → AwaitsFirst s t o → GoesOn v z b c (outcome_text o)
+    → (text : List ℕ) × Idles r t text × GoesOn (Ok tt) z a c text
+idles-more r s t v z a b c o h first k =
+    (h.0 ++ outcome_text o, OnePrinted o h.1 first, goes-on (Ok tt) v z a b c h.0 (outcome_text o) h.2 k)
 
 -- ---- a line
 
 pub sends-one : (request : RequestFields) (answer : Result Handle ControlFault) (h : Handle) (left : ℕ) (w v : Result Unit WriteFailed) (old s new : SessionState) (a b : Output)
-    → answer ≡ Ok h → Submitted request answer old s → left < s.ahead → AwaitsAndPrints left w s new v a b → SendsAndPrints request answer w old new v a b
+    → answer ≡ Ok h → Submitted request answer old s → left < s.ahead → AwaitsAndPrints left w s new v a b → SendsAndPrints request w old new v a b
 sends-one request answer h left w v old s new a b is submits less k =
     let one : Submits request h old s = subst (λ (z : Result Handle ControlFault). Submitted request z old s) is submits in
-    subst (λ (z : Result Handle ControlFault). SendsAndPrints request z w old new v a b) (sym is)
-    (record { text = k.text; sends = (s, left, one, subst (λ (n : ℕ). left < n) one.ahead less, k.awaits); prints = k.prints })
+    record { returned = Ok h; text = k.text; sends = (s, left, one, subst (λ (n : ℕ). left < n) one.ahead less, k.awaits); prints = k.prints }
 
 pub sends-none : (request : RequestFields) (answer : Result Handle ControlFault) (fault : ControlFault) (o : Outcome) (w v z : Result Unit WriteFailed) (old s t new : SessionState) (a b c : Output)
     → answer ≡ Err fault → Submitted request answer old s → AwaitsAndPrints 0 w s t v a b → new ≡ record t { unanswered = true } → o ≡ refused_by fault → GoesOn v z b c (outcome_text o)
-    → SendsAndPrints request answer w old new z a c
+    → SendsAndPrints request w old new z a c
 sends-none request answer fault o w v z old s t new a b c is submits k noted by p =
-    let same : s ≡ old = subst (λ (y : Result Handle ControlFault). Submitted request y old s) is submits in
-    let awaits : AwaitsUntil 0 old t k.text = subst (λ (x : SessionState). AwaitsUntil 0 x t k.text) same k.awaits in
-    subst (λ (y : Result Handle ControlFault). SendsAndPrints request y w old new z a c) (sym is)
-    (record {
+    let same : (s ≡ old) × Refuses request fault old = subst (λ (y : Result Handle ControlFault). Submitted request y old s) is submits in
+    let awaits : AwaitsUntil 0 old t k.text = subst (λ (x : SessionState). AwaitsUntil 0 x t k.text) same.0 k.awaits in
+    record {
+      returned = Err fault;
       text = k.text ++ outcome_text o;
-      sends = (t, k.text, awaits, noted, ap (λ (x : Outcome). k.text ++ outcome_text x) by);
+      sends = (t, k.text, same.1, awaits, noted, ap (λ (x : Outcome). k.text ++ outcome_text x) by);
       prints = goes-on w v z a b c k.text (outcome_text o) k.prints p;
-    })
-
-pub as-submission : (request : RequestFields) (answer sub : Result Handle ControlFault) (w v : Result Unit WriteFailed) (old new : SessionState) (a b : Output)
-    → answer ≡ sub → SendsAndPrints request answer w old new v a b → SendsAndPrints request sub w old new v a b
-as-submission request answer sub w v old new a b e h = subst (λ (z : Result Handle ControlFault). SendsAndPrints request z w old new v a b) e h
+    }
 
 pub serves-command : (request : RequestFields) (left : ℕ) (v z : Result Unit WriteFailed) (old s new : SessionState) (a b c : Output)
-    → left ≡ old.ahead - 1 → AwaitsAndPrints left (Ok tt) old s v a b → SendsAndPrints request (submission request s.link) v s new z b c → ServesAndPrints old (Send request) new z a c
+    → left ≡ old.ahead - 1 → AwaitsAndPrints left (Ok tt) old s v a b → SendsAndPrints request v s new z b c → ServesAndPrints old (Send request) new z a c
 serves-command request left v z old s new a b c is h k = record {
   text = h.text ++ k.text;
-  serves = (s, h.text, k.text, subst (λ (n : ℕ). AwaitsUntil n old s h.text) is h.awaits, k.sends, refl);
+  serves = (s, h.text, k.text, k.returned, subst (λ (n : ℕ). AwaitsUntil n old s h.text) is h.awaits, k.sends, refl);
   prints = goes-on (Ok tt) v z a b c h.text k.text h.prints k.prints;
 }
 

@@ -13,11 +13,11 @@ use Rattle.oca_script.specs.Ends.{Output}
 use Rattle.oca_script.specs.Printing.{PrintsAll}
 use Rattle.oca_script.proofs.PrintLemmas.{PrintsAll-nil, PrintsAll-then}
 use Rattle.oca_control.specs.declared.outcome.Outcome.{Outcome}
-use Rattle.oca_values.specs.declared.request.Request.{Request}
-use Rattle.oca_values.specs.Values.{request_to, Asks, AsksFor}
-use Rattle.oca_values.specs.declared.value.Value.{Value}
-use Rattle.oca_values.specs.declared.value.Value.TheVariants as values
-use Rattle.oca_values.specs.Words.{word_of}
+use Rattle.oca_model.specs.declared.value_request.ValueRequest.{ValueRequest}
+use Rattle.oca_model.specs.ValueRequests.{request_to, Asks, AsksFor}
+use Rattle.oca_model.specs.declared.value.Value.{Value}
+use Rattle.oca_model.specs.declared.value.Value.TheVariants as values
+use Rattle.oca_model.specs.Words.{word_of}
 use Rattle.ocactl_cli.specs.declared.hands.Pair.{Pair}
 use Rattle.ocactl_cli.specs.declared.hands.Search.{Search}
 use Rattle.ocactl_cli.specs.declared.setting.Wish.{Wish}
@@ -314,7 +314,7 @@ not-read why target (Err e) old new a b h told = tt
 
 -- ---- requests by class
 
-pub calls-of : (ono : ℕ) (of : Class) (m : Method) (n : ℕ) (bytes : List ℕ) (r : Request) (q : RequestFields) → q ≡ request_to ono r → Asks of m r n bytes → Calls ono of m n bytes q
+pub calls-of : (ono : ℕ) (of : Class) (m : Method) (n : ℕ) (bytes : List ℕ) (r : ValueRequest) (q : RequestFields) → q ≡ request_to ono r → Asks of m r n bytes → Calls ono of m n bytes q
 calls-of ono of m n bytes r q e a =
     let one : Calls ono of m n bytes (request_to ono r) = record { object = refl; method = a.method; count = a.count; params = a.params } in
     subst (λ (x : RequestFields). Calls ono of m n bytes x) (sym e) one
@@ -322,8 +322,8 @@ calls-of ono of m n bytes r q e a =
 not-none : {A : Type 0} (r : A) → Some r ≡ None → ⊥
 not-none r e = cc e
 
-pub reads-by : (m : Option Method) (of : Class) (q : Option Request) (r : Request) (ono : ℕ) (old new : TalkState) (result : Result Value Trouble)
+pub reads-by : (m : Option Method) (of : Class) (q : Option ValueRequest) (r : ValueRequest) (ono : ℕ) (old new : TalkState) (result : Result Value Trouble)
     → q ≡ Some r → AsksFor m of q → ReadsWith (request_to ono r) of old new result → ReadsBy ono of m old new result
 reads-by None of q r ono old new result e a h = absurd (not-none r (sym e ∙ a))
 reads-by (Some m) of q r ono old new result e a h =
-    (request_to ono r, calls-of ono of m 0 [] r (request_to ono r) refl (subst (λ (x : Option Request). AsksFor (Some m) of x) e a), h)
+    (request_to ono r, calls-of ono of m 0 [] r (request_to ono r) refl (subst (λ (x : Option ValueRequest). AsksFor (Some m) of x) e a), h)

@@ -7,8 +7,8 @@ use Rattle.oca_types.specs.declared.words.Handle.{Handle}
 use Rattle.oca_types.specs.Peers.{RequestFields}
 use Rattle.oca_control.specs.declared.fault.ControlFault.{ControlFault}
 use Rattle.oca_control.specs.declared.outcome.Outcome.{Outcome}
-use Rattle.oca_control.specs.Asking.{Asks, Waits}
-use Rattle.oca_values.specs.declared.value.Value.{Value}
+use Rattle.oca_control.specs.Asking.{Waits}
+use Rattle.oca_model.specs.declared.value.Value.{Value}
 use Rattle.ocactl_cli.specs.declared.talk.Trouble.{Trouble}
 use Rattle.ocactl_cli.specs.Hands.{TalkState, AsksIn, BeginsIn, EndsIn, SetsValue, SetCommand, BeginsSet, SetsUpTo, NoneBegun, OneBegun, OneFared, SetsInTurn, NoneSet, OneSet, wish_in, fared_by, said, carried_out}
 
@@ -24,22 +24,7 @@ some-none x e = cc e
 
 -- a request that is submitted and then waited for is asked
 asks-both : (request : RequestFields) (answer : Result Handle ControlFault) (o : Outcome) (r s t : TalkState) → BeginsIn request answer r s → EndsIn answer s t o → AsksIn request r t o
-asks-both request (Ok h) o r s t b e = record {
-  asks = subst (λ (z : Result Handle ControlFault). Asks request r.turns z r.link o t.link r.end_state t.end_state) b.returns
-      (record {
-        link = s.link;
-        end_then = s.end_state;
-        report = b.gives.0;
-        gives = b.gives.1;
-        waits = subst (λ (n : ℕ). Waits h.0 n s.link o t.link s.end_state t.end_state) b.turns e.waits;
-      });
-  turns = e.turns ∙ b.turns;
-}
-asks-both request (Err f) o r s t b e = record {
-  asks = subst (λ (z : Result Handle ControlFault). Asks request r.turns z r.link o t.link r.end_state t.end_state) b.returns
-      (e.0, ap (λ (x : TalkState). x.link) e.1 ∙ b.gives.0, ap (λ (x : TalkState). x.end_state) e.1 ∙ b.gives.1);
-  turns = ap (λ (x : TalkState). x.turns) e.1 ∙ b.turns;
-}
+asks-both request answer o r s t b e = record { returned = answer; between = s; begins = b; ends = e }
 
 sets-both : (c : SetCommand) (o : Outcome) (r s t : TalkState) → BeginsSet c r s → EndsIn c.returned s t o → SetsValue c.target c.value r t (carried_out (said o))
 sets-both c o r s t b e = record {

@@ -1,5 +1,5 @@
 -- How commands fare that are sent over a network, one or those of lines (*profile*).
-use Rattle.std.specs.Prelude.{IfSome, ◌≡◌, ℕ, ◌+◌, ◌-◌, ◌<◌, ◌≤◌, ◌==◌, Bool, ◌||◌, true, if◌then◌else◌, List, [], ◌∷◌, ◌++◌, length, codes, Result, Ok, Err}
+use Rattle.std.specs.Prelude.{IfSome, ◌≡◌, ℕ, ◌+◌, ◌-◌, ◌<◌, ◌≤◌, ◌==◌, Bool, ◌||◌, true, false, None, if◌then◌else◌, List, [], ◌∷◌, ◌++◌, length, codes, Result, Ok, Err}
 use Rattle.oca_types.specs.declared.words.Handle.{Handle}
 use Rattle.oca_types.specs.Peers.{RequestFields}
 use Rattle.oca_net.specs.Ends.{last_u64}
@@ -9,9 +9,10 @@ use Rattle.oca_control.specs.declared.outcome.Outcome.{Outcome}
 use Rattle.oca_control.specs.declared.outcome.Outcome.TheVariants as outcomes
 use Rattle.oca_control.specs.declared.report.DriveReport.{DriveReport}
 use Rattle.oca_control.specs.Answers.{answer_fields}
-use Rattle.oca_control.specs.Links.{LinkState, submission, submitted}
-use Rattle.oca_control.specs.Driving.{GivesOut}
-use Rattle.oca_control.specs.Asking.{Waits, ReceivesSoOften, Asks, refused_by}
+use Rattle.oca_control.specs.Links.{LinkState}
+use Rattle.oca_control.specs.Turning.{Turns}
+use Rattle.oca_control.specs.Asking.{Waits, ReceivesSoOften, Begins, Asks, refused_by}
+use Rattle.oca_control.specs.Untaken.{answer_under}
 use Rattle.oca_script.specs.declared.fault.ReplayFault.{ReplayFault}
 use Rattle.oca_script.specs.declared.fault.ReplayFault.TheVariants.{Line, Read, Write, TooMuch}
 use Rattle.oca_script.specs.declared.fault.WriteFailed.{WriteFailed}
@@ -43,7 +44,7 @@ WritesOutcome outcome (Err e) was is = WritesFront was is (outcome_text outcome)
 -- ONE COMMAND was asked over an end, and how it fared was written.
 pub record AsksOnce (request : RequestFields) (turns : ℕ) (old new : LinkState) (before after : EndState) (result : Result ℕ WriteFailed) (was is : Output) : Type 0 where
   pub outcome : Outcome
-  pub asks : Asks request turns (submission request old) old outcome new before after
+  pub asks : Asks request turns old outcome new before after
   pub writes : WritesOutcome outcome result was is
 
 -- ---- commands of lines
@@ -84,13 +85,36 @@ pub data Awaits (left : ℕ) : (old new : SessionState) (text : List ℕ) → Ty
 abbrev pub AwaitsUntil : ℕ → SessionState → SessionState → List ℕ → Type 0
 AwaitsUntil left old new text = Awaits left old new text × (length new.under_way ≤ left)
 
+-- the answer of the first command under way, where there is one, is not there, and the link is not lost
+abbrev pub FirstIsOpen : LinkState → List ℕ → Type 0
+FirstIsOpen l [] = Unit {0}
+FirstIsOpen l (h ∷ hs) = (answer_under h l.untaken ≡ None) × (l.lost ≡ false)
+
+-- a turn was taken
+pub record TakesOne (old new : SessionState) : Type 0 where
+  pub report : DriveReport
+  pub turns : Turns old.link new.link old.end_state new.end_state report
+  pub under_way : new.under_way ≡ old.under_way
+  pub ahead : new.ahead ≡ old.ahead
+  pub unanswered : new.unanswered ≡ old.unanswered
+
+-- WHILE INPUT IS AWAITED turns are taken, and it is printed how commands came out, in the order of their lines. A turn is taken only
+-- where the first command under way has not come out yet.
+pub data Idles : (old new : SessionState) (text : List ℕ) → Type 0 where
+  NothingDone : {s : SessionState} → Idles s s []
+  OneTurned : {r s t : SessionState} {text : List ℕ} → Idles r s text → FirstIsOpen s.link s.under_way → TakesOne s t → Idles r t text
+  OnePrinted : {r s t : SessionState} {text : List ℕ} (outcome : Outcome) → Idles r s text → AwaitsFirst s t outcome → Idles r t (text ++ outcome_text outcome)
+
 -- The command got this handle and was given out at once, and is under way behind the others.
 pub record Submits (request : RequestFields) (handle : Handle) (old new : SessionState) : Type 0 where
-  pub report : DriveReport
-  pub gives : GivesOut 0 ((submitted request 0 old.link).span + 1) (submitted request 0 old.link) new.link old.end_state new.end_state report
+  pub begins : Begins request (Ok handle) old.link new.link old.end_state new.end_state
   pub under_way : new.under_way ≡ old.under_way ++ handle.0 ∷ []
   pub ahead : new.ahead ≡ old.ahead
   pub unanswered : new.unanswered ≡ old.unanswered
+
+-- The command was refused, which changes nothing.
+abbrev pub Refuses : RequestFields → ControlFault → SessionState → Type 0
+Refuses request fault s = Begins request (Err fault) s.link s.link s.end_state s.end_state
 
 -- A command is submitted, and as many are waited for as need be, so that fewer are under way than may be. Where it is refused all
 -- that are under way are waited for first.
@@ -98,12 +122,12 @@ abbrev pub Sends : RequestFields → Result Handle ControlFault → SessionState
 Sends request (Ok handle) old new text =
     (s : SessionState) × (left : ℕ) × Submits request handle old s × (left < old.ahead) × AwaitsUntil left s new text
 Sends request (Err fault) old new text =
-    (s : SessionState) × (x : List ℕ) × AwaitsUntil 0 old s x × (new ≡ record s { unanswered = true }) × (text ≡ x ++ outcome_text (refused_by fault))
+    (s : SessionState) × (x : List ℕ) × Refuses request fault old × AwaitsUntil 0 old s x × (new ≡ record s { unanswered = true }) × (text ≡ x ++ outcome_text (refused_by fault))
 
 -- WHAT A LINE DOES, from a session to the one after it, with the text that it prints.
 abbrev pub Serves : SessionState → LineAsked → SessionState → List ℕ → Type 0
 Serves old (Send request) new text =
-    (s : SessionState) × (x : List ℕ) × (y : List ℕ) × AwaitsUntil (old.ahead - 1) old s x × Sends request (submission request s.link) s new y × (text ≡ x ++ y)
+    (s : SessionState) × (x : List ℕ) × (y : List ℕ) × (returned : Result Handle ControlFault) × AwaitsUntil (old.ahead - 1) old s x × Sends request returned s new y × (text ≡ x ++ y)
 Serves old Wait new text = AwaitsUntil 0 old new text
 
 -- ---- all lines
@@ -129,13 +153,13 @@ Finishes (Err Read) old new was is result = Concludes (Err Read) old new was is 
 Finishes (Err Write) old new was is result = (result ≡ Err Write) × (new ≡ old) × (is ≡ was)
 Finishes (Err TooMuch) old new was is result = Concludes (Err TooMuch) old new was is result
 
--- THE LINES of a source were served one after another, and then all commands under way were waited for. Where the bytes that the source
+-- THE LINES of a source were served one after another, between them it was idled while input was awaited, and then all commands under way were waited for. Where the bytes that the source
 -- had are known, these were its lines; whatever source, there are bytes, those that it gave where it tells them, and the rest of what it
 -- had, of which they were.
 pub record SendsLines (old new : SessionState) (was is : Output) (had has : Input) (result : Result Unit ReplayFault) : Type 0 where
   pub middle : SessionState
   pub between : Output
   pub ended : Result Unit ReplayFault
-  pub known : IfSome had.remaining (λ given. Replays asked_line Serves old middle was between ended given)
-  pub reads : ReadsLines asked_line Serves old middle was between had has ended
+  pub known : IfSome had.remaining (λ given. Replays asked_line Serves Idles old middle was between ended given)
+  pub reads : ReadsLines asked_line Serves Idles old middle was between had has ended
   pub finishes : Finishes ended middle new between is result

@@ -1,5 +1,5 @@
 -- What is asked of objects in words, and what answers say of them (AES70-2; the words are the profile's).
-use Rattle.std.specs.Prelude.{◌≡◌, ◌≤◌, ◌<◌, ◌+◌, ℕ, Bool, true, false, ◌==◌, ◌||◌, if◌then◌else◌, List, [], ◌∷◌, ◌++◌, length, map, codes, decimal, Option, Some, None, Result, Ok, Err}
+use Rattle.std.specs.Prelude.{◌≡◌, ◌≤◌, ◌<◌, ◌+◌, ℕ, Bool, true, false, ◌==◌, ◌||◌, ◌&&◌, not, if◌then◌else◌, List, [], ◌∷◌, ◌++◌, length, map, codes, decimal, Option, Some, None, Result, Ok, Err}
 use Rattle.std.specs.List.{position, flat_map, fold, slice_get}
 use Rattle.std.specs.Str.{bytes_eq}
 use Rattle.oca_types.specs.declared.class.Class.{Class}
@@ -10,9 +10,10 @@ use Rattle.oca_types.specs.Methods.{method_kind, access}
 use Rattle.std.specs.Int.{w16}
 use Rattle.oca_types.specs.declared.words.Handle.{Handle}
 use Rattle.oca_types.specs.Numbers.{unsigned_encoding}
+use Rattle.oca_script.specs.Escapes.{escaped}
 use Rattle.oca_types.specs.Reading.{text_at}
 use Rattle.oca_types.specs.Peers.{RequestFields}
-use Rattle.oca_tree.specs.Parameters.{whole}
+use Rattle.oca_model.specs.Parameters.{whole}
 use Rattle.oca_net.specs.EndStates.{EndState}
 use Rattle.oca_script.specs.Fields.{number_of}
 use Rattle.oca_script.specs.Ends.{Output}
@@ -22,16 +23,21 @@ use Rattle.oca_control.specs.declared.fault.ControlFault.TheVariants as faults
 use Rattle.oca_control.specs.declared.outcome.Outcome.{Outcome}
 use Rattle.oca_control.specs.declared.outcome.Outcome.TheVariants as outcomes
 use Rattle.oca_control.specs.declared.report.DriveReport.{DriveReport}
-use Rattle.oca_control.specs.Links.{LinkState, submission, submitted}
-use Rattle.oca_control.specs.Driving.{GivesOut}
-use Rattle.oca_control.specs.Asking.{Asks, Waits, refused_by}
-use Rattle.oca_values.specs.declared.value.Value.{Value}
-use Rattle.oca_values.specs.declared.value.Value.TheVariants as values
-use Rattle.oca_values.specs.Values.{value_in, get_method, set_method, class_of_value, value_encoding}
-use Rattle.oca_values.specs.Words.{IsRead, word_of}
-use Rattle.oca_values.specs.Answers.{class_id_in, class_with, members_in, names_in, status_name_of}
+use Rattle.oca_control.specs.Links.{LinkState}
+use Rattle.oca_control.specs.Turning.{Turns}
+use Rattle.oca_control.specs.Asking.{Begins, Waits}
+use Rattle.oca_model.specs.declared.value.Value.{Value}
+use Rattle.oca_model.specs.declared.value.Value.TheVariants as values
+use Rattle.oca_model.specs.Values.{get_method, set_method, class_of_value, value_encoding}
+use Rattle.oca_model.specs.Readings.{value_read}
+use Rattle.oca_model.specs.Words.{IsRead, word_of}
+use Rattle.oca_model.specs.Members.{class_id_in, class_with, members_in}
+use Rattle.oca_model.specs.Answers.{names_in}
+use Rattle.oca_model.specs.Statuses.{status_name_of}
 use Rattle.ocactl_cli.specs.declared.talk.Trouble.{Trouble}
 use Rattle.ocactl_cli.specs.declared.talk.Trouble.TheVariants as trouble
+use Rattle.ocactl_cli.specs.declared.tasks.Task.{Task}
+use Rattle.ocactl_cli.specs.declared.tasks.Task.TheVariants as task
 use Rattle.ocactl_cli.specs.declared.told.Told.{Told}
 use Rattle.ocactl_cli.specs.declared.told.Told.TheVariants as told
 
@@ -78,7 +84,7 @@ abbrev pub class_said : Outcome → Result Class Trouble
 class_said outcome = class_of_said (fields_said outcome)
 
 abbrev pub value_said : Class → Outcome → Result Value Trouble
-value_said of outcome = read_from (value_in of) (said outcome)
+value_said of outcome = read_from (value_read of) (said outcome)
 
 abbrev pub text_said : Outcome → Result (List ℕ) Trouble
 text_said outcome = read_from (λ params. whole (text_at params)) (said outcome)
@@ -88,39 +94,52 @@ members_said outcome = read_from members_in (said outcome)
 
 -- ---- what is asked
 
--- A link, what the end that it is driven over says of itself, and how many turns a command waits.
+-- A link, what the end that it is driven over says of itself, how many turns a command waits, and whether one that was
+-- waited for got no answer.
 pub record TalkState : Type 0 where
   pub link : LinkState
   pub end_state : EndState
   pub turns : ℕ
+  pub unanswered : Bool
 
--- The request was asked, and came out so.
-pub record AsksIn (request : RequestFields) (old new : TalkState) (outcome : Outcome) : Type 0 where
-  pub asks : Asks request old.turns (submission request old.link) old.link outcome new.link old.end_state new.end_state
-  pub turns : new.turns ≡ old.turns
+-- no answer came
+abbrev pub came_to_nothing : Outcome → Bool
+came_to_nothing (outcomes.Answered a) = false
+came_to_nothing (outcomes.Refused fault) = false
+came_to_nothing outcomes.Lost = true
+came_to_nothing outcomes.Unanswered = true
 
--- The request got its handle and what was due was given out, or the link was found lost; or it was refused, which
--- changes nothing.
-abbrev pub GivesAtOnce : RequestFields → Result Handle ControlFault → TalkState → TalkState → Type 0
-GivesAtOnce request (Ok handle) old new =
-    (report : DriveReport) × GivesOut 0 ((submitted request 0 old.link).span + 1) (submitted request 0 old.link) new.link old.end_state new.end_state report
-GivesAtOnce request (Err fault) old new = (new.link ≡ old.link) × (new.end_state ≡ old.end_state)
-
--- Submit was called for the request.
+-- The request was begun: it got its handle and what was due was given out, or it was refused, which changes nothing.
 pub record BeginsIn (request : RequestFields) (returned : Result Handle ControlFault) (old new : TalkState) : Type 0 where
-  pub returns : returned ≡ submission request old.link
-  pub gives : GivesAtOnce request returned old new
+  pub begins : Begins request returned old.link new.link old.end_state new.end_state
   pub turns : new.turns ≡ old.turns
+  pub unanswered : new.unanswered ≡ old.unanswered
 
 -- The answer under this handle was waited for.
 pub record FinishesIn (handle : ℕ) (old new : TalkState) (outcome : Outcome) : Type 0 where
   pub waits : Waits handle old.turns old.link outcome new.link old.end_state new.end_state
   pub turns : new.turns ≡ old.turns
+  pub unanswered : new.unanswered ≡ (old.unanswered || came_to_nothing outcome)
 
--- How a command fared that was submitted: it was waited for, or it had been refused.
+-- The link took a turn; and whether it may go on: it was a turn, and the link was found neither lost nor late.
+pub record TurnsOnce (old new : TalkState) (further : Bool) : Type 0 where
+  pub report : DriveReport
+  pub takes : Turns old.link new.link old.end_state new.end_state report
+  pub goes_on : further ≡ (report.turns == 1 && not report.lost)
+  pub turns : new.turns ≡ old.turns
+  pub unanswered : new.unanswered ≡ old.unanswered
+
+-- How a command fared for which submit was called: it was waited for, or the link refused it, so that it was never sent.
 abbrev pub EndsIn : Result Handle ControlFault → TalkState → TalkState → Outcome → Type 0
 EndsIn (Ok handle) old new outcome = FinishesIn handle.0 old new outcome
-EndsIn (Err fault) old new outcome = (outcome ≡ refused_by fault) × (new ≡ old)
+EndsIn (Err fault) old new outcome = (outcome ≡ outcomes.Refused fault) × (new ≡ old)
+
+-- The request was asked, and came out so: submit was called for it, and then it was waited for, unless it was refused.
+pub record AsksIn (request : RequestFields) (old new : TalkState) (outcome : Outcome) : Type 0 where
+  pub returned : Result Handle ControlFault
+  pub between : TalkState
+  pub begins : BeginsIn request returned old between
+  pub ends : EndsIn returned between new outcome
 
 -- a call of an object's method, without parameters
 abbrev pub call : ℕ → ℕ → ℕ → RequestFields
@@ -176,9 +195,9 @@ abbrev pub found_position : Option ℕ → Result ℕ Trouble
 found_position None = Err trouble.NoSuchWord
 found_position (Some n) = Ok n
 
--- the first position of this name
+-- the first position whose name is printed so
 abbrev pub position_of : List ℕ → Result (List (List ℕ)) Trouble → Result ℕ Trouble
-position_of word (Ok names) = found_position (position (λ name. bytes_eq name word) names)
+position_of word (Ok names) = found_position (position (λ name. bytes_eq (escaped name) word) names)
 position_of word (Err t) = Err t
 
 abbrev pub position_said : List ℕ → Outcome → Result ℕ Trouble
@@ -240,7 +259,7 @@ or_number number None = codes "status " ++ decimal number
 or_number number (Some name) = name
 
 abbrev pub refused_text : ControlFault → List ℕ
-refused_text faults.Lost = codes "refused 1 lost"
+refused_text faults.Lost = codes "not sent"
 refused_text faults.HandlesSpent = codes "refused 2 handles-spent"
 refused_text faults.SpanFull = codes "refused 3 span-full"
 refused_text faults.TooLong = codes "refused 4 too-long"
@@ -257,7 +276,7 @@ trouble_text trouble.Unanswered = codes "no answer"
 
 abbrev pub told_text : Told → List ℕ
 told_text (told.Word word) = word.now
-told_text (told.Named word name) = word.now ++ codes " " ++ name.now
+told_text (told.Named word name) = word.now ++ codes " " ++ escaped name.now
 told_text (told.Hindered why) = trouble_text why
 
 -- the line of an object
@@ -278,9 +297,9 @@ abbrev pub fields_text : List ℕ → List ℕ
 fields_text [] = []
 fields_text (field ∷ fields) = codes " " ++ decimal field ++ dotted fields
 
--- the line of an object in a tree
+-- the line of an object in a tree, with its role as a text is printed
 abbrev pub place_text : ℕ → List ℕ → ℕ → List ℕ → List ℕ
-place_text ono fields container role = decimal ono ++ fields_text fields ++ codes " " ++ decimal container ++ codes " " ++ role ++ codes "\n"
+place_text ono fields container role = decimal ono ++ fields_text fields ++ codes " " ++ decimal container ++ codes " " ++ escaped role ++ codes "\n"
 
 -- ---- the exit status
 
@@ -402,9 +421,9 @@ abbrev pub Locks : Bool → ℕ → TalkState → TalkState → Result (List ℕ
 Locks true target old new told = (done : Result Unit Trouble) × DoesCall (lock_total target) old new done × (told ≡ on_ok (λ u. codes "locked") done)
 Locks false target old new told = (done : Result Unit Trouble) × DoesCall (unlocking target) old new done × (told ≡ on_ok (λ u. codes "unlocked") done)
 
--- a word, and the name behind it where there is one
+-- a word, and the name behind it where there is one, as a text is printed
 abbrev pub named : List ℕ → Result (List ℕ) Trouble → List ℕ
-named word (Ok name) = word ++ codes " " ++ name
+named word (Ok name) = word ++ codes " " ++ escaped name
 named word (Err why) = word
 
 -- Of a value its word is told; of a switch's position its name was asked, which is told too.
@@ -437,3 +456,12 @@ pub record AsksAll (One : ℕ → TalkState → TalkState → Result (List ℕ) 
 
 abbrev pub ono_said : List ℕ → Option ℕ
 ono_said word = number_of 10 4294967295 word
+
+-- it takes locks or takes them off
+abbrev pub is_locking : Task → Bool
+is_locking (task.Lock onos) = true
+is_locking (task.Unlock onos) = true
+is_locking (task.Hold onos) = true
+is_locking (task.Get onos) = false
+is_locking (task.Set ahead pairs) = false
+is_locking task.Tree = false

@@ -3,6 +3,8 @@ pub mod Printing
 pub mod Replaying
 pub mod Exchanges
 pub mod Hands
+pub mod OwnPorts
+pub mod Reasons
 pub mod PrivateRequests
 pub mod PrivateLines
 pub mod PrivateExchanges

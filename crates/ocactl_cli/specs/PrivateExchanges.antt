@@ -1,5 +1,5 @@
 -- For private contracts: what is printed while commands are waited for, and what a line asks for as the program has it.
-use Rattle.std.specs.Prelude.{◌≡◌, ℕ, Bool, true, false, List, Result, Ok, Err}
+use Rattle.std.specs.Prelude.{◌≡◌, ℕ, Bool, true, false, List, Option, Some, None, Result, Ok, Err}
 use Rattle.oca_types.specs.declared.words.Handle.{Handle}
 use Rattle.oca_types.specs.Peers.{RequestFields, request_of}
 use Rattle.oca_script.specs.declared.fault.LineFault.{LineFault}
@@ -9,10 +9,11 @@ use Rattle.oca_script.specs.declared.fault.WriteFailed.{WriteFailed}
 use Rattle.oca_script.specs.Ends.{Output}
 use Rattle.oca_script.specs.Printing.{Prints}
 use Rattle.oca_control.specs.declared.fault.ControlFault.{ControlFault}
+use Rattle.oca_control.specs.declared.outcome.Outcome.{Outcome}
 use Rattle.ocactl_cli.specs.declared.commands.Asked.{Asked}
 use Rattle.ocactl_cli.specs.declared.commands.Asked.TheVariants as asked
 use Rattle.ocactl_cli.specs.Requests.{LineAsked, Send, Wait}
-use Rattle.ocactl_cli.specs.Exchanges.{SessionState, Serves, Sends, AwaitsUntil, Submits}
+use Rattle.ocactl_cli.specs.Exchanges.{SessionState, AwaitsFirst, FirstIsOpen, Idles, Serves, Sends, AwaitsUntil, Submits, Refuses}
 
 -- The text is printed, unless a write failed before.
 abbrev pub GoesOn : Result Unit WriteFailed → Result Unit WriteFailed → Output → Output → List ℕ → Type 0
@@ -25,10 +26,22 @@ pub record AwaitsAndPrints (left : ℕ) (written : Result Unit WriteFailed) (old
   pub awaits : AwaitsUntil left old new text
   pub prints : GoesOn written result was is text
 
--- a command was submitted or refused, and printed as far as the writes went
-pub record SendsAndPrints (request : RequestFields) (answer : Result Handle ControlFault) (written : Result Unit WriteFailed) (old new : SessionState) (result : Result Unit WriteFailed) (was is : Output) : Type 0 where
+-- it was idled, and printed as far as the writes went
+pub record IdlesAndPrints (old new : SessionState) (result : Result Unit WriteFailed) (was is : Output) : Type 0 where
   pub text : List ℕ
-  pub sends : Sends request answer old new text
+  pub idles : Idles old new text
+  pub prints : Prints result was is text
+
+-- how the first command under way came out, where that is known without a turn
+abbrev pub TakesFirst : Option Outcome → SessionState → SessionState → Type 0
+TakesFirst None old new = (new ≡ old) × FirstIsOpen old.link old.under_way
+TakesFirst (Some outcome) old new = AwaitsFirst old new outcome
+
+-- a command was submitted or refused, and printed as far as the writes went
+pub record SendsAndPrints (request : RequestFields) (written : Result Unit WriteFailed) (old new : SessionState) (result : Result Unit WriteFailed) (was is : Output) : Type 0 where
+  pub returned : Result Handle ControlFault
+  pub text : List ℕ
+  pub sends : Sends request returned old new text
   pub prints : GoesOn written result was is text
 
 -- a line was served, and printed as far as the writes went
@@ -40,7 +53,7 @@ pub record ServesAndPrints (old : SessionState) (line : LineAsked) (new : Sessio
 -- what a submission made of a session
 abbrev pub Submitted : RequestFields → Result Handle ControlFault → SessionState → SessionState → Type 0
 Submitted request (Ok handle) old new = Submits request handle old new
-Submitted request (Err fault) old new = new ≡ old
+Submitted request (Err fault) old new = (new ≡ old) × Refuses request fault old
 
 abbrev pub line_in : Asked → LineAsked
 line_in (asked.Send request) = Send (request_of request)

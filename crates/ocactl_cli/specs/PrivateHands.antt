@@ -4,7 +4,7 @@ use Rattle.oca_types.specs.declared.words.Ono.{Ono}
 use Rattle.oca_script.specs.Ends.{Output}
 use Rattle.oca_script.specs.Printing.{PrintsAll}
 use Rattle.oca_control.specs.declared.outcome.Outcome.{Outcome}
-use Rattle.oca_values.specs.declared.value.Value.{Value}
+use Rattle.oca_model.specs.declared.value.Value.{Value}
 use Rattle.ocactl_cli.specs.declared.hands.Pair.{Pair}
 use Rattle.ocactl_cli.specs.declared.hands.Search.{Search}
 use Rattle.ocactl_cli.specs.declared.setting.Wish.{Wish}

@@ -1,12 +1,12 @@
 -- What the options of the controller's program say (*profile*).
-use Rattle.std.specs.Prelude.{ℕ, ◌/◌, ◌==◌, ◌||◌, List, [], codes, length, nat_lt, if◌then◌else◌, Option, Some, None}
+use Rattle.std.specs.Prelude.{ℕ, ◌/◌, ◌==◌, List, [], codes, length, nat_lt, if◌then◌else◌, Option, Some, None}
 use Rattle.clap.specs.declared.parser.matches.ArgMatches.{ArgMatches}
 use Rattle.arrayvec.specs.ArrayVec.{ArrayVec}
 use Rattle.oca_types.specs.declared.words.Peer.{Peer}
 use Rattle.oca_types.specs.Sizes.{span_size}
-use Rattle.oca_script.specs.Fields.{number_of, address_of, peer_of, hex_of, then_in}
+use Rattle.oca_script.specs.Fields.{number_of, peer_of, hex_of, then_in}
 use Rattle.oca_types.specs.Peers.{RequestFields}
-use Rattle.oca_program.specs.Options.{given, read_as, read_or, read_if, sized}
+use Rattle.oca_program.specs.Options.{given, read_as, read_or, read_if, sized, host_of, own_of}
 use Rattle.ocactl_cli.specs.declared.words.Linking.{Linking}
 use Rattle.ocactl_cli.specs.declared.words.Reach.{Reach}
 use Rattle.ocactl_cli.specs.declared.words.Sending.{Sending}
@@ -40,16 +40,12 @@ linking_in words =
 
 -- ---- the device over a network
 
--- a device is at the address of one host
-abbrev pub one_host : Peer → Option Peer
-one_host p = if (p.ip == 0) || (p.ip == 4294967295) then None else Some p
-
 -- the address that a socket is bound to unless it is given: 127.0.0.1 for a device of 127/8, and any address of the machine else
 abbrev pub own_address : Peer → ℕ
 own_address device = if device.ip / 16777216 == 127 then 2130706433 else 0
 
 abbrev pub host_in : ArgMatches → Option Peer
-host_in words = then_in (read_as peer_of (given words (codes "device"))) one_host
+host_in words = read_as host_of (given words (codes "device"))
 
 -- the local port and the first handle, where they are given
 abbrev pub port_in : ArgMatches → Option (Option ℕ)
@@ -71,7 +67,7 @@ reach_fields r = record { device = r.device; ip = r.ip; port = r.port; first_han
 unfoldable pub reach_in : ArgMatches → Option ReachFields
 reach_in words =
     then_in (host_in words) (λ device.
-    then_in (read_or (own_address device) address_of (given words (codes "ip"))) (λ ip.
+    then_in (read_or (own_address device) own_of (given words (codes "ip"))) (λ ip.
     then_in (port_in words) (λ port.
     then_in (handle_in words) (λ first_handle.
     then_in (span_in words) (λ span.

@@ -1,14 +1,13 @@
 //! Commands from lines, so many at once as may be under way.
-ghost use Rattle.std.specs.Prelude.{◌≡◌, ◌≤◌, ◌<◌, [], codes, length, OnOk, false};
+ghost use Rattle.std.specs.Prelude.{◌≡◌, ◌≤◌, ◌<◌, [], codes, length, OnOk, true, false, Ok as ok};
 ghost use Rattle.std.specs.Str.{bytes_eq};
 ghost use Rattle.oca_script.specs.Ends.{input};
 ghost use Rattle.oca_script.specs.Fields.{fields};
 ghost use Rattle.oca_script.specs.Printing.{Prints};
 ghost use Rattle.oca_types.specs.Peers.{request_of};
-ghost use Rattle.oca_control.specs.Links.{submission};
 ghost use Rattle.ocactl_cli.specs.Requests.{LineAsked, asked_line, is_wait as wait_line};
-ghost use Rattle.ocactl_cli.specs.Exchanges.{NoneUnderWay, Serves, SendsLines, outcome_text};
-ghost use Rattle.ocactl_cli.specs.PrivateExchanges.{AwaitsAndPrints, SendsAndPrints, ServesAndPrints, GoesOn, is_write_failure, line_in, line_asked};
+ghost use Rattle.ocactl_cli.specs.Exchanges.{FirstIsOpen, Idles, NoneUnderWay, Serves, SendsLines, outcome_text};
+ghost use Rattle.ocactl_cli.specs.PrivateExchanges.{AwaitsAndPrints, IdlesAndPrints, SendsAndPrints, ServesAndPrints, GoesOn, is_write_failure, line_in, line_asked};
 
 use super::exchange::print_outcome;
 use super::request::{PARAMS_ROOM, command_by};
@@ -42,6 +41,8 @@ impl<E: End> Language for Commands<E> {
 
     ghost rests = { NoneUnderWay };
 
+    ghost idles = { Idles };
+
     ghost serves = { Serves };
 
     /// Reads what the line asks for, does it, and prints how commands fared.
@@ -49,16 +50,24 @@ impl<E: End> Language for Commands<E> {
         session: &mut Session<E>,
         room: &mut [u8; PARAMS_ROOM],
         line: &[u8],
-        more: bool,
         printer: &mut Printer<W>,
     ) -> Result<(), Stop> {
         match asked_by(line, room) {
             Err(fault) => Err(Stop::Line(fault)),
-            Ok(asked) => match serve(session, asked, more, printer) {
+            Ok(asked) => match serve(session, asked, printer) {
                 Ok(()) => Ok(()),
                 Err(WriteFailed) => Err(Stop::Write),
             },
         }
+    }
+
+    /// Drives the commands under way until there is input, and prints how they fared as soon as that is known.
+    fn before_read<R: Source, W: Sink>(
+        session: &mut Session<E>,
+        reader: &mut R,
+        printer: &mut Printer<W>,
+    ) -> Result<(), WriteFailed> {
+        idle(session, reader, printer)
     }
 }
 
@@ -99,38 +108,33 @@ fn asked_by<'a>(line: &[u8], room: &'a mut [u8; PARAMS_ROOM]) -> Result<Asked<'a
 fn serve<E: End, W: Sink>(
     session: &mut Session<E>,
     asked: Asked<'_>,
-    more: bool,
     printer: &mut Printer<W>,
 ) -> Result<(), WriteFailed>
-    ensures rests { more ≡ false → NoneUnderWay session.new }
-    ensures serves { ServesAndPrints session.old (line_in asked.entry) session.new result printer.old printer.new }
+    ensures { ServesAndPrints session.old (line_in asked.entry) session.new result printer.old printer.new }
 {
     match asked {
         Asked::Send(request) => {
             let left = session.left();
             let written = await_until(session, left, Ok(()), printer);
-            send(session, request, more, written, printer)
+            send(session, request, written, printer)
         }
         Asked::Wait => await_until(session, 0, Ok(()), printer),
     }
 }
 
-/// Submits a command; then so many are waited for that one more may be under way, or all where no further line
-/// that asks for something is at hand.
+/// Submits a command; then so many are waited for that one more may be under way.
 fn send<E: End, W: Sink>(
     session: &mut Session<E>,
     request: Request<'_>,
-    more: bool,
     written: Result<(), WriteFailed>,
     printer: &mut Printer<W>,
 ) -> Result<(), WriteFailed>
     requires { length session.old.under_way < 32 }
-    ensures rests { more ≡ false → NoneUnderWay session.new }
-    ensures sends { SendsAndPrints (request_of request.entry) (submission (request_of request.entry) session.old.link) written session.old session.new result printer.old printer.new }
+    ensures { SendsAndPrints (request_of request.entry) written session.old session.new result printer.old printer.new }
 {
     match session.submit(request) {
         Ok(_) => {
-            let left = session.left_after(more);
+            let left = session.left();
             await_until(session, left, written, printer)
         }
         Err(fault) => {
@@ -181,15 +185,106 @@ fn write_outcome<W: Sink>(outcome: &Outcome, printer: &mut Printer<W>) -> Result
     printer.flush()
 }
 
+/// Takes turns while there is no input, and prints how commands fared as soon as that is known: until a read does not wait, or nothing
+/// is to be done any more.
+fn idle<E: End, R: Source, W: Sink>(
+    session: &mut Session<E>,
+    reader: &mut R,
+    printer: &mut Printer<W>,
+) -> Result<(), WriteFailed>
+    requires { printer.old.held ≡ [] }
+    ensures idles { IdlesAndPrints session.old session.new result printer.old printer.new }
+    ensures empty { OnOk result (printer.new.held ≡ []) }
+    ensures source { input (R.remaining reader.new) (R.failed reader.new) ≡ input (R.remaining reader.old) (R.failed reader.old) }
+    ensures rests { OnOk result (R.ready reader.new ≡ false → NoneUnderWay session.new) }
+{
+    for _turn in 0..u64::MAX {
+        let (goes_on, written) = idle_once(session, reader, printer);
+        if !goes_on {
+            return written;
+        }
+    }
+    await_rest(session, printer)
+}
+
+/// Prints how commands fared, where that is known, waits for input, and takes a turn where there is none. Returns whether it goes on
+/// so, and whether a write failed.
+fn idle_once<E: End, R: Source, W: Sink>(
+    session: &mut Session<E>,
+    reader: &mut R,
+    printer: &mut Printer<W>,
+) -> (bool, Result<(), WriteFailed>)
+    ensures idles { IdlesAndPrints session.old session.new result.1 printer.old printer.new }
+    ensures empty { OnOk result.1 (printer.new.held ≡ []) }
+    ensures source { input (R.remaining reader.new) (R.failed reader.new) ≡ input (R.remaining reader.old) (R.failed reader.old) }
+    ensures goes_on { result.0 ≡ true → result.1 ≡ ok tt }
+    ensures rests { OnOk result.1 (result.0 ≡ false → R.ready reader.new ≡ false → NoneUnderWay session.new) }
+{
+    let Ok(()) = print_settled(session, printer) else {
+        return (false, Err(WriteFailed));
+    };
+    if session.is_over() {
+        return (false, Ok(()));
+    }
+    if reader.await_input(session.socket(), session.patience()) {
+        return (false, Ok(()));
+    }
+    if session.turn() {
+        return (false, await_rest(session, printer));
+    }
+    (true, Ok(()))
+}
+
+/// Prints how the first commands under way fared, where that is known without a turn, and hands it on.
+fn print_settled<E: End, W: Sink>(
+    session: &mut Session<E>,
+    printer: &mut Printer<W>,
+) -> Result<(), WriteFailed>
+    ensures idles { IdlesAndPrints session.old session.new result printer.old printer.new }
+    ensures empty { OnOk result (printer.new.held ≡ []) }
+    ensures first { FirstIsOpen session.new.link session.new.under_way }
+{
+    let mut so_far = Ok(());
+    while let Some(outcome) = session.take_first() {
+        so_far = hold_next(&outcome, so_far, printer);
+    }
+    hand_on(so_far, printer)
+}
+
+/// Waits for all commands under way, and prints how each fared.
+fn await_rest<E: End, W: Sink>(
+    session: &mut Session<E>,
+    printer: &mut Printer<W>,
+) -> Result<(), WriteFailed>
+    ensures idles { IdlesAndPrints session.old session.new result printer.old printer.new }
+    ensures empty { OnOk result (printer.new.held ≡ []) }
+    ensures none { NoneUnderWay session.new }
+{
+    let written = await_until(session, 0, Ok(()), printer);
+    hand_on(written, printer)
+}
+
+/// Prints how a command fared, unless a write has failed.
+fn hold_next<W: Sink>(
+    outcome: &Outcome,
+    written: Result<(), WriteFailed>,
+    printer: &mut Printer<W>,
+) -> Result<(), WriteFailed>
+    ensures { GoesOn written result printer.old printer.new (outcome_text outcome.now) }
+{
+    match written {
+        Ok(()) => print_outcome(outcome, printer),
+        Err(WriteFailed) => Err(WriteFailed),
+    }
+}
+
 /// Sends the commands that the source has to give over the session, and prints how each fared, in the order of their lines.
-/// Before each read, and at the end, commands that are still under way are waited for. Faults: the first bad line, too much input, a failed read or write.
+/// While there is no input, those under way are driven; at the end they are waited for. Faults: the first bad line, too much input, a failed read or write.
 pub fn send_all<E: End, R: Source, W: Sink>(
     session: &mut Session<E>,
     reader: &mut R,
     printer: &mut Printer<W>,
 ) -> Result<(), ReplayFault>
-    // Nothing is under way, so that the first read may take as long as it will.
-    requires { NoneUnderWay session.old }
     ensures { SendsLines session.old session.new printer.old printer.new (input (R.remaining reader.old) (R.failed reader.old)) (input (R.remaining reader.new) (R.failed reader.new)) result }
 {
     let mut room = [0; PARAMS_ROOM];

@@ -1,8 +1,8 @@
 //! Several objects: read, set, locked, unlocked. Each has its line.
 ghost use Rattle.std.specs.Prelude.{◌≡◌, ◌≤◌, [], map, length, IfOk, Err};
 ghost use Rattle.oca_types.specs.Sizes.{span_size};
-ghost use Rattle.oca_values.specs.declared.value.Value.TheVariants as values;
-ghost use Rattle.oca_values.specs.Words.{word_of};
+ghost use Rattle.oca_model.specs.declared.value.Value.TheVariants as values;
+ghost use Rattle.oca_model.specs.Words.{word_of};
 ghost use Rattle.ocactl_cli.specs.Hands.{on_ok, TellsValue, Gets, Locks, AsksAll, SetsAll};
 ghost use Rattle.ocactl_cli.specs.PrivateHands.{number_of, pair_of, FindsAllTo, FindsOneTo, TellsFared, TellsOne};
 
@@ -10,11 +10,11 @@ use super::objects::{lock, name_of, unlock, value_of, wanted};
 use super::setting::{Wish, set_wishes};
 use super::talk::{Talk, Trouble};
 use super::told::{Told, graver, status_of, tell};
+use oca_model::{Value, word_of};
 use oca_net::End;
 use oca_program::{Failure, RunFault};
 use oca_script::{Printer, Sink, WriteFailed};
 use oca_types::{Ono, Span, Text};
-use oca_values::{Value, word_of};
 use std::alloc::Global;
 
 /// An object, and the word for the value that it is to have.
@@ -228,7 +228,7 @@ pub fn lock_all<E: End, W: Sink>(
 }
 
 /// Locks an object, or takes its lock off, and prints how it fared. Returns the exit status.
-fn lock_one<E: End, W: Sink>(
+pub fn lock_one<E: End, W: Sink>(
     talk: &mut Talk<E>,
     ono: Ono,
     locks: bool,

@@ -1,13 +1,14 @@
 //! What is asked of one object: its value, to be set, or to be locked.
 ghost use Rattle.std.specs.Prelude.{◌≡◌};
 ghost use Rattle.oca_types.specs.Peers.{request_of};
-ghost use Rattle.oca_values.specs.Values.{get_method, request_to};
+ghost use Rattle.oca_model.specs.Values.{get_method};
+ghost use Rattle.oca_model.specs.ValueRequests.{request_to};
 ghost use Rattle.ocactl_cli.specs.Hands.{AsksClass, ReadsValue, FindsValue, DoesCall, AsksName, ReadsBy, ReadsWith, FindsOf, FindsName, FindsPosition, call, lock_total, unlocking};
 
 use super::talk::{Talk, Trouble, class_in, done_in, position_in, text_in, value_in};
+use oca_model::{Value, get_request, value_from_word};
 use oca_net::End;
 use oca_types::{Class, MethodId, Ono, Request, Text};
-use oca_values::{Value, get_request, value_from_word};
 
 /// GetClassIdentification of every object.
 const GET_CLASS: MethodId = MethodId { level: 1, index: 1 };
@@ -69,7 +70,7 @@ fn read_with<E: End>(
     talk: &mut Talk<E>,
     ono: Ono,
     class: Class,
-    request: &oca_values::Request,
+    request: &oca_model::ValueRequest,
 ) -> Result<Value, Trouble>
     ensures { ReadsWith (request_to ono.0 request.now) class talk.old talk.new result }
 {

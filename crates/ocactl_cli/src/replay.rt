@@ -2,7 +2,7 @@
 ghost use Rattle.std.specs.Prelude.{◌≡◌, IfSome};
 ghost use Rattle.oca_types.specs.Peers.{request_of};
 ghost use Rattle.oca_script.specs.Ends.{input};
-ghost use Rattle.oca_script.specs.Replaying.{Outcome, Replays};
+ghost use Rattle.oca_script.specs.Replaying.{NeverIdles, Outcome, Replays};
 ghost use Rattle.ocactl_cli.specs.Requests.{LinkCall, Submit as SubmitCall, Due as DueCall, Datagram as DatagramCall, Take as TakeCall, asked_call};
 ghost use Rattle.ocactl_cli.specs.Replaying.{Serves, ServesAndPrints};
 ghost use Rattle.ocactl_cli.specs.PrivateRequests.{call_in};
@@ -50,7 +50,6 @@ impl Language for LinkScript {
         link: &mut Link,
         room: &mut LinkRoom,
         line: &[u8],
-        _more: bool,
         printer: &mut Printer<W>,
     ) -> Result<(), Stop> {
         match call_by(line, &mut room.bytes) {
@@ -60,6 +59,15 @@ impl Language for LinkScript {
                 Err(WriteFailed) => Err(Stop::Write),
             },
         }
+    }
+
+    /// Does nothing: no request is under way behind its line.
+    fn before_read<R: Source, W: Sink>(
+        _link: &mut Link,
+        _reader: &mut R,
+        _printer: &mut Printer<W>,
+    ) -> Result<(), WriteFailed> {
+        Ok(())
     }
 }
 
@@ -156,10 +164,10 @@ pub fn replay<R: Source, W: Sink>(
     // Where the bytes that the source had are known, their script was replayed: each line is a call of the link, and its answer
     // was printed.
     ensures known { IfSome (R.remaining reader.old) (λ given.
-        Replays asked_call Serves link.old link.new printer.old printer.new result given) }
+        Replays asked_call Serves NeverIdles link.old link.new printer.old printer.new result given) }
     // Whatever source: there are bytes, those that it gave where it tells them, and the rest of what it had, and their script was
     // replayed.
-    ensures reads { Outcome asked_call Serves link.old link.new printer.old printer.new
+    ensures reads { Outcome asked_call Serves NeverIdles link.old link.new printer.old printer.new
         (input (R.remaining reader.old) (R.failed reader.old)) (input (R.remaining reader.new) (R.failed reader.new)) result }
 {
     let mut room = LinkRoom::new();

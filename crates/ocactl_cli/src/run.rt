@@ -2,27 +2,27 @@
 use super::commands::send_all;
 use super::exchange::ask_once;
 use super::hands::{get_all, lock_all, set_all};
+use super::holding::hold;
+use super::own::own_now;
+use super::reaching::reached;
+use super::reason::note_silence;
 use super::replay::replay;
 use super::session::Session;
 use super::talk::Talk;
 use super::tasks::Task;
 use super::walk::walk;
+use super::watched::Watched;
 use super::words::{Asked, Reach, Sending, asked_for};
 use oca_net::{End, UdpEnd};
 use oca_program::socket::bind;
 use oca_program::{Failure, print_note, report};
 use oca_script::{Printer, Sink, Source};
+use oca_types::Peer;
 use std::alloc::Global;
 use std::convert::AsStr;
 use std::net::Net;
+use std::os::fd::AsRawFd;
 use std::rt::Clock;
-use std::time::{SystemTime, UNIX_EPOCH};
-
-/// The port that `run` is bound to, unless the words give one or it is in use.
-const OWN_PORT: u16 = 65001;
-
-/// Handles that the clock gives are below this.
-const HANDLES: u64 = 2_147_483_648;
 
 /// Runs the program on the words of its command line, its name first, and returns its exit status.
 ///
@@ -63,24 +63,42 @@ fn served<N: Net + Clock, S: AsStr, R: Source, W: Sink, F: Sink>(
             Ok(0)
         }
         Asked::Send(reach, sending) => {
-            let mut end = bind(alloc, system, reach.ip, reach.port.unwrap_or(0))?;
+            let end = bind(alloc, system, reach.ip, reach.port.unwrap_or(0))?;
+            let mut end = Watched::new(end, reach.device);
             let status = send_one(system, reach, &mut end, &sending, printer)?;
-            note_sends(alloc, &end, status, faults);
+            note_no_answer(alloc, &mut end, reach.device, status == 3, false, faults);
             Ok(status)
         }
         Asked::Run(reach, ahead) => {
-            let end = bind_own(alloc, system, reach)?;
-            let mut session = Session::new(reach.link(handle_now(system)), end, ahead);
+            let (link, end) = reached(alloc, system, reach, false, faults)?;
+            let socket = Some(end.end().as_raw_fd());
+            let mut session = Session::new(link, end, ahead, socket);
             send_all(&mut session, reader, printer)?;
             let status = if session.unanswered() { 3 } else { 0 };
-            note_sends(alloc, session.end(), status, faults);
+            let silent = session.is_lost();
+            note_no_answer(
+                alloc,
+                &mut session.into_end(),
+                reach.device,
+                silent,
+                true,
+                faults,
+            );
             Ok(status)
         }
         Asked::Do(reach, turns, task) => {
-            let end = bind_own(alloc, system, reach)?;
-            let mut talk = Talk::new(reach.link(handle_now(system)), end, turns);
-            let status = do_task(alloc, &mut talk, &task, printer)?;
-            note_sends(alloc, talk.end(), status, faults);
+            let (link, end) = reached(alloc, system, reach, task.locks(), faults)?;
+            let mut talk = Talk::new(link, end, turns);
+            let status = do_task(alloc, &mut talk, &task, reader, printer)?;
+            let silent = status == 3 && talk.unanswered();
+            note_no_answer(
+                alloc,
+                &mut talk.into_end(),
+                reach.device,
+                silent,
+                true,
+                faults,
+            );
             Ok(status)
         }
         Asked::Help(text) => {
@@ -92,46 +110,20 @@ fn served<N: Net + Clock, S: AsStr, R: Source, W: Sink, F: Sink>(
 }
 
 /// Does something with the objects of a device, and prints it. Returns the exit status.
-fn do_task<E: End, W: Sink>(
+fn do_task<E: End, R: Source, W: Sink>(
     alloc: Global,
     talk: &mut Talk<E>,
     task: &Task,
+    reader: &mut R,
     printer: &mut Printer<W>,
 ) -> Result<u8, Failure> {
     match task {
         Task::Get(onos) => Ok(get_all(talk, onos.as_slice(), printer)?),
         Task::Set(ahead, pairs) => set_all(alloc, talk, pairs.as_slice(), *ahead, printer),
         Task::Lock(onos) => Ok(lock_all(talk, onos.as_slice(), true, printer)?),
+        Task::Hold(onos) => hold(alloc, talk, onos.as_slice(), reader, printer),
         Task::Unlock(onos) => Ok(lock_all(talk, onos.as_slice(), false, printer)?),
         Task::Tree => walk(alloc, talk, printer),
-    }
-}
-
-/// A handle by the clock: it rises by 100,000 a second, faster than commands are answered, so that a session that is used again goes
-/// on rising, and begins anew at 2,147,483,648, each six hours. 0 where the clock can't be read.
-fn handle_now<C: Clock>(clock: &C) -> u32 {
-    let Ok(now) = SystemTime::now(clock) else {
-        return 0;
-    };
-    let Ok(since) = now.duration_since(UNIX_EPOCH) else {
-        return 0;
-    };
-    let seconds = since.as_secs() % HANDLES;
-    ((seconds * 100_000 + u64::from(since.subsec_micros()) / 10) % HANDLES) as u32
-}
-
-/// An end at the port that the words give; else at the program's own, or where that is in use at one of the system's choice.
-fn bind_own<N: Net + Clock>(
-    alloc: Global,
-    system: &N,
-    reach: Reach,
-) -> Result<UdpEnd<'_, N>, Failure> {
-    match reach.port {
-        Some(port) => bind(alloc, system, reach.ip, port),
-        None => match bind(alloc, system, reach.ip, OWN_PORT) {
-            Ok(end) => Ok(end),
-            Err(_) => bind(alloc, system, reach.ip, 0),
-        },
     }
 }
 
@@ -143,23 +135,27 @@ fn send_one<C: Clock, E: End, W: Sink>(
     sending: &Sending,
     printer: &mut Printer<W>,
 ) -> Result<u8, Failure> {
-    let mut link = reach.link(handle_now(clock));
+    let mut link = reach.link(own_now(clock).first_handle);
     Ok(ask_once(&mut link, end, sending.command(), sending.turns, printer)?)
 }
 
-/// Prints why a send failed, where a command got no answer and one has.
-fn note_sends<C: Clock, F: Sink>(
+/// Prints what is known of why a command got no answer, where one got none: why a send failed, where one has, and when the device was
+/// heard. `asks` is whether one that was not heard is asked once more whether it is there.
+fn note_no_answer<C: Clock, F: Sink>(
     alloc: Global,
-    end: &UdpEnd<'_, C>,
-    status: u8,
+    end: &mut Watched<UdpEnd<'_, C>>,
+    device: Peer,
+    silent: bool,
+    asks: bool,
     faults: &mut Printer<F>,
 ) {
-    if status != 3 {
+    if !silent {
         return;
     }
-    if let Some(reason) = end.last_failed_send() {
+    if let Some(reason) = end.end().last_failed_send() {
         if let Ok(note) = format!(in alloc; "a send failed: {reason}") {
             print_note(note.as_str(), faults);
         }
     }
+    note_silence(alloc, end, device, asks, faults);
 }

@@ -1,16 +1,16 @@
 //! A link, the end that it is driven over, and the commands under way.
-ghost use Rattle.std.specs.Prelude.{◌≡◌, ◌==◌, ◌||◌, ◌-◌, ◌<◌, ◌≤◌, length};
+ghost use Rattle.std.specs.Prelude.{◌≡◌, ◌==◌, ◌||◌, ◌-◌, ◌<◌, ◌≤◌, length, true, IfSome};
 ghost use Rattle.oca_types.specs.Peers.{request_of};
-ghost use Rattle.oca_control.specs.Links.{submission};
-ghost use Rattle.ocactl_cli.specs.Exchanges.{AwaitsFirst, outcome_status};
-ghost use Rattle.ocactl_cli.specs.PrivateExchanges.{Submitted};
+ghost use Rattle.ocactl_cli.specs.Exchanges.{AwaitsFirst, NoneUnderWay, TakesOne, outcome_status};
+ghost use Rattle.ocactl_cli.specs.PrivateExchanges.{Submitted, TakesFirst};
 
 use super::exchange::status_of;
 use arrayvec::ArrayVec;
-use oca_control::{ControlFault, Link, Outcome, give_out, wait_for};
+use oca_control::{ControlFault, Link, Outcome, begin, is_late, turn, wait_for};
 use oca_net::End;
 use oca_types::{Handle, Request, Span};
 use std::marker::Model;
+use std::os::fd::RawFd;
 
 /// The most commands that can be under way: the largest span.
 const MOST_AHEAD: usize = 32;
@@ -18,14 +18,19 @@ const MOST_AHEAD: usize = 32;
 /// How many turns a command of a line waits for its answer: where not every receive fails, the link is lost long before.
 const TURNS: u32 = u32::MAX;
 
+/// The longest wait for input, in milliseconds: an hour.
+const LONGEST_WAIT_MS: u64 = 3_600_000;
+
 /// A link, the end that it is driven over, the handles of the commands under way in the order of their lines, how many may be, and
-/// whether a command got no answer so far.
+/// whether a command got no answer so far. Besides the end's descriptor, where it has one, and whether a command was submitted.
 pub struct Session<E: End> {
     link: Link,
     end: E,
     under_way: ArrayVec<u32, MOST_AHEAD>,
     ahead: usize,
     unanswered: bool,
+    socket: Option<RawFd>,
+    open: bool,
 }
 
 impl<E: End> Model for Session<E> {
@@ -48,6 +53,8 @@ impl<E: End + Drop> Drop for Session<E> {
             under_way: _,
             ahead: _,
             unanswered: _,
+            socket: _,
+            open: _,
         } = self;
     }
 }
@@ -56,8 +63,9 @@ impl<E: End> Session<E> {
     ghost use Rattle.std.specs.Prelude.{◌≡◌, ◌-◌, ◌<◌, [], true, false, length};
     ghost use Rattle.oca_types.specs.Sizes.{span_size};
 
-    /// A session with no command under way, in which as many may be as a span has.
-    pub fn new(link: Link, end: E, ahead: Span) -> Session<E>
+    /// A session with no command under way, in which as many may be as a span has. `socket` is the end's descriptor, for which is
+    /// waited beside input; where there is none, it is not waited for input.
+    pub fn new(link: Link, end: E, ahead: Span, socket: Option<RawFd>) -> Session<E>
         ensures { result ≡ record { link = link; end_state = E.state end; under_way = []; ahead = span_size ahead; unanswered = false } }
     {
         Session {
@@ -66,6 +74,8 @@ impl<E: End> Session<E> {
             under_way: ArrayVec::new(),
             ahead: usize::from(ahead.get()),
             unanswered: false,
+            socket,
+            open: false,
         }
     }
 
@@ -80,16 +90,9 @@ impl<E: End> Session<E> {
     pub fn left(&self) -> usize
         ensures value { result ≡ self.now.ahead - 1 }
         ensures most { result < 32 }
+        ensures less { result < self.now.ahead }
     {
         self.ahead - 1
-    }
-
-    /// How many stay under way behind a command: none where no further line that asks for something is at hand.
-    pub fn left_after(&self, more: bool) -> usize
-        ensures most { result < self.now.ahead }
-        ensures none { more ≡ false → result ≡ 0 }
-    {
-        if more { self.ahead - 1 } else { 0 }
     }
 
     /// The end.
@@ -97,6 +100,29 @@ impl<E: End> Session<E> {
         ensures { E.state result.now ≡ self.now.end_state }
     {
         &self.end
+    }
+
+    /// Whether the link is lost, or late now.
+    pub fn is_lost(&self) -> bool
+        ensures { self.now.link.lost ≡ true → result ≡ true }
+    {
+        self.link.is_lost() || is_late(&self.link, self.end.now())
+    }
+
+    /// The end, where nothing more is to be asked.
+    pub fn into_end(self) -> E
+        ensures { E.state result ≡ self.end_state }
+    {
+        let Session {
+            link: _,
+            end,
+            under_way: _,
+            ahead: _,
+            unanswered: _,
+            socket: _,
+            open: _,
+        } = self;
+        end
     }
 
     /// Whether a command got no answer so far.
@@ -116,22 +142,62 @@ impl<E: End> Session<E> {
     /// Submits a command and gives it out at once. What the link refuses changes nothing.
     pub fn submit(&mut self, request: Request<'_>) -> Result<Handle, ControlFault>
         requires { length self.old.under_way < 32 }
-        ensures answer { result ≡ submission (request_of request.entry) self.old.link }
-        ensures session { Submitted (request_of request.entry) result self.old self.new }
+        ensures { Submitted (request_of request.entry) result self.old self.new }
     {
-        match self.link.submit(
-            request.target,
-            request.method,
-            request.count,
-            request.params,
-            0,
-        ) {
+        match begin(&mut self.link, &mut self.end, request) {
             Ok(handle) => {
-                give_out(&mut self.link, &mut self.end, 0);
                 self.under_way.push(handle.0);
+                self.open = true;
                 Ok(handle)
             }
             Err(fault) => Err(fault),
+        }
+    }
+
+    /// Whether there is nothing to do: no command is under way, and none was submitted yet or the link is lost.
+    pub fn is_over(&self) -> bool
+        ensures { result ≡ true → NoneUnderWay self.now }
+    {
+        self.under_way.is_empty() && (!self.open || self.link.is_lost())
+    }
+
+    /// The end's descriptor.
+    pub fn socket(&self) -> Option<RawFd> {
+        self.socket
+    }
+
+    /// How many milliseconds may be waited before the next turn; none where the end has no descriptor.
+    pub fn patience(&self) -> u64
+        ensures { result ≤ 3600000 }
+    {
+        match self.socket {
+            Some(_) => time_until(self.link.next_due(), self.end.now()),
+            None => 0,
+        }
+    }
+
+    /// Takes a turn, and returns whether the link was found lost, or late.
+    pub fn turn(&mut self) -> bool
+        ensures { TakesOne self.old self.new }
+    {
+        turn(&mut self.link, &mut self.end).lost
+    }
+
+    /// How the first command under way came out, where that is known without a turn; it is under way no longer then.
+    pub fn take_first(&mut self) -> Option<Outcome>
+        ensures { TakesFirst result self.old self.new }
+    {
+        let Some(first) = self.under_way.first() else {
+            return None;
+        };
+        let handle = Handle(*first);
+        match wait_for(&mut self.link, &mut self.end, handle, 0) {
+            Outcome::Unanswered => None,
+            outcome => {
+                self.under_way.remove(0);
+                self.unanswered = gets_none(self.unanswered, &outcome);
+                Some(outcome)
+            }
         }
     }
 
@@ -144,6 +210,17 @@ impl<E: End> Session<E> {
         let outcome = wait_for(&mut self.link, &mut self.end, handle, TURNS);
         self.unanswered = gets_none(self.unanswered, &outcome);
         outcome
+    }
+}
+
+/// How many milliseconds it is from now until the moment, an hour at most.
+fn time_until(moment: Option<u64>, now: u64) -> u64
+    ensures until { IfSome moment (λ t. result ≤ t - now) }
+    ensures most { result ≤ 3600000 }
+{
+    match moment {
+        Some(due) => due.saturating_sub(now).min(LONGEST_WAIT_MS),
+        None => LONGEST_WAIT_MS,
     }
 }
 

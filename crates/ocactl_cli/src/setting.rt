@@ -8,11 +8,11 @@ use super::hands::tell_fared;
 use super::talk::{Talk, Trouble, done_in};
 use super::told::graver;
 use arrayvec::ArrayVec;
-use oca_control::{ControlFault, Outcome, refused};
+use oca_control::{ControlFault, Outcome};
+use oca_model::{Value, set_request};
 use oca_net::End;
 use oca_script::{Printer, Sink, WriteFailed};
 use oca_types::{Handle, Ono, Span};
-use oca_values::{Value, set_request};
 
 /// The most set commands that can be under way: the largest span.
 const MOST_AHEAD: usize = 32;
@@ -139,7 +139,7 @@ fn outcome_of<E: End>(talk: &mut Talk<E>, returned: Result<Handle, ControlFault>
 {
     match returned {
         Ok(handle) => talk.finish(handle),
-        Err(fault) => refused(fault),
+        Err(fault) => Outcome::Refused(fault),
     }
 }
 

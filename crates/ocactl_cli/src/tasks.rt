@@ -3,12 +3,12 @@ ghost use Rattle.std.specs.Prelude.{◌≡◌, codes};
 ghost use Rattle.std.specs.Option.{option_map};
 ghost use Rattle.oca_script.specs.Fields.{number_of};
 ghost use Rattle.oca_program.specs.Options.{given, read_or};
-ghost use Rattle.ocactl_cli.specs.Hands.{ono_said};
+ghost use Rattle.ocactl_cli.specs.Hands.{ono_said, is_locking};
 
 use super::hands::Pair;
 use super::words::{ahead_option, networked};
 use clap::{Arg, ArgAction, ArgMatches, Command};
-use oca_program::options::{number_or, option};
+use oca_program::options::{number_or, option, text_of};
 use oca_program::{Failure, RunFault};
 use oca_script::field::number;
 use oca_types::{Ono, Span, Text};
@@ -23,10 +23,21 @@ pub enum Task {
     Set(Span, Vec<Pair>),
     /// To lock them.
     Lock(Vec<Ono>),
+    /// To lock them, and to keep the locks until the input ends.
+    Hold(Vec<Ono>),
     /// To take their locks off.
     Unlock(Vec<Ono>),
     /// To print all objects.
     Tree,
+}
+
+impl Task {
+    /// Whether it takes locks or takes them off, so that it matters from which port it is asked.
+    pub fn locks(&self) -> bool
+        ensures { result ≡ is_locking self.now }
+    {
+        matches!(self, Task::Lock(_) | Task::Hold(_) | Task::Unlock(_))
+    }
 }
 
 const GET_EXAMPLE: &str =
@@ -49,7 +60,7 @@ Example: ocactl set --device 127.0.0.1:65000 4097 unmuted 4100 -60";
 
 const LOCK_EXAMPLE: &str =
     "Other controllers then neither read nor set the objects. A lock is released where its holder, this address and port, is silent for
-more than 15 seconds.
+more than 15 seconds; with --hold it is kept until the input ends.
 
 Example: ocactl lock --device 127.0.0.1:65000 4097";
 
@@ -82,7 +93,7 @@ fn handed<'a>(
         alloc,
         "port",
         "PORT",
-        "The local port [65001 unless given, or one of the system's choice where that is in use]",
+        "The local port [65001 or 65002 unless given, by turns of six hours; where that is in use one of the system's choice, but of lock and unlock, which are refused then]",
     ))
 }
 
@@ -94,6 +105,16 @@ fn objects<'a>(alloc: Global) -> Arg<'a> {
         .action(ArgAction::Append)
         .num_args(1..)
         .required(true)
+}
+
+/// Whether locks are kept until the input ends.
+fn hold_option<'a>(alloc: Global) -> Arg<'a> {
+    Arg::new(alloc, "hold")
+        .long("hold")
+        .help(
+            "Keeps the locks until standard input ends, and takes them off then; where it is stopped, they lapse after 15 seconds",
+        )
+        .action(ArgAction::SetTrue)
 }
 
 /// The objects and the words for their values.
@@ -128,9 +149,11 @@ pub fn with_tasks<'a>(program: Command<'a>, alloc: Global) -> Result<Command<'a>
                 .arg(ahead_option(alloc))?
                 .arg(pairs(alloc))?,
         )?
-        .subcommand(handed(alloc, "lock", "Locks objects of a device", LOCK_EXAMPLE)?.arg(objects(
-            alloc,
-        ))?)?
+        .subcommand(
+            handed(alloc, "lock", "Locks objects of a device", LOCK_EXAMPLE)?
+                .arg(hold_option(alloc))?
+                .arg(objects(alloc))?,
+        )?
         .subcommand(handed(
             alloc,
             "unlock",
@@ -166,10 +189,25 @@ pub fn task_of(
     Ok(match name {
         "get" => Task::Get(onos_of(alloc, given)?),
         "set" => Task::Set(ahead, pairs_of(alloc, given)?),
-        "lock" => Task::Lock(onos_of(alloc, given)?),
+        "lock" => {
+            let onos = onos_of(alloc, given)?;
+            if holds(words) {
+                Task::Hold(onos)
+            } else {
+                Task::Lock(onos)
+            }
+        }
         "unlock" => Task::Unlock(onos_of(alloc, given)?),
         _ => Task::Tree,
     })
+}
+
+/// Whether the words ask to keep locks.
+fn holds(words: &ArgMatches<'_>) -> bool {
+    match text_of(words, "hold") {
+        Some(text) => text.as_bytes() == b"true".as_slice(),
+        None => false,
+    }
 }
 
 /// The number of an object that a word says.

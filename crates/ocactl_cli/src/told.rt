@@ -2,24 +2,24 @@
 ghost use Rattle.std.specs.Prelude.{◌≡◌, ◌+◌, ◌*◌, ◌++◌, ◌≤◌, codes, length, decimal};
 ghost use Rattle.oca_script.specs.Ends.{output};
 ghost use Rattle.oca_script.specs.Printing.{Prints};
-ghost use Rattle.oca_values.specs.Answers.{status_name_of};
+ghost use Rattle.oca_model.specs.Statuses.{status_name_of};
 ghost use Rattle.ocactl_cli.specs.Hands.{or_number, refused_text, trouble_text, told_text, line_of, ToldWithin, dotted, fields_text, place_text, trouble_status, graver_of};
 
 use super::talk::Trouble;
 use oca_control::ControlFault;
-use oca_script::{Printer, Sink, WriteFailed};
+use oca_model::status_name;
+use oca_script::{Escaped, Printer, Sink, WriteFailed};
 use oca_types::Ono;
-use oca_values::status_name;
 
 /// Room for a line.
-const LINE_ROOM: usize = 600;
+const LINE_ROOM: usize = 1100;
 
 /// What an object's line says behind its number.
 #[derive(Clone, Copy)]
 pub enum Told<'a> {
     /// A word.
     Word(&'a str),
-    /// A word, and the name of the position that it is for.
+    /// A word, and the name of the position that it is for, as a text is printed.
     Named(&'a str, &'a str),
     /// Why it is not as it was asked for.
     Hindered(Trouble),
@@ -54,16 +54,16 @@ fn print_told<W: Sink>(
 /// Holds what a line says behind the number.
 fn put_told<W: Sink>(told: Told<'_>, printer: &mut Printer<W>)
     requires within { ToldWithin told }
-    requires room { length printer.old.held + 300 ≤ 8192 }
+    requires room { length printer.old.held + 600 ≤ 8192 }
     ensures value { printer.new ≡ output printer.old.contents (printer.old.held ++ told_text told.entry) printer.old.failed }
-    ensures len { length printer.new.held ≤ length printer.old.held + 200 }
+    ensures len { length printer.new.held ≤ length printer.old.held + 580 }
 {
     match told {
         Told::Word(word) => printer.put(word.as_bytes()),
         Told::Named(word, name) => {
             printer.put(word.as_bytes());
             printer.put(b" ");
-            printer.put(name.as_bytes());
+            printer.put(Escaped::of(name).as_bytes());
         }
         Told::Hindered(trouble) => put_trouble(trouble, printer),
     }
@@ -92,7 +92,7 @@ fn refusal(fault: ControlFault) -> &'static [u8]
     ensures short { length result.now ≤ 50 }
 {
     match fault {
-        ControlFault::Lost => b"refused 1 lost",
+        ControlFault::Lost => b"not sent",
         ControlFault::HandlesSpent => b"refused 2 handles-spent",
         ControlFault::SpanFull => b"refused 3 span-full",
         ControlFault::TooLong => b"refused 4 too-long",
@@ -115,7 +115,8 @@ fn put_status<W: Sink>(status: u8, printer: &mut Printer<W>)
 }
 
 /// Prints the line of an object in a tree, and hands it on: its number, the fields of its class's identifier, the number of its
-/// container, and its role.
+/// container, and its role
+/// as a text is printed.
 pub fn tell_place<W: Sink>(
     ono: u32,
     fields: &[u16],
@@ -158,7 +159,7 @@ fn put_place<W: Sink>(
 )
     requires fields { length fields.now ≤ 16 }
     requires role { length role.now ≤ 64 }
-    requires room { length printer.old.held + 600 ≤ 8192 }
+    requires room { length printer.old.held + 1100 ≤ 8192 }
     ensures { printer.new ≡ output printer.old.contents (printer.old.held ++ place_text ono fields.now container role.now) printer.old.failed }
 {
     printer.put_number(u64::from(ono));
@@ -166,7 +167,7 @@ fn put_place<W: Sink>(
     printer.put(b" ");
     printer.put_number(u64::from(container));
     printer.put(b" ");
-    printer.put(role.as_bytes());
+    printer.put(Escaped::of(role).as_bytes());
     printer.put(b"\n");
 }
 

@@ -3,11 +3,11 @@ use super::hands::tell_trouble;
 use super::objects::plain;
 use super::talk::{Talk, Trouble, fields_in, members_in, text_in};
 use super::told::{graver, tell_place};
+use oca_model::{ClassFields, MemberNumbers, class_with};
 use oca_net::End;
 use oca_program::{Failure, RunFault};
 use oca_script::{Printer, Sink, WriteFailed};
 use oca_types::{Class, MethodId, Ono, Text};
-use oca_values::{ClassFields, Members, class_with};
 use std::alloc::Global;
 
 /// The root block (AES70-2).
@@ -109,13 +109,17 @@ fn known_of<E: End>(talk: &mut Talk<E>, ono: u32) -> Result<Known, Trouble> {
 }
 
 /// Asks a block for its members.
-fn members_of<E: End>(talk: &mut Talk<E>, ono: u32) -> Result<Members, Trouble> {
+fn members_of<E: End>(talk: &mut Talk<E>, ono: u32) -> Result<MemberNumbers, Trouble> {
     let outcome = talk.ask(plain(Ono(ono), GET_MEMBERS));
     members_in(&outcome)
 }
 
 /// Puts members before all that wait, in their order: the last place is visited first.
-fn put_first(container: u32, members: &Members, waiting: &mut Vec<Place>) -> Result<(), RunFault> {
+fn put_first(
+    container: u32,
+    members: &MemberNumbers,
+    waiting: &mut Vec<Place>,
+) -> Result<(), RunFault> {
     for ono in members.as_slice().iter().rev() {
         let place = Place {
             ono: *ono,

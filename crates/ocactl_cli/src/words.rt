@@ -10,10 +10,11 @@ use super::tasks::{Task, is_task, task_of, turns_of, with_tasks};
 use arrayvec::ArrayVec;
 use clap::{Arg, ArgMatches, Command, Error};
 use oca_control::Link;
+use oca_program::form::bad_option;
 use oca_program::options::{
-    address_or, help_or_failure, number_if, number_in, number_or, option, peer_in, text_of,
+    help_or_failure, host_in, number_if, number_in, number_or, option, own_or, peer_in, text_of,
 };
-use oca_program::{Failure, RunFault};
+use oca_program::{Failure, Form, Rule, RunFault, VERSION};
 use oca_script::field::{hex_bytes, number};
 use oca_types::{
     Handle, LOOPBACK, MOST_COMMAND_PARAMETER_BYTES, MethodId, Ono, Peer, Request, Span,
@@ -109,7 +110,7 @@ fn linked<'a>(command: Command<'a>, alloc: Global) -> Result<Command<'a>, AllocE
             alloc,
             "span",
             "S",
-            "How far above the lowest untaken command the next handle may lie, 1 to 32 [16 unless given]",
+            "How far above the lowest untaken command the next handle may lie, 1 to 32 [16 unless given]; above 16 the device needs a window of twice as many less one: its default of 32 bears 16",
         ))
 }
 
@@ -222,7 +223,7 @@ fn run_command<'a>(alloc: Global) -> Result<Command<'a>, AllocError> {
             alloc,
             "port",
             "PORT",
-            "The local port [65001 unless given, or one of the system's choice where that is in use]",
+            "The local port [65001 or 65002 unless given, by turns of six hours, or one of the system's choice where that is in use]",
         ))
 }
 
@@ -230,6 +231,7 @@ fn run_command<'a>(alloc: Global) -> Result<Command<'a>, AllocError> {
 fn command<'a>(alloc: Global) -> Result<Command<'a>, AllocError> {
     let program = Command::new(alloc, "ocactl")
         .about("A controller of OCA (AES70) devices over UDP")
+        .version(VERSION)
         .after_help(PROGRAM_EXAMPLE)
         .subcommand_required(true);
     with_tasks(program, alloc)?
@@ -268,24 +270,144 @@ fn asked_in(matches: &ArgMatches<'_>) -> Option<Asked> {
     }
 }
 
+/// The options of `replay`.
+const OF_REPLAY: [Rule; 3] = [
+    Rule {
+        name: "device",
+        form: Form::AnyPeer,
+    },
+    Rule {
+        name: "span",
+        form: Form::Number {
+            digits: 3,
+            least: 1,
+            largest: 32,
+        },
+    },
+    Rule {
+        name: "first-handle",
+        form: Form::Number {
+            digits: 10,
+            least: 0,
+            largest: 4_294_967_295,
+        },
+    },
+];
+
+/// The options of the other commands.
+const OF_OTHERS: [Rule; 12] = [
+    Rule {
+        name: "device",
+        form: Form::Host,
+    },
+    Rule {
+        name: "ip",
+        form: Form::Own,
+    },
+    Rule {
+        name: "port",
+        form: Form::Number {
+            digits: 5,
+            least: 0,
+            largest: 65_535,
+        },
+    },
+    Rule {
+        name: "first-handle",
+        form: Form::Number {
+            digits: 10,
+            least: 0,
+            largest: 4_294_967_295,
+        },
+    },
+    Rule {
+        name: "span",
+        form: Form::Number {
+            digits: 3,
+            least: 1,
+            largest: 32,
+        },
+    },
+    Rule {
+        name: "ahead",
+        form: Form::Number {
+            digits: 3,
+            least: 1,
+            largest: 32,
+        },
+    },
+    Rule {
+        name: "turns",
+        form: Form::Number {
+            digits: 10,
+            least: 0,
+            largest: 4_294_967_295,
+        },
+    },
+    Rule {
+        name: "target",
+        form: Form::Number {
+            digits: 10,
+            least: 0,
+            largest: 4_294_967_295,
+        },
+    },
+    Rule {
+        name: "level",
+        form: Form::Number {
+            digits: 5,
+            least: 0,
+            largest: 65_535,
+        },
+    },
+    Rule {
+        name: "index",
+        form: Form::Number {
+            digits: 5,
+            least: 0,
+            largest: 65_535,
+        },
+    },
+    Rule {
+        name: "count",
+        form: Form::Number {
+            digits: 3,
+            least: 0,
+            largest: 255,
+        },
+    },
+    Rule {
+        name: "params",
+        form: Form::Bytes,
+    },
+];
+
+/// What is said where each option has its form.
+const ABOVE_THE_SPAN: &str = "--ahead is more than the span, which is 16 unless --span is given";
+
+/// Why the options of a command were not read.
+fn unread(alloc: Global, name: &str, words: &ArgMatches<'_>) -> Failure {
+    let rules: &[Rule] = if name == "replay" {
+        &OF_REPLAY
+    } else {
+        &OF_OTHERS
+    };
+    bad_option(alloc, words, rules, ABOVE_THE_SPAN)
+}
+
 /// What the options and the words of a command for hands say.
 fn task_asked(alloc: Global, matches: &ArgMatches<'_>) -> Result<Asked, Failure> {
-    let bad = Failure::told(
-        alloc,
-        RunFault::BadWords,
-        "an option has a value that is not of its form: see --help",
-    );
     let Some((name, words)) = matches.subcommand() else {
-        return Err(bad);
+        return Err(Failure::from(RunFault::BadWords));
     };
     if !is_task(name) {
-        return Err(bad);
+        return Err(unread(alloc, name, words));
     }
     let (Some(reach), Some(turns)) = (reach_of(words), turns_of(words)) else {
-        return Err(bad);
+        return Err(unread(alloc, name, words));
     };
     let Some(ahead) = ahead_of(words, reach.span) else {
-        return Err(bad);
+        return Err(unread(alloc, name, words));
     };
     Ok(Asked::Do(reach, turns, task_of(alloc, name, words, ahead)?))
 }
@@ -334,15 +456,11 @@ fn linking_of(words: &ArgMatches<'_>) -> Option<Linking>
     })
 }
 
-/// The device that the options name, at the address of one host.
+/// Where the device is that the options name.
 fn host_of(words: &ArgMatches<'_>) -> Option<Peer>
     ensures { result ≡ host_in words.now }
 {
-    let device = peer_in(words, "device")?;
-    if device.ip == 0 || device.ip == 4294967295 {
-        return None;
-    }
-    Some(device)
+    host_in(words, "device")
 }
 
 /// The address that a socket is bound to unless it is given.
@@ -384,7 +502,7 @@ fn reach_of(words: &ArgMatches<'_>) -> Option<Reach>
     ensures { option_map reach_fields result ≡ reach_in words.now }
 {
     let device = host_of(words)?;
-    let ip = address_or(words, "ip", address_for(device))?;
+    let ip = own_or(words, "ip", address_for(device))?;
     let port = port_of(words)?;
     let first_handle = handle_of(words)?;
     let span = span_in(words)?;

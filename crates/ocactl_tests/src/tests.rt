@@ -9,6 +9,7 @@ use std::rt::Clock;
 
 mod commands;
 mod hands;
+mod own;
 mod pair;
 mod replay;
 mod sockets;

@@ -3,7 +3,7 @@
 #![tactic(auto)]
 
 use oca_net::fill_standard_descriptors;
-use oca_program::{Failure, report, words_of};
+use oca_program::{report, words_of};
 use oca_script::{FromReader, Printer, ToWriter};
 use ocadev_cli::run::run;
 use std::io;
@@ -22,7 +22,7 @@ fn main(rt: HostRuntime) -> ExitCode {
             &mut Printer::new(ToWriter::new(io::writer(&rt))),
             &mut faults,
         ),
-        Err(fault) => report(&Failure::from(fault), &mut faults),
+        Err(failure) => report(&failure, &mut faults),
     };
     ExitCode::from(status)
 }

@@ -17,7 +17,7 @@ use Rattle.oca_script.specs.declared.fault.WriteFailed.{WriteFailed}
 use Rattle.oca_script.specs.Ends.{Input, Output}
 use Rattle.oca_script.specs.Printing.{Prints, PrintsAll, PrintsPart, WritesWhole}
 use Rattle.oca_script.specs.Script.{Script}
-use Rattle.oca_script.specs.Replaying.{Runs, ServesLine, Writes, BeginsWith, known_bytes, Replays as ReplaysScript, Outcome as ScriptOutcome}
+use Rattle.oca_script.specs.Replaying.{Runs, NoneLeft, OneServed, OneIdled, NeverIdles, ServesLine, Writes, BeginsWith, known_bytes, Replays as ReplaysScript, Outcome as ScriptOutcome}
 use Rattle.ocadev_cli.specs.declared.request.ScriptEvent.{ScriptEvent}
 use Rattle.ocadev_cli.specs.declared.request.ScriptEvent.TheVariants as asks
 use Rattle.oca_script.proofs.PrintLemmas.{prints-then, prints-less}
@@ -98,22 +98,25 @@ line-refused a was x fault e =
 
 -- ---- a run of events
 
-runs-represent : (w : DeviceSizes) (tree : List Object) (events : List Event) (a c : DeviceState) (more : List Event) (text : List ℕ) → Runs Serves a more c text
+runs-represent : (w : DeviceSizes) (tree : List Object) (events : List Event) (a c : DeviceState) (more : List Event) (text : List ℕ) → Runs Serves NeverIdles a more c text
     → Represents w a tree events → Represents w c tree (events_then events more)
-runs-represent w tree events a c [] text h at_a = subst (λ (d : DeviceState). Represents w d tree events) (sym h.0) at_a
-runs-represent w tree events a c (e ∷ more) text h at_a = runs-represent w tree (e ∷ events) h.0 c more h.2 h.4 (h.3.represents w tree events at_a)
+runs-represent w tree events a c more text NoneLeft at_a = at_a
+runs-represent w tree events a c more text (OneServed {b = b} {requests = requests} {u = u} e h runs) at_a =
+    runs-represent w tree (e ∷ events) b c requests u runs (h.represents w tree events at_a)
+runs-represent w tree events a c more text (OneIdled h runs) at_a = absurd h
 
-runs-print : (w : DeviceSizes) (tree : List Object) (events : List Event) (a c : DeviceState) (more : List Event) (text : List ℕ) → Runs Serves a more c text
+runs-print : (w : DeviceSizes) (tree : List Object) (events : List Event) (a c : DeviceState) (more : List Event) (text : List ℕ) → Runs Serves NeverIdles a more c text
     → Represents w a tree events → text ≡ events_text w tree events more
-runs-print w tree events a c [] text h at_a = h.1
-runs-print w tree events a c (e ∷ more) text h at_a =
-    h.5 ∙ ap (λ (l : List ℕ). l ++ h.2) (h.3.prints w tree events at_a)
-    ∙ ap (λ (l : List ℕ). event_text w tree events e ++ l) (runs-print w tree (e ∷ events) h.0 c more h.2 h.4 (h.3.represents w tree events at_a))
+runs-print w tree events a c more text NoneLeft at_a = refl
+runs-print w tree events a c more text (OneServed {b = b} {requests = requests} {u = u} e h runs) at_a =
+    ap (λ (l : List ℕ). l ++ u) (h.prints w tree events at_a)
+    ∙ ap (λ (l : List ℕ). event_text w tree events e ++ l) (runs-print w tree (e ∷ events) b c requests u runs (h.represents w tree events at_a))
+runs-print w tree events a c more text (OneIdled h runs) at_a = absurd h
 
 -- ---- the whole
 
 whole : (w : DeviceSizes) (tree : List Object) (events : List Event) (a b : DeviceState) (u v : Output) (r : Result Unit ReplayFault) (given : List ℕ) (requests : List Event) (text : List ℕ)
-    → Represents w a tree events → Runs Serves a requests b text → WritesWhole u v text → device_script given ≡ record { requests = requests; ending = r } → Whole w tree events b u v r given
+    → Represents w a tree events → Runs Serves NeverIdles a requests b text → WritesWhole u v text → device_script given ≡ record { requests = requests; ending = r } → Whole w tree events b u v r given
 whole w tree events a b u v r given requests text at_a runs appends e =
     let same : (device_script given).requests ≡ requests = ap (λ (s : Script Event). s.requests) e in
     record {
@@ -123,7 +126,7 @@ whole w tree events a b u v r given requests text at_a runs appends e =
     }
 
 part : (w : DeviceSizes) (tree : List Object) (events : List Event) (a b : DeviceState) (u v : Output) (r : Result Unit ReplayFault) (given : List ℕ) (requests : List Event) (text : List ℕ)
-    → Represents w a tree events → Runs Serves a requests b text → Writes r u v text → BeginsWith requests (device_script given) → Part w tree events b u v r given
+    → Represents w a tree events → Runs Serves NeverIdles a requests b text → Writes r u v text → BeginsWith requests (device_script given) → Part w tree events b u v r given
 part w tree events a b u v r given requests text at_a runs writes begins = record {
   first = requests;
   begins = begins;
@@ -132,7 +135,7 @@ part w tree events a b u v r given requests text at_a runs writes begins = recor
 }
 
 replays : (w : DeviceSizes) (tree : List Object) (events : List Event) (a b : DeviceState) (u v : Output) (r : Result Unit ReplayFault) (given : List ℕ) → Represents w a tree events
-    → ReplaysScript asked_event Serves a b u v r given → Replays w tree events b u v r given
+    → ReplaysScript asked_event Serves NeverIdles a b u v r given → Replays w tree events b u v r given
 replays w tree events a b u v (Ok x) given at_a h = whole w tree events a b u v (Ok x) given h.requests h.text at_a h.runs h.writes h.ends
 replays w tree events a b u v (Err (Line n f)) given at_a h = whole w tree events a b u v (Err (Line n f)) given h.requests h.text at_a h.runs h.writes h.ends
 replays w tree events a b u v (Err TooMuch) given at_a h = whole w tree events a b u v (Err TooMuch) given h.requests h.text at_a h.runs h.writes h.ends
@@ -140,10 +143,10 @@ replays w tree events a b u v (Err Read) given at_a h = part w tree events a b u
 replays w tree events a b u v (Err Write) given at_a h = part w tree events a b u v (Err Write) given h.requests h.text at_a h.runs h.writes h.ends
 
 pub outcome-of : (w : DeviceSizes) (tree : List Object) (events : List Event) (a b : DeviceState) (u v : Output) (had has : Input) (r : Result Unit ReplayFault) → Represents w a tree events
-    → ScriptOutcome asked_event Serves a b u v had has r → Outcome w tree events b u v had has r
+    → ScriptOutcome asked_event Serves NeverIdles a b u v had has r → Outcome w tree events b u v had has r
 outcome-of w tree events a b u v had has r at_a h = (h.0, h.1, replays w tree events a b u v r (h.0 ++ known_bytes has.remaining) at_a h.2)
 
 pub known-of : (w : DeviceSizes) (tree : List Object) (events : List Event) (a b : DeviceState) (u v : Output) (had : Option (List ℕ)) (r : Result Unit ReplayFault) → Represents w a tree events
-    → IfSome had (λ given. ReplaysScript asked_event Serves a b u v r given) → IfSome had (λ given. Replays w tree events b u v r given)
+    → IfSome had (λ given. ReplaysScript asked_event Serves NeverIdles a b u v r given) → IfSome had (λ given. Replays w tree events b u v r given)
 known-of w tree events a b u v None r at_a h = tt
 known-of w tree events a b u v (Some given) r at_a h = replays w tree events a b u v r given at_a h

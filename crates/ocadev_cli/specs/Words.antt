@@ -4,8 +4,8 @@ use Rattle.std.specs.Option.{option_map}
 use Rattle.std.specs.Str.{bytes_eq}
 use Rattle.clap.specs.declared.parser.matches.ArgMatches.{ArgMatches}
 use Rattle.oca_types.specs.Sizes.{DeviceSizes, sizes_of}
-use Rattle.oca_script.specs.Fields.{number_of, address_of, then_in}
-use Rattle.oca_program.specs.Options.{given, read_as, read_or, read_if, sized}
+use Rattle.oca_script.specs.Fields.{number_of, then_in}
+use Rattle.oca_program.specs.Options.{given, read_as, read_or, read_if, sized, own_of}
 use Rattle.ocadev_cli.specs.declared.words.Objects.{Objects}
 use Rattle.ocadev_cli.specs.declared.words.Objects.TheVariants as said
 use Rattle.ocadev_cli.specs.declared.words.Making.{Making}
@@ -92,7 +92,7 @@ serving_fields s = record { ip = s.ip; port = s.port; turns = s.turns; making = 
 -- the address 127.0.0.1 unless given, and the port in at most 5 digits
 unfoldable pub serving_in : ArgMatches → Option ServingFields
 serving_in words =
-    then_in (read_or 2130706433 address_of (given words (codes "ip"))) (λ ip.
+    then_in (read_or 2130706433 own_of (given words (codes "ip"))) (λ ip.
     then_in (read_as (number_of 5 65535) (given words (codes "port"))) (λ port.
     then_in (turns_in words) (λ turns.
     then_in (making_in words) (λ making.

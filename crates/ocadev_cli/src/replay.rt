@@ -1,10 +1,11 @@
 //! The replay of a script on a device.
-ghost use Rattle.std.specs.Prelude.{◌≡◌, ℕ, List, IfSome};
+ghost use Rattle.std.specs.Prelude.{◌≡◌, ℕ, List, [], IfSome, OnOk, false};
 ghost use Rattle.oca_types.specs.Sizes.{DeviceSizes};
 ghost use Rattle.oca_tree.specs.declared.object.Object.{Object};
 ghost use Rattle.oca_device.specs.Devices.{Represents};
 ghost use Rattle.oca_device.specs.Events.{Event, Datagram as DatagramEvent};
 ghost use Rattle.oca_script.specs.Ends.{input};
+ghost use Rattle.oca_script.specs.Replaying.{Awaited, NeverIdles};
 ghost use Rattle.ocadev_cli.specs.Requests.{asked_event};
 ghost use Rattle.ocadev_cli.specs.Replaying.{Serves, ServesAndPrints, Outcome, Replays};
 ghost use Rattle.ocadev_cli.specs.PrivateRequests.{event_of};
@@ -49,7 +50,6 @@ impl<'a> Language for DeviceScript<'a> {
         device: &mut Device,
         room: &mut DeviceScript<'a>,
         line: &[u8],
-        _more: bool,
         printer: &mut Printer<W>,
     ) -> Result<(), Stop> {
         match asked_by(line, &mut room.bytes) {
@@ -59,6 +59,21 @@ impl<'a> Language for DeviceScript<'a> {
                 Err(WriteFailed) => Err(Stop::Write),
             },
         }
+    }
+
+    /// Does nothing: no request is under way behind its line.
+    fn before_read<R: Source, W: Sink>(
+        _device: &mut Device,
+        _reader: &mut R,
+        _printer: &mut Printer<W>,
+    ) -> Result<(), WriteFailed>
+        requires { _printer.old.held ≡ [] }
+        ensures awaited { Awaited NeverIdles _device.old _device.new result _printer.old _printer.new }
+        ensures empty { OnOk result (_printer.new.held ≡ []) }
+        ensures source { input (R.remaining _reader.new) (R.failed _reader.new) ≡ input (R.remaining _reader.old) (R.failed _reader.old) }
+        ensures rests { OnOk result (R.ready _reader.new ≡ false → Unit {0}) }
+    {
+        Ok(())
     }
 }
 

@@ -6,7 +6,8 @@ use super::serving::{serve_on, serve_traced};
 use super::show::show;
 use super::trace::Watched;
 use super::words::{Asked, Serving, asked_for};
-use oca_device::serve;
+use oca_device::{Device, Outbox, serve};
+use oca_net::CountsSleep;
 use oca_program::socket::{bind, note_failed_sends};
 use oca_program::{Failure, print_note, report};
 use oca_script::{Printer, Sink, Source};
@@ -70,6 +71,27 @@ fn serve_socket<N: Net + Clock + Files, W: Sink, F: Sink>(
     faults: &mut Printer<F>,
 ) -> Result<(), Failure> {
     let (mut device, mut outbox) = make(alloc, system, serving.making)?;
+    serve_at(
+        alloc,
+        &CountsSleep(system),
+        serving,
+        &mut device,
+        &mut outbox,
+        printer,
+        faults,
+    )
+}
+
+/// Serves a device at a socket, and prints what was done.
+fn serve_at<N: Net + Clock, W: Sink, F: Sink>(
+    alloc: Global,
+    system: &N,
+    serving: Serving<'_>,
+    device: &mut Device,
+    outbox: &mut Outbox,
+    printer: &mut Printer<W>,
+    faults: &mut Printer<F>,
+) -> Result<(), Failure> {
     let mut end = bind(alloc, system, serving.ip, serving.port)?;
     if serving.ip == 0 {
         print_note(EVERY_ADDRESS, faults);
@@ -78,12 +100,12 @@ fn serve_socket<N: Net + Clock + Files, W: Sink, F: Sink>(
     let (report, reason) = if serving.verbose {
         let turns = serving.turns.map_or(u64::MAX, u64::from);
         let mut watched = Watched::new(end);
-        let report = serve_traced(&mut device, &mut watched, &mut outbox, turns, faults);
+        let report = serve_traced(device, &mut watched, outbox, turns, faults);
         (report, watched.end.last_failed_send())
     } else {
         let report = match serving.turns {
-            Some(turns) => serve(&mut device, &mut end, &mut outbox, turns),
-            None => serve_on(&mut device, &mut end, &mut outbox),
+            Some(turns) => serve(device, &mut end, outbox, turns),
+            None => serve_on(device, &mut end, outbox),
         };
         (report, end.last_failed_send())
     };

@@ -51,6 +51,11 @@ impl<E: End> End for Watched<E> {
         heard
     }
 
+    /// The end's present moment.
+    fn now(&self) -> u64 {
+        self.end.now()
+    }
+
     /// Sends as the end does.
     fn send(&mut self, to: Peer, bytes: &[u8]) -> bool {
         self.end.send(to, bytes)

@@ -5,10 +5,11 @@ ghost use Rattle.oca_types.specs.Sizes.{window_size, peer_count};
 ghost use Rattle.ocadev_cli.specs.Words.{window_of as window_said, window_in, peers_of as peers_said, peers_in, channels_in, said_objects, objects_in, making_fields, making_in, turns_in, says_so, serving_fields, serving_in};
 
 use clap::{Arg, ArgAction, ArgMatches, Command, Error};
+use oca_program::form::bad_option;
 use oca_program::options::{
-    address_or, help_or_failure, number_if, number_in, number_or, option, text_of,
+    help_or_failure, number_if, number_in, number_or, option, own_or, text_of,
 };
-use oca_program::{Failure, RunFault};
+use oca_program::{Failure, Form, Rule, RunFault, VERSION};
 use oca_script::field::number;
 use oca_types::{LOOPBACK, Peers, Sizes, Window};
 use std::alloc::{AllocError, Global};
@@ -169,6 +170,7 @@ fn show_command<'a>(alloc: Global) -> Result<Command<'a>, AllocError> {
 fn command<'a>(alloc: Global) -> Result<Command<'a>, AllocError> {
     Command::new(alloc, "ocadev")
         .about("The bench device of OCA (AES70) over UDP")
+        .version(VERSION)
         .after_help("Example: ocadev replay < examples/getstate.script")
         .subcommand_required(true)
         .subcommand(replay_command(alloc)?)?
@@ -186,13 +188,69 @@ pub fn asked_for<'a, S: AsStr>(alloc: Global, words: &'a [S]) -> Result<Asked<'a
     match matches_of(alloc, words) {
         Ok(matches) => match asked_by_matches(&matches) {
             Some(asked) => Ok(asked),
-            None => Err(Failure::told(
-                alloc,
-                RunFault::BadWords,
-                "an option has a value that is not of its form: see --help",
-            )),
+            None => Err(unread(alloc, &matches)),
         },
         Err(error) => Ok(Asked::Help(help_or_failure(alloc, &error)?)),
+    }
+}
+
+/// The options that have a form.
+const RULES: [Rule; 6] = [
+    Rule {
+        name: "ip",
+        form: Form::Own,
+    },
+    Rule {
+        name: "port",
+        form: Form::Number {
+            digits: 5,
+            least: 0,
+            largest: 65_535,
+        },
+    },
+    Rule {
+        name: "turns",
+        form: Form::Number {
+            digits: 10,
+            least: 0,
+            largest: 4_294_967_295,
+        },
+    },
+    Rule {
+        name: "window",
+        form: Form::Number {
+            digits: 3,
+            least: 1,
+            largest: 64,
+        },
+    },
+    Rule {
+        name: "peers",
+        form: Form::Number {
+            digits: 3,
+            least: 1,
+            largest: 64,
+        },
+    },
+    Rule {
+        name: "channels",
+        form: Form::Number {
+            digits: 4,
+            least: 0,
+            largest: 1022,
+        },
+    },
+];
+
+/// What is said where each option has its form.
+const TREE_AND_CHANNELS: &str =
+    "--tree and --channels each say what the objects are: give one of the two";
+
+/// Why the options of a command were not read.
+fn unread(alloc: Global, matches: &ArgMatches<'_>) -> Failure {
+    match matches.subcommand() {
+        Some((_, options)) => bad_option(alloc, options, &RULES, TREE_AND_CHANNELS),
+        None => Failure::from(RunFault::BadWords),
     }
 }
 
@@ -308,7 +366,7 @@ fn flag(options: &ArgMatches<'_>, name: &str) -> bool
 fn serving_of<'a>(options: &ArgMatches<'a>) -> Option<Serving<'a>>
     ensures { option_map serving_fields result ≡ serving_in options.now }
 {
-    let ip = address_or(options, "ip", LOOPBACK)?;
+    let ip = own_or(options, "ip", LOOPBACK)?;
     let port = number_in(options, "port", 5, 65535)?;
     let turns = turns_of(options)?;
     let making = making_of(options)?;

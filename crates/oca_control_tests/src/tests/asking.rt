@@ -37,6 +37,30 @@ const QUIET_TWICE: Ending = Ending {
     fail_send: None,
 };
 
+/// An end that is quiet each 50 ms.
+const EVERY_50_MS: Ending = Ending {
+    quiet: 0,
+    deliveries: &[
+        Delivery::Quiet(50),
+        Delivery::Quiet(100),
+        Delivery::Quiet(150),
+        Delivery::Quiet(200),
+        Delivery::Quiet(250),
+        Delivery::Quiet(300),
+        Delivery::Quiet(350),
+        Delivery::Quiet(400),
+        Delivery::Quiet(450),
+        Delivery::Quiet(500),
+        Delivery::Quiet(550),
+        Delivery::Quiet(600),
+        Delivery::Quiet(650),
+        Delivery::Quiet(700),
+        Delivery::Quiet(750),
+    ],
+    room: 32,
+    fail_send: None,
+};
+
 // A command is sent once, and its answer is taken.
 const ANSWERED: &[Step] = &[
     Asks(5, Fared::Answered(ANSWER)),
@@ -48,6 +72,21 @@ const ANSWERED: &[Step] = &[
 #[test]
 fn a_command_is_answered(rt: HostRuntime) {
     plays(&rt, rt.alloc(), 16, ANSWERS, ANSWERED);
+}
+
+// It is begun at 0, and goes out again at 250, 500 and 750.
+const IN_TIME: &[Step] = &[
+    Asks(5, Fared::Unanswered),
+    Taken(2),
+    Waits(1, 9, Fared::Unanswered),
+    Taken(3),
+    Waits(1, 1, Fared::Unanswered),
+    Taken(4),
+];
+
+#[test]
+fn a_command_goes_out_again_in_time(rt: HostRuntime) {
+    plays(&rt, rt.alloc(), 16, EVERY_50_MS, IN_TIME);
 }
 
 const NO_TURN: &[Step] = &[

@@ -1,7 +1,9 @@
 //! Scripts of a link over an end in memory.
 use super::links::{agrees as link_agrees, is_answer, link};
 use super::{DEVICE, Gave, links, response};
-use oca_control::{ControlFault, DriveReport, Link, Outcome, ask, drive, give_out, wait_for};
+use oca_control::{
+    ControlFault, DriveReport, Link, Outcome, ask, drive, give_in_time, give_out, wait_for,
+};
 use oca_net::{MemoryEnd, Scripted};
 use oca_types::{Handle, MethodId, Ono, Packet, Request};
 use std::alloc::Global;
@@ -67,6 +69,8 @@ pub enum Step {
     Waits(u32, u32, Fared),
     /// So many commands and so many keep-alives are given out at a moment.
     GivesOut(u64, u64, u64),
+    /// So many commands are given out in time at a moment; or none, since the link is late.
+    GivesInTime(u64, u64, bool),
     /// The link is driven for at most so many turns.
     Drives(u32, DriveReport),
     /// How many entries of its script the end delivered.
@@ -148,6 +152,11 @@ fn given_out(link: &mut Link, end: &mut MemoryEnd, now: u64) -> DriveReport {
     give_out(link, end, now)
 }
 
+/// Gives out what is due, in time.
+fn given_in_time(link: &mut Link, end: &mut MemoryEnd, now: u64) -> DriveReport {
+    give_in_time(link, end, now)
+}
+
 /// What was handed over, in no turn and without a failure.
 fn given(sent: u64, keep_alives: u64) -> DriveReport {
     DriveReport {
@@ -182,6 +191,11 @@ fn agrees(link: &mut Link, end: &mut MemoryEnd, step: Step) -> bool {
         Asks(turns, want) => is_outcome(&asked(link, end, turns), want),
         Waits(handle, turns, want) => is_outcome(&waited(link, end, handle, turns), want),
         GivesOut(now, sent, keep_alives) => given_out(link, end, now) == given(sent, keep_alives),
+        GivesInTime(now, sent, lost) => given_in_time(link, end, now)
+            == DriveReport {
+                lost,
+                ..given(sent, 0)
+            },
         Drives(turns, want) => driven(link, end, turns) == want,
         Delivered(count) => end.delivered().len() == count,
         Taken(count) => end.taken().len() == count,

@@ -1,7 +1,7 @@
 //! How long a receive waits, and what its moments are. No clause says what a clock tells, so these tests alone refuse
 //! an end whose moments lag or stand still, or that waits longer or shorter than it says.
 use super::{LARGEST, LOCALHOST, end_here};
-use oca_net::{End, Heard, UdpEnd};
+use oca_net::{CountsSleep, End, Heard, UdpEnd};
 use oca_types::Packet;
 use std::cell::Cell;
 use std::net::{Net, SocketAddr, TcpListener, TcpStream, UdpSocket};
@@ -218,6 +218,23 @@ fn a_receive_by_a_moment_that_is_past_does_not_wait(rt: HostRuntime) {
     assert_eq!(rt; first_wrong(&rt, BY_THE_PAST), None);
 }
 
+// Each wait has its own time, whatever those before it had: far, near and none in turn.
+const IN_TURN: &[Step] = &[
+    Quiet(&[After(400)], u64::MAX),
+    Quiet(&[After(20), After(20), After(20)], 60),
+    TwentyPast(200),
+    Quiet(&[Unsaid, Unsaid, Unsaid], 90),
+    Quiet(&[After(20), After(20), After(20)], 60),
+    Quiet(&[After(400)], u64::MAX),
+    TwentyPast(200),
+    Quiet(&[After(400)], u64::MAX),
+];
+
+#[test]
+fn each_wait_has_its_own_time(rt: HostRuntime) {
+    assert_eq!(rt; first_wrong(&rt, IN_TURN), None);
+}
+
 /// A system whose clock tells what it is set to, and nothing where it is not set.
 #[derive(Drop)]
 struct Told<'a> {
@@ -299,4 +316,19 @@ const READINGS: &[(Option<u64>, u64)] = &[
 #[test]
 fn moments_do_not_go_back(rt: HostRuntime) {
     assert_eq!(rt; first_unsaid(&rt, READINGS), None);
+}
+
+/// Whether a clock that counts sleep is not behind the system's, and an end over it says moments that rise with it.
+fn counts_sleep(rt: &HostRuntime) -> Option<bool> {
+    let clock = CountsSleep(rt);
+    let before = rt.monotonic().ok()?;
+    let mut end = UdpEnd::bind(rt.alloc(), &clock, LOCALHOST, 0).ok()?;
+    let mut packet = Packet::new();
+    let now = quiet(end.receive_by(&mut packet, 40))?;
+    Some(clock.monotonic().ok()? >= before && now >= 40 && end.now() >= now)
+}
+
+#[test]
+fn a_clock_that_counts_sleep_goes_on(rt: HostRuntime) {
+    assert_eq!(rt; counts_sleep(&rt), Some(true));
 }

@@ -1,6 +1,8 @@
 //! Where no end is bound, why, and the words of that; and the descriptor of one that is.
 use super::{LOCALHOST, end_here};
-use oca_net::{BindError, BindFault, UdpEnd, fill_standard_descriptors};
+use oca_net::{
+    BindError, BindFault, UdpEnd, fill_standard_descriptors, is_refused as host_refuses,
+};
 use oca_types::Peer;
 use std::alloc::Global;
 use std::io;
@@ -92,6 +94,21 @@ fn a_refused_socket_has_the_systems_reason(rt: HostRuntime) {
     assert_eq!(rt; has_reasons(&rt), Some([true; 3]));
 }
 
+/// Whether a host refuses a port that an end has, once the end is gone, and at an address that no program may send to.
+fn refuses(rt: &HostRuntime) -> Option<[bool; 3]> {
+    let end = end_here(rt)?;
+    let local = end.local();
+    let bound = host_refuses(rt, LOCALHOST, local);
+    drop(end);
+    let unbound = host_refuses(rt, LOCALHOST, local);
+    Some([bound, unbound, host_refuses(rt, NO_MACHINE.ip, local)])
+}
+
+#[test]
+fn a_host_refuses_a_port_that_no_program_has(rt: HostRuntime) {
+    assert_eq!(rt; refuses(&rt), Some([false, true, false]));
+}
+
 /// Whether an end has a descriptor behind the standard ones, the same both ways.
 fn has_a_descriptor(rt: &HostRuntime) -> Option<[bool; 2]> {
     fill_standard_descriptors(rt).ok()?;
@@ -117,4 +134,5 @@ fn fault_reads(alloc: Global, fault: BindFault, text: &str) -> bool {
 fn faults_in_words(rt: HostRuntime) {
     assert!(rt; fault_reads(rt.alloc(), BindFault::Io, "socket failed"));
     assert!(rt; fault_reads(rt.alloc(), BindFault::NoMemory, "no memory"));
+    assert!(rt; error_reads(rt.alloc(), BindError::NoMemory, "no memory"));
 }

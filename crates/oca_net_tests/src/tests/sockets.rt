@@ -21,6 +21,8 @@ enum Holder {
     Plain,
     /// Port 0, at which there is none.
     Nobody,
+    /// The address of every host, to which no one may send who does not ask for it.
+    Everyone,
 }
 
 use Holder::*;
@@ -74,6 +76,10 @@ fn place(sockets: &Sockets<'_>, who: Holder) -> Option<Peer> {
             ip: LOCALHOST,
             port: 0,
         }),
+        Everyone => Some(Peer {
+            ip: 0xffff_ffff,
+            port: 9,
+        }),
     }
 }
 
@@ -101,7 +107,7 @@ fn send(sockets: &mut Sockets<'_>, from: Holder, to: Holder, bytes: &[u8]) -> Op
             let sent = sockets.plain.send_to(bytes, (Ipv4Addr::LOCALHOST, to.port));
             Some(sent.ok()? == bytes.len())
         }
-        Nobody => None,
+        Nobody | Everyone => None,
     }
 }
 
@@ -140,7 +146,7 @@ fn hears(sockets: &mut Sockets<'_>, who: Holder, from: Holder, bytes: &[u8]) -> 
         First => end_hears(&mut sockets.first, peer, bytes),
         Second => end_hears(&mut sockets.second, peer, bytes),
         Plain => plain_hears(&sockets.plain, peer, bytes),
-        Nobody => false,
+        Nobody | Everyone => false,
     }
 }
 
@@ -234,11 +240,13 @@ fn sends_1472_bytes_whole(rt: HostRuntime) {
     assert_eq!(rt; first_wrong(&rt, WHOLE), None);
 }
 
-// A send to port 0 is refused, and says why. The end goes on.
+// A send to port 0 is refused, and one to every host, and the last one's reason is said. The end goes on.
 const REFUSED: &[Step] = &[
     LastFailure(None),
     Sends(First, Nobody, &[1], false),
     LastFailure(Some(ErrorKind::InvalidInput)),
+    Sends(First, Everyone, &[1], false),
+    LastFailure(Some(ErrorKind::PermissionDenied)),
     Sends(First, First, &[1], true),
     Hears(First, First, &[1]),
 ];

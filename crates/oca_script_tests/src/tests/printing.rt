@@ -1,7 +1,8 @@
 //! What is printed: lines, faults, and more than is held.
 use oca_fakes::ShortWriter;
-use oca_script::{LineFault, Printer, ReplayFault, WriteFailed};
+use oca_script::{LineFault, Printer, ReadFailed, ReplayFault, Stop, WriteFailed};
 use std::alloc::Global;
+use std::fmt::Display;
 
 /// Whether the parts of a line are taken once they are handed on.
 fn prints_a_line() -> bool {
@@ -117,6 +118,14 @@ fn first_untold(alloc: Global, rows: &[(ReplayFault, &str, u8)]) -> Option<usize
     None
 }
 
+/// Whether a fault displays this text.
+fn reads<D: Display>(alloc: Global, fault: &D, wanted: &str) -> bool {
+    match format!(in alloc; "{fault}") {
+        Ok(text) => text.as_str() == wanted,
+        Err(_) => false,
+    }
+}
+
 const OF_LINES: &[LineFault] = &[
     LineFault::TooLong,
     LineFault::Form,
@@ -138,4 +147,8 @@ fn printed_faults(rt: HostRuntime) {
     assert_eq!(rt; first_undisplayed(rt.alloc(), OF_LINES), None);
     assert_eq!(rt; LineFault::TooLong.word(), "too long");
     assert_eq!(rt; first_untold(rt.alloc(), OF_REPLAYS), None);
+    assert!(rt; reads(rt.alloc(), &Stop::Line(LineFault::Peer), "peer"));
+    assert!(rt; reads(rt.alloc(), &Stop::Write, "write failed"));
+    assert!(rt; reads(rt.alloc(), &ReadFailed, "read failed"));
+    assert!(rt; reads(rt.alloc(), &WriteFailed, "write failed"));
 }

@@ -3,7 +3,10 @@ ghost use Rattle.std.specs.Prelude.{Ok};
 
 use oca_fakes::{Discard, PatternReader, PieceReader, ShortWriter};
 use oca_script::lines::serve_lines;
-use oca_script::{FromReader, Language, LineFault, Printer, ReplayFault, Sink, Stop, ToWriter};
+use oca_script::{
+    FromReader, Language, LineFault, Printer, ReplayFault, Sink, Source, Stop, ToWriter,
+    WriteFailed,
+};
 
 /// Prints each line as it is, with no line feed, and counts the lines.
 struct Echo;
@@ -24,11 +27,19 @@ impl Language for Echo {
         state: &mut u64,
         _room: &mut u8,
         line: &[u8],
-        _more: bool,
         printer: &mut Printer<W>,
     ) -> Result<(), Stop> {
         *state = state.wrapping_add(1);
         printer.print(line)?;
+        Ok(())
+    }
+
+    /// Does nothing: no line is under way.
+    fn before_read<R: Source, W: Sink>(
+        _state: &mut u64,
+        _reader: &mut R,
+        _printer: &mut Printer<W>,
+    ) -> Result<(), WriteFailed> {
         Ok(())
     }
 }

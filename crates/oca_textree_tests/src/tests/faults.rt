@@ -129,6 +129,23 @@ const FIELDS: &[Case] = &[
     (b"4096 100 block yes a", Err((1, ObjectFault::Lockable))),
     (b"4096 100 block lockable \xff", Err((1, ObjectFault::Text))),
     (
+        b"4096 100 block lockable a\x7f",
+        Err((1, ObjectFault::Text)),
+    ),
+    (
+        b"4096 100 block lockable \xc2\x9b",
+        Err((1, ObjectFault::Text)),
+    ),
+    (
+        b"4096 100 block lockable a\xe2\x80\xa8b",
+        Err((1, ObjectFault::Text)),
+    ),
+    (
+        b"4096 100 switch a,\xe2\x80\xaeb a lockable a",
+        Err((1, ObjectFault::Text)),
+    ),
+    (b"4096 100 block lockable a\\n\xc2\xa0", Ok(2)),
+    (
         b"4096 100 switch a,\xff a lockable a",
         Err((1, ObjectFault::Text)),
     ),
@@ -252,4 +269,54 @@ fn lists_4096(alloc: Global) -> Option<(bool, bool)> {
 #[test]
 fn many_objects(rt: HostRuntime) {
     assert_eq!(rt; lists_4096(rt.alloc()), Some((true, true)));
+}
+
+/// The first fault that displays another text.
+fn first_undisplayed(alloc: Global, rows: &[(TreeFault, &str)]) -> Option<usize> {
+    for (at, row) in rows.iter().enumerate() {
+        let (fault, wanted) = *row;
+        match format!(in alloc; "{fault}") {
+            Ok(text) => {
+                if text.as_str() != wanted {
+                    return Some(at);
+                }
+            }
+            Err(_) => return Some(at),
+        }
+    }
+    None
+}
+
+const DISPLAYED: &[(TreeFault, &str)] = &[
+    (TreeFault::Line(1, ObjectFault::Form), "line 1: form"),
+    (TreeFault::Line(2, ObjectFault::Number), "line 2: number"),
+    (TreeFault::Line(3, ObjectFault::Class), "line 3: class"),
+    (TreeFault::Line(4, ObjectFault::Value), "line 4: value"),
+    (
+        TreeFault::Line(5, ObjectFault::Lockable),
+        "line 5: lockable",
+    ),
+    (TreeFault::Line(6, ObjectFault::Text), "line 6: text"),
+    (TreeFault::Line(7, ObjectFault::Full), "line 7: full"),
+    (
+        TreeFault::Line(8, ObjectFault::Reserved),
+        "line 8: reserved",
+    ),
+    (TreeFault::Line(9, ObjectFault::Taken), "line 9: taken"),
+    (
+        TreeFault::Line(10, ObjectFault::Container),
+        "line 10: container",
+    ),
+    (TreeFault::Line(11, ObjectFault::Depth), "line 11: depth"),
+    (TreeFault::Line(12, ObjectFault::Range), "line 12: range"),
+    (
+        TreeFault::Line(u64::MAX, ObjectFault::NoMemory),
+        "line 18446744073709551615: no memory",
+    ),
+    (TreeFault::NoMemory, "no memory"),
+];
+
+#[test]
+fn displayed_faults(rt: HostRuntime) {
+    assert_eq!(rt; first_undisplayed(rt.alloc(), DISPLAYED), None);
 }

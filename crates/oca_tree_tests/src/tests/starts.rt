@@ -3,7 +3,8 @@ use super::script::Addition::{One, Stored, Unstored};
 use super::script::Row::{Len, Reads};
 use super::script::{Addition, At, Wrong, on_built, wrong_of_built};
 use super::words::*;
-use oca_tree::{AddFault, Kind, Room, Spec, Start, StartFault, TreeBuilder};
+use oca_tree::{AddFault, Kind, Room, Spec, Start, StartFault, Tree, TreeBuilder, bench};
+use oca_types::Ono;
 use std::alloc::Global;
 use std::process::Abort;
 
@@ -191,4 +192,112 @@ fn first_wrong_words(alloc: Global) -> Option<usize> {
 #[test]
 fn faults_of_starts_are_printed(rt: HostRuntime) {
     assert_eq!(rt; first_wrong_words(rt.alloc()), None);
+}
+
+/// What is told of an object: its number, its label, whether it is enabled and can be locked, and the flags and the names
+/// of its positions.
+struct Told {
+    ono: u32,
+    label: &'static str,
+    enabled: bool,
+    lockable: bool,
+    flags: Option<&'static [bool]>,
+    names: &'static [&'static str],
+}
+
+const TOLD: &[Told] = &[
+    Told {
+        ono: 100,
+        label: "Hi",
+        enabled: true,
+        lockable: true,
+        flags: None,
+        names: &[],
+    },
+    Told {
+        ono: 4096,
+        label: "Hi",
+        enabled: false,
+        lockable: true,
+        flags: Some(&[true, false, false]),
+        names: &["Line", "Mic", "Off"],
+    },
+    Told {
+        ono: 4097,
+        label: "",
+        enabled: true,
+        lockable: false,
+        flags: None,
+        names: &[],
+    },
+];
+
+/// The root, the switch with what was stored of both, and a lamp that can't be locked.
+fn stored_tree(alloc: Global) -> Option<Tree> {
+    let lamp = Spec {
+        role: "lamp",
+        lockable: false,
+        kind: Kind::Boolean(true),
+    };
+    let mut builder = TreeBuilder::with_root(alloc, Room::default(), &GREETING).ok()?;
+    builder
+        .add_with(Ono(100), Ono(4096), &INPUT, &DISABLED)
+        .ok()?;
+    builder.add(Ono(100), Ono(4097), &lamp).ok()?;
+    Some(builder.finish())
+}
+
+/// Whether these are the names of its positions.
+fn are_names(tree: &Tree, row: &Told) -> bool {
+    let names = tree.position_names_of(Ono(row.ono));
+    names.len() == row.names.len()
+        && names
+            .iter()
+            .zip(row.names.iter())
+            .all(|(name, wanted)| name.as_str() == *wanted)
+}
+
+/// Whether this is told.
+fn is_told(tree: &Tree, row: &Told) -> bool {
+    let Some(start) = tree.start_of(Ono(row.ono)) else {
+        return false;
+    };
+    start.label == row.label
+        && start.enabled == row.enabled
+        && start.position_enableds == row.flags
+        && tree.is_lockable(Ono(row.ono)) == Some(row.lockable)
+        && are_names(tree, row)
+}
+
+/// The first row that is not told; of no object is anything told.
+fn first_wrong_told(alloc: Global) -> Option<usize> {
+    let Some(tree) = stored_tree(alloc) else {
+        return Some(TOLD.len());
+    };
+    for (at, row) in TOLD.iter().enumerate() {
+        if !is_told(&tree, row) {
+            return Some(at);
+        }
+    }
+    if tree.start_of(Ono(4098)).is_some() || tree.is_lockable(Ono(4098)).is_some() {
+        return Some(TOLD.len());
+    }
+    None
+}
+
+#[test]
+fn what_was_stored_is_told(rt: HostRuntime) {
+    assert_eq!(rt; first_wrong_told(rt.alloc()), None);
+}
+
+/// Whether two trees are the same but for locks: one with itself, and with the bench.
+fn compared(alloc: Global) -> Option<(bool, bool)> {
+    let tree = stored_tree(alloc)?;
+    let other = bench(alloc).ok()?;
+    Some((tree.is_but_for_locks(&tree), tree.is_but_for_locks(&other)))
+}
+
+#[test]
+fn trees_are_compared(rt: HostRuntime) {
+    assert_eq!(rt; compared(rt.alloc()), Some((true, false)));
 }

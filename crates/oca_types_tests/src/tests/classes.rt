@@ -1,27 +1,34 @@
-//! Classes and statuses by their numbers.
+//! Classes and statuses by their numbers, and their names.
+use crate::tests::faults::prints;
 use oca_types::{Class, Status, class_fields};
+use std::alloc::Global;
 
-/// Classes and the fields of their identifiers.
-const FIELDS: &[(Class, &[u16])] = &[
-    (Class::Block, &[1, 1, 3]),
-    (Class::Mute, &[1, 1, 1, 2]),
-    (Class::Polarity, &[1, 1, 1, 3]),
-    (Class::Switch, &[1, 1, 1, 4]),
-    (Class::Boolean, &[1, 1, 1, 1, 1]),
-    (Class::Int8, &[1, 1, 1, 1, 2]),
-    (Class::Int16, &[1, 1, 1, 1, 3]),
-    (Class::Int32, &[1, 1, 1, 1, 4]),
-    (Class::Int64, &[1, 1, 1, 1, 5]),
-    (Class::Uint8, &[1, 1, 1, 1, 6]),
-    (Class::Uint16, &[1, 1, 1, 1, 7]),
-    (Class::Uint32, &[1, 1, 1, 1, 8]),
-    (Class::Uint64, &[1, 1, 1, 1, 9]),
+/// Classes, the fields of their identifiers, and their names.
+const CLASSES: &[(Class, &[u16], &str)] = &[
+    (Class::Block, &[1, 1, 3], "OcaBlock"),
+    (Class::Mute, &[1, 1, 1, 2], "OcaMute"),
+    (Class::Polarity, &[1, 1, 1, 3], "OcaPolarity"),
+    (Class::Switch, &[1, 1, 1, 4], "OcaSwitch"),
+    (Class::Boolean, &[1, 1, 1, 1, 1], "OcaBooleanActuator"),
+    (Class::Int8, &[1, 1, 1, 1, 2], "OcaInt8Actuator"),
+    (Class::Int16, &[1, 1, 1, 1, 3], "OcaInt16Actuator"),
+    (Class::Int32, &[1, 1, 1, 1, 4], "OcaInt32Actuator"),
+    (Class::Int64, &[1, 1, 1, 1, 5], "OcaInt64Actuator"),
+    (Class::Uint8, &[1, 1, 1, 1, 6], "OcaUint8Actuator"),
+    (Class::Uint16, &[1, 1, 1, 1, 7], "OcaUint16Actuator"),
+    (Class::Uint32, &[1, 1, 1, 1, 8], "OcaUint32Actuator"),
+    (Class::Uint64, &[1, 1, 1, 1, 9], "OcaUint64Actuator"),
 ];
 
-/// The first class that has other fields.
-fn first_wrong_class() -> Option<Class> {
-    for (class, fields) in FIELDS {
-        if class_fields(*class).as_slice() != *fields {
+/// Whether a class has these fields and this name, and prints the name.
+fn is_class(alloc: Global, class: Class, fields: &[u16], name: &str) -> bool {
+    class_fields(class).as_slice() == fields && class.name() == name && prints(alloc, &class, name)
+}
+
+/// The first class that has other fields or another name.
+fn first_wrong_class(alloc: Global) -> Option<Class> {
+    for (class, fields, name) in CLASSES {
+        if !is_class(alloc, *class, fields, name) {
             return Some(*class);
         }
     }
@@ -29,33 +36,41 @@ fn first_wrong_class() -> Option<Class> {
 }
 
 #[test]
-fn classes_have_these_fields(rt: HostRuntime) {
-    assert_eq!(rt; first_wrong_class(), None);
+fn classes_have_these_fields_and_names(rt: HostRuntime) {
+    assert_eq!(rt; first_wrong_class(rt.alloc()), None);
 }
 
-/// Statuses and their numbers.
-const NUMBERS: &[(Status, u8)] = &[
-    (Status::Ok, 0),
-    (Status::ProtocolVersionError, 1),
-    (Status::DeviceError, 2),
-    (Status::Locked, 3),
-    (Status::BadFormat, 4),
-    (Status::BadOno, 5),
-    (Status::ParameterError, 6),
-    (Status::ParameterOutOfRange, 7),
-    (Status::NotImplemented, 8),
-    (Status::InvalidRequest, 9),
-    (Status::ProcessingFailed, 10),
-    (Status::BadMethod, 11),
-    (Status::PartiallySucceeded, 12),
-    (Status::Timeout, 13),
-    (Status::BufferOverflow, 14),
+/// Statuses, their numbers and their names (AES70-2).
+const STATUSES: &[(Status, u8, &str)] = &[
+    (Status::Ok, 0, "OK"),
+    (Status::ProtocolVersionError, 1, "ProtocolVersionError"),
+    (Status::DeviceError, 2, "DeviceError"),
+    (Status::Locked, 3, "Locked"),
+    (Status::BadFormat, 4, "BadFormat"),
+    (Status::BadOno, 5, "BadONo"),
+    (Status::ParameterError, 6, "ParameterError"),
+    (Status::ParameterOutOfRange, 7, "ParameterOutOfRange"),
+    (Status::NotImplemented, 8, "NotImplemented"),
+    (Status::InvalidRequest, 9, "InvalidRequest"),
+    (Status::ProcessingFailed, 10, "ProcessingFailed"),
+    (Status::BadMethod, 11, "BadMethod"),
+    (Status::PartiallySucceeded, 12, "PartiallySucceeded"),
+    (Status::Timeout, 13, "Timeout"),
+    (Status::BufferOverflow, 14, "BufferOverflow"),
 ];
 
-/// The first status that has another number.
-fn first_wrong_status() -> Option<Status> {
-    for (status, number) in NUMBERS {
-        if status.number() != *number {
+/// Whether a status has this number and this name, and prints the name.
+fn is_status(alloc: Global, status: Status, number: u8, name: &str) -> bool {
+    status.number() == number
+        && Status::with_number(number) == Some(status)
+        && status.name() == name
+        && prints(alloc, &status, name)
+}
+
+/// The first status that has another number or another name.
+fn first_wrong_status(alloc: Global) -> Option<Status> {
+    for (status, number, name) in STATUSES {
+        if !is_status(alloc, *status, *number, name) {
             return Some(*status);
         }
     }
@@ -63,6 +78,11 @@ fn first_wrong_status() -> Option<Status> {
 }
 
 #[test]
-fn numbers_of_the_statuses(rt: HostRuntime) {
-    assert_eq!(rt; first_wrong_status(), None);
+fn numbers_and_names_of_the_statuses(rt: HostRuntime) {
+    assert_eq!(rt; first_wrong_status(rt.alloc()), None);
+}
+
+#[test]
+fn no_status_has_the_number_15(rt: HostRuntime) {
+    assert_eq!(rt; Status::with_number(15), None);
 }

@@ -1,11 +1,11 @@
-//! What faults print.
-use oca_types::{NoMemory, PutFault, ReadFault};
+//! What faults, object numbers, handles and methods print.
+use oca_types::{Handle, MethodId, NoMemory, Ono, PutFault, ReadFault};
 use std::alloc::Global;
 use std::fmt::Display;
 
-/// Whether a fault prints these words.
-fn prints<T: Display>(alloc: Global, fault: &T, words: &str) -> bool {
-    match fault.to_string(alloc) {
+/// Whether a value prints these words.
+pub fn prints<T: Display>(alloc: Global, value: &T, words: &str) -> bool {
+    match value.to_string(alloc) {
         Ok(text) => text.as_str() == words,
         Err(_) => false,
     }
@@ -48,4 +48,17 @@ fn faults_of_puts_are_printed(rt: HostRuntime) {
 #[test]
 fn refused_memory_is_printed(rt: HostRuntime) {
     assert!(rt; prints(rt.alloc(), &NoMemory, "no memory"));
+}
+
+/// Whether a command's handle, its object and its method print these words.
+fn print_as(alloc: Global, handle: &str, ono: &str, method: &str) -> bool {
+    let id = MethodId { level: 4, index: 2 };
+    prints(alloc, &Handle(0xFFFF_FFFF), handle)
+        && prints(alloc, &Ono(4097), ono)
+        && prints(alloc, &id, method)
+}
+
+#[test]
+fn the_words_of_a_command_are_printed(rt: HostRuntime) {
+    assert!(rt; print_as(rt.alloc(), "4294967295", "4097", "4.2"));
 }

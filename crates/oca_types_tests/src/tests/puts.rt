@@ -1,7 +1,7 @@
 //! What is put, and how much room it needs.
 use oca_types::{
-    Class, Params, PutFault, Text, put_bool, put_class_identification, put_i8, put_i16, put_i32,
-    put_i64, put_text, put_u8, put_u16, put_u32, put_u64,
+    Class, Cursor, Field, Params, PutFault, Text, put_bool, put_class_identification, put_i8,
+    put_i16, put_i32, put_i64, put_text, put_u8, put_u16, put_u32, put_u64,
 };
 use std::process::Abort;
 
@@ -203,4 +203,22 @@ fn first_without_room() -> Option<Wrong> {
 #[test]
 fn values_have_room_up_to_1452(rt: HostRuntime) {
     assert_eq!(rt; first_without_room(), None);
+}
+
+/// Whether a value of one length is read back from what was put, of so many bytes.
+fn is_read_back<F: Field + PartialEq>(value: F) -> bool {
+    let mut params = Params::new();
+    if value.put(&mut params).is_err() || params.len() != F::SIZE {
+        return false;
+    }
+    let mut cursor = Cursor::new(params.as_slice());
+    match cursor.take::<F>() {
+        Ok(read) => read == value,
+        Err(_) => false,
+    }
+}
+
+#[test]
+fn values_of_one_length_are_read_back(rt: HostRuntime) {
+    assert!(rt; is_read_back(0xFFFE_u16) && is_read_back(i64::MIN) && is_read_back(true));
 }

@@ -1,7 +1,7 @@
 //! Commands that are sent, over an end in memory.
 use super::{MUTED_1, NO_LIMIT, none_wrong};
 use oca_control::Link;
-use oca_fakes::{PieceReader, ShortWriter};
+use oca_fakes::{PausedReader, PieceReader, ShortWriter};
 use oca_net::{MemoryEnd, Scripted};
 use oca_script::{LineFault, Printer, ReplayFault, WriteFailed};
 use oca_types::{Handle, MethodId, Ono, Peer, Request, Span};
@@ -193,8 +193,7 @@ enum Row {
     Bad(&'static [u8], LineFault),
     /// So many at once: the first of two lines, behind which the reader fails.
     FirstOfTwo(u8),
-    /// 16 at once over an end that delivers this: behind lines that come in one piece nothing more is read before the first answer is
-    /// written, which fails.
+    /// 16 at once over an end that delivers this: while no more is there to be read the first answer is written, which fails.
     BeforeARead(&'static [Delivery], &'static [u8]),
     /// The same, but all answers are written, and then a read fails.
     ThenARead(&'static [Delivery], &'static [u8], &'static [u8]),
@@ -204,8 +203,8 @@ enum Row {
 
 use Row::*;
 
-/// Lines, so many under way at once, over an end that delivers this; the reader gives pieces of at most `piece` bytes, and fails
-/// behind `given`, and the writer behind `room`. How it ends, whether a read failed and whether a command got no answer, and what is
+/// Lines, so many under way at once, over an end that delivers this; the reader gives pieces of at most `piece` bytes, of
+/// which it says `pauses` times before each that it is not there, and fails behind `given`, and the writer behind `room`. How it ends, whether a read failed and whether a command got no answer, and what is
 /// printed.
 #[derive(Clone, Copy)]
 struct Lines {
@@ -213,6 +212,7 @@ struct Lines {
     deliveries: &'static [Delivery],
     lines: &'static [u8],
     piece: usize,
+    pauses: u32,
     given: usize,
     room: usize,
     ended: Result<(), ReplayFault>,
@@ -233,6 +233,7 @@ fn answered(
         deliveries,
         lines,
         piece: 4000,
+        pauses: 0,
         given: NO_LIMIT,
         room: NO_LIMIT,
         ended: Ok(()),
@@ -257,9 +258,10 @@ fn unread(mut lines: Lines) -> Lines {
     lines
 }
 
-/// The same, but the reader fails behind all of the lines.
-fn whole(mut lines: Lines) -> Lines {
+/// The same, but the reader pauses before each read, and fails behind all of the lines.
+fn paused(mut lines: Lines) -> Lines {
     let text = lines.lines;
+    lines.pauses = 4;
     lines.given = text.len();
     lines
 }
@@ -303,10 +305,10 @@ fn lines_of(row: Row) -> Lines {
             unread(answered(ahead, &[Answer(1, 1, 10)], TWO, b"answer 1 1 01\n"))
         }
         BeforeARead(deliveries, lines) => {
-            unwritten(whole(answered(16, deliveries, lines, b"")), 0)
+            unwritten(paused(answered(16, deliveries, lines, b"")), 0)
         }
         ThenARead(deliveries, lines, output) => {
-            read_fails(whole(answered(16, deliveries, lines, output)))
+            read_fails(paused(answered(16, deliveries, lines, output)))
         }
         Cut(room, output) => unwritten(answered(3, BACKWARDS, THREE_CLOSE, output), room),
     }
@@ -317,13 +319,15 @@ fn sends_so(alloc: Global, row: &Lines) -> Option<bool> {
     if row.piece == 0 {
         return None;
     }
-    let mut session = Session::new(link(), end(alloc, row.deliveries)?, Span::new(row.ahead)?);
-    let mut from = PieceReader::new(row.lines, row.piece, row.given);
+    let end = end(alloc, row.deliveries)?;
+    let mut session = Session::new(link(), end, Span::new(row.ahead)?, None);
+    let reader = PieceReader::new(row.lines, row.piece, row.given);
+    let mut from = PausedReader::new(reader, row.pauses);
     let mut to = Printer::new(ShortWriter::new(5000, row.room));
     let ended = send_all(&mut session, &mut from, &mut to);
     Some(
         ended == row.ended
-            && from.failed == row.read_failed
+            && from.reader.failed == row.read_failed
             && session.unanswered() == row.unanswered
             && to.sink().taken.as_slice() == row.output,
     )
@@ -401,9 +405,10 @@ const ROWS: &[Row] = &[
 /// The answers to two commands, the last one's first.
 const TWO_BACKWARDS: &[Delivery] = &[Answer(2, 2, 10), Answer(1, 1, 20)];
 
-// Nothing is left under way before a read, whatever else stands behind the last command: a comment, an empty line or a part of a line.
-// Commands of one piece are under way together.
-const AT_REST: &[Row] = &[
+// While no more is there to be read what is under way is driven, whatever stands behind the last command: nothing, a comment, an empty line
+// or a part of a line. Commands of one piece are under way together.
+const IDLE: &[Row] = &[
+    BeforeARead(&[Answer(1, 1, 10)], b"4097 4 2 1 01\n"),
     BeforeARead(&[Answer(1, 1, 10)], b"4097 4 2 1 01\n# done\n"),
     BeforeARead(&[Answer(1, 1, 10)], b"4097 4 2 1 01\n\n"),
     BeforeARead(&[Answer(1, 1, 10)], b"4097 4 2 1 01\n4097 4"),
@@ -422,13 +427,77 @@ const AT_REST: &[Row] = &[
 ];
 
 #[test]
-fn nothing_is_under_way_at_a_read(rt: HostRuntime) {
-    none_wrong(&rt, first_wrong(rt.alloc(), AT_REST));
+fn answers_are_printed_while_input_is_awaited(rt: HostRuntime) {
+    none_wrong(&rt, first_wrong(rt.alloc(), IDLE));
 }
 
 #[test]
 fn lines_of_commands(rt: HostRuntime) {
     none_wrong(&rt, first_wrong(rt.alloc(), ROWS));
+}
+
+/// A device that is silent for a while, answers, and then hears nothing for 2,500 ms.
+const SLOW: &[Delivery] = &[
+    Quiet(0),
+    Quiet(100),
+    Quiet(250),
+    Quiet(499),
+    Quiet(500),
+    Answer(1, 1, 600),
+    Quiet(2999),
+    Quiet(3000),
+];
+
+/// Whether a command, behind which more comes in pieces of this size, is sent, sent again twice and answered, and a keep-alive sent, while
+/// input is awaited: the reader pauses often before each piece.
+fn is_driven(alloc: Global, behind: &[u8], piece: usize) -> Option<bool> {
+    if piece == 0 {
+        return None;
+    }
+    let mut session = Session::new(link(), end(alloc, SLOW)?, Span::new(16)?, None);
+    let mut from = PausedReader::new(PieceReader::new(behind, piece, NO_LIMIT), 9);
+    let mut to = Printer::new(ShortWriter::new(5000, NO_LIMIT));
+    let ended = send_all(&mut session, &mut from, &mut to);
+    Some(
+        ended == Ok(())
+            && to.sink().taken.as_slice() == b"answer 1 1 01\n".as_slice()
+            && session.end().taken().len() == 4
+            && session.end().delivered().len() == SLOW.len(),
+    )
+}
+
+/// What stands behind a command: nothing, a comment, an empty line, or a part of one.
+const BEHIND: &[&[u8]] = &[
+    b"4097 4 1 0 -\n",
+    b"4097 4 1 0 -\n# done\n",
+    b"4097 4 1 0 -\n\n",
+    b"4097 4 1 0 -\n# a\n\n#",
+];
+
+/// The first size of pieces in which the command is not driven.
+fn first_undriven(alloc: Global, behind: &[u8]) -> Option<usize> {
+    for piece in 1..24 {
+        if is_driven(alloc, behind, piece) != Some(true) {
+            return Some(piece);
+        }
+    }
+    None
+}
+
+/// The first of these.
+fn first_undriven_of(alloc: Global) -> Option<usize> {
+    for behind in BEHIND {
+        if let Some(piece) = first_undriven(alloc, behind) {
+            return Some(piece);
+        }
+    }
+    None
+}
+
+#[test]
+fn drives_while_input_is_awaited(rt: HostRuntime) {
+    let wrong = first_undriven_of(rt.alloc());
+    none_wrong(&rt, wrong);
 }
 
 const BAD: &[Row] = &[

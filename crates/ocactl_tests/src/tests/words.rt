@@ -49,7 +49,7 @@ const BAD_WORDS: &[(&[&str], &[&str])] = &[
     (&[], &[]),
     (&["ocactl"], &[]),
     (&["ocactl", "Replay"], &[]),
-    (&["ocactl", "--version"], &[]),
+    (&["ocactl", "--versions"], &[]),
     (&["ocactl", "replay"], &[]),
     (&["ocactl", "replay"], &["--device", "127.0.0.1:65000"]),
     (&["ocactl", "replay"], &["--first-handle", "1"]),

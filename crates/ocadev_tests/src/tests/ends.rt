@@ -1,15 +1,17 @@
 //! Ends that cut what they give and take, or fail, and how a run that fails ends.
 use super::{Cuts, UNMUTED, UNMUTES, WHOLE, bench_device, passes, ran};
 use oca_device::{Device, Outbox};
-use oca_fakes::{PatternReader, PieceReader, ShortWriter};
+use oca_fakes::{PieceReader, ShortWriter};
 use oca_script::{Printer, ReplayFault};
 use oca_tree::Setting;
 use oca_types::Ono;
 use ocadev_cli::replay::replay;
-use ocadev_cli::run::run;
 use std::alloc::Global;
 use std::net::Net;
 use std::rt::{Clock, Files};
+
+/// The words of a replay.
+const REPLAY: &[&str] = &["ocadev", "replay"];
 
 /// Whether the script is replayed so through pieces of this size.
 fn runs_in_pieces<N: Net + Clock + Files>(system: &N, alloc: Global, piece: usize) -> bool {
@@ -18,10 +20,7 @@ fn runs_in_pieces<N: Net + Clock + Files>(system: &N, alloc: Global, piece: usiz
         most: piece,
         ..WHOLE
     };
-    match ran(system, alloc, "ocadev replay", UNMUTES, ends) {
-        Some(ran) => ran.is_just(0, UNMUTED, b""),
-        None => false,
-    }
+    ran(system, alloc, REPLAY, UNMUTES, ends).is(0, UNMUTED, b"")
 }
 
 /// The first size of pieces that changes what is printed.
@@ -151,32 +150,33 @@ const WRITES_FAIL: Cuts = Cuts {
     taken: 10,
 };
 
-/// Words, the ends of their run, and the fault that is told.
-const FAILING: &[(&str, Cuts, &[u8])] = &[
-    ("ocadev replay", READS_FAIL, b"read failed\n"),
-    ("ocadev replay", WRITES_FAIL, b"write failed\n"),
-    ("ocadev show", WRITES_FAIL, b"write failed\n"),
-    ("ocadev --help", WRITES_FAIL, b"write failed\n"),
+/// Words, the ends of their run, its status, how many bytes it prints, and the fault that is told, behind notes where the
+/// words are bad.
+const FAILING: &[(&[&str], Cuts, u8, usize, &[u8])] = &[
+    (REPLAY, READS_FAIL, 1, 0, b"read failed\n"),
+    (REPLAY, WRITES_FAIL, 1, 10, b"write failed\n"),
+    (&["ocadev", "show"], WRITES_FAIL, 1, 10, b"write failed\n"),
+    (&["ocadev", "--help"], WRITES_FAIL, 1, 10, b"write failed\n"),
+    // no word at all
+    (&[], WHOLE, 2, 0, b"bad words\n"),
 ];
 
-/// Whether the words fail between these ends with status 1 and this fault.
+/// Whether the words fail so.
 fn fails<N: Net + Clock + Files>(
     system: &N,
     alloc: Global,
-    line: &str,
-    ends: Cuts,
-    fault: &[u8],
+    row: &(&[&str], Cuts, u8, usize, &[u8]),
 ) -> bool {
-    match ran(system, alloc, line, UNMUTES, ends) {
-        Some(ran) => ran.status == 1 && ran.told() == fault,
-        None => false,
-    }
+    let ran = ran(system, alloc, row.0, UNMUTES, row.1);
+    let told = ran.told();
+    let is_fault = told == row.4 || row.2 == 2 && told.ends_with(row.4);
+    ran.status == row.2 && ran.output().len() == row.3 && is_fault
 }
 
 /// The first words that fail otherwise.
 fn first_wrong_fault<N: Net + Clock + Files>(system: &N, alloc: Global) -> Option<usize> {
-    for (at, (line, ends, fault)) in FAILING.iter().enumerate() {
-        if !fails(system, alloc, line, *ends, fault) {
+    for (at, row) in FAILING.iter().enumerate() {
+        if !fails(system, alloc, row) {
             return Some(at);
         }
     }
@@ -186,43 +186,4 @@ fn first_wrong_fault<N: Net + Clock + Files>(system: &N, alloc: Global) -> Optio
 #[test]
 fn statuses_of_failing_ends(rt: HostRuntime) {
     passes(&rt, first_wrong_fault(&rt, rt.alloc()));
-}
-
-/// What a run over so many bytes of comments gives: its status, and whether it printed just that fault.
-fn runs_over_comments<N: Net + Clock + Files>(
-    system: &N,
-    alloc: Global,
-    count: usize,
-    fault: &[u8],
-) -> Option<u8> {
-    let mut comments = [b'#'; 4096];
-    comments[4095] = b'\n';
-    let mut from = PatternReader {
-        pattern: &comments,
-        at: 0,
-        left: count,
-    };
-    let mut to = Printer::new(ShortWriter::new(1000, usize::MAX));
-    let mut faults = Printer::new(ShortWriter::new(1000, usize::MAX));
-    let words = ["ocadev", "replay"];
-    let status = run(
-        alloc,
-        system,
-        words.as_slice(),
-        &mut from,
-        &mut to,
-        &mut faults,
-    );
-    if to.sink().taken.is_empty() && faults.sink().taken.as_slice() == fault {
-        Some(status)
-    } else {
-        None
-    }
-}
-
-/// A script of 16,777,217 bytes of comments has the status 1.
-#[test]
-fn too_much_input(rt: HostRuntime) {
-    let status = runs_over_comments(&rt, rt.alloc(), 16_777_217, b"too much input\n");
-    passes(&rt, if status == Some(1) { None } else { Some(0) });
 }

@@ -1,6 +1,5 @@
 //! The device at a socket.
-use super::Row::*;
-use super::{Row, all_agree, bench_device, passes};
+use super::{bench_device, passes};
 use oca_device::{Device, Outbox, Report, serve};
 use oca_fakes::ShortWriter;
 use oca_net::{End, Heard, UdpEnd};
@@ -10,24 +9,6 @@ use ocadev_cli::report::print_report;
 use std::alloc::Global;
 use std::net::Net;
 use std::rt::Clock;
-
-const NOBODY: &[Row] = &[
-    Serves(
-        "ocadev serve --port 0 --turns 2",
-        b"listening 127.0.0.1:",
-        b"turns 2 executed 0 kept 0 old 0 reused 0 malformed 0 no-room 0 oversize 0 quiet 2 failed-receives 0 failed-sends 0\n",
-    ),
-    Fails(
-        "ocadev serve --port 0 --turns 2 --ip 192.0.2.1",
-        b"",
-        b"socket failed\n",
-    ),
-];
-
-#[test]
-fn serves_nobody(rt: HostRuntime) {
-    all_agree(&rt, rt.alloc(), NOBODY);
-}
 
 // Each count stands behind its name.
 const REPORT: Report = Report {

@@ -8,7 +8,7 @@ pub loop-turn-init : goal.loop-turn-init
 loop-turn-init g c = NoneTaken
 
 pub loop-turn-preserved : goal.loop-turn-preserved
-loop-turn-preserved g c = one_more_turn c.loop-turn.invariant c.in_default.ensures c.take_one.ensures
+loop-turn-preserved g c = one_more_turn c.loop-turn.invariant c.in_default.ensures c.take_one-late.ensures
 
 pub returns-in-Some-clause-waits : goal.returns-in-Some-clause-waits
 returns-in-Some-clause-waits g c =

@@ -1,7 +1,8 @@
 use Rattle.std.proofs.Common.{rules, arith, Some, ◌∙◌, sym}
 use Rattle.oca_pdu.specs.Reading.{read_datagram}
-use Rattle.oca_pdu.specs.Datagrams.{datagram_messages}
+use Rattle.oca_pdu.specs.Datagrams.{datagram_messages, messages_left}
 use Rattle.oca_control.proofs.Messages.{content_read, has_content, datagram_short}
+use Rattle.oca_control.proofs.Receiving.{heard_few}
 use Rattle.oca_control.proofs.link.Link.datagram.Goals as goal
 
 pub returns-then-ne-clause-receives : goal.returns-then-ne-clause-receives
@@ -26,3 +27,6 @@ returns-in-Ok-clause-receives c =
       answer_is = search rules;
       link_is = search rules;
     }
+
+pub invariant_of-self-in-Ok : goal.invariant_of-self-in-Ok
+invariant_of-self-in-Ok c = heard_few (messages_left c.messages.result) _ c.self.inside.table c.hear_all.new.table c.hear_all.ensures.table c.self.invariant

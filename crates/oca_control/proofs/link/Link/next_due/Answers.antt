@@ -1,5 +1,3 @@
-use Rattle.std.specs.Prelude.{◌-◌, nat_le}
-use Rattle.oca_control.specs.PrivateSlots.{some_due}
 use Rattle.oca_control.proofs.DueTimes.{next_some, next_none}
 use Rattle.oca_control.proofs.link.Link.next_due.Goals as goal
 

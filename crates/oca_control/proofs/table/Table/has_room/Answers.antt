@@ -1,7 +1,8 @@
-use Rattle.std.proofs.Common.{◌≡◌, ◌+◌, ap, ◌∙◌, sym, arith, Bool, true, false, ℕ}
-use Rattle.std.specs.Prelude.{◌||◌, nat_eq, nat_lt}
+use Rattle.std.proofs.Common.{◌≡◌, ◌+◌, ◌-◌, ◌<◌, ◌≤◌, ap, ◌∙◌, sym, arith, Bool, true, false, ℕ, length}
+use Rattle.std.specs.Prelude.{◌||◌, nat_eq, nat_lt, IsTrue}
 use Rattle.std.proofs.lemmas.Bool.Decides.{nat_tests}
-use Rattle.oca_control.proofs.Places.{room_by_lowest}
+use Rattle.oca_control.specs.PrivateSlots.{untaken_from}
+use Rattle.oca_control.proofs.Places.{room_by_lowest, length_from}
 use Rattle.oca_control.proofs.table.Table.has_room.Goals as goal
 
 equal : (a b : ℕ) (x : Bool) → a ≡ b → (nat_eq a b || x) ≡ nat_eq a b
@@ -16,14 +17,30 @@ unequal a b x p = ap (λ t. t || x) (is_unequal a b p)
     is_unequal : (a b : ℕ) → (a ≡ b → ⊥) → nat_eq a b ≡ false
     is_unequal a b p = grind (arith, nat_tests)
 
-pub returns-then-self : goal.returns-then-self
-returns-then-self c =
+pub returns-then-self-clause-room : goal.returns-then-self-clause-room
+returns-then-self-clause-room c =
     let a = c.self.inside in
     let room = room_by_lowest c.args.span a.next a.low a.next a.slots c.self.invariant.ordered c.self.invariant.lowest in
     rw (← c.self.view_is) (sym (room ∙ equal a.low a.next (nat_lt a.next (a.low + c.args.span)) c.if-self.true))
 
-pub returns-else-self : goal.returns-else-self
-returns-else-self c =
+pub returns-else-self-clause-room : goal.returns-else-self-clause-room
+returns-else-self-clause-room c =
     let a = c.self.inside in
     let room = room_by_lowest c.args.span a.next a.low a.next a.slots c.self.invariant.ordered c.self.invariant.lowest in
     rw (← c.self.view_is) (sym (room ∙ unequal a.low a.next (nat_lt a.next (a.low + c.args.span)) c.if-self.false ∙ ap (λ s. nat_lt a.next (a.low + s)) (sym c.from.ensures)))
+
+pub returns-then-self-clause-few : goal.returns-then-self-clause-few
+returns-then-self-clause-few c =
+    let a = c.self.inside in
+    rw (← c.self.view_is) (λ _ some. below (length (untaken_from a.low (a.next - a.low) a.slots)) a.next a.low c.args.span (length_from a.low (a.next - a.low) a.slots) c.if-self.true some)
+  where
+    below : (n hi lo s : ℕ) → n ≤ hi - lo → lo ≡ hi → 0 < s → n < s
+    below n hi lo s p q some = omega arith
+
+pub returns-else-self-clause-few : goal.returns-else-self-clause-few
+returns-else-self-clause-few c =
+    let a = c.self.inside in
+    rw (← c.self.view_is) (λ fits _. below (length (untaken_from a.low (a.next - a.low) a.slots)) a.next a.low c.args.span c.from.result (length_from a.low (a.next - a.low) a.slots) c.self.invariant.ordered c.from.ensures fits)
+  where
+    below : (n hi lo s s' : ℕ) → n ≤ hi - lo → lo ≤ hi → s' ≡ s → IsTrue (nat_lt hi (lo + s')) → n < s
+    below n hi lo s s' p o q fits = let r : hi < lo + s' = grind (arith, nat_tests) in omega arith

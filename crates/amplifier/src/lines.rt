@@ -1,0 +1,55 @@
+//! The lines of an input, as they come.
+use super::wait::is_ready;
+use arrayvec::ArrayVec;
+use std::io;
+use std::io::Read;
+use std::os::fd::AsRawFd;
+
+/// The most bytes of a line; a longer one is cut.
+const LONGEST: usize = 80;
+
+/// A line, without its end.
+pub type Line = ArrayVec<u8, LONGEST>;
+
+/// The lines of an input, which is read only where that does not wait.
+#[derive(Drop)]
+pub struct Lines<I: Read + AsRawFd + Drop> {
+    input: I,
+    begun: Line,
+    is_ended: bool,
+}
+
+impl<I: Read + AsRawFd + Drop> Lines<I> {
+    /// The lines of this input.
+    pub fn new(input: I) -> Lines<I> {
+        Lines {
+            input,
+            begun: Line::new(),
+            is_ended: false,
+        }
+    }
+
+    /// The next line, where all of it is there, an empty one left out.
+    pub fn next(&mut self) -> io::Result<Option<Line>> {
+        for _ in 0..=LONGEST {
+            if self.is_ended || !is_ready(self.input.as_raw_fd()) {
+                return Ok(None);
+            }
+            let mut byte = [0u8];
+            self.is_ended = self.input.read(&mut byte)? == 0;
+            if self.is_ended || byte[0] == b'\n' {
+                return Ok(self.take());
+            }
+            let _ = self.begun.try_push(byte[0]);
+        }
+        Ok(None)
+    }
+
+    /// The line that was begun, where it is not empty.
+    fn take(&mut self) -> Option<Line> {
+        if self.begun.is_empty() {
+            return None;
+        }
+        Some(std::mem::replace(&mut self.begun, Line::new()))
+    }
+}

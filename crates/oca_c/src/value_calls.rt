@@ -1,0 +1,65 @@
+//! What C calls to encode a value, to ask for one and to read what came back. Nothing here has a handle.
+ghost use Rattle.oca_c.specs.CValues.{PutsWords, ReadsAnswer, TellsGetOf, TellsSetOf};
+
+use crate::answer::Answer;
+use crate::value_words::{ReadingWords, RequestWords, ValueWords, class_with};
+use crate::words::put_bytes;
+use oca_model::{Reading, get_request, set_request};
+
+/// Puts what a set method has of a value for its parameter: 1 to 8 bytes.
+#[unsafe(no_mangle)]
+pub extern "C" fn oca_value_put(value: &ValueWords, out: &mut [u8], len: &mut usize) -> u32
+    ensures { PutsWords value.now out.old out.new len.new result }
+{
+    let Some(value) = value.value() else {
+        return Answer::NoValue.number();
+    };
+    let request = set_request(value);
+    put_bytes(request.params.as_slice(), out, len).number()
+}
+
+/// Reads the parameters of an answer to what reads an object of this class.
+#[unsafe(no_mangle)]
+pub extern "C" fn oca_value_read(
+    class_number: u32,
+    params: &[u8],
+    reading: &mut ReadingWords,
+) -> u32
+    ensures { ReadsAnswer class_number params.now reading.new result }
+{
+    let Some(class) = class_with(class_number) else {
+        return Answer::NoValue.number();
+    };
+    let Some(found) = Reading::read(class, params) else {
+        return Answer::NoValue.number();
+    };
+    *reading = ReadingWords::of(found);
+    Answer::Done.number()
+}
+
+/// Tells what sets an object to a value.
+#[unsafe(no_mangle)]
+pub extern "C" fn oca_set_request(value: &ValueWords, request: &mut RequestWords) -> u32
+    ensures { TellsSetOf value.now request.new result }
+{
+    let Some(value) = value.value() else {
+        return Answer::NoValue.number();
+    };
+    *request = RequestWords::of(&set_request(value));
+    Answer::Done.number()
+}
+
+/// Tells what reads an object of this class.
+#[unsafe(no_mangle)]
+pub extern "C" fn oca_get_request(class_number: u32, request: &mut RequestWords) -> u32
+    ensures { TellsGetOf class_number request.new result }
+{
+    let Some(class) = class_with(class_number) else {
+        return Answer::NoValue.number();
+    };
+    let Some(found) = get_request(class) else {
+        return Answer::NoValue.number();
+    };
+    *request = RequestWords::of(&found);
+    Answer::Done.number()
+}

@@ -1,0 +1,11 @@
+use Rattle.oca_control.proofs.Copies.{copies_near, every_step, stays_late}
+use Rattle.oca_control.proofs.law.law_copies_in_time.Goals as goal
+
+pub returns-clause-copies : goal.returns-clause-copies
+returns-clause-copies c = copies_near
+
+pub returns-clause-steps : goal.returns-clause-steps
+returns-clause-steps c = every_step
+
+pub returns-clause-late : goal.returns-clause-late
+returns-clause-late c = stays_late

@@ -1,0 +1,98 @@
+//! A turn of a link over an end, in which no command is given out too late.
+ghost use Rattle.std.specs.Prelude.{◌≡◌, false};
+ghost use Rattle.oca_control.specs.Links.{late_at};
+ghost use Rattle.oca_control.specs.Turning.{GivesInTime, Turns};
+ghost use Rattle.oca_control.specs.Running.{NothingIsLeft, LeavesNothing};
+ghost use Rattle.oca_control.specs.PrivateTurning.{lost_report};
+
+use crate::driving::{count_of, give_out, nothing};
+use crate::link::Link;
+use crate::report::DriveReport;
+use oca_net::{End, Heard};
+use oca_types::Packet;
+
+/// How long a turn receives at most, in milliseconds.
+const WAIT_MS: u64 = 50;
+
+/// Whether a link is late at this moment: a command is in flight, submitted, unanswered and given out, and was given out
+/// last more than 100,000 ms before (*profile*). A moment that is earlier than one already seen counts as the one
+/// already seen.
+///
+/// A device that hears nothing for 120 seconds forgets what it executed, and would execute a command once more that
+/// comes again. So a program that stood still may not give the command out again: it is lost. A link that is late stays
+/// so as long as the command is in it.
+pub fn is_late(link: &Link, now: u64) -> bool
+    ensures { result ≡ late_at now link.now }
+{
+    link.late_at(now)
+}
+
+/// As [`give_out`], unless the link is late at this moment: then it changes nothing, hands over nothing, and reports
+/// that the link is lost. Nothing is left to give out at this moment where it does not report that.
+pub fn give_in_time<E: End>(link: &mut Link, end: &mut E, now: u64) -> DriveReport
+    ensures gives { GivesInTime now link.old link.new (E.state end.old) (E.state end.new) result }
+    ensures left { result.lost ≡ false → NothingIsLeft link.new }
+{
+    if link.late_at(now) {
+        return given_up();
+    }
+    give_out(link, end, now)
+}
+
+/// A turn of a link over an end, and what was done: receives once, and gives out what is due in time.
+///
+/// An end that keeps time receives until something is due ([`Link::next_due`]), and for at most 50 ms. A datagram goes to
+/// the link, however late it is. Then, at a datagram, at silence and at an oversize datagram, [`give_in_time`] follows.
+/// A failed receive does nothing else. At Closed nothing is done, and `turns` is 0. `lost` says that the link is lost or
+/// late: it will give out nothing more. After any other turn nothing is left to give out at the link's moment.
+pub fn turn<E: End>(link: &mut Link, end: &mut E) -> DriveReport
+    ensures turns { Turns link.old link.new (E.state end.old) (E.state end.new) result }
+    ensures left { LeavesNothing result link.new }
+{
+    let mut packet = Packet::new();
+    let until = wait_until(link, end.now());
+    match end.receive_by(&mut packet, until) {
+        Heard::Datagram { from, now } => {
+            let answered = count_of(link.datagram(from, packet.as_slice(), now));
+            let given = give_in_time(link, end, now);
+            DriveReport {
+                turns: 1,
+                answered,
+                ..given
+            }
+        }
+        Heard::Quiet { now } => DriveReport {
+            turns: 1,
+            ..give_in_time(link, end, now)
+        },
+        Heard::Oversize { now } => DriveReport {
+            turns: 1,
+            ..give_in_time(link, end, now)
+        },
+        Heard::Failed => DriveReport {
+            turns: 1,
+            failed_receives: 1,
+            ..nothing()
+        },
+        Heard::Closed => nothing(),
+    }
+}
+
+/// Until when a turn receives that begins now: 50 ms from now on, or until something is due.
+fn wait_until(link: &Link, now: u64) -> u64 {
+    let most = now.saturating_add(WAIT_MS);
+    match link.next_due() {
+        Some(due) => most.min(due),
+        None => most,
+    }
+}
+
+/// Nothing was given out, since the link is late.
+fn given_up() -> DriveReport
+    ensures { result ≡ lost_report }
+{
+    DriveReport {
+        lost: true,
+        ..nothing()
+    }
+}

@@ -1,0 +1,133 @@
+-- What a panel asks is what the device understands.
+use Rattle.std.proofs.Common.{◌≡◌, ℕ, ◌<◌, ◌^◌, ◌≤◌, Bool, List, [], ◌∷◌, ◌++◌, length, refl, sym, ap, ◌∙◌, append-nil, arith}
+use Rattle.std.specs.Prelude.{Option, Some, Ok}
+use Rattle.std.specs.Int.{w16}
+use Rattle.oca_types.specs.declared.class.Class.{Class}
+use Rattle.oca_types.specs.declared.class.Class.TheVariants as class
+use Rattle.oca_types.specs.declared.class.Method.{Method}
+use Rattle.oca_types.specs.declared.class.Method.TheVariants as method
+use Rattle.oca_types.specs.Numbers.{unsigned_encoding, bool_encoding}
+use Rattle.oca_types.specs.Reading.{unsigned_at, bool_at, text_at}
+use Rattle.oca_types.specs.Texts.{text_encoding}
+use Rattle.oca_model.specs.declared.request.Request.{Request}
+use Rattle.oca_model.specs.declared.request.Request.TheVariants.{GetClassIdentification, GetLockable, LockTotal, LockReadonly, Unlock, GetRole, GetEnabled, SetEnabled, GetLabel, SetLabel, GetOwner, GetMembers, GetMembersRecursive, Get, Set, GetPositionName, SetPositionName, GetPositionNames, GetPositionEnabled, SetPositionEnabled, GetPositionEnableds, SetPositionNames, SetPositionEnableds}
+use Rattle.oca_model.specs.declared.value.Value.{Value}
+use Rattle.oca_model.specs.declared.value.Value.TheVariants as value
+use Rattle.oca_model.specs.Lists.{IsText, Each, list_encoding, list_of_most}
+use Rattle.oca_model.specs.Parameters.{whole, pair_at}
+use Rattle.oca_model.specs.Values.{class_of_value, value_in, value_encoding, set_method, get_method, IsOfItsType}
+use Rattle.oca_model.specs.Requests.{AskedBy, IsRequest, as_request, count_of, parameters_of, request_in, RequestsAreUnderstood}
+use Rattle.oca_model.specs.Fronts.{end_of, whole_of, u16_front, bool_front, text_front}
+use Rattle.oca_model.specs.ListsBack.{lists_back}
+use Rattle.oca_model.proofs.ReadBack.{values_back}
+
+-- ---- texts, positions, Booleans
+
+pub bool_whole : (truth : Bool) → whole (bool_at (bool_encoding truth)) ≡ Some truth
+bool_whole truth = whole_of _ bool_encoding bool_at bool_front truth tt
+
+pub position_whole : (n : ℕ) → n < 2 ^ 16 → whole (unsigned_at w16 (unsigned_encoding w16 n)) ≡ Some n
+position_whole n lt = whole_of _ (unsigned_encoding w16) (unsigned_at w16) u16_front n lt
+
+-- a position, and behind it what another read gives whole
+pub behind : {X : Type 0} (read : List ℕ → Option (X × List ℕ)) (n : ℕ) (bytes : List ℕ) (x : X) → n < 2 ^ 16 → read bytes ≡ Some (x, [])
+    → whole (pair_at (unsigned_at w16) read (unsigned_encoding w16 n ++ bytes)) ≡ Some (n, x)
+behind read n bytes x lt e =
+    rw (u16_front n bytes lt, e) refl
+
+text_end : (text : List ℕ) → IsText text → text_at (text_encoding text) ≡ Some (text, [])
+text_end text is = end_of _ text_encoding text_at text_front text is
+
+bool_end : (truth : Bool) → bool_at (bool_encoding truth) ≡ Some (truth, [])
+bool_end truth = end_of _ bool_encoding bool_at bool_front truth tt
+
+each_bool : (xs : List Bool) → Each (λ _. Unit {0}) xs
+each_bool [] = tt
+each_bool (x ∷ xs) = (tt, each_bool xs)
+
+pub names_whole : (xs : List (List ℕ)) → Each IsText xs → length xs ≤ 16 → whole (list_of_most 16 text_at (list_encoding text_encoding xs)) ≡ Some xs
+names_whole xs each few = lists_back IsText text_encoding text_at text_front 16 xs few (omega (arith, few)) each
+
+pub flags_whole : (xs : List Bool) → length xs ≤ 16 → whole (list_of_most 16 bool_at (list_encoding bool_encoding xs)) ≡ Some xs
+flags_whole xs few = lists_back (λ _. Unit {0}) bool_encoding bool_at bool_front 16 xs few (omega (arith, few)) (each_bool xs)
+
+-- ---- the methods that depend on the class
+
+-- a method by whose name a value is set
+set_by : (of : Class) (v : Value) → class_of_value v ≡ of → IsOfItsType v → as_request Set (value_in of (value_encoding v)) ≡ Ok (Set v)
+set_by of v e is = ap (λ c. as_request Set (value_in c (value_encoding v))) (sym e) ∙ ap (as_request Set) (values_back v is)
+
+set_understood : (of : Class) (v : Value) → class_of_value v ≡ of → IsOfItsType v → request_in of (set_method v) 1 (value_encoding v) ≡ Ok (Set v)
+unfolding request_in
+set_understood of (value.Mute x) e is = set_by of (value.Mute x) e is
+set_understood of (value.Polarity x) e is = set_by of (value.Polarity x) e is
+set_understood of (value.Switch x) e is = set_by of (value.Switch x) e is
+set_understood of (value.Boolean x) e is = set_by of (value.Boolean x) e is
+set_understood of (value.Int8 x) e is = set_by of (value.Int8 x) e is
+set_understood of (value.Int16 x) e is = set_by of (value.Int16 x) e is
+set_understood of (value.Int32 x) e is = set_by of (value.Int32 x) e is
+set_understood of (value.Int64 x) e is = set_by of (value.Int64 x) e is
+set_understood of (value.Uint8 x) e is = set_by of (value.Uint8 x) e is
+set_understood of (value.Uint16 x) e is = set_by of (value.Uint16 x) e is
+set_understood of (value.Uint32 x) e is = set_by of (value.Uint32 x) e is
+set_understood of (value.Uint64 x) e is = set_by of (value.Uint64 x) e is
+
+-- the get methods, by name
+state_understood : (of : Class) (m : Method) → method.GetState ≡ m → request_in of m 0 [] ≡ Ok Get
+unfolding request_in
+state_understood of m e = ap (λ x. request_in of x 0 []) (sym e)
+
+position_understood : (of : Class) (m : Method) → method.GetPosition ≡ m → request_in of m 0 [] ≡ Ok Get
+unfolding request_in
+position_understood of m e = ap (λ x. request_in of x 0 []) (sym e)
+
+setting_understood : (of : Class) (m : Method) → method.GetSetting ≡ m → request_in of m 0 [] ≡ Ok Get
+unfolding request_in
+setting_understood of m e = ap (λ x. request_in of x 0 []) (sym e)
+
+get_understood : (of : Class) (m : Method) → get_method of ≡ Some m → request_in of m 0 [] ≡ Ok Get
+get_understood class.Block m e = cc
+get_understood class.Mute m e = state_understood class.Mute m cc
+get_understood class.Polarity m e = state_understood class.Polarity m cc
+get_understood class.Switch m e = position_understood class.Switch m cc
+get_understood class.Boolean m e = setting_understood class.Boolean m cc
+get_understood class.Int8 m e = setting_understood class.Int8 m cc
+get_understood class.Int16 m e = setting_understood class.Int16 m cc
+get_understood class.Int32 m e = setting_understood class.Int32 m cc
+get_understood class.Int64 m e = setting_understood class.Int64 m cc
+get_understood class.Uint8 m e = setting_understood class.Uint8 m cc
+get_understood class.Uint16 m e = setting_understood class.Uint16 m cc
+get_understood class.Uint32 m e = setting_understood class.Uint32 m cc
+get_understood class.Uint64 m e = setting_understood class.Uint64 m cc
+
+-- ---- the law
+
+module _ (of : Class) (m : Method) where
+  pub understood : (r : Request) → IsRequest r → AskedBy of r m → request_in of m (count_of r) (parameters_of r) ≡ Ok r
+  unfolding request_in parameters_of
+  understood GetClassIdentification is e = rw e refl
+  understood GetLockable is e = rw e refl
+  understood LockTotal is e = rw e refl
+  understood LockReadonly is e = rw e refl
+  understood Unlock is e = rw e refl
+  understood GetRole is e = rw e refl
+  understood GetEnabled is e = rw e refl
+  understood (SetEnabled truth) is e = rw (e, bool_whole truth) refl
+  understood GetLabel is e = rw e refl
+  understood (SetLabel label) is e = rw (e, whole_of _ text_encoding text_at text_front label is) refl
+  understood GetOwner is e = rw e refl
+  understood GetMembers is e = rw e refl
+  understood GetMembersRecursive is e = rw e refl
+  understood Get is e = get_understood of m e
+  understood (Set v) is e = ap (λ x. request_in of x 1 (value_encoding v)) e.1 ∙ set_understood of v e.0 is
+  understood (GetPositionName n) is e = rw (e, position_whole n is) refl
+  understood (SetPositionName n name) is e = rw (e, behind text_at n (text_encoding name) name is.0 (text_end name is.1)) refl
+  understood GetPositionNames is e = rw e refl
+  understood (GetPositionEnabled n) is e = rw (e, position_whole n is) refl
+  understood (SetPositionEnabled n truth) is e = rw (e, behind bool_at n (bool_encoding truth) truth is (bool_end truth)) refl
+  understood GetPositionEnableds is e = rw e refl
+  understood (SetPositionNames names) is e = rw (e, names_whole names.items is.0 is.1) refl
+  understood (SetPositionEnableds flags) is e = rw (e, flags_whole flags.items is) refl
+
+pub requests_understood : RequestsAreUnderstood
+requests_understood of r m is e = understood of m r is e

@@ -1,0 +1,13 @@
+pub mod Parameters
+pub mod Lists
+pub mod Fronts
+pub mod ListsBack
+pub mod Members
+pub mod MemberFronts
+pub mod Values
+pub mod Readings
+pub mod ValueRequests
+pub mod Requests
+pub mod Answers
+pub mod Words
+pub mod Statuses

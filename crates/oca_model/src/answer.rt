@@ -1,0 +1,162 @@
+//! What is answered to a request: for a device to put, for a panel to read.
+ghost use Rattle.std.specs.Prelude.{◌≡◌};
+ghost use Rattle.std.specs.Option.{option_map};
+ghost use Rattle.oca_types.specs.Putting.{Puts};
+ghost use Rattle.oca_types.specs.Reading.{text_at};
+ghost use Rattle.oca_model.specs.Parameters.{whole};
+ghost use Rattle.oca_model.specs.Answers.{shape_of, answer_count, answer_encoding, answer_in, names_in};
+
+use crate::item::Item;
+use crate::list::{put_list, read_list};
+use crate::member::{Member, whole_class};
+use crate::parameters::whole;
+use crate::reading::Reading;
+use crate::request::{Flags, Names};
+use arrayvec::ArrayVec;
+use oca_types::{Class, Method, Ono, Params, PutFault, Text, put_class_identification, put_text};
+
+/// The members of a block: a response has room for no more.
+pub type Members = ArrayVec<Member, 181>;
+
+/// What is answered to a request that was carried out.
+#[derive(Debug, Drop)]
+pub enum Answer {
+    /// It was done: what sets or locks tells no more.
+    Done,
+    /// Whether it is so.
+    Truth(bool),
+    /// A role, a label or a position's name.
+    Text(Text),
+    /// The number of the container.
+    Owner(Ono),
+    /// What the object is set to, with its limits.
+    Reading(Reading),
+    /// The names of positions.
+    Names(Names),
+    /// Which positions are enabled.
+    Flags(Flags),
+    /// Its class.
+    Class(Class),
+    /// The members of a block.
+    Members(Members),
+}
+
+/// What kind of answer a method has.
+#[derive(Clone, Copy, Debug, PartialEq, Eq)]
+pub enum Shape {
+    /// [`Answer::Done`].
+    Done,
+    /// [`Answer::Truth`].
+    Truth,
+    /// [`Answer::Text`].
+    Text,
+    /// [`Answer::Owner`].
+    Owner,
+    /// [`Answer::Reading`].
+    Reading,
+    /// [`Answer::Names`].
+    Names,
+    /// [`Answer::Flags`].
+    Flags,
+    /// [`Answer::Class`].
+    Class,
+    /// [`Answer::Members`].
+    Members,
+    /// All that lies in a block, which the trial leaves out.
+    Descendants,
+}
+
+/// What kind of answer the method has.
+pub fn shape_of(method: Method) -> Shape
+    ensures { result ≡ shape_of method }
+{
+    match method {
+        Method::GetLockable | Method::GetEnabled | Method::GetPositionEnabled => Shape::Truth,
+        Method::GetRole | Method::GetLabel | Method::GetPositionName => Shape::Text,
+        Method::GetOwner => Shape::Owner,
+        Method::GetState | Method::GetPosition | Method::GetSetting => Shape::Reading,
+        Method::GetPositionNames => Shape::Names,
+        Method::GetPositionEnableds => Shape::Flags,
+        Method::GetClassIdentification => Shape::Class,
+        Method::GetMembers => Shape::Members,
+        Method::GetMembersRecursive => Shape::Descendants,
+        _ => Shape::Done,
+    }
+}
+
+/// The text that is all of the parameters, as in the answers to GetRole, GetLabel and GetPositionName. Nothing where
+/// they are none, or a text of more than 64 bytes.
+pub fn read_text(params: &[u8]) -> Option<Text>
+    ensures { result ≡ whole (text_at params.now) }
+{
+    whole(params)
+}
+
+/// The names that the parameters of the answer to GetPositionNames give, in the order of the positions, at most 16.
+/// Nothing where they are not such an answer.
+pub fn read_names(params: &[u8]) -> Option<Names>
+    ensures { option_map (λ v. v.items) result ≡ names_in params.now }
+{
+    read_list(params)
+}
+
+impl Answer {
+    /// How many parameters it has.
+    pub fn count(&self) -> u8
+        ensures { result ≡ answer_count self.now }
+    {
+        match self {
+            Answer::Done => 0,
+            Answer::Truth(_)
+            | Answer::Text(_)
+            | Answer::Owner(_)
+            | Answer::Names(_)
+            | Answer::Flags(_)
+            | Answer::Class(_)
+            | Answer::Members(_) => 1,
+            Answer::Reading(reading) => reading.count(),
+        }
+    }
+
+    /// Appends its parameters. Refusal: `Full`.
+    #[tactic(auto, unfolding(crate::specs::Answers::answer_encoding))]
+    pub fn put(&self, params: &mut Params) -> Result<(), PutFault>
+        ensures { Puts result params.old.items params.new.items (answer_encoding self.now) }
+    {
+        match self {
+            Answer::Done => Ok(()),
+            Answer::Truth(truth) => truth.put_item(params),
+            Answer::Text(text) => put_text(params, text),
+            Answer::Owner(ono) => ono.0.put_item(params),
+            Answer::Reading(reading) => reading.put(params),
+            Answer::Names(names) => put_list(params, names.as_slice()),
+            Answer::Flags(flags) => put_list(params, flags.as_slice()),
+            Answer::Class(class) => put_class_identification(params, *class),
+            Answer::Members(members) => put_list(params, members.as_slice()),
+        }
+    }
+
+    /// What these parameters answer to the method of an object of the class. Nothing where they are no such answer.
+    #[tactic(auto, unfolding(crate::specs::Answers::answer_in))]
+    pub fn read(class: Class, method: Method, count: u8, params: &[u8]) -> Option<Answer>
+        ensures { result ≡ answer_in class method count params.now }
+    {
+        let answer = match shape_of(method) {
+            Shape::Done if params.is_empty() => Answer::Done,
+            Shape::Truth => Answer::Truth(whole(params)?),
+            Shape::Text => Answer::Text(read_text(params)?),
+            Shape::Owner => Answer::Owner(Ono(whole(params)?)),
+            Shape::Reading => Answer::Reading(Reading::read(class, params)?),
+            Shape::Names => Answer::Names(read_list(params)?),
+            Shape::Flags => Answer::Flags(read_list(params)?),
+            Shape::Class => Answer::Class(whole_class(params)?),
+            Shape::Members => Answer::Members(read_list(params)?),
+            Shape::Done | Shape::Descendants => return None,
+        };
+        if count == answer.count() {
+            Some(answer)
+        } else {
+            None
+        }
+    }
+}

@@ -1,0 +1,267 @@
+//! What a parameter or an item of a list is: numbers, Booleans, texts and members, each with its codec.
+ghost use Rattle.std.specs.Prelude.{◌≡◌, ℕ, ◌++◌, ◌<◌, ◌^◌, List, Option, Some, FitsSigned};
+ghost use Rattle.std.specs.Int.{w8, w16, w32, w64, byte_len};
+ghost use Rattle.oca_types.specs.Numbers.{unsigned_encoding, signed_encoding, bool_encoding};
+ghost use Rattle.oca_types.specs.Putting.{Puts};
+ghost use Rattle.oca_types.specs.Reading.{unsigned_at, signed_at, bool_at, text_at};
+ghost use Rattle.oca_types.specs.Taking.{bytes_left, ReadsAs};
+ghost use Rattle.oca_types.specs.Texts.{text_encoding};
+ghost use Rattle.oca_model.specs.Lists.{IsText};
+ghost use Rattle.oca_model.specs.Members.{member_at, member_encoding, IsMember};
+ghost use Rattle.oca_model.specs.MemberFronts.{member_front};
+ghost use Rattle.oca_model.specs.Fronts.{u8_front, u16_front, u32_front, u64_front, i8_front, i16_front, i32_front, i64_front, bool_front, text_front};
+
+use crate::member::{Member, take_class};
+use oca_types::{
+    Cursor, Ono, Params, PutFault, ReadFault, Text, put_bool, put_class_identification, put_i8,
+    put_i16, put_i32, put_i64, put_text, put_u8, put_u16, put_u32, put_u64,
+};
+
+/// A value that can be an item of a list, of whatever length its encoding is.
+pub(crate) trait Item: Default + Drop {
+    // The value is one of its type.
+    ghost IsItem: { Self → Type 0 };
+
+    ghost encoding: { Self → List ℕ };
+
+    // The value at the front of bytes and those behind it, or nothing.
+    ghost read_at: { List ℕ → Option (Self × List ℕ) };
+
+    /// Takes an item.
+    fn take_item(cursor: &mut Cursor<'_>) -> Result<Self, ReadFault>
+        ensures { ReadsAs result (bytes_left cursor.new) (read_at (bytes_left cursor.old)) };
+
+    /// Appends the item. Refusal: `Full`.
+    fn put_item(&self, params: &mut Params) -> Result<(), PutFault>
+        ensures { Puts result params.old.items params.new.items (encoding self.now) };
+
+    // What was encoded is read, whatever stands behind it.
+    ghost read_back: { (v : Self) (rest : List ℕ) → IsItem v → read_at (encoding v ++ rest) ≡ Some (v, rest) };
+}
+
+impl Item for u8 {
+    ghost IsItem = { λ n. n < 256 ^ byte_len w8 };
+
+    ghost encoding = { unsigned_encoding w8 };
+
+    ghost read_at = { unsigned_at w8 };
+
+    ghost read_back = { u8_front };
+
+    /// Takes an unsigned number of 8 bits.
+    fn take_item(cursor: &mut Cursor<'_>) -> Result<u8, ReadFault> {
+        cursor.take_u8()
+    }
+
+    /// Appends the unsigned number of 8 bits. Refusal: `Full`.
+    fn put_item(&self, params: &mut Params) -> Result<(), PutFault> {
+        put_u8(params, *self)
+    }
+}
+
+impl Item for u16 {
+    ghost IsItem = { λ n. n < 256 ^ byte_len w16 };
+
+    ghost encoding = { unsigned_encoding w16 };
+
+    ghost read_at = { unsigned_at w16 };
+
+    ghost read_back = { u16_front };
+
+    /// Takes an unsigned number of 16 bits.
+    fn take_item(cursor: &mut Cursor<'_>) -> Result<u16, ReadFault> {
+        cursor.take_u16()
+    }
+
+    /// Appends the unsigned number of 16 bits. Refusal: `Full`.
+    fn put_item(&self, params: &mut Params) -> Result<(), PutFault> {
+        put_u16(params, *self)
+    }
+}
+
+impl Item for u32 {
+    ghost IsItem = { λ n. n < 256 ^ byte_len w32 };
+
+    ghost encoding = { unsigned_encoding w32 };
+
+    ghost read_at = { unsigned_at w32 };
+
+    ghost read_back = { u32_front };
+
+    /// Takes an unsigned number of 32 bits.
+    fn take_item(cursor: &mut Cursor<'_>) -> Result<u32, ReadFault> {
+        cursor.take_u32()
+    }
+
+    /// Appends the unsigned number of 32 bits. Refusal: `Full`.
+    fn put_item(&self, params: &mut Params) -> Result<(), PutFault> {
+        put_u32(params, *self)
+    }
+}
+
+impl Item for u64 {
+    ghost IsItem = { λ n. n < 256 ^ byte_len w64 };
+
+    ghost encoding = { unsigned_encoding w64 };
+
+    ghost read_at = { unsigned_at w64 };
+
+    ghost read_back = { u64_front };
+
+    /// Takes an unsigned number of 64 bits.
+    fn take_item(cursor: &mut Cursor<'_>) -> Result<u64, ReadFault> {
+        cursor.take_u64()
+    }
+
+    /// Appends the unsigned number of 64 bits. Refusal: `Full`.
+    fn put_item(&self, params: &mut Params) -> Result<(), PutFault> {
+        put_u64(params, *self)
+    }
+}
+
+impl Item for i8 {
+    ghost IsItem = { FitsSigned w8 };
+
+    ghost encoding = { signed_encoding w8 };
+
+    ghost read_at = { signed_at w8 };
+
+    ghost read_back = { i8_front };
+
+    /// Takes a signed number of 8 bits.
+    fn take_item(cursor: &mut Cursor<'_>) -> Result<i8, ReadFault> {
+        cursor.take_i8()
+    }
+
+    /// Appends the signed number of 8 bits. Refusal: `Full`.
+    fn put_item(&self, params: &mut Params) -> Result<(), PutFault> {
+        put_i8(params, *self)
+    }
+}
+
+impl Item for i16 {
+    ghost IsItem = { FitsSigned w16 };
+
+    ghost encoding = { signed_encoding w16 };
+
+    ghost read_at = { signed_at w16 };
+
+    ghost read_back = { i16_front };
+
+    /// Takes a signed number of 16 bits.
+    fn take_item(cursor: &mut Cursor<'_>) -> Result<i16, ReadFault> {
+        cursor.take_i16()
+    }
+
+    /// Appends the signed number of 16 bits. Refusal: `Full`.
+    fn put_item(&self, params: &mut Params) -> Result<(), PutFault> {
+        put_i16(params, *self)
+    }
+}
+
+impl Item for i32 {
+    ghost IsItem = { FitsSigned w32 };
+
+    ghost encoding = { signed_encoding w32 };
+
+    ghost read_at = { signed_at w32 };
+
+    ghost read_back = { i32_front };
+
+    /// Takes a signed number of 32 bits.
+    fn take_item(cursor: &mut Cursor<'_>) -> Result<i32, ReadFault> {
+        cursor.take_i32()
+    }
+
+    /// Appends the signed number of 32 bits. Refusal: `Full`.
+    fn put_item(&self, params: &mut Params) -> Result<(), PutFault> {
+        put_i32(params, *self)
+    }
+}
+
+impl Item for i64 {
+    ghost IsItem = { FitsSigned w64 };
+
+    ghost encoding = { signed_encoding w64 };
+
+    ghost read_at = { signed_at w64 };
+
+    ghost read_back = { i64_front };
+
+    /// Takes a signed number of 64 bits.
+    fn take_item(cursor: &mut Cursor<'_>) -> Result<i64, ReadFault> {
+        cursor.take_i64()
+    }
+
+    /// Appends the signed number of 64 bits. Refusal: `Full`.
+    fn put_item(&self, params: &mut Params) -> Result<(), PutFault> {
+        put_i64(params, *self)
+    }
+}
+
+impl Item for bool {
+    ghost IsItem = { λ _. Unit {0} };
+
+    ghost encoding = { bool_encoding };
+
+    ghost read_at = { bool_at };
+
+    ghost read_back = { bool_front };
+
+    /// Takes a Boolean.
+    fn take_item(cursor: &mut Cursor<'_>) -> Result<bool, ReadFault> {
+        cursor.take_bool()
+    }
+
+    /// Appends the Boolean. Refusal: `Full`.
+    fn put_item(&self, params: &mut Params) -> Result<(), PutFault> {
+        put_bool(params, *self)
+    }
+}
+
+impl Item for Text {
+    ghost IsItem = { IsText };
+
+    ghost encoding = { text_encoding };
+
+    ghost read_at = { text_at };
+
+    ghost read_back = { text_front };
+
+    /// Takes a text.
+    fn take_item(cursor: &mut Cursor<'_>) -> Result<Text, ReadFault> {
+        cursor.take_text()
+    }
+
+    /// Appends the text. Refusal: `Full`.
+    fn put_item(&self, params: &mut Params) -> Result<(), PutFault> {
+        put_text(params, self)
+    }
+}
+
+impl Item for Member {
+    ghost IsItem = { IsMember };
+
+    ghost encoding = { member_encoding };
+
+    ghost read_at = { member_at };
+
+    ghost read_back = { member_front };
+
+    #[tactic(auto, unfolding(crate::specs::Members::member_at))]
+    /// Takes a member: its number and its class.
+    fn take_item(cursor: &mut Cursor<'_>) -> Result<Member, ReadFault> {
+        let ono = Ono(cursor.take_u32()?);
+        let class = take_class(cursor)?;
+        Ok(Member { ono, class })
+    }
+
+    /// Appends the member: its number and its class. Refusal: `Full`.
+    fn put_item(&self, params: &mut Params) -> Result<(), PutFault> {
+        put_u32(params, self.ono.0)?;
+        match self.class {
+            Some(class) => put_class_identification(params, class),
+            None => Ok(()),
+        }
+    }
+}

@@ -1,0 +1,155 @@
+//! Classes as they are listed, and the members of a block.
+ghost use Rattle.std.specs.Prelude.{◌≡◌, ◌≤◌, length, map};
+ghost use Rattle.std.specs.Option.{option_map, option_and_then};
+ghost use Rattle.std.specs.Str.{bytes_eq};
+ghost use Rattle.oca_types.specs.Classes.{class_fields_of};
+ghost use Rattle.oca_types.specs.Putting.{Puts};
+ghost use Rattle.oca_types.specs.Taking.{bytes_left, ReadsAs};
+ghost use Rattle.oca_model.specs.Parameters.{whole};
+ghost use Rattle.oca_model.specs.Members.{class_with, class_id_at, class_id_in, class_at, class_in, members_in};
+
+use crate::list::{read_list, take_items};
+use arrayvec::ArrayVec;
+use oca_types::{Class, Cursor, Ono, ReadFault, class_fields};
+
+/// The most fields of a class's identifier that are read.
+pub const MOST_FIELDS: usize = 16;
+
+/// The most members of a block that are read: more than a response has room for.
+pub const MOST_MEMBERS: usize = 181;
+
+/// The fields of a class's identifier (OcaClassID), as 1, 1, 1 and 2 of a mute.
+pub type ClassFields = ArrayVec<u16, MOST_FIELDS>;
+
+/// The numbers of a block's members.
+pub type MemberNumbers = ArrayVec<u32, MOST_MEMBERS>;
+
+/// A member of a block.
+#[derive(Clone, Copy, Debug, Default, PartialEq, Eq)]
+pub struct Member {
+    /// Its number.
+    pub ono: Ono,
+    /// Its class, where that is one of this profile.
+    pub class: Option<Class>,
+}
+
+/// Whether these are the fields of the class's identifier.
+fn has_fields(class: Class, fields: &[u16]) -> bool
+    ensures { result ≡ bytes_eq (class_fields_of class) fields.now }
+{
+    class_fields(class).as_slice() == fields
+}
+
+/// The class whose identifier has these fields; nothing for one that is not of this profile.
+#[tactic(auto, unfolding(crate::specs::Members::class_with))]
+pub fn class_with(fields: &[u16]) -> Option<Class>
+    ensures { result ≡ class_with fields.now }
+{
+    if has_fields(Class::Block, fields) {
+        return Some(Class::Block);
+    }
+    if has_fields(Class::Mute, fields) {
+        return Some(Class::Mute);
+    }
+    if has_fields(Class::Polarity, fields) {
+        return Some(Class::Polarity);
+    }
+    if has_fields(Class::Switch, fields) {
+        return Some(Class::Switch);
+    }
+    if has_fields(Class::Boolean, fields) {
+        return Some(Class::Boolean);
+    }
+    if has_fields(Class::Int8, fields) {
+        return Some(Class::Int8);
+    }
+    if has_fields(Class::Int16, fields) {
+        return Some(Class::Int16);
+    }
+    if has_fields(Class::Int32, fields) {
+        return Some(Class::Int32);
+    }
+    if has_fields(Class::Int64, fields) {
+        return Some(Class::Int64);
+    }
+    if has_fields(Class::Uint8, fields) {
+        return Some(Class::Uint8);
+    }
+    if has_fields(Class::Uint16, fields) {
+        return Some(Class::Uint16);
+    }
+    if has_fields(Class::Uint32, fields) {
+        return Some(Class::Uint32);
+    }
+    if has_fields(Class::Uint64, fields) {
+        return Some(Class::Uint64);
+    }
+    None
+}
+
+/// An OcaClassIdentification: the fields of its identifier. Its version may be any.
+#[tactic(auto, unfolding(crate::specs::Members::class_id_at))]
+fn take_class_id(cursor: &mut Cursor<'_>) -> Option<ClassFields>
+    ensures { option_map (λ v. (v.items, bytes_left cursor.new)) result ≡ class_id_at (bytes_left cursor.old) }
+{
+    let number = usize::from(cursor.take_u16().ok()?);
+    if number > MOST_FIELDS {
+        return None;
+    }
+    let fields = take_items::<u16, MOST_FIELDS>(cursor, number)?;
+    let _version = cursor.take_u16().ok()?;
+    Some(fields)
+}
+
+/// An OcaClassIdentification: the class, where it is one of this profile.
+#[tactic(auto, unfolding(crate::specs::Members::class_at))]
+pub(crate) fn take_class(cursor: &mut Cursor<'_>) -> Result<Option<Class>, ReadFault>
+    ensures { ReadsAs result (bytes_left cursor.new) (class_at (bytes_left cursor.old)) }
+{
+    let Some(fields) = take_class_id(cursor) else {
+        return Err(ReadFault::Short);
+    };
+    Ok(class_with(fields.as_slice()))
+}
+
+/// The fields of the class's identifier that the parameters of the answer to GetClassIdentification give (AES70-2), at
+/// most 16. The version of the class may be any. Nothing where they are not such an answer.
+pub fn read_class_fields(params: &[u8]) -> Option<ClassFields>
+    ensures { option_map (λ v. v.items) result ≡ class_id_in params.now }
+{
+    let mut cursor = Cursor::new(params);
+    let fields = take_class_id(&mut cursor)?;
+    cursor.finish().ok()?;
+    Some(fields)
+}
+
+/// The class of this profile that is all of the parameters.
+pub(crate) fn whole_class(params: &[u8]) -> Option<Class>
+    ensures { result ≡ class_in params.now }
+{
+    let mut cursor = Cursor::new(params);
+    let class = take_class(&mut cursor).ok()?;
+    cursor.finish().ok()?;
+    class
+}
+
+/// The numbers of these members.
+fn numbers_of(members: &[Member]) -> MemberNumbers
+    requires { length members.now ≤ 181 }
+    ensures { result.items ≡ map (λ m. m.ono.0) members.now }
+{
+    let mut numbers = ArrayVec::new();
+    for member in members {
+        numbers.push(member.ono.0);
+    }
+    numbers
+}
+
+/// The numbers of the members that the parameters of the answer to GetMembers give, in their order, at most 181.
+/// Nothing where they are not such an answer.
+pub fn read_members(params: &[u8]) -> Option<MemberNumbers>
+    ensures { option_map (λ v. v.items) result ≡ members_in params.now }
+{
+    let members = read_list::<Member, MOST_MEMBERS>(params)?;
+    Some(numbers_of(members.as_slice()))
+}

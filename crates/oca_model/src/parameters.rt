@@ -1,0 +1,16 @@
+//! Parameters that are all of the bytes.
+ghost use Rattle.std.specs.Prelude.{◌≡◌};
+ghost use Rattle.oca_model.specs.Parameters.{whole};
+
+use crate::item::Item;
+use oca_types::Cursor;
+
+/// The value that is all of the bytes.
+pub(crate) fn whole<I: Item>(params: &[u8]) -> Option<I>
+    ensures { result ≡ whole (I.read_at params.now) }
+{
+    let mut cursor = Cursor::new(params);
+    let value = I::take_item(&mut cursor).ok()?;
+    cursor.finish().ok()?;
+    Some(value)
+}

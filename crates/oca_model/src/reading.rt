@@ -1,0 +1,160 @@
+//! What reading an object gives: its value, with the limits of a position and of a number.
+ghost use Rattle.std.specs.Prelude.{◌≡◌};
+ghost use Rattle.oca_types.specs.Putting.{Puts};
+ghost use Rattle.oca_model.specs.Readings.{ranged_in, ranged_encoding, value_of, reading_count, reading_encoding, reading_in, value_read};
+
+use crate::item::Item;
+use crate::parameters::whole;
+use crate::value::{MuteState, PolarityState, Value, mute_of, polarity_of};
+use oca_types::{Class, Cursor, Params, PutFault};
+
+/// A setting, and the least and the greatest that it can be.
+#[derive(Clone, Copy, Debug, PartialEq, Eq)]
+pub struct Ranged<N> {
+    /// The setting.
+    pub setting: N,
+    /// The least that it can be set to.
+    pub least: N,
+    /// The greatest that it can be set to.
+    pub greatest: N,
+}
+
+/// What reading an object gives: one variant a class (AES70-2).
+#[derive(Clone, Copy, Debug, PartialEq, Eq)]
+pub enum Reading {
+    /// The state of an OcaMute.
+    Mute(MuteState),
+    /// The state of an OcaPolarity.
+    Polarity(PolarityState),
+    /// The position of an OcaSwitch, counted from 0, the first and the last.
+    Switch(Ranged<u16>),
+    /// The setting of an OcaBooleanActuator.
+    Boolean(bool),
+    /// The setting of an OcaInt8Actuator.
+    Int8(Ranged<i8>),
+    /// The setting of an OcaInt16Actuator.
+    Int16(Ranged<i16>),
+    /// The setting of an OcaInt32Actuator.
+    Int32(Ranged<i32>),
+    /// The setting of an OcaInt64Actuator.
+    Int64(Ranged<i64>),
+    /// The setting of an OcaUint8Actuator.
+    Uint8(Ranged<u8>),
+    /// The setting of an OcaUint16Actuator.
+    Uint16(Ranged<u16>),
+    /// The setting of an OcaUint32Actuator.
+    Uint32(Ranged<u32>),
+    /// The setting of an OcaUint64Actuator.
+    Uint64(Ranged<u64>),
+}
+
+/// A setting and its limits, which are all of the bytes.
+fn read_ranged<F: Item>(params: &[u8]) -> Option<Ranged<F>>
+    ensures { result ≡ ranged_in F.read_at params.now }
+{
+    let mut cursor = Cursor::new(params);
+    let setting = F::take_item(&mut cursor).ok()?;
+    let least = F::take_item(&mut cursor).ok()?;
+    let greatest = F::take_item(&mut cursor).ok()?;
+    cursor.finish().ok()?;
+    Some(Ranged {
+        setting,
+        least,
+        greatest,
+    })
+}
+
+/// Appends a setting, its least and its greatest.
+fn put_ranged<F: Item>(params: &mut Params, ranged: Ranged<F>) -> Result<(), PutFault>
+    ensures { Puts result params.old.items params.new.items (ranged_encoding F.encoding ranged) }
+{
+    ranged.setting.put_item(params)?;
+    ranged.least.put_item(params)?;
+    ranged.greatest.put_item(params)
+}
+
+impl Reading {
+    /// The value, without its limits.
+    pub fn value(self) -> Value
+        ensures { result ≡ value_of self }
+    {
+        match self {
+            Reading::Mute(state) => Value::Mute(state),
+            Reading::Polarity(state) => Value::Polarity(state),
+            Reading::Switch(ranged) => Value::Switch(ranged.setting),
+            Reading::Boolean(truth) => Value::Boolean(truth),
+            Reading::Int8(ranged) => Value::Int8(ranged.setting),
+            Reading::Int16(ranged) => Value::Int16(ranged.setting),
+            Reading::Int32(ranged) => Value::Int32(ranged.setting),
+            Reading::Int64(ranged) => Value::Int64(ranged.setting),
+            Reading::Uint8(ranged) => Value::Uint8(ranged.setting),
+            Reading::Uint16(ranged) => Value::Uint16(ranged.setting),
+            Reading::Uint32(ranged) => Value::Uint32(ranged.setting),
+            Reading::Uint64(ranged) => Value::Uint64(ranged.setting),
+        }
+    }
+
+    /// How many parameters it is.
+    pub fn count(self) -> u8
+        ensures { result ≡ reading_count self }
+    {
+        match self {
+            Reading::Mute(_) | Reading::Polarity(_) | Reading::Boolean(_) => 1,
+            _ => 3,
+        }
+    }
+
+    /// Appends the parameters of the answer (AES70-2). Refusal: `Full`.
+    #[tactic(auto, unfolding(crate::specs::Readings::reading_encoding))]
+    pub fn put(self, params: &mut Params) -> Result<(), PutFault>
+        ensures { Puts result params.old.items params.new.items (reading_encoding self) }
+    {
+        match self {
+            Reading::Mute(state) => (state as u8).put_item(params),
+            Reading::Polarity(state) => (state as u8).put_item(params),
+            Reading::Switch(ranged) => put_ranged(params, ranged),
+            Reading::Boolean(truth) => truth.put_item(params),
+            Reading::Int8(ranged) => put_ranged(params, ranged),
+            Reading::Int16(ranged) => put_ranged(params, ranged),
+            Reading::Int32(ranged) => put_ranged(params, ranged),
+            Reading::Int64(ranged) => put_ranged(params, ranged),
+            Reading::Uint8(ranged) => put_ranged(params, ranged),
+            Reading::Uint16(ranged) => put_ranged(params, ranged),
+            Reading::Uint32(ranged) => put_ranged(params, ranged),
+            Reading::Uint64(ranged) => put_ranged(params, ranged),
+        }
+    }
+
+    /// What an answer with these parameters gives of an object of this class. Nothing where they are not such an answer,
+    /// and for a block.
+    #[tactic(auto, unfolding(crate::specs::Readings::reading_in))]
+    pub fn read(class: Class, params: &[u8]) -> Option<Reading>
+        ensures { result ≡ reading_in class params.now }
+    {
+        Some(match class {
+            Class::Block => return None,
+            Class::Mute => Reading::Mute(mute_of(whole(params)?)?),
+            Class::Polarity => Reading::Polarity(polarity_of(whole(params)?)?),
+            Class::Switch => Reading::Switch(read_ranged(params)?),
+            Class::Boolean => Reading::Boolean(whole(params)?),
+            Class::Int8 => Reading::Int8(read_ranged(params)?),
+            Class::Int16 => Reading::Int16(read_ranged(params)?),
+            Class::Int32 => Reading::Int32(read_ranged(params)?),
+            Class::Int64 => Reading::Int64(read_ranged(params)?),
+            Class::Uint8 => Reading::Uint8(read_ranged(params)?),
+            Class::Uint16 => Reading::Uint16(read_ranged(params)?),
+            Class::Uint32 => Reading::Uint32(read_ranged(params)?),
+            Class::Uint64 => Reading::Uint64(read_ranged(params)?),
+        })
+    }
+}
+
+/// The value that the parameters of the answer to [`get_request`](crate::get_request) give of an object of this class;
+/// of a switch and of an integer its least and its greatest stand behind it (AES70-2). Nothing where they are not such
+/// an answer, and for a block. [`Reading::read`] gives the limits too.
+pub fn read_value(class: Class, params: &[u8]) -> Option<Value>
+    ensures { result ≡ value_read class params.now }
+{
+    let reading = Reading::read(class, params)?;
+    Some(reading.value())
+}

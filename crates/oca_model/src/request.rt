@@ -1,0 +1,326 @@
+//! What is asked of an object: for a panel to put, for a device to read.
+ghost use Rattle.std.specs.Prelude.{◌≡◌, ◌<◌, length, IfOk, IfErr, IfSome, IfNone};
+ghost use Rattle.std.specs.Int.{w16};
+ghost use Rattle.std.specs.Result.{result_map_both};
+ghost use Rattle.oca_types.specs.Methods.{method_kind, access};
+ghost use Rattle.oca_types.specs.Putting.{Puts};
+ghost use Rattle.oca_types.specs.Reading.{unsigned_at, bool_at, text_at};
+ghost use Rattle.oca_types.specs.Sizes.{most_parameter_bytes};
+ghost use Rattle.oca_types.specs.declared.class.Method.{Method};
+ghost use Rattle.oca_types.specs.declared.words.MethodId.{MethodId};
+ghost use Rattle.oca_model.specs.Lists.{list_of_most};
+ghost use Rattle.oca_model.specs.Parameters.{pair_at};
+ghost use Rattle.oca_model.specs.Values.{all};
+ghost use Rattle.oca_model.specs.Requests.{AskedBy, IsCall, IsRefusedCall, count_of, parameters_of, request_in, bare, set_in, counted};
+
+use crate::item::Item;
+use crate::list::{put_list, read_list};
+use crate::parameters::whole;
+use crate::value::{Value, ValueFault};
+use crate::value_request::{get_method, set_method};
+use arrayvec::ArrayVec;
+use oca_types::{Class, Cursor, Method, MethodId, Params, PutFault, Text, method_id, put_text};
+
+/// The names of a switch's positions, in their order.
+pub type Names = ArrayVec<Text, 16>;
+
+/// Which positions of a switch are enabled.
+pub type Flags = ArrayVec<bool, 16>;
+
+/// What is asked of an object: a method of its class, by what it does, with its parameters.
+#[derive(Debug, Drop)]
+pub enum Request {
+    /// Its class.
+    GetClassIdentification,
+    /// Whether it can be locked.
+    GetLockable,
+    /// A lock against all access of others.
+    LockTotal,
+    /// A lock against all but reading.
+    LockReadonly,
+    /// That its lock is taken off.
+    Unlock,
+    /// Its role.
+    GetRole,
+    /// Whether it is enabled.
+    GetEnabled,
+    /// That it is enabled or not.
+    SetEnabled(bool),
+    /// Its label.
+    GetLabel,
+    /// That its label is this.
+    SetLabel(Text),
+    /// The number of its container.
+    GetOwner,
+    /// The members of a block.
+    GetMembers,
+    /// The members of a block and all that lie in them.
+    GetMembersRecursive,
+    /// What it is set to, by the get method of its class.
+    Get,
+    /// That it is set to this, by the set method of its class.
+    Set(Value),
+    /// The name of a switch's position.
+    GetPositionName(u16),
+    /// That a position's name is this.
+    SetPositionName(u16, Text),
+    /// The names of all positions.
+    GetPositionNames,
+    /// That the positions' names are these.
+    SetPositionNames(Names),
+    /// Whether a position is enabled.
+    GetPositionEnabled(u16),
+    /// That a position is enabled or not.
+    SetPositionEnabled(u16, bool),
+    /// Which positions are enabled.
+    GetPositionEnableds,
+    /// That these positions are enabled.
+    SetPositionEnableds(Flags),
+}
+
+/// A request as it is sent: the method's numbers and ParamCount. The parameters were put beside it.
+#[derive(Clone, Copy, Debug, PartialEq, Eq)]
+pub struct Call {
+    /// The method.
+    pub method: MethodId,
+    /// ParamCount.
+    pub count: u8,
+}
+
+/// Why a request cannot be sent to an object of a class.
+#[derive(Clone, Copy, Debug, PartialEq, Eq)]
+pub enum RequestFault {
+    /// The class has no such method, or is set by other values.
+    OtherClass,
+    /// The parameters are too long.
+    Full,
+}
+
+/// The request, where there are no parameters.
+fn bare(request: Request, count: u8, params: &[u8]) -> Result<Request, ValueFault>
+    ensures { result ≡ bare request count params.now }
+{
+    if count == 0 && params.is_empty() {
+        Ok(request)
+    } else {
+        Err(ValueFault::Malformed)
+    }
+}
+
+/// The one field that is all of the parameters.
+fn one<F: Item>(count: u8, params: &[u8]) -> Result<F, ValueFault>
+    ensures { result ≡ counted 1 count (all F.read_at params.now) }
+{
+    if count != 1 {
+        return Err(ValueFault::Malformed);
+    }
+    whole(params).ok_or(ValueFault::Malformed)
+}
+
+/// The text that is all of the parameters.
+fn one_text(count: u8, params: &[u8]) -> Result<Text, ValueFault>
+    ensures { result ≡ counted 1 count (all text_at params.now) }
+{
+    if count != 1 {
+        return Err(ValueFault::Malformed);
+    }
+    let mut cursor = Cursor::new(params);
+    let text = cursor.take_text().map_err(|_| ValueFault::Malformed)?;
+    cursor.finish().map_err(|_| ValueFault::Malformed)?;
+    Ok(text)
+}
+
+/// The list of at most 16 items that is all of the parameters.
+fn one_list<I: Item>(count: u8, params: &[u8]) -> Result<ArrayVec<I, 16>, ValueFault>
+    ensures { result_map_both (λ v. v.items) (λ e. e) result ≡ counted 1 count (all (list_of_most 16 I.read_at) params.now) }
+{
+    if count != 1 {
+        return Err(ValueFault::Malformed);
+    }
+    read_list(params).ok_or(ValueFault::Malformed)
+}
+
+/// The position and the text that are all of the parameters.
+fn position_and_text(count: u8, params: &[u8]) -> Result<(u16, Text), ValueFault>
+    ensures { result ≡ counted 2 count (all (pair_at (unsigned_at w16) text_at) params.now) }
+{
+    if count != 2 {
+        return Err(ValueFault::Malformed);
+    }
+    let mut cursor = Cursor::new(params);
+    let position = cursor.take_u16().map_err(|_| ValueFault::Malformed)?;
+    let text = cursor.take_text().map_err(|_| ValueFault::Malformed)?;
+    cursor.finish().map_err(|_| ValueFault::Malformed)?;
+    Ok((position, text))
+}
+
+/// The position and the Boolean that are all of the parameters.
+fn position_and_bool(count: u8, params: &[u8]) -> Result<(u16, bool), ValueFault>
+    ensures { result ≡ counted 2 count (all (pair_at (unsigned_at w16) bool_at) params.now) }
+{
+    if count != 2 {
+        return Err(ValueFault::Malformed);
+    }
+    let mut cursor = Cursor::new(params);
+    let position = cursor.take_u16().map_err(|_| ValueFault::Malformed)?;
+    let truth = cursor.take_bool().map_err(|_| ValueFault::Malformed)?;
+    cursor.finish().map_err(|_| ValueFault::Malformed)?;
+    Ok((position, truth))
+}
+
+/// What a set method asks of an object of the class.
+fn set_in(class: Class, count: u8, params: &[u8]) -> Result<Request, ValueFault>
+    ensures { result ≡ set_in class count params.now }
+{
+    if count != 1 {
+        return Err(ValueFault::Malformed);
+    }
+    Ok(Request::Set(Value::read(class, params)?))
+}
+
+impl Request {
+    /// The method by which it is asked of an object of the class; nothing where the class is set by other values.
+    fn method(&self, class: Class) -> Option<Method>
+        ensures known { IfSome result (λ method. AskedBy class self.now method) }
+        ensures other { IfNone result ((method : Method) → AskedBy class self.now method → ⊥) }
+    {
+        Some(match self {
+            Request::GetClassIdentification => Method::GetClassIdentification,
+            Request::GetLockable => Method::GetLockable,
+            Request::LockTotal => Method::LockTotal,
+            Request::LockReadonly => Method::LockReadonly,
+            Request::Unlock => Method::Unlock,
+            Request::GetRole => Method::GetRole,
+            Request::GetEnabled => Method::GetEnabled,
+            Request::SetEnabled(_) => Method::SetEnabled,
+            Request::GetLabel => Method::GetLabel,
+            Request::SetLabel(_) => Method::SetLabel,
+            Request::GetOwner => Method::GetOwner,
+            Request::GetMembers => Method::GetMembers,
+            Request::GetMembersRecursive => Method::GetMembersRecursive,
+            Request::Get => get_method(class)?,
+            Request::Set(value) if value.class() == class => set_method(*value),
+            Request::Set(_) => return None,
+            Request::GetPositionName(_) => Method::GetPositionName,
+            Request::SetPositionName(_, _) => Method::SetPositionName,
+            Request::GetPositionNames => Method::GetPositionNames,
+            Request::GetPositionEnabled(_) => Method::GetPositionEnabled,
+            Request::SetPositionEnabled(_, _) => Method::SetPositionEnabled,
+            Request::GetPositionEnableds => Method::GetPositionEnableds,
+            Request::SetPositionNames(_) => Method::SetPositionNames,
+            Request::SetPositionEnableds(_) => Method::SetPositionEnableds,
+        })
+    }
+
+    /// How many parameters it has.
+    fn count(&self) -> u8
+        ensures { result ≡ count_of self.now }
+    {
+        match self {
+            Request::SetEnabled(_)
+            | Request::SetLabel(_)
+            | Request::Set(_)
+            | Request::GetPositionName(_)
+            | Request::SetPositionNames(_)
+            | Request::GetPositionEnabled(_)
+            | Request::SetPositionEnableds(_) => 1,
+            Request::SetPositionName(_, _) | Request::SetPositionEnabled(_, _) => 2,
+            _ => 0,
+        }
+    }
+
+    /// Appends its parameters. Refusal: `Full`.
+    #[tactic(auto, unfolding(crate::specs::Requests::parameters_of))]
+    fn put(&self, params: &mut Params) -> Result<(), PutFault>
+        ensures { Puts result params.old.items params.new.items (parameters_of self.now) }
+    {
+        match self {
+            Request::SetEnabled(truth) => truth.put_item(params),
+            Request::SetLabel(label) => put_text(params, label),
+            Request::Set(value) => value.put(params),
+            Request::GetPositionName(position) | Request::GetPositionEnabled(position) => {
+                position.put_item(params)
+            }
+            Request::SetPositionName(position, name) => {
+                position.put_item(params)?;
+                put_text(params, name)
+            }
+            Request::SetPositionEnabled(position, truth) => {
+                position.put_item(params)?;
+                truth.put_item(params)
+            }
+            Request::SetPositionNames(names) => put_list(params, names.as_slice()),
+            Request::SetPositionEnableds(flags) => put_list(params, flags.as_slice()),
+            _ => Ok(()),
+        }
+    }
+
+    /// How it is asked of an object of the class; `params` become its parameters.
+    pub fn call(&self, class: Class, params: &mut Params) -> Result<Call, RequestFault>
+        ensures call { IfOk result (λ call. IsCall class self.now call params.new.items) }
+        ensures refused { IfErr result (λ fault. IsRefusedCall class self.now fault) }
+    {
+        let Some(method) = self.method(class) else {
+            return Err(RequestFault::OtherClass);
+        };
+        let Some(id) = method_id(class, method) else {
+            return Err(RequestFault::OtherClass);
+        };
+        params.clear();
+        self.put(params).map_err(|_| RequestFault::Full)?;
+        Ok(Call {
+            method: id,
+            count: self.count(),
+        })
+    }
+
+    /// What a method with these parameters asks of an object of the class. `Malformed` is the status ParameterError, and
+    /// `Unlisted` ParameterOutOfRange.
+    #[tactic(auto, unfolding(crate::specs::Requests::request_in))]
+    pub fn read(
+        class: Class,
+        method: Method,
+        count: u8,
+        params: &[u8],
+    ) -> Result<Request, ValueFault>
+        ensures { result ≡ request_in class method count params.now }
+    {
+        match method {
+            Method::GetClassIdentification => bare(Request::GetClassIdentification, count, params),
+            Method::GetLockable => bare(Request::GetLockable, count, params),
+            Method::LockTotal => bare(Request::LockTotal, count, params),
+            Method::LockReadonly => bare(Request::LockReadonly, count, params),
+            Method::Unlock => bare(Request::Unlock, count, params),
+            Method::GetRole => bare(Request::GetRole, count, params),
+            Method::GetEnabled => bare(Request::GetEnabled, count, params),
+            Method::SetEnabled => Ok(Request::SetEnabled(one(count, params)?)),
+            Method::GetLabel => bare(Request::GetLabel, count, params),
+            Method::SetLabel => Ok(Request::SetLabel(one_text(count, params)?)),
+            Method::GetOwner => bare(Request::GetOwner, count, params),
+            Method::GetMembers => bare(Request::GetMembers, count, params),
+            Method::GetMembersRecursive => bare(Request::GetMembersRecursive, count, params),
+            Method::GetState | Method::GetPosition | Method::GetSetting => {
+                bare(Request::Get, count, params)
+            }
+            Method::SetState | Method::SetPosition | Method::SetSetting => {
+                set_in(class, count, params)
+            }
+            Method::GetPositionName => Ok(Request::GetPositionName(one(count, params)?)),
+            Method::SetPositionName => {
+                let (position, name) = position_and_text(count, params)?;
+                Ok(Request::SetPositionName(position, name))
+            }
+            Method::GetPositionNames => bare(Request::GetPositionNames, count, params),
+            Method::GetPositionEnabled => Ok(Request::GetPositionEnabled(one(count, params)?)),
+            Method::SetPositionEnabled => {
+                let (position, truth) = position_and_bool(count, params)?;
+                Ok(Request::SetPositionEnabled(position, truth))
+            }
+            Method::GetPositionEnableds => bare(Request::GetPositionEnableds, count, params),
+            Method::SetPositionNames => Ok(Request::SetPositionNames(one_list(count, params)?)),
+            Method::SetPositionEnableds => {
+                Ok(Request::SetPositionEnableds(one_list(count, params)?))
+            }
+        }
+    }
+}

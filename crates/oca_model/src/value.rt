@@ -1,0 +1,160 @@
+//! What an object is set to, in the terms of its class.
+ghost use Rattle.std.specs.Prelude.{◌≡◌};
+ghost use Rattle.oca_types.specs.Putting.{Puts};
+ghost use Rattle.oca_model.specs.Values.{class_of_value, value_encoding, value_in, mute_of, polarity_of};
+
+use crate::item::Item;
+use crate::parameters::whole;
+use oca_types::{Class, Params, PutFault};
+
+/// The states of an OcaMute, by their numbers in AES70-2.
+#[derive(Clone, Copy, Debug, PartialEq, Eq)]
+pub enum MuteState {
+    /// Muted, 1.
+    Muted = 1,
+    /// Not muted, 2.
+    Unmuted = 2,
+}
+
+/// The states of an OcaPolarity, by their numbers in AES70-2.
+#[derive(Clone, Copy, Debug, PartialEq, Eq)]
+pub enum PolarityState {
+    /// Not inverted, 1.
+    NonInverted = 1,
+    /// Inverted, 2.
+    Inverted = 2,
+}
+
+/// What an object is set to: one variant a class (AES70-2).
+#[derive(Clone, Copy, Debug, PartialEq, Eq)]
+pub enum Value {
+    /// The state of an OcaMute.
+    Mute(MuteState),
+    /// The state of an OcaPolarity.
+    Polarity(PolarityState),
+    /// The position of an OcaSwitch, counted from 0.
+    Switch(u16),
+    /// The setting of an OcaBooleanActuator.
+    Boolean(bool),
+    /// The setting of an OcaInt8Actuator.
+    Int8(i8),
+    /// The setting of an OcaInt16Actuator.
+    Int16(i16),
+    /// The setting of an OcaInt32Actuator.
+    Int32(i32),
+    /// The setting of an OcaInt64Actuator.
+    Int64(i64),
+    /// The setting of an OcaUint8Actuator.
+    Uint8(u8),
+    /// The setting of an OcaUint16Actuator.
+    Uint16(u16),
+    /// The setting of an OcaUint32Actuator.
+    Uint32(u32),
+    /// The setting of an OcaUint64Actuator.
+    Uint64(u64),
+}
+
+/// Why bytes give no value of a class.
+#[derive(Clone, Copy, Debug, PartialEq, Eq)]
+pub enum ValueFault {
+    /// They are not one value of the class's type; or the class, a block's, has none.
+    Malformed,
+    /// They are the number of a state that is not listed.
+    Unlisted,
+}
+
+/// The mute's state with this number.
+pub(crate) fn mute_of(number: u8) -> Option<MuteState>
+    ensures { result ≡ mute_of number }
+{
+    match number {
+        1 => Some(MuteState::Muted),
+        2 => Some(MuteState::Unmuted),
+        _ => None,
+    }
+}
+
+/// The polarity's state with this number.
+pub(crate) fn polarity_of(number: u8) -> Option<PolarityState>
+    ensures { result ≡ polarity_of number }
+{
+    match number {
+        1 => Some(PolarityState::NonInverted),
+        2 => Some(PolarityState::Inverted),
+        _ => None,
+    }
+}
+
+/// The value of one field, which is all of the bytes.
+fn all<F: Item>(params: &[u8]) -> Result<F, ValueFault>
+    ensures { result ≡ Rattle.oca_model.specs.Values.all F.read_at params.now }
+{
+    whole(params).ok_or(ValueFault::Malformed)
+}
+
+impl Value {
+    /// The class of the objects that are set to such a value.
+    pub fn class(self) -> Class
+        ensures { result ≡ class_of_value self }
+    {
+        match self {
+            Value::Mute(_) => Class::Mute,
+            Value::Polarity(_) => Class::Polarity,
+            Value::Switch(_) => Class::Switch,
+            Value::Boolean(_) => Class::Boolean,
+            Value::Int8(_) => Class::Int8,
+            Value::Int16(_) => Class::Int16,
+            Value::Int32(_) => Class::Int32,
+            Value::Int64(_) => Class::Int64,
+            Value::Uint8(_) => Class::Uint8,
+            Value::Uint16(_) => Class::Uint16,
+            Value::Uint32(_) => Class::Uint32,
+            Value::Uint64(_) => Class::Uint64,
+        }
+    }
+
+    /// Appends the value (AES70-3); of a mute or a polarity the number of its state. Refusal: `Full`.
+    #[tactic(auto, unfolding(crate::specs::Values::value_encoding))]
+    pub fn put(self, params: &mut Params) -> Result<(), PutFault>
+        ensures { Puts result params.old.items params.new.items (value_encoding self) }
+    {
+        match self {
+            Value::Mute(state) => (state as u8).put_item(params),
+            Value::Polarity(state) => (state as u8).put_item(params),
+            Value::Switch(position) => position.put_item(params),
+            Value::Boolean(truth) => truth.put_item(params),
+            Value::Int8(setting) => setting.put_item(params),
+            Value::Int16(setting) => setting.put_item(params),
+            Value::Int32(setting) => setting.put_item(params),
+            Value::Int64(setting) => setting.put_item(params),
+            Value::Uint8(setting) => setting.put_item(params),
+            Value::Uint16(setting) => setting.put_item(params),
+            Value::Uint32(setting) => setting.put_item(params),
+            Value::Uint64(setting) => setting.put_item(params),
+        }
+    }
+
+    /// The value of an object of this class that is all of the bytes, as a set method has it for its one parameter.
+    #[tactic(auto, unfolding(crate::specs::Values::value_in))]
+    pub fn read(class: Class, params: &[u8]) -> Result<Value, ValueFault>
+        ensures { result ≡ value_in class params.now }
+    {
+        Ok(match class {
+            Class::Block => return Err(ValueFault::Malformed),
+            Class::Mute => Value::Mute(mute_of(all(params)?).ok_or(ValueFault::Unlisted)?),
+            Class::Polarity => {
+                Value::Polarity(polarity_of(all(params)?).ok_or(ValueFault::Unlisted)?)
+            }
+            Class::Switch => Value::Switch(all(params)?),
+            Class::Boolean => Value::Boolean(all(params)?),
+            Class::Int8 => Value::Int8(all(params)?),
+            Class::Int16 => Value::Int16(all(params)?),
+            Class::Int32 => Value::Int32(all(params)?),
+            Class::Int64 => Value::Int64(all(params)?),
+            Class::Uint8 => Value::Uint8(all(params)?),
+            Class::Uint16 => Value::Uint16(all(params)?),
+            Class::Uint32 => Value::Uint32(all(params)?),
+            Class::Uint64 => Value::Uint64(all(params)?),
+        })
+    }
+}

@@ -1,0 +1,122 @@
+//! The requests that set a value and that read it.
+ghost use Rattle.std.specs.Prelude.{◌≡◌, ◌≤◌, length};
+ghost use Rattle.oca_model.specs.Values.{class_of_value, set_method, get_method, value_encoding};
+ghost use Rattle.oca_model.specs.ValueRequests.{Asks, AsksFor};
+
+use crate::value::Value;
+use arrayvec::ArrayVec;
+use oca_types::{Class, Method, MethodId, Ono, method_id};
+
+/// What sets or reads the value of an object: a command without its handle and its target. [`ValueRequest::of`] puts the target to it,
+/// which gives a request as `oca_types` has it.
+#[derive(Debug, Drop)]
+pub struct ValueRequest {
+    /// The method.
+    pub method: MethodId,
+    /// ParamCount.
+    pub count: u8,
+    /// The bytes of the parameters.
+    pub params: ArrayVec<u8, 8>,
+}
+
+impl ValueRequest {
+    ghost use Rattle.std.specs.Prelude.{◌≡◌};
+    ghost use Rattle.oca_types.specs.Peers.{request_of};
+    ghost use Rattle.oca_model.specs.ValueRequests.{request_to};
+
+    /// What is asked of the object with this number, as `ask` of `oca_control` takes it.
+    pub fn of(&self, target: Ono) -> oca_types::Request<'_>
+        ensures { request_of result ≡ request_to target.0 self.now }
+    {
+        oca_types::Request {
+            target,
+            method: self.method,
+            count: self.count,
+            params: self.params.as_slice(),
+        }
+    }
+}
+
+/// The method that sets such a value.
+pub(crate) fn set_method(value: Value) -> Method
+    ensures { result ≡ set_method value }
+{
+    match value {
+        Value::Mute(_) | Value::Polarity(_) => Method::SetState,
+        Value::Switch(_) => Method::SetPosition,
+        _ => Method::SetSetting,
+    }
+}
+
+/// The method that reads how an object of the class is set; nothing for a block.
+pub(crate) fn get_method(class: Class) -> Option<Method>
+    ensures { result ≡ get_method class }
+{
+    match class {
+        Class::Block => None,
+        Class::Mute | Class::Polarity => Some(Method::GetState),
+        Class::Switch => Some(Method::GetPosition),
+        _ => Some(Method::GetSetting),
+    }
+}
+
+/// These bytes, of which there are at most 8.
+fn bytes(bytes: &[u8]) -> ArrayVec<u8, 8>
+    requires { length bytes.now ≤ 8 }
+    ensures { result.items ≡ bytes.now }
+{
+    let mut items = ArrayVec::new();
+    let _ = items.try_extend_from_slice(bytes);
+    items
+}
+
+/// The encoding of a value (AES70-3).
+#[tactic(auto, unfolding(crate::specs::Values::value_encoding))]
+fn encoding(value: Value) -> ArrayVec<u8, 8>
+    ensures { result.items ≡ value_encoding value }
+{
+    match value {
+        Value::Mute(state) => bytes(&[state as u8]),
+        Value::Polarity(state) => bytes(&[state as u8]),
+        Value::Switch(position) => bytes(&position.to_be_bytes()),
+        Value::Boolean(truth) => bytes(&[u8::from(truth)]),
+        Value::Int8(setting) => bytes(&setting.to_be_bytes()),
+        Value::Int16(setting) => bytes(&setting.to_be_bytes()),
+        Value::Int32(setting) => bytes(&setting.to_be_bytes()),
+        Value::Int64(setting) => bytes(&setting.to_be_bytes()),
+        Value::Uint8(setting) => bytes(&setting.to_be_bytes()),
+        Value::Uint16(setting) => bytes(&setting.to_be_bytes()),
+        Value::Uint32(setting) => bytes(&setting.to_be_bytes()),
+        Value::Uint64(setting) => bytes(&setting.to_be_bytes()),
+    }
+}
+
+/// What sets an object of the value's class to the value: the class's own set method with the value as its one
+/// parameter.
+pub fn set_request(value: Value) -> ValueRequest
+    ensures { Asks (class_of_value value) (set_method value) result 1 (value_encoding value) }
+{
+    let Some(method) = method_id(value.class(), set_method(value)) else {
+        unreachable!()
+    };
+    ValueRequest {
+        method,
+        count: 1,
+        params: encoding(value),
+    }
+}
+
+/// What reads how an object of the class is set: the class's own get method, which has no parameters. Nothing for a
+/// block, which has no setting.
+pub fn get_request(class: Class) -> Option<ValueRequest>
+    ensures { AsksFor (get_method class) class result }
+{
+    let Some(method) = method_id(class, get_method(class)?) else {
+        unreachable!()
+    };
+    Some(ValueRequest {
+        method,
+        count: 0,
+        params: ArrayVec::new(),
+    })
+}

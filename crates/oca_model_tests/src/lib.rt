@@ -1,0 +1,5 @@
+//! Tests of oca_model on its public interface: tables of values, requests, answers and words.
+#![tactic(auto)]
+
+#[cfg(test)]
+mod tests;

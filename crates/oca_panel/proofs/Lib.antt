@@ -1,0 +1,3 @@
+mod OwnLemmas
+pub mod RequestLemmas
+mod WalkLemmas

@@ -1,0 +1,90 @@
+-- What the answer to a command says (AES70-2).
+use Rattle.std.specs.Prelude.{◌≡◌, ℕ, Bool, ◌==◌, if◌then◌else◌, List, Option, Some, None, Result, Ok, Err}
+use Rattle.oca_types.specs.declared.class.Class.{Class}
+use Rattle.oca_types.specs.declared.class.Class.TheVariants as class
+use Rattle.oca_types.specs.declared.class.Method.TheVariants as method
+use Rattle.oca_types.specs.Reading.{text_at}
+use Rattle.oca_control.specs.declared.outcome.Outcome.{Outcome}
+use Rattle.oca_control.specs.declared.outcome.Outcome.TheVariants as outcomes
+use Rattle.oca_model.specs.declared.answer.Answer.{Answer}
+use Rattle.oca_model.specs.declared.answer.Answer.TheVariants as answers
+use Rattle.oca_model.specs.declared.reading.Reading.{Reading}
+use Rattle.oca_model.specs.declared.value.Value.{Value}
+use Rattle.oca_model.specs.Parameters.{whole}
+use Rattle.oca_model.specs.Readings.{reading_in, value_read}
+use Rattle.oca_model.specs.Members.{class_id_in, class_with, members_in}
+use Rattle.oca_model.specs.Answers.{answer_in, names_in}
+use Rattle.oca_panel.specs.declared.trouble.Trouble.{Trouble}
+use Rattle.oca_panel.specs.declared.trouble.Trouble.TheVariants as trouble
+
+abbrev pub on_ok : {A B : Type 0} → (A → B) → Result A Trouble → Result B Trouble
+on_ok f (Ok x) = Ok (f x)
+on_ok f (Err t) = Err t
+
+-- the parameters of an answer with status OK, or why there are none
+abbrev pub parameters_answered : Outcome → Result (List ℕ) Trouble
+parameters_answered (outcomes.Answered a) = if a.status == 0 then Ok a.params.items else Err (trouble.Refused a.status)
+parameters_answered (outcomes.Refused fault) = Err (trouble.NotSubmitted fault)
+parameters_answered outcomes.Lost = Err trouble.Lost
+parameters_answered outcomes.Unanswered = Err trouble.Unanswered
+
+-- what is read, or that the answer is none to the command
+abbrev pub readable : {A : Type 0} → Option A → Result A Trouble
+readable None = Err trouble.Unreadable
+readable (Some x) = Ok x
+
+abbrev pub read_from : {A : Type 0} → (List ℕ → Option A) → Result (List ℕ) Trouble → Result A Trouble
+read_from read (Ok params) = readable (read params)
+read_from read (Err t) = Err t
+
+-- the command was carried out
+abbrev pub carried_out : Result (List ℕ) Trouble → Result Unit Trouble
+carried_out (Ok params) = Ok tt
+carried_out (Err t) = Err t
+
+abbrev pub done_answered : Outcome → Result Unit Trouble
+done_answered outcome = carried_out (parameters_answered outcome)
+
+-- the fields of the class's identifier
+abbrev pub fields_answered : Outcome → Result (List ℕ) Trouble
+fields_answered outcome = read_from class_id_in (parameters_answered outcome)
+
+-- a class that has values here, or OcaBlock
+abbrev pub known_class : Option Class → Result Class Trouble
+known_class None = Err trouble.NoValue
+known_class (Some c) = Ok c
+
+abbrev pub class_of_fields : Result (List ℕ) Trouble → Result Class Trouble
+class_of_fields (Ok fields) = known_class (class_with fields)
+class_of_fields (Err t) = Err t
+
+abbrev pub class_answered : Outcome → Result Class Trouble
+class_answered outcome = class_of_fields (fields_answered outcome)
+
+-- a value with its limits, and without
+abbrev pub reading_answered : Class → Outcome → Result Reading Trouble
+reading_answered of outcome = read_from (reading_in of) (parameters_answered outcome)
+
+abbrev pub value_answered : Class → Outcome → Result Value Trouble
+value_answered of outcome = read_from (value_read of) (parameters_answered outcome)
+
+abbrev pub text_answered : Outcome → Result (List ℕ) Trouble
+text_answered outcome = read_from (λ params. whole (text_at params)) (parameters_answered outcome)
+
+abbrev pub members_answered : Outcome → Result (List ℕ) Trouble
+members_answered outcome = read_from members_in (parameters_answered outcome)
+
+abbrev pub names_answered : Outcome → Result (List (List ℕ)) Trouble
+names_answered outcome = read_from names_in (parameters_answered outcome)
+
+-- the Boolean of an answer to GetEnabled, with its one parameter
+abbrev pub truth_of : Option Answer → Result Bool Trouble
+truth_of (Some (answers.Truth truth)) = Ok truth
+truth_of _ = Err trouble.Unreadable
+
+abbrev pub truth_answered : Outcome → Result Bool Trouble
+truth_answered (outcomes.Answered a) =
+    if a.status == 0 then truth_of (answer_in class.Block method.GetEnabled a.count a.params.items) else Err (trouble.Refused a.status)
+truth_answered (outcomes.Refused fault) = Err (trouble.NotSubmitted fault)
+truth_answered outcomes.Lost = Err trouble.Lost
+truth_answered outcomes.Unanswered = Err trouble.Unanswered

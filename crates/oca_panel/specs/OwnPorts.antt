@@ -1,0 +1,35 @@
+-- A port of one's own and a first handle, by the time of day (*profile*).
+use Rattle.std.specs.Prelude.{◌≡◌, ◌≤◌, ◌<◌, ◌+◌, ◌*◌, ◌/◌, ◌%◌, ◌==◌, ℕ, if◌then◌else◌}
+
+-- Handles by the clock rise by 100,000 a second, and begin anew at 2^31, each 21,474.83648 seconds: a turn.
+abbrev pub handles_since : (seconds microseconds : ℕ) → ℕ
+handles_since seconds microseconds = seconds * 100000 + microseconds / 10
+
+abbrev pub handles_a_turn : ℕ
+handles_a_turn = 2147483648
+
+-- the first handle of a run that begins so long after the beginning of 1970
+abbrev pub first_handle_at : (seconds microseconds : ℕ) → ℕ
+first_handle_at seconds microseconds = handles_since seconds microseconds % handles_a_turn
+
+-- Two ports take turns: each is silent for a whole turn of the other before its handles begin anew.
+abbrev pub even_or_odd : ℕ → ℕ
+even_or_odd rest = if rest == 0 then 65001 else 65002
+
+abbrev pub port_of_turn : ℕ → ℕ
+port_of_turn turn = even_or_odd (turn % 2)
+
+abbrev pub port_at : (seconds microseconds : ℕ) → ℕ
+port_at seconds microseconds = port_of_turn (handles_since seconds microseconds / handles_a_turn)
+
+-- the port whose turn it is not
+abbrev pub other_port : ℕ → ℕ
+other_port port = if port == 65001 then 65002 else 65001
+
+-- A PORT'S HANDLES RISE, OR IT RESTED. Of two runs that begin one behind the other in turns of one port, the later
+-- one's first handle is above the earlier's, or more than a turn lies between them: 21,474 seconds, where a device
+-- forgets a session after 120.
+abbrev pub HandlesRiseOrRest : Type 0
+HandlesRiseOrRest =
+    (a b : ℕ) → a < b → port_of_turn (a / handles_a_turn) ≡ port_of_turn (b / handles_a_turn)
+    → b % handles_a_turn ≤ a % handles_a_turn → a + handles_a_turn < b

@@ -1,0 +1,79 @@
+-- A panel: its link, the end that it is driven over, and what its calls do (*profile*).
+use Rattle.std.specs.Prelude.{◌≡◌, ℕ, Bool, true, false, ◌==◌, ◌||◌, ◌&&◌, not, None, Option, Some, Result, Ok, Err}
+use Rattle.oca_types.specs.declared.words.Handle.{Handle}
+use Rattle.oca_types.specs.declared.words.Peer.{Peer}
+use Rattle.oca_types.specs.Peers.{RequestFields}
+use Rattle.oca_net.specs.EndStates.{EndState}
+use Rattle.oca_control.specs.declared.fault.ControlFault.{ControlFault}
+use Rattle.oca_control.specs.declared.outcome.Outcome.{Outcome}
+use Rattle.oca_control.specs.declared.outcome.Outcome.TheVariants as outcomes
+use Rattle.oca_control.specs.declared.report.DriveReport.{DriveReport}
+use Rattle.oca_control.specs.Untaken.{answer_under}
+use Rattle.oca_control.specs.Links.{LinkState, new_link}
+use Rattle.oca_control.specs.Turning.{Turns}
+use Rattle.oca_control.specs.Asking.{Begins, Waits, IsPresent}
+
+-- A link, what the end that it is driven over says of itself, how many turns a command waits, and whether one that was
+-- waited for got no answer.
+pub record PanelState : Type 0 where
+  pub link : LinkState
+  pub end_state : EndState
+  pub turns : ℕ
+  pub unanswered : Bool
+
+-- A panel whose link is new, made at the end's present moment, over an end in this state.
+pub record IsOpened (device : Peer) (first span turns : ℕ) (before : EndState) (p : PanelState) : Type 0 where
+  pub now : ℕ
+  pub present : IsPresent now before
+  pub panel : p ≡ record { link = new_link device first now span; end_state = before; turns = turns; unanswered = false }
+
+-- no answer came
+abbrev pub came_to_nothing : Outcome → Bool
+came_to_nothing (outcomes.Answered a) = false
+came_to_nothing (outcomes.Refused fault) = false
+came_to_nothing outcomes.Lost = true
+came_to_nothing outcomes.Unanswered = true
+
+-- The request was begun: it got its handle and what was due was sent, or it was refused, which changes nothing.
+pub record BeginsIn (request : RequestFields) (returned : Result Handle ControlFault) (old new : PanelState) : Type 0 where
+  pub begins : Begins request returned old.link new.link old.end_state new.end_state
+  pub turns : new.turns ≡ old.turns
+  pub unanswered : new.unanswered ≡ old.unanswered
+
+-- The answer under this handle was waited for.
+pub record FinishesIn (handle : ℕ) (old new : PanelState) (outcome : Outcome) : Type 0 where
+  pub waits : Waits handle old.turns old.link outcome new.link old.end_state new.end_state
+  pub turns : new.turns ≡ old.turns
+  pub unanswered : new.unanswered ≡ (old.unanswered || came_to_nothing outcome)
+
+-- How the command under this handle came out was looked up, without a turn: the answer is taken where it is there, else
+-- the link is lost.
+pub record SettlesIn (handle : ℕ) (old new : PanelState) (outcome : Outcome) : Type 0 where
+  pub waits : Waits handle 0 old.link outcome new.link old.end_state new.end_state
+  pub turns : new.turns ≡ old.turns
+  pub unanswered : new.unanswered ≡ (old.unanswered || came_to_nothing outcome)
+
+-- Nothing is known yet: no answer is there, the link is not lost, and nothing changed.
+abbrev pub MaySettle : Option Outcome → ℕ → PanelState → PanelState → Type 0
+MaySettle (Some outcome) handle old new = SettlesIn handle old new outcome
+MaySettle None handle old new = (new ≡ old) × (answer_under handle old.link.untaken ≡ None) × (old.link.lost ≡ false)
+
+-- The link took a turn; and whether it may go on: it was a turn, and the link was found neither lost nor late.
+pub record TurnsOnce (old new : PanelState) (further : Bool) : Type 0 where
+  pub report : DriveReport
+  pub takes : Turns old.link new.link old.end_state new.end_state report
+  pub goes_on : further ≡ (report.turns == 1 && not report.lost)
+  pub turns : new.turns ≡ old.turns
+  pub unanswered : new.unanswered ≡ old.unanswered
+
+-- How a command fared that was to be begun: it was waited for, or the link refused it, so that it was never sent.
+abbrev pub EndsIn : Result Handle ControlFault → PanelState → PanelState → Outcome → Type 0
+EndsIn (Ok handle) old new outcome = FinishesIn handle.0 old new outcome
+EndsIn (Err fault) old new outcome = (outcome ≡ outcomes.Refused fault) × (new ≡ old)
+
+-- The request was asked, and came out so: it was begun, and then waited for unless it was refused.
+pub record AsksIn (request : RequestFields) (old new : PanelState) (outcome : Outcome) : Type 0 where
+  pub returned : Result Handle ControlFault
+  pub between : PanelState
+  pub begins : BeginsIn request returned old between
+  pub ends : EndsIn returned between new outcome

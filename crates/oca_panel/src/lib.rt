@@ -1,0 +1,27 @@
+//! A control panel's side of OCA (AES70): a device's objects are asked, set, locked and listed by what they are, and an
+//! error says what happened.
+//!
+//! Begin with [`Panel::open`] over a [`UdpEnd`](oca_net::UdpEnd): then `panel.set(Ono(4097),
+//! Value::Mute(MuteState::Muted))` sends the command, repeats it until its answer comes, and returns whether it was
+//! carried out. [`Panel::get`] and [`Panel::reading`] read a value, the second with its limits; [`Walk`] lists the
+//! objects of a device; with [`Panel::begin_set`] and [`Panel::finish_set`] several commands are in flight at once.
+//! [`OwnPort`] gives a first handle that is safe. [`Trouble`] is the one error: as a text it has the name of the
+//! status.
+//!
+//! Between commands call [`Panel::turn`], which sends keep-alives too: a panel that is silent for 15 seconds loses its
+//! locks. No copy of a command is sent more than 100,000 ms after the one before it: the command is then lost.
+#![tactic(auto)]
+
+mod asked;
+mod objects;
+mod outcomes;
+mod own_port;
+mod panel;
+mod trouble;
+mod walk;
+
+pub use outcomes::done_in;
+pub use own_port::{OwnPort, law_of_turns};
+pub use panel::Panel;
+pub use trouble::Trouble;
+pub use walk::{Description, Found, MOST_PLACES, Place, ROOT, Visit, Walk};

@@ -1,0 +1,80 @@
+//! A port of a panel's own and a first handle, by the time of day.
+ghost use Rattle.std.specs.Prelude.{◌≡◌, ◌<◌};
+ghost use Rattle.oca_panel.specs.OwnPorts.{HandlesRiseOrRest, handles_since};
+
+use oca_types::Handle;
+use std::rt::Clock;
+use std::time::{SystemTime, UNIX_EPOCH};
+
+/// The ports that take turns.
+const PORTS: [u16; 2] = [65001, 65002];
+
+/// How many handles a turn has.
+const HANDLES: u128 = 2_147_483_648;
+
+/// A port whose turn it is, the other one, and a first handle that is safe there: a device answers no command whose
+/// handle is not above those that it has heard from the same address and port in the last two minutes.
+#[derive(Clone, Copy, Debug, PartialEq, Eq)]
+pub struct OwnPort {
+    /// The port whose turn it is.
+    pub port: u16,
+    /// The other one.
+    pub other: u16,
+    /// The first handle: below 2,147,483,648, so that as many are left for one link.
+    pub first_handle: Handle,
+}
+
+impl OwnPort {
+    ghost use Rattle.oca_panel.specs.OwnPorts.{first_handle_at, other_port, port_at};
+
+    /// The port and the first handle by the clock: those of the beginning of 1970 where it can't be read.
+    ///
+    /// The handle rises by 100,000 a second, faster than commands are answered, so that a session that is used again
+    /// goes on rising. It begins anew at 2,147,483,648, each six hours; the port is then the other one, whose session
+    /// is forgotten by then, since it was silent for a whole turn.
+    pub fn now<C: Clock>(clock: &C) -> OwnPort
+        ensures { result.first_handle.0 < 2147483648 }
+    {
+        let Ok(now) = SystemTime::now(clock) else {
+            return OwnPort::at(0, 0);
+        };
+        match now.duration_since(UNIX_EPOCH) {
+            Ok(since) => OwnPort::at(since.as_secs(), since.subsec_micros()),
+            Err(_) => OwnPort::at(0, 0),
+        }
+    }
+
+    /// The port and the first handle so many seconds and microseconds after the beginning of 1970.
+    pub fn at(seconds: u64, microseconds: u32) -> OwnPort
+        ensures handle { result.first_handle.0 ≡ first_handle_at seconds microseconds }
+        ensures below { result.first_handle.0 < 2147483648 }
+        ensures port { result.port ≡ port_at seconds microseconds }
+        ensures other { result.other ≡ other_port result.port }
+    {
+        let since = handles_in(seconds, microseconds);
+        let [even, odd] = PORTS;
+        let (port, other) = if (since / HANDLES) % 2 == 0 {
+            (even, odd)
+        } else {
+            (odd, even)
+        };
+        OwnPort {
+            port,
+            other,
+            first_handle: Handle((since % HANDLES) as u32),
+        }
+    }
+}
+
+/// How many handles the clock gave in this time.
+fn handles_in(seconds: u64, microseconds: u32) -> u128
+    ensures { result ≡ handles_since seconds microseconds }
+{
+    u128::from(seconds) * 100_000 + u128::from(microseconds / 10)
+}
+
+/// Where the clock goes on, a port's handles rise, or it was not used for more than 21,474 seconds: a device forgets a
+/// session after 120.
+pub fn law_of_turns()
+    ensures { HandlesRiseOrRest }
+{}

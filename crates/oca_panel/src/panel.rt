@@ -1,0 +1,186 @@
+//! A panel: a link to a device, driven over an end, and commands one at a time or several in flight.
+ghost use Rattle.std.specs.Prelude.{◌≡◌};
+ghost use Rattle.oca_panel.specs.Panels.{came_to_nothing};
+
+use oca_control::{ControlFault, Link, Outcome, begin, is_late, turn, wait_for};
+use oca_net::End;
+use oca_types::{Handle, Peer, Request, Span};
+use std::marker::Model;
+
+/// A panel for one device: a link, the end that it is driven over, how many turns a command waits for its answer, and
+/// whether one that was waited for got none.
+///
+/// No call takes memory. A panel is some 94 kB, which is its link: do not move it, pass `&mut`.
+pub struct Panel<E: End> {
+    link: Link,
+    end: E,
+    turns: u32,
+    unanswered: bool,
+}
+
+impl<E: End> Model for Panel<E> {
+    ghost use Rattle.oca_panel.specs.Panels.{PanelState};
+
+    ghost Value = { PanelState };
+
+    ghost view = { λ p. record { link = p.link; end_state = E.state p.end; turns = p.turns; unanswered = p.unanswered } };
+}
+
+impl<E: End + Drop> Drop for Panel<E> {
+    /// Lets the link and the end go.
+    fn drop(self) {
+        let Panel {
+            link: _,
+            end: _,
+            turns: _,
+            unanswered: _,
+        } = self;
+    }
+}
+
+impl<E: End> Panel<E> {
+    ghost use Rattle.std.specs.Prelude.{◌≡◌, true, false, MatchOption};
+    ghost use Rattle.oca_types.specs.Peers.{request_of};
+    ghost use Rattle.oca_types.specs.Sizes.{span_size};
+    ghost use Rattle.oca_control.specs.Links.{IsNextDue, NeverIsDue};
+    ghost use Rattle.oca_panel.specs.Panels.{AsksIn, BeginsIn, FinishesIn, IsOpened, MaySettle, TurnsOnce};
+
+    /// A panel for the device at this address, over an end, with a new link that is made at the end's present moment.
+    ///
+    /// `first` is the handle of the first command: on a port that this device has heard before, above all handles used
+    /// there in the last two minutes ([`OwnPort`](crate::OwnPort) chooses such a handle). `span` is how far above the
+    /// lowest untaken command the next handle may lie, and so how many commands can be in flight. A command waits for
+    /// its answer for `turns` turns, at a socket 50 ms at most each; where the device is silent the link is lost after
+    /// some 5 seconds.
+    pub fn open(device: Peer, end: E, first: Handle, span: Span, turns: u32) -> Panel<E>
+        ensures { IsOpened device first.0 (span_size span) turns (E.state end) result }
+    {
+        let link = Link::new(device, first, end.now(), span);
+        Panel::new(link, end, turns)
+    }
+
+    /// A panel over a link that is there, for which nothing was asked.
+    pub fn new(link: Link, end: E, turns: u32) -> Panel<E>
+        ensures { result ≡ record { link = link; end_state = E.state end; turns = turns; unanswered = false } }
+    {
+        Panel {
+            link,
+            end,
+            turns,
+            unanswered: false,
+        }
+    }
+
+    /// The end.
+    pub fn end(&self) -> &E
+        ensures { E.state result.now ≡ self.now.end_state }
+    {
+        &self.end
+    }
+
+    /// The end, where nothing more is to be asked.
+    pub fn into_end(self) -> E
+        ensures { E.state result ≡ self.end_state }
+    {
+        let Panel {
+            link: _,
+            end,
+            turns: _,
+            unanswered: _,
+        } = self;
+        end
+    }
+
+    /// Takes one turn: receives once, at a socket for at most 50 ms, and sends what is due, keep-alives too. Returns
+    /// whether it may go on: the end is not closed, and the link was found neither lost nor late.
+    pub fn turn(&mut self) -> bool
+        ensures { TurnsOnce self.old self.new result }
+    {
+        let report = turn(&mut self.link, &mut self.end);
+        report.turns == 1 && !report.lost
+    }
+
+    /// The earliest moment, in milliseconds, at which a turn has something to send: a loop may wait until then. `None`
+    /// where that lies beyond 64 bits.
+    pub fn next_due(&self) -> Option<u64>
+        ensures { MatchOption result (NeverIsDue self.now.link) (λ t. IsNextDue self.now.link t) }
+    {
+        self.link.next_due()
+    }
+
+    /// The moment, in milliseconds, at which the last well-formed datagram came from the device, and at first that of
+    /// the link's making.
+    pub fn last_heard(&self) -> u64
+        ensures { result ≡ self.now.link.heard }
+    {
+        self.link.last_heard()
+    }
+
+    /// Whether the link is lost, or is late at the end's present moment: then it sends nothing any more, and a new
+    /// panel is to be opened.
+    pub fn is_lost(&self) -> bool
+        ensures { self.now.link.lost ≡ true → result ≡ true }
+    {
+        self.link.is_lost() || is_late(&self.link, self.end.now())
+    }
+
+    /// Whether a command that was waited for got no answer so far.
+    pub fn unanswered(&self) -> bool
+        ensures { result ≡ self.now.unanswered }
+    {
+        self.unanswered
+    }
+
+    /// Asks for one command, and waits for its answer. `Refused` where the link refuses it, so that it is never sent:
+    /// that changes nothing.
+    pub fn ask(&mut self, request: Request<'_>) -> Outcome
+        ensures { AsksIn (request_of request.entry) self.old self.new result }
+    {
+        match self.begin(request) {
+            Ok(handle) => self.finish(handle),
+            Err(fault) => Outcome::Refused(fault),
+        }
+    }
+
+    /// Submits a command and sends it at once, unless the link is found lost at that, and returns its handle. Refusals,
+    /// which change nothing: those of `begin` of `oca_control`.
+    pub fn begin(&mut self, request: Request<'_>) -> Result<Handle, ControlFault>
+        ensures { BeginsIn (request_of request.entry) result self.old self.new }
+    {
+        begin(&mut self.link, &mut self.end, request)
+    }
+
+    /// Waits for the answer under this handle. Where none comes in the panel's turns, the command stays in flight and
+    /// can be waited for again.
+    pub fn finish(&mut self, handle: Handle) -> Outcome
+        ensures { FinishesIn handle.0 self.old self.new result }
+    {
+        let outcome = wait_for(&mut self.link, &mut self.end, handle, self.turns);
+        self.unanswered = self.unanswered || is_nothing(&outcome);
+        outcome
+    }
+
+    /// How the command under this handle fared, where that is known without a turn; its answer is taken then. `None`
+    /// changes nothing.
+    pub fn try_finish(&mut self, handle: Handle) -> Option<Outcome>
+        ensures { MaySettle result handle.0 self.old self.new }
+    {
+        match wait_for(&mut self.link, &mut self.end, handle, 0) {
+            Outcome::Unanswered => None,
+            outcome => {
+                self.unanswered = self.unanswered || is_nothing(&outcome);
+                Some(outcome)
+            }
+        }
+    }
+}
+
+/// Whether no answer came.
+fn is_nothing(outcome: &Outcome) -> bool
+    ensures { result ≡ came_to_nothing outcome.now }
+{
+    match outcome {
+        Outcome::Answered(_) | Outcome::Refused(_) => false,
+        Outcome::Lost | Outcome::Unanswered => true,
+    }
+}

@@ -1,0 +1,225 @@
+//! A walk through the objects of a device.
+ghost use Rattle.std.specs.Prelude.{◌≡◌, ◌++◌, IfOk};
+ghost use Rattle.oca_model.specs.Members.{class_with};
+ghost use Rattle.oca_panel.specs.Outcomes.{on_ok};
+ghost use Rattle.oca_panel.specs.Walks.{Describes, Finds, FindsObject, StepsTo, is_block, is_visited, parts_of, places_of};
+
+use crate::panel::Panel;
+use crate::trouble::Trouble;
+use oca_model::{ClassFields, class_with};
+use oca_net::End;
+use oca_types::{Class, NoMemory, Ono, Text};
+use std::alloc::Global;
+use std::marker::Model;
+
+/// The root block (AES70-2).
+pub const ROOT: Ono = Ono(100);
+
+/// The most places that are visited: a device of the profile has at most 4,096 objects.
+pub const MOST_PLACES: usize = 4096;
+
+/// An object that a block lists, and that block: 0 for the root.
+#[derive(Clone, Copy, Debug, Default, PartialEq, Eq)]
+pub struct Place {
+    /// The object.
+    pub ono: Ono,
+    /// The block that lists it.
+    pub container: Ono,
+}
+
+/// What an object says of itself.
+#[derive(Debug, Drop)]
+pub struct Description {
+    /// The fields of its class's identifier.
+    pub fields: ClassFields,
+    /// Its role.
+    pub role: Text,
+}
+
+/// What was found at a place.
+#[derive(Debug, Drop)]
+pub enum Found {
+    /// An object that is no block.
+    Object(Description),
+    /// A block, and why its members are not listed where they are not.
+    Block(Description, Result<(), Trouble>),
+    /// An object that does not say what it is, and why.
+    Undescribed(Trouble),
+    /// An object that was visited before: it is not asked again.
+    Again,
+}
+
+/// A place, and what was found there.
+#[derive(Debug, Drop)]
+pub struct Visit {
+    /// The place.
+    pub place: Place,
+    /// What was found.
+    pub found: Found,
+}
+
+/// A walk through the objects of a device, from the root block on, each block's members behind it in their order. It
+/// asks each object once, for its class, its role and the members of a block, and sets nothing.
+#[derive(Drop)]
+pub struct Walk {
+    waiting: Vec<Place>,
+    visited: Vec<Ono>,
+}
+
+impl Model for Walk {
+    ghost use Rattle.oca_panel.specs.Walks.{WalkState};
+
+    ghost Value = { WalkState };
+
+    ghost view = { λ w. record { waiting = w.waiting.items; visited = w.visited.items } };
+}
+
+impl Walk {
+    ghost use Rattle.std.specs.Prelude.{◌≡◌, length, nat_lt, IfOk};
+    ghost use Rattle.oca_panel.specs.Walks.{StepsTo, begun_walk};
+
+    /// A walk that begins at the root block. Refusal: `NoMemory`.
+    pub fn new(alloc: Global) -> Result<Walk, NoMemory>
+        ensures { IfOk result (λ walk. walk ≡ begun_walk) }
+    {
+        let mut waiting = Vec::new(alloc);
+        let root = Place {
+            ono: ROOT,
+            container: Ono(0),
+        };
+        if waiting.push(root).is_err() {
+            return Err(NoMemory);
+        }
+        Ok(Walk {
+            waiting,
+            visited: Vec::new(alloc),
+        })
+    }
+
+    /// Visits the next object. `None` where none is left, or 4,096 places were visited: nothing is asked then. Refusal:
+    /// `NoMemory`, behind which the walk may leave objects out.
+    pub fn next<E: End>(&mut self, panel: &mut Panel<E>) -> Result<Option<Visit>, NoMemory>
+        ensures { IfOk result (λ found. StepsTo self.old panel.old panel.new found self.new) }
+    {
+        step(&mut self.waiting, &mut self.visited, panel)
+    }
+
+    /// Whether objects are left that were not visited.
+    pub fn is_unfinished(&self) -> bool
+        ensures { result ≡ nat_lt 0 (length self.now.waiting) }
+    {
+        !self.waiting.is_empty()
+    }
+}
+
+/// Visits the next place of those that wait, unless 4,096 were visited.
+fn step<E: End>(
+    waiting: &mut Vec<Place>,
+    visited: &mut Vec<Ono>,
+    panel: &mut Panel<E>,
+) -> Result<Option<Visit>, NoMemory>
+    ensures { IfOk result (λ found. StepsTo (record { waiting = waiting.old.items; visited = visited.old.items }) panel.old panel.new found (record { waiting = waiting.new.items; visited = visited.new.items })) }
+{
+    if visited.len() >= MOST_PLACES {
+        return Ok(None);
+    }
+    let Some(place) = waiting.pop() else {
+        return Ok(None);
+    };
+    let again = is_in(visited.as_slice(), place.ono);
+    if visited.push(place.ono).is_err() {
+        return Err(NoMemory);
+    }
+    match find(panel, place.ono, again, waiting) {
+        Ok(found) => Ok(Some(Visit { place, found })),
+        Err(NoMemory) => Err(NoMemory),
+    }
+}
+
+/// Whether the object is one of these.
+fn is_in(visited: &[Ono], ono: Ono) -> bool
+    ensures { result ≡ is_visited ono visited.now }
+{
+    visited.iter().any(|other| other.0 == ono.0)
+}
+
+/// Asks an object what it is, and a block for its members, which are put before all that wait; one that was visited
+/// before is asked nothing.
+fn find<E: End>(
+    panel: &mut Panel<E>,
+    ono: Ono,
+    again: bool,
+    waiting: &mut Vec<Place>,
+) -> Result<Found, NoMemory>
+    ensures { IfOk result (λ found. Finds again ono waiting.old.items panel.old panel.new found waiting.new.items) }
+{
+    if again {
+        return Ok(Found::Again);
+    }
+    match describe(panel, ono) {
+        Ok(description) => find_in(panel, ono, description, waiting),
+        Err(trouble) => Ok(Found::Undescribed(trouble)),
+    }
+}
+
+/// Asks an object for its class and its role.
+fn describe<E: End>(panel: &mut Panel<E>, ono: Ono) -> Result<Description, Trouble>
+    ensures { Describes ono.0 panel.old panel.new (on_ok parts_of result) }
+{
+    match panel.class_fields(ono) {
+        Ok(fields) => match panel.role(ono) {
+            Ok(role) => Ok(Description { fields, role }),
+            Err(trouble) => Err(trouble),
+        },
+        Err(trouble) => Err(trouble),
+    }
+}
+
+/// Whether these are the fields of a block's class identifier.
+fn are_of_block(fields: &[u16]) -> bool
+    ensures { result ≡ is_block (class_with fields.now) }
+{
+    match class_with(fields) {
+        Some(Class::Block) => true,
+        _ => false,
+    }
+}
+
+/// Asks a block for its members, which are put before all that wait.
+fn find_in<E: End>(
+    panel: &mut Panel<E>,
+    ono: Ono,
+    description: Description,
+    waiting: &mut Vec<Place>,
+) -> Result<Found, NoMemory>
+    ensures { IfOk result (λ found. FindsObject (is_block (class_with description.fields.items)) description ono waiting.old.items panel.old panel.new found waiting.new.items) }
+{
+    if !are_of_block(description.fields.as_slice()) {
+        return Ok(Found::Object(description));
+    }
+    match panel.members(ono) {
+        Ok(members) => match put_first(ono, members.as_slice(), waiting) {
+            Ok(()) => Ok(Found::Block(description, Ok(()))),
+            Err(NoMemory) => Err(NoMemory),
+        },
+        Err(trouble) => Ok(Found::Block(description, Err(trouble))),
+    }
+}
+
+/// Puts members before all that wait, in their order: the last place is visited first.
+fn put_first(container: Ono, members: &[u32], waiting: &mut Vec<Place>) -> Result<(), NoMemory>
+    ensures { IfOk result (λ u. waiting.new.items ≡ waiting.old.items ++ places_of container members.now) }
+{
+    let [first, rest @ ..] = members else {
+        return Ok(());
+    };
+    put_first(container, rest, waiting)?;
+    let place = Place {
+        ono: Ono(*first),
+        container,
+    };
+    match waiting.push(place) {
+        Ok(()) => Ok(()),
+        Err(_) => Err(NoMemory),
+    }
+}

@@ -1,0 +1,169 @@
+//! The forms of options, and what is said of an option whose value is not of its form.
+ghost use Rattle.std.specs.Prelude.{◌≡◌};
+ghost use Rattle.std.specs.List.{find};
+ghost use Rattle.std.specs.Option.{option_copied};
+ghost use Rattle.oca_program.specs.Options.{host_of, own_of, is_host as is_host_address, is_of, breaks as breaks_rule};
+ghost use Rattle.oca_program.specs.declared.fault.RunFault.TheVariants.{BadWords};
+
+use super::fault::{Failure, RunFault};
+use super::options::text_of;
+use clap::ArgMatches;
+use oca_script::field::{address, hex_bytes, number, peer};
+use oca_types::{MOST_COMMAND_PARAMETER_BYTES, Peer};
+use std::alloc::{AllocError, Global};
+
+/// The form of an option's value.
+#[derive(Clone, Copy, PartialEq, Eq, Debug)]
+pub enum Form {
+    /// A number of 1 to so many digits, from the one to the other.
+    Number {
+        digits: usize,
+        least: u64,
+        largest: u64,
+    },
+    /// The address of one host, 1.0.0.0 to 223.255.255.255, and a port that is not 0: `a.b.c.d:port`.
+    Host,
+    /// The address of one host, or 0.0.0.0: `a.b.c.d`.
+    Own,
+    /// Any address and port: `a.b.c.d:port`.
+    AnyPeer,
+    /// At most 1,445 bytes in hexadecimal, `-` for none.
+    Bytes,
+}
+
+/// An option's name, and the form of its value.
+#[derive(Clone, Copy, PartialEq, Eq, Debug)]
+pub struct Rule {
+    pub name: &'static str,
+    pub form: Form,
+}
+
+impl Form {
+    /// Whether a text is of this form.
+    pub fn takes(self, text: &[u8]) -> bool
+        ensures { result ≡ is_of self text.now }
+    {
+        match self {
+            Form::Number {
+                digits,
+                least,
+                largest,
+            } => match number(text, digits, largest) {
+                Some(n) => least <= n,
+                None => false,
+            },
+            Form::Host => host(text).is_some(),
+            Form::Own => own(text).is_some(),
+            Form::AnyPeer => peer(text).is_some(),
+            Form::Bytes => are_bytes(text),
+        }
+    }
+}
+
+/// Whether a text is at most 1,445 bytes in hexadecimal, or `-`.
+fn are_bytes(text: &[u8]) -> bool
+    ensures { result ≡ is_of Form.Bytes text.now }
+{
+    let mut room = [0u8; MOST_COMMAND_PARAMETER_BYTES];
+    text.len() <= 2 * MOST_COMMAND_PARAMETER_BYTES && hex_bytes(text, &mut room).is_some()
+}
+
+/// Whether an address is that of one host.
+fn is_host(ip: u32) -> bool
+    ensures { result ≡ is_host_address ip }
+{
+    0x0100_0000 <= ip && ip < 0xe000_0000
+}
+
+/// Where a device is.
+pub(crate) fn host(text: &[u8]) -> Option<Peer>
+    ensures { result ≡ host_of text.now }
+{
+    let at = peer(text)?;
+    if is_host(at.ip) && at.port != 0 {
+        Some(at)
+    } else {
+        None
+    }
+}
+
+/// The address of a socket.
+pub(crate) fn own(text: &[u8]) -> Option<u32>
+    ensures { result ≡ own_of text.now }
+{
+    let ip = address(text)?;
+    if ip == 0 || is_host(ip) {
+        Some(ip)
+    } else {
+        None
+    }
+}
+
+/// Whether an option is given whose value is not of its form.
+pub fn breaks(words: &ArgMatches<'_>, rule: &Rule) -> bool
+    ensures { result ≡ breaks_rule words.now rule.now }
+{
+    match text_of(words, rule.name) {
+        Some(text) => !rule.form.takes(text.as_bytes()),
+        None => false,
+    }
+}
+
+/// The first of these rules that the words break.
+pub fn first_broken<'r>(words: &ArgMatches<'_>, rules: &'r [Rule]) -> Option<&'r Rule>
+    ensures { option_copied result ≡ find (breaks_rule words.now) rules.now }
+{
+    rules.iter().find(|rule| breaks(words, rule))
+}
+
+/// Bad words: an option's value is not of its form. The note names the first such option of these rules with its value
+/// and its form; where there is none, it is the other text.
+pub fn bad_option(alloc: Global, words: &ArgMatches<'_>, rules: &[Rule], other: &str) -> Failure
+    ensures { result.fault ≡ BadWords }
+{
+    let Some(rule) = first_broken(words, rules) else {
+        return Failure::told(alloc, RunFault::BadWords, other);
+    };
+    match note_of(alloc, *rule, text_of(words, rule.name).unwrap_or("")) {
+        Ok(note) => Failure::noted(RunFault::BadWords, note),
+        Err(_) => Failure::from(RunFault::BadWords),
+    }
+}
+
+/// The most bytes of a value that a note repeats.
+const MOST_SHOWN: usize = 200;
+
+/// What is said of an option's value that is not of its form; one of more than 200 bytes is not repeated.
+fn note_of(alloc: Global, rule: Rule, value: &str) -> Result<String, AllocError> {
+    let name = rule.name;
+    let form = words_for(alloc, rule.form)?;
+    let form = form.as_str();
+    if value.len() > MOST_SHOWN {
+        return format!(in alloc; "--{name} is not of its form: {form}");
+    }
+    format!(in alloc; "--{name} {value} is not of its form: {form}")
+}
+
+/// A form in words.
+fn words_for(alloc: Global, form: Form) -> Result<String, AllocError> {
+    match form {
+        Form::Number {
+            digits,
+            least,
+            largest,
+        } => format!(in alloc; "1 to {digits} digits, {least} to {largest}"),
+        Form::Host => String::from_str(
+            alloc,
+            "A.B.C.D:PORT, the address of one host, 1.0.0.0 to 223.255.255.255, and a port from 1 to 65535",
+        ),
+        Form::Own => String::from_str(
+            alloc,
+            "A.B.C.D, the address of one host, 1.0.0.0 to 223.255.255.255, or 0.0.0.0",
+        ),
+        Form::AnyPeer => String::from_str(alloc, "A.B.C.D:PORT"),
+        Form::Bytes => String::from_str(
+            alloc,
+            "an even number of hexadecimal digits, 2 to 2890, or -",
+        ),
+    }
+}

@@ -1,0 +1,222 @@
+//! Values whose encodings have one length: integers of 8 to 64 bits, and the Boolean.
+ghost use Rattle.std.specs.Prelude.{◌≡◌, ◌+◌, ◌<◌, ◌↔◌, ℕ, length, IsErr, OnErr};
+ghost use Rattle.std.specs.Int.{w8, w16, w32, w64};
+ghost use Rattle.oca_types.specs.Putting.{Puts};
+ghost use Rattle.oca_types.specs.Sizes.{most_parameter_bytes};
+ghost use Rattle.oca_types.specs.Fixed.{Codec, IsFixed, unsigned, signed, boolean};
+ghost use Rattle.oca_types.specs.FixedNumbers.{fixed_u8, fixed_u16, fixed_u32, fixed_u64, fixed_i8, fixed_i16, fixed_i32, fixed_i64, fixed_bool};
+
+use crate::fault::PutFault;
+use crate::put::put_bytes;
+use crate::words::Params;
+
+/// A value whose encodings all have one length (AES70-3): an integer of 8 to 64 bits, the highest byte first, or a
+/// Boolean. [`Cursor::take`](crate::Cursor::take) reads it and `put` writes it.
+pub trait Field: Copy {
+    // How values of the type are encoded.
+    ghost codec: { Codec Self };
+
+    ghost SIZE: { ℕ };
+
+    /// How many bytes an encoding has.
+    const SIZE: usize;
+
+    /// The value that these bytes encode.
+    fn from_front(front: &[u8]) -> Self
+        requires { length front.now ≡ SIZE }
+        ensures { result ≡ codec.value_in front.now };
+
+    /// Appends the value (AES70-3). Refusal: `Full`, and the parameters are unchanged.
+    fn put(self, params: &mut Params) -> Result<(), PutFault>
+        ensures full { IsErr result ↔ (most_parameter_bytes < length params.old.items + SIZE) }
+        ensures puts { Puts result params.old.items params.new.items (codec.encoding self) }
+        ensures encodes { codec.IsEncoding self (codec.encoding self) }
+        ensures err { OnErr result (params.new ≡ params.old) };
+
+    // Every so many bytes encode one value, and reading gives it.
+    ghost fixed: { IsFixed codec SIZE };
+}
+
+impl Field for u8 {
+    ghost codec = { unsigned w8 };
+
+    ghost SIZE = { 1 };
+
+    ghost fixed = { fixed_u8 };
+
+    const SIZE: usize = 1;
+
+    /// The unsigned number of 8 bits that a byte encodes.
+    fn from_front(front: &[u8]) -> u8 {
+        front[0]
+    }
+
+    /// Appends the unsigned number of 8 bits. Refusal: `Full`.
+    fn put(self, params: &mut Params) -> Result<(), PutFault> {
+        put_bytes(params, &u8::to_be_bytes(self))
+    }
+}
+
+impl Field for u16 {
+    ghost codec = { unsigned w16 };
+
+    ghost SIZE = { 2 };
+
+    ghost fixed = { fixed_u16 };
+
+    const SIZE: usize = 2;
+
+    /// The unsigned number of 16 bits that these bytes encode, the highest first.
+    fn from_front(front: &[u8]) -> u16 {
+        u16::from_be_bytes([front[0], front[1]])
+    }
+
+    /// Appends the unsigned number of 16 bits. Refusal: `Full`.
+    fn put(self, params: &mut Params) -> Result<(), PutFault> {
+        put_bytes(params, &u16::to_be_bytes(self))
+    }
+}
+
+impl Field for u32 {
+    ghost codec = { unsigned w32 };
+
+    ghost SIZE = { 4 };
+
+    ghost fixed = { fixed_u32 };
+
+    const SIZE: usize = 4;
+
+    /// The unsigned number of 32 bits that these bytes encode, the highest first.
+    fn from_front(front: &[u8]) -> u32 {
+        u32::from_be_bytes([front[0], front[1], front[2], front[3]])
+    }
+
+    /// Appends the unsigned number of 32 bits. Refusal: `Full`.
+    fn put(self, params: &mut Params) -> Result<(), PutFault> {
+        put_bytes(params, &u32::to_be_bytes(self))
+    }
+}
+
+impl Field for u64 {
+    ghost codec = { unsigned w64 };
+
+    ghost SIZE = { 8 };
+
+    ghost fixed = { fixed_u64 };
+
+    const SIZE: usize = 8;
+
+    /// The unsigned number of 64 bits that these bytes encode, the highest first.
+    fn from_front(front: &[u8]) -> u64 {
+        u64::from_be_bytes([
+            front[0], front[1], front[2], front[3], front[4], front[5], front[6], front[7],
+        ])
+    }
+
+    /// Appends the unsigned number of 64 bits. Refusal: `Full`.
+    fn put(self, params: &mut Params) -> Result<(), PutFault> {
+        put_bytes(params, &u64::to_be_bytes(self))
+    }
+}
+
+impl Field for i8 {
+    ghost codec = { signed w8 };
+
+    ghost SIZE = { 1 };
+
+    ghost fixed = { fixed_i8 };
+
+    const SIZE: usize = 1;
+
+    /// The signed number of 8 bits that a byte encodes.
+    fn from_front(front: &[u8]) -> i8 {
+        i8::from_be_bytes([front[0]])
+    }
+
+    /// Appends the signed number of 8 bits. Refusal: `Full`.
+    fn put(self, params: &mut Params) -> Result<(), PutFault> {
+        put_bytes(params, &i8::to_be_bytes(self))
+    }
+}
+
+impl Field for i16 {
+    ghost codec = { signed w16 };
+
+    ghost SIZE = { 2 };
+
+    ghost fixed = { fixed_i16 };
+
+    const SIZE: usize = 2;
+
+    /// The signed number of 16 bits that these bytes encode, the highest first.
+    fn from_front(front: &[u8]) -> i16 {
+        i16::from_be_bytes([front[0], front[1]])
+    }
+
+    /// Appends the signed number of 16 bits. Refusal: `Full`.
+    fn put(self, params: &mut Params) -> Result<(), PutFault> {
+        put_bytes(params, &i16::to_be_bytes(self))
+    }
+}
+
+impl Field for i32 {
+    ghost codec = { signed w32 };
+
+    ghost SIZE = { 4 };
+
+    ghost fixed = { fixed_i32 };
+
+    const SIZE: usize = 4;
+
+    /// The signed number of 32 bits that these bytes encode, the highest first.
+    fn from_front(front: &[u8]) -> i32 {
+        i32::from_be_bytes([front[0], front[1], front[2], front[3]])
+    }
+
+    /// Appends the signed number of 32 bits. Refusal: `Full`.
+    fn put(self, params: &mut Params) -> Result<(), PutFault> {
+        put_bytes(params, &i32::to_be_bytes(self))
+    }
+}
+
+impl Field for i64 {
+    ghost codec = { signed w64 };
+
+    ghost SIZE = { 8 };
+
+    ghost fixed = { fixed_i64 };
+
+    const SIZE: usize = 8;
+
+    /// The signed number of 64 bits that these bytes encode, the highest first.
+    fn from_front(front: &[u8]) -> i64 {
+        i64::from_be_bytes([
+            front[0], front[1], front[2], front[3], front[4], front[5], front[6], front[7],
+        ])
+    }
+
+    /// Appends the signed number of 64 bits. Refusal: `Full`.
+    fn put(self, params: &mut Params) -> Result<(), PutFault> {
+        put_bytes(params, &i64::to_be_bytes(self))
+    }
+}
+
+impl Field for bool {
+    ghost codec = { boolean };
+
+    ghost SIZE = { 1 };
+
+    ghost fixed = { fixed_bool };
+
+    const SIZE: usize = 1;
+
+    /// The Boolean that a byte encodes: 0 is false, any other is true (*profile*).
+    fn from_front(front: &[u8]) -> bool {
+        front[0] != 0
+    }
+
+    /// Appends the Boolean, as 0 or 1. Refusal: `Full`.
+    fn put(self, params: &mut Params) -> Result<(), PutFault> {
+        put_bytes(params, &[u8::from(self)])
+    }
+}

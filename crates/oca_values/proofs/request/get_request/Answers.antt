@@ -1,6 +1,0 @@
-use Rattle.std.proofs.Common.{◌≡◌, sym, ◌∙◌}
-use Rattle.oca_values.proofs.Pairs.{has_get}
-use Rattle.oca_values.proofs.request.get_request.Goals as goal
-
-pub unreachable-requires : goal.unreachable-requires
-unreachable-requires c = has_get c.args.class c.in_ok-get_method.field-0 (sym c.in_ok-get_method.ensures) c.in_default.ensures.only

@@ -1,6 +1,0 @@
-use Rattle.std.proofs.Common.{◌≡◌}
-use Rattle.oca_values.proofs.Pairs.{has_set}
-use Rattle.oca_values.proofs.request.set_request.Goals as goal
-
-pub unreachable-requires : goal.unreachable-requires
-unreachable-requires c = has_set c.args.value (rw (← c.class.ensures, ← c.set_method.ensures) c.in_default.ensures.only)

@@ -1,4 +1,0 @@
-pub mod Values
-pub mod Words
-pub mod Answers
-pub mod Laws

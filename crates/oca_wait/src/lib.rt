@@ -1,0 +1,67 @@
+//! Waiting for two descriptors at once: for bytes of an input, and for whatever comes in beside it.
+//!
+//! A program that is to act while it awaits input waits by [`wait_for`], and reads only where that says that there is
+//! something. What the system's `poll` does is trusted: that it waits no longer than it is asked to, and that a read
+//! of a descriptor of which it says so does not wait. No clause speaks of either.
+#![tactic(auto)]
+
+ghost use Rattle.std.specs.Prelude.{◌≡◌, IfOk, None, false};
+
+use libc::net::{POLLIN, poll};
+use libc::types::pollfd;
+use std::io;
+use std::os::fd::RawFd;
+
+/// A descriptor that the system does not look at.
+const NO_DESCRIPTOR: RawFd = -1;
+
+/// Which of two descriptors has something: bytes, its end, or an error, which the next call on it tells at once.
+#[derive(Clone, Copy, Debug, PartialEq, Eq)]
+pub struct Ready {
+    pub input: bool,
+    pub beside: bool,
+}
+
+/// Waits at most so many milliseconds until one of the descriptors has something, and tells which. A file and the null
+/// device always have. Where there is neither, it waits that long. A signal may end the wait early; then neither has.
+/// The system's error where it can't wait, as where a program may have no descriptors open.
+pub fn wait_for(input: Option<RawFd>, beside: Option<RawFd>, milliseconds: u64) -> io::Result<Ready>
+    ensures input { IfOk result (λ ready. input ≡ None → ready.input ≡ false) }
+    ensures beside { IfOk result (λ ready. beside ≡ None → ready.beside ≡ false) }
+{
+    let mut asked = [question(input), question(beside)];
+    let most = i32::try_from(milliseconds).unwrap_or(i32::MAX);
+    if poll(&mut asked, most) < 0 {
+        let error = io::Error::from_raw_os_error(os::errno());
+        if error.kind() == io::ErrorKind::Interrupted {
+            return Ok(Ready {
+                input: false,
+                beside: false,
+            });
+        }
+        return Err(error);
+    }
+    Ok(Ready {
+        input: input.is_some() && asked[0].revents != 0,
+        beside: beside.is_some() && asked[1].revents != 0,
+    })
+}
+
+/// Whether this descriptor is a terminal.
+pub fn is_terminal(descriptor: RawFd) -> bool {
+    libc::isatty(descriptor) == 1
+}
+
+/// Whether the program is in the foreground of this terminal. In the background a read of it stops the program.
+pub fn is_in_foreground(terminal: RawFd) -> bool {
+    libc::tcgetpgrp(terminal) == libc::getpgrp()
+}
+
+/// Asks for bytes that can be read.
+fn question(descriptor: Option<RawFd>) -> pollfd {
+    pollfd {
+        fd: descriptor.unwrap_or(NO_DESCRIPTOR),
+        events: POLLIN,
+        revents: 0,
+    }
+}

@@ -1,0 +1,127 @@
+//! An end that remembers when a peer was last heard.
+ghost use Rattle.std.specs.Prelude.{◌≡◌};
+ghost use Rattle.ocactl_cli.specs.Reasons.{heard_after};
+
+use oca_net::{End, Heard};
+use oca_types::{Packet, Peer};
+use std::marker::Model;
+
+/// An end, and the moment of the last datagram that it delivered from a peer, in milliseconds.
+pub struct Watched<E: End> {
+    end: E,
+    peer: Peer,
+    heard: Option<u64>,
+}
+
+impl<E: End> Model for Watched<E> {
+    ghost use Rattle.ocactl_cli.specs.Reasons.{WatchState};
+
+    ghost Value = { WatchState };
+
+    ghost view = { λ w. record { end_state = E.state w.end; peer = w.peer; heard = w.heard } };
+}
+
+impl<E: End + Drop> Drop for Watched<E> {
+    /// Lets the end go.
+    fn drop(self) {
+        let Watched {
+            end: _,
+            peer: _,
+            heard: _,
+        } = self;
+    }
+}
+
+impl<E: End> Watched<E> {
+    ghost use Rattle.std.specs.Prelude.{◌≡◌, None};
+
+    /// An end of which nothing was heard from the peer so far.
+    pub fn new(end: E, peer: Peer) -> Watched<E>
+        ensures { result ≡ record { end_state = E.state end; peer = peer; heard = None } }
+    {
+        Watched {
+            end,
+            peer,
+            heard: None,
+        }
+    }
+
+    /// The end.
+    pub fn end(&self) -> &E
+        ensures { E.state result.now ≡ self.now.end_state }
+    {
+        &self.end
+    }
+
+    /// When the peer was last heard, where it was.
+    pub fn heard(&self) -> Option<u64>
+        ensures { result ≡ self.now.heard }
+    {
+        self.heard
+    }
+
+    /// Begins anew: the peer was not heard so far.
+    pub fn forget(&mut self)
+        ensures { self.new ≡ record self.old { heard = None } }
+    {
+        self.heard = None;
+    }
+}
+
+impl<E: End> End for Watched<E> {
+    ghost use Rattle.std.specs.Prelude.{◌≡◌, ◌≤◌, ◌<◌, IfSome, length};
+    ghost use Rattle.oca_net.specs.Ends.{largest_datagram};
+    ghost use Rattle.oca_net.specs.EndStates.{Receives, Sends};
+    ghost use Rattle.ocactl_cli.specs.Reasons.{heard_after, state_watched};
+
+    ghost state = { state_watched };
+
+    /// Receives once, and remembers the moment of a datagram from the peer.
+    fn receive(&mut self, packet: &mut Packet) -> Heard
+        ensures end { Receives result packet.new.items self.old.end_state self.new.end_state }
+        ensures peer { self.new.peer ≡ self.old.peer }
+        ensures heard { self.new.heard ≡ heard_after result self.old.peer self.old.heard }
+    {
+        let heard = self.end.receive(packet);
+        self.heard = heard_behind(heard, self.peer, self.heard);
+        heard
+    }
+
+    /// As `receive`, until this moment of the end's at most.
+    fn receive_by(&mut self, packet: &mut Packet, moment: u64) -> Heard
+        ensures end { Receives result packet.new.items self.old.end_state self.new.end_state }
+        ensures peer { self.new.peer ≡ self.old.peer }
+        ensures heard { self.new.heard ≡ heard_after result self.old.peer self.old.heard }
+    {
+        let heard = self.end.receive_by(packet, moment);
+        self.heard = heard_behind(heard, self.peer, self.heard);
+        heard
+    }
+
+    /// The end's present moment.
+    fn now(&self) -> u64
+        ensures { 0 < result → IfSome self.now.end_state.moment (λ m. m ≤ result) }
+    {
+        self.end.now()
+    }
+
+    /// Sends a datagram.
+    fn send(&mut self, to: Peer, bytes: &[u8]) -> bool
+        requires { length bytes.now ≤ largest_datagram }
+        ensures end { Sends result to bytes.now self.old.end_state self.new.end_state }
+        ensures peer { self.new.peer ≡ self.old.peer }
+        ensures heard { self.new.heard ≡ self.old.heard }
+    {
+        self.end.send(to, bytes)
+    }
+}
+
+/// The moment of the last datagram from the peer, behind a receive.
+fn heard_behind(heard: Heard, peer: Peer, before: Option<u64>) -> Option<u64>
+    ensures { result ≡ heard_after heard peer before }
+{
+    match heard {
+        Heard::Datagram { from, now } => { if from == peer { Some(now) } else { before } }
+        Heard::Quiet { .. } | Heard::Oversize { .. } | Heard::Failed | Heard::Closed => before,
+    }
+}

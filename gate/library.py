@@ -1,0 +1,43 @@
+#!/usr/bin/env python3
+"""Proves the library for C with the crates below it, and builds it for a kind of processor.
+
+Usage: library.py [TARGET [CPU]]     TARGET is x86_64-unknown-linux-gnu or aarch64-unknown-linux-gnu
+
+Writes crates/oca_c/out/TARGET/liboca_c.a, for every processor of that kind unless CPU names one (x86-64-v2, x86-64-v3;
+neoverse-v2). Crates that the gate has just proved and left are taken as they are, others are built over kept work."""
+import os
+import sys
+from pathlib import Path
+
+sys.path.insert(0, str(Path(__file__).resolve().parent))
+import build
+
+LEAST = {"x86_64-unknown-linux-gnu": "x86-64", "aarch64-unknown-linux-gnu": "generic"}
+
+
+def is_left_by_the_gate(crate):
+    """Whether the crate's library is one that `rt ci` left: it is there, without the stamp of a check that keeps its work."""
+    return os.path.isdir(crate.rlib) and not os.path.exists(f"{os.path.dirname(crate.rlib)}/stamp")
+
+
+def main():
+    target = sys.argv[1] if len(sys.argv) > 1 else "x86_64-unknown-linux-gnu"
+    if target not in LEAST or len(sys.argv) > 3:
+        sys.exit(__doc__)
+    cpu = sys.argv[2] if len(sys.argv) > 2 else LEAST[target]
+    rt = build.toolchain()
+    os.chdir(build.TOP)
+    crate = {it.name: it for it in rt.rtlib.crates_below(str(build.TOP))}["oca_c"]
+    held = rt.rtlib.lock([*crate.below(), crate])
+    if not all(map(is_left_by_the_gate, crate.below())) and not build.build_libraries(rt, set(crate.below())):
+        return 1
+    os.makedirs(f"{crate.folder}/out/{target}", exist_ok=True)
+    words = ["--jobs", str(rt.processors()), "--target", target, "--cpu", cpu]
+    status = crate.compile(words, f"{crate.folder}/out/{target}/liboca_c.a")
+    for it in held:
+        os.close(it)
+    return status
+
+
+if __name__ == "__main__":
+    sys.exit(main())

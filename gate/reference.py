@@ -1,0 +1,87 @@
+#!/usr/bin/env python3
+"""The manual pages of the library for C, a page for each call, made from the comments of include/oca.h.
+
+Usage: reference.py FOLDER     writes NAME.3 for each call into FOLDER
+
+A comment stands for the declarations that follow it, up to the next empty line. A page has the declaration of its call, the
+enums and structs that are declared beside it or named in it, what the comment says, and what the header says of all calls."""
+import re
+import sys
+from pathlib import Path
+
+HEADER = Path(__file__).resolve().parent.parent / "include/oca.h"
+CALL = r"^(?:static inline )?(?:(?:enum|struct) oca_\w+|const char|u?int\d+_t|size_t|void) \*?(oca_\w+)\([^)]*\)"
+
+
+# On each page anyway; and what the header's own functions call, which has no page.
+NAMED_ANYWAY = ("struct oca_device", "struct oca_link", "enum oca_result")
+HELPERS = {"oca_device_close_any", "oca_link_close_any"}
+
+
+def comment_in(text):
+    """The text of the comments, as one paragraph."""
+    parts = re.findall(r"/\*(.*?)\*/", text, re.S)
+    return " ".join(" ".join(re.sub(r"^ \* ?", "", line).strip() for line in part.splitlines()) for part in parts).strip()
+
+
+def declarations(text):
+    """The calls that a paragraph of the header declares, each with its declaration, and its enums and structs by name."""
+    calls = {found[1]: found[0] + ";" for found in re.finditer(CALL, text, re.M) if found[1] not in HELPERS}
+    types = {found[1]: found[0] for found in re.finditer(r"^((?:struct|enum) oca_\w+) \{[^}]*\};", text, re.M)}
+    return calls, types
+
+
+def paragraphs(header):
+    """The paragraphs of the header that declare something: what is said, the calls, the types."""
+    body = header[header.index("#define OCA_H"):]
+    for text in re.split(r"\n\s*\n", body):
+        calls, types = declarations(text)
+        if calls or types:
+            front = re.match(r"(\s*/\*.*?\*/)*", text, re.S)[0]
+            yield comment_in(front), calls, types
+
+
+def pages(header):
+    """What a page has, by the name of its call: what is said of it, its declaration, the types that it names."""
+    general = comment_in(header[:header.index("#ifndef OCA_H")])
+    read = list(paragraphs(header))
+    types = {name: (said, of) for said, _, its in read for name, of in its.items()}
+    found = {}
+    for said, calls, _ in read:
+        for name, declared in calls.items():
+            named = [types[it] for it in types if re.search(rf"\b{it}\b", declared) and it not in NAMED_ANYWAY]
+            more = [about for about, _ in named if about != said]
+            found[name] = ("\n.PP\n".join(map(roff, [said, *more])), declared, [of for _, of in named])
+    return found, general, types["enum oca_result"][1]
+
+
+def roff(text):
+    """Text as troff has it: no line begins with a control character."""
+    safe = text.replace("\\", "\\\\").replace("-", "\\-")
+    return re.sub(r"^([.'])", r"\\&\1", safe, flags=re.M)
+
+
+def page(name, said, declared, types, general, results, version):
+    about = said.split("\n")[0].split(". ")[0].split("; ")[0].rstrip(".")
+    parts = [f'.TH {name} 3 "" "oca {version}" "OCA (AES70) for C"', ".SH NAME", f"{name} \\- {about}", ".SH SYNOPSIS", ".nf", "#include <oca.h>", "",
+             *[roff(of) + "\n" for of in types], roff(declared), ".fi", ".SH DESCRIPTION", said]
+    if "enum oca_result oca_" in declared:
+        parts += [".SH RETURN VALUE", ".nf", roff(results), ".fi"]
+    return "\n".join([*parts, ".SH NOTES", roff(general), ""])
+
+
+def write(folder):
+    header = HEADER.read_text()
+    number = int(re.search(r"OCA_VERSION 0x(\w+)u", header)[1], 16)
+    version = f"{number >> 16}.{number >> 8 & 255}.{number & 255}"
+    found, general, results = pages(header)
+    folder.mkdir(parents=True, exist_ok=True)
+    for name, (said, declared, types) in found.items():
+        (folder / f"{name}.3").write_text(page(name, said, declared, types, general, results, version))
+    return found
+
+
+if __name__ == "__main__":
+    if len(sys.argv) != 2:
+        sys.exit(__doc__)
+    print(f"{len(write(Path(sys.argv[1])))} pages")

@@ -1,0 +1,36 @@
+"""Ports of steps that run side by side: the two that `ocactl` takes by turns where it is given none, for which who runs `ocactl` at its own
+ports, or holds one of them, is alone; and ports to give it, which the system chooses for nobody.
+
+No step of the gate."""
+import contextlib
+import fcntl
+import os
+import random
+import socket
+import tempfile
+import time
+
+
+def by_turns():
+    """The port whose turn it is, and the other one."""
+    turn = int(time.time() * 100000) // 2**31 % 2
+    return (65002, 65001) if turn else (65001, 65002)
+
+
+@contextlib.contextmanager
+def alone():
+    """While this lasts no other tool is in it."""
+    with open(os.path.join(tempfile.gettempdir(), f"oca-own-ports-{os.getuid()}"), "w", encoding="ascii") as file:
+        fcntl.flock(file, fcntl.LOCK_EX)
+        yield
+
+
+def free_port():
+    """A port of this machine that nobody has. It lies below those that the system chooses, so that it stays free while it is not bound."""
+    with open("/proc/sys/net/ipv4/ip_local_port_range", encoding="ascii") as file:
+        least = int(file.read().split()[0])
+    while True:
+        port = random.SystemRandom().randrange(10000, max(least, 20000))
+        with socket.socket(socket.AF_INET, socket.SOCK_DGRAM) as s, contextlib.suppress(OSError):
+            s.bind(("0.0.0.0", port))
+            return port
