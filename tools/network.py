@@ -69,6 +69,17 @@ class Checks:
     def __init__(self, folder, layer):
         self.folder, self.layer, self.passed, self.failed, self.runs = folder, layer, 0, 0, []
 
+    def part(self, part):
+        """Runs a part: what fails is tried twice more, the whole part, since a machine that stands still for a second or two is no
+        fault of the programs. A part that fails three times has failed."""
+        for left in (2, 1, 0):
+            passed, failed = self.passed, self.failed
+            part(self)
+            if self.failed == failed or not left:
+                return
+            print(f"once more: {part.__name__}: {self.failed - failed} checks failed", flush=True)
+            self.passed, self.failed = passed, failed
+
     def expect(self, what, good, told=""):
         if good:
             self.passed += 1
@@ -256,7 +267,7 @@ def main():
         checks = Checks(os.path.abspath(sys.argv[1]), layer)
         try:
             for part in (closed_descriptors, quiet_turns, signals, refused_sends, a_stalled_neighbour, calls_in_a_row, other_addresses):
-                part(checks)
+                checks.part(part)
         finally:
             for run in checks.runs:
                 if run.poll() is None:
