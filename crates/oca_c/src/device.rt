@@ -15,11 +15,15 @@ ghost use Rattle.oca_c.specs.Numbers.{answer_number};
 ghost use Rattle.oca_c.specs.Calls.{AddedBy, AddsSo, Builds, Runs, Starts, SwitchAddedBy, IsSize, root_alone, set_answers};
 ghost use Rattle.oca_model.specs.declared.value.Value.{Value};
 ghost use Rattle.oca_c.specs.CValues.{AreWordsOf, SetsTo};
+ghost use Rattle.oca_c.specs.CSpecs.{SpecAddedBy, TellsSpec};
 ghost use Rattle.oca_c.specs.Told.{TellsLock, TellsNextLapse, TellsObject, TellsSetting, TellsWords, put_words, verdict_words};
 
 use crate::answer::Answer;
 use crate::name::{MOST_POSITIONS, Name, texts_of};
 use crate::reading::Reading;
+use crate::spec_adding::add_spec;
+use crate::spec_telling::tell_spec;
+use crate::spec_words::SpecWords;
 use crate::value_words::{ValueWords, local_of};
 use crate::words::{lock_number, object_words, put_numbers, put_words, words_of};
 use oca_device::{Device, Outbox};
@@ -44,6 +48,13 @@ impl DeviceBehind {
         let Ok(builder) = TreeBuilder::with_room(alloc, room) else {
             return None;
         };
+        DeviceBehind::over(alloc, builder)
+    }
+
+    /// The objects that were built, and nothing else yet; nothing where memory was refused.
+    pub fn over(alloc: Global, builder: TreeBuilder) -> Option<DeviceBehind>
+        ensures { IfSome result (λ behind. Builds behind builder) }
+    {
         match Outbox::new(alloc) {
             Ok(outbox) => Some(DeviceBehind {
                 builder: Some(builder),
@@ -107,6 +118,18 @@ impl DeviceBehind {
             position,
         };
         self.add(container, ono, role, lockable, kind)
+    }
+
+    /// Adds an object that a struct describes, before the start.
+    pub fn add_spec(&mut self, container: u32, ono: u32, words: &SpecWords) -> Answer
+        ensures adds { (B : Store) → Builds self.old B →
+            (B' : Store) × Builds self.new B' × SpecAddedBy result B B' container ono words.now }
+        ensures started { self.old.builder ≡ None → (result ≡ Started) × (self.new ≡ self.old) }
+    {
+        let Some(builder) = &mut self.builder else {
+            return Answer::Started;
+        };
+        add_spec(builder, container, ono, words)
     }
 
     /// Makes the device of the objects, with reply windows of this size and sessions of so many peers.
@@ -293,6 +316,18 @@ impl DeviceBehind {
         put_words(&object_words(&object), told);
         put_words(object.role.as_str().as_bytes(), role);
         Answer::Done
+    }
+
+    /// Tells of the object at this index all that an addition makes of it.
+    pub fn spec(&self, index: usize, told: &mut SpecWords) -> Answer
+        ensures told { (w : DeviceSizes) (T : List Object) (E : List Event) → Runs w self.now T E →
+            TellsSpec (state_after w T E).tree (info_at (state_after w T E).tree index) told.old told.new (answer_number result) }
+        ensures building { self.now.device ≡ None → (result ≡ NotStarted) × (told.new ≡ told.old) }
+    {
+        let Some(device) = &self.device else {
+            return Answer::NotStarted;
+        };
+        tell_spec(device.tree(), index, told)
     }
 
     /// Tells of an object's lock what it keeps other peers from, and its holder.
