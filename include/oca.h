@@ -287,7 +287,8 @@ enum oca_result oca_device_add_uint64(struct oca_device *device, uint32_t contai
 enum oca_result oca_device_add_switch(struct oca_device *device, uint32_t container, uint32_t ono, const uint8_t *role, size_t role_len, bool lockable, const struct oca_name *names, size_t names_len, uint16_t position) OCA_CHECKED;
 
 /* Starts the device, with reply windows of this size (1 to 64; 32 is usual) and sessions of so many peers (1 to 64; 16 is usual).
- * OCA_NO_MEMORY loses the objects: close the struct, and begin anew. */
+ * Where it is started already it is OCA_STARTED, whatever is asked for. OCA_NO_MEMORY loses the objects: close the struct, and begin
+ * anew. */
 enum oca_result oca_device_start(struct oca_device *device, uint8_t window, uint8_t peers) OCA_CHECKED;
 
 /* What became of a datagram. `kind` is 0 for one that was served, with how many of its commands were executed, were duplicates, were
@@ -301,7 +302,8 @@ static inline enum oca_result oca_device_datagram(struct oca_device *device, uin
     return oca_device_datagram_words(device, ip, port, bytes, len, now, &verdict->kind, sizeof *verdict / sizeof verdict->kind);
 }
 
-/* How many packets the last datagram's answers are, and the bytes of each, by its index from 0: OCA_NOTHING behind the last. */
+/* How many packets the last datagram's answers are (none before the first datagram), and the bytes of each, by its index from 0: OCA_NOTHING
+ * behind the last. */
 enum oca_result oca_device_packets(struct oca_device *device, size_t *count) OCA_NONNULL;
 enum oca_result oca_device_packet(struct oca_device *device, size_t i, uint8_t *out, size_t out_len, size_t *len) OCA_NONNULL;
 
@@ -396,6 +398,10 @@ enum oca_result oca_link_next_due(struct oca_link *link, uint64_t *moment) OCA_N
 
 /* The lowest handle whose answer came and was not taken yet; OCA_NOTHING where there is none. */
 enum oca_result oca_link_answered(struct oca_link *link, uint32_t *handle) OCA_NONNULL;
+
+/* The handle that the next command gets: a link that is opened after this one to the same device begins there or above. OCA_NOTHING
+ * after the last one, 4294967295. */
+enum oca_result oca_link_next_handle(struct oca_link *link, uint32_t *handle) OCA_NONNULL;
 
 /* The moment at which the last well-formed datagram came from the device, and at first that of the opening. */
 enum oca_result oca_link_last_heard(struct oca_link *link, uint64_t *moment) OCA_NONNULL;

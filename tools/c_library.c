@@ -93,6 +93,7 @@ static void closed_link(struct oca_link *l) {
     same("closed: link datagram", oca_link_datagram(l, 1, 2, muted, sizeof muted, 0, &a, &b), OCA_CLOSED);
     same("closed: next due", oca_link_next_due(l, &moment), OCA_CLOSED);
     same("closed: answered", oca_link_answered(l, &a), OCA_CLOSED);
+    same("closed: next handle", oca_link_next_handle(l, &a) == OCA_CLOSED && a == 0, 1);
     same("closed: last heard", oca_link_last_heard(l, &moment), OCA_CLOSED);
     bool lost = true;
     same("closed: is lost", oca_link_is_lost(l, &lost), OCA_CLOSED);
@@ -267,6 +268,8 @@ static void device(void) {
     same("setting before the start", oca_device_setting(&d, 4097, &s), OCA_NOT_STARTED);
     same("state before the start", oca_device_set_state(&d, 4097, 1), OCA_NOT_STARTED);
     same("written before the start", oca_device_written(&d, words, 2, &size), OCA_NOT_STARTED);
+    same("packets before the start", oca_device_packets(&d, &size) == OCA_NOT_STARTED && size == 99, 1);
+    same("packet before the start", oca_device_packet(&d, 0, bytes, sizeof bytes, &size) == OCA_NOT_STARTED && size == 99, 1);
     same("objects before the start", oca_device_objects(&d, &size), OCA_NOT_STARTED);
     same("object before the start", oca_device_object(&d, 0, &o), OCA_NOT_STARTED);
     same("lock before the start", oca_device_lock(&d, 4097, &kind, &ip, &port), OCA_NOT_STARTED);
@@ -295,7 +298,8 @@ static void device(void) {
     same("65 peers", oca_device_start(&d, 32, 65), OCA_BAD_SIZE);
     same("start", oca_device_start(&d, 32, 16), OCA_DONE);
     same("start again", oca_device_start(&d, 32, 16), OCA_STARTED);
-    same("a window of 0 after the start", oca_device_start(&d, 0, 16), OCA_BAD_SIZE);
+    same("a window of 0 after the start", oca_device_start(&d, 0, 16), OCA_STARTED);
+    same("no packets before the first datagram", oca_device_packets(&d, &size) == OCA_DONE && size == 0, 1);
     same("an addition after the start", oca_device_add_block(&d, 100, 5000, text("late"), 4, true), OCA_STARTED);
     same("a switch after the start", oca_device_add_switch(&d, 100, 5000, text("late"), 4, true, positions, 3, 0), OCA_STARTED);
     same("no session to lapse", oca_device_next_lapse(&d, &moment), OCA_NOTHING);
@@ -659,9 +663,11 @@ static void link(void) {
     same("answered", oca_link_answered(&l, &a), OCA_NOTHING);
     same("last heard", oca_link_last_heard(&l, &moment), OCA_DONE);
     same("at the opening", moment == 0, 1);
+    same("the first handle is next", oca_link_next_handle(&l, &a) == OCA_DONE && a == 1, 1);
     same("above 1,445 bytes", oca_link_submit(&l, 4097, 4, 1, 0, bytes, 1446, 0, &handle), OCA_TOO_LONG);
     same("submit", oca_link_submit(&l, 4097, 4, 1, 0, bytes, 0, 0, &handle), OCA_DONE);
     same("its handle", handle, 1);
+    same("the second is next", oca_link_next_handle(&l, &a) == OCA_DONE && a == 2, 1);
     same("due at once", oca_link_next_due(&l, &moment) == OCA_DONE && moment == 0, 1);
     same("a full span", oca_link_submit(&l, 4097, 4, 1, 0, bytes, 0, 0, &handle), OCA_SPAN_FULL);
     same("no room", oca_link_due(&l, 0, bytes, sizeof bytes - 1, &size, &a, &b), OCA_TOO_SMALL);
@@ -705,6 +711,7 @@ static void link(void) {
     oca_link_close(&l);
     same("the last handle", oca_link_open(&l, 1, 2, UINT32_MAX, 0, 16), OCA_DONE);
     same("submit the last", oca_link_submit(&l, 4097, 4, 1, 0, bytes, 0, 0, &handle), OCA_DONE);
+    same("no handle is next", oca_link_next_handle(&l, &a), OCA_NOTHING);
     same("none is left", oca_link_submit(&l, 4097, 4, 1, 0, bytes, 0, 0, &handle), OCA_HANDLES_SPENT);
     oca_link_close(&l);
     closed_link(&l);

@@ -3,10 +3,11 @@
 
 Usage: c_library.py BIN     BIN is the folder with `ocadev` and `ocactl`; the library is proved and built
 
-The two programs of examples/c are compiled as C11 and as C++17 with -Wall -Wextra -Werror from what `make install` installs, by the
+Device and panel of examples/c are compiled as C11 and as C++17 with -Wall -Wextra -Werror from what `make install` installs, by the
 flags of oca.pc (the former with the shared library, the latter with the static one) and by CMake, and run against each other and
 against `ocadev` and `ocactl`, also under valgrind, for AArch64 under emulation, and on an emulated x86-64 of the first kind; what
-is not installed here is named as NOT TRIED. Each call is tried on a closed handle and at its limits (c_library.c). Each request
+is not installed here is named as NOT TRIED. The mixer is killed and started anew behind a network that loses one datagram of five, as
+it is and under the sanitizers. Each call is tried on a closed handle and at its limits (c_library.c). Each request
 for memory is refused in turn. Header and library name the same functions, and the library needs what EMBEDDING names. What is
 installed lies below its folder, also with a space in its name or a relative one, and `make uninstall` leaves nothing of it. The
 last line is 'N passed, M failed'."""

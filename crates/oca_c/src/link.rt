@@ -143,6 +143,19 @@ impl LinkBehind {
         }
     }
 
+    /// Tells the handle that the next command gets.
+    pub fn next_handle(&self, handle: &mut u32) -> u32
+        ensures { TellsNumber result handle.new self.now.link.next }
+    {
+        match self.link.next_handle() {
+            Some(next) => {
+                *handle = next.0;
+                Answer::Done.number()
+            }
+            None => Answer::Nothing.number(),
+        }
+    }
+
     /// Tells when the device was heard last.
     pub fn last_heard(&self, moment: &mut u64) -> u32
         ensures { (result ≡ 0) × (moment.new ≡ self.now.link.heard) }

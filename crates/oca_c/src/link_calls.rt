@@ -190,6 +190,25 @@ pub extern "C" fn oca_link_answered(
     number
 }
 
+/// Tells the handle that the next command gets.
+#[unsafe(no_mangle)]
+pub extern "C" fn oca_link_next_handle(
+    alloc: Global,
+    handle: &mut LinkHandle,
+    command: &mut u32,
+) -> u32
+    ensures closed { RefusesClosed handle.old.slot.inner handle.new.slot.inner result }
+    ensures kept { handle.new.slot.inner ≡ handle.old.slot.inner }
+    ensures told { IfSome handle.old.slot.inner (λ b. TellsNumber result command.new b.link.next) }
+{
+    let Some(behind) = handle.take(alloc) else {
+        return Answer::Closed.number();
+    };
+    let number = behind.next_handle(command);
+    handle.put(behind);
+    number
+}
+
 /// Tells when the last well-formed datagram came from the device.
 #[unsafe(no_mangle)]
 pub extern "C" fn oca_link_last_heard(
