@@ -198,11 +198,11 @@ def desk(front):
             (4195, 2, 1, b"\0"), (4211, 4, 3, b"\0\3DAT"), (4211, 4, 9, b"\0\3\1\0\1")]
 
 
-def a_mixer(checks, made, name):
+def a_mixer(checks, made, name, before=()):
     """The mixer of examples/c: what panels and its front set, with one datagram of five lost, is there after a kill and a restart; a file
     that cannot be written stays as it was, and one that is broken is refused."""
     kept, program = made / f"kept of {name}", made / f"mixer-{name}"
-    start = lambda seconds: subprocess.Popen([program, kept, "0", str(seconds)], stdin=subprocess.PIPE, stdout=subprocess.PIPE, stderr=subprocess.PIPE, text=True)
+    start = lambda seconds: subprocess.Popen([*before, program, kept, "0", str(seconds)], stdin=subprocess.PIPE, stdout=subprocess.PIPE, stderr=subprocess.PIPE, text=True)
     told = lambda lines, run: (run.stdin.write("".join(f"{it}\n" for it in lines)), run.stdin.flush())
 
     def until(test):
@@ -229,7 +229,7 @@ def a_mixer(checks, made, name):
     run.kill()
     noted = run.communicate(timeout=120)[1]
     checks.same(f"{name}: its notes", sorted(set(noted.splitlines())), ["front: no such line"])
-    run = start(6)
+    run = start(12 if before else 6)
     asker = Asker(listening(run))
     for ono, level, index, params in desk(-31):
         asked = asker.ask(ono, level, index, struct.pack(">H", 1) if index == 3 else b"", 1 if index == 3 else 0)
@@ -250,11 +250,15 @@ def a_mixer(checks, made, name):
 
 
 def mixers(checks, made, prefix):
-    """The mixer as it is, over addresses and undefined behaviour, and over threads."""
+    """The mixer as it is, over addresses and undefined behaviour, over threads, and under valgrind; and as C++."""
+    subprocess.run(["c++", "-x", "c++", "-std=c++17", *STRICT, f"-I{prefix}/include", "-c", "-o", made / "mixer.o", TOP / "examples/c/mixer.c"], check=True)
     for name, more in (("plain", ["-O2"]), ("sanitized", SANITIZED), ("threads", ["-O1", "-g", "-fsanitize=thread"])):
         subprocess.run(["cc", "-std=c11", *STRICT[1:], "-Wpedantic", *more, f"-I{prefix}/include", "-o", made / f"mixer-{name}", TOP / "examples/c/mixer.c",
                         f"{prefix}/lib/liboca.a", "-pthread"], check=True)
         a_mixer(checks, made, name)
+    if shutil.which("valgrind"):
+        shutil.copy(made / "mixer-plain", made / "mixer-valgrind")
+        a_mixer(checks, made, "valgrind", ["valgrind", "-q", "--error-exitcode=99", "--leak-check=full"])
 
 
 def refused_memory(checks, made):
@@ -430,7 +434,7 @@ def main():
             checks.same("the panel under valgrind", said_by([*careful, made / "panel-c11", port]), (PANEL, 0))
             checks.same("the device under valgrind", (run.communicate(timeout=120)[0], run.returncode), (AMPLIFIER, 0))
         arena = made / "arena"
-        subprocess.run(["cc", "-std=c11", "-DARENA=(3u<<20)", *STRICT, f"-I{prefix}/include", "-o", arena, TOP / "tools/c_library.c", TOP / "examples/c/heap.c",
+        subprocess.run(["cc", "-std=c11", "-DARENA=(6u<<20)", *STRICT, f"-I{prefix}/include", "-o", arena, TOP / "tools/c_library.c", TOP / "examples/c/heap.c",
                         f"{prefix}/lib/liboca_c.a"], check=True)
         checks.same("each call over an arena", said_by([arena])[1], 0)
         counted = made / "counted"

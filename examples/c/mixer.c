@@ -47,7 +47,7 @@ static uint64_t sum_of(const struct state *state) {
 
 /* Writes all of the bytes, or fails. */
 static bool write_all(int file, const void *from, size_t size) {
-    const char *at = from;
+    const char *at = (const char *)from;
     while (size > 0) {
         ssize_t some = write(file, at, size);
         if (some < 0 && errno == EINTR) continue;
@@ -238,7 +238,7 @@ static void *keeper(void *path) {
         if (!wanted) continue;
         memcpy(state.mark, mark, sizeof mark);
         state.sum = sum_of(&state);
-        if (save(path, &state)) continue;
+        if (save((const char *)path, &state)) continue;
         perror("not kept");
         if (!ends) nanosleep(&a_second, NULL);
         pthread_mutex_lock(&lock);
