@@ -54,7 +54,7 @@ enum oca_result {
     OCA_STARTED = 12,     /* it is, so its tree is fixed */
     OCA_NOTHING = 13,     /* there is no such packet, object, setting, lock, moment or answer */
     OCA_TOO_SMALL = 14,   /* there was not room for all where it was to go, or might not have been */
-    OCA_BAD_SIZE = 15,    /* a room outside 1 to 4,096, a window or a number of peers outside 1 to 64, a span outside 1 to 32 */
+    OCA_BAD_SIZE = 15,    /* a room outside 1 to 4,096, a window or a number of peers outside 1 to 64, a span outside 1 to 32, another struct */
     /* Of a setting at the front, the first that applies: no such object; a block; another kind of value; out of range. */
     OCA_NO_OBJECT = 16, OCA_NO_SETTING = 17, OCA_OTHER_KIND = 18, OCA_OUT_OF_RANGE = 19,
     /* Of a submission, the first that applies: the link is lost; no handle is left; the span is full; above 1,445 bytes. */
@@ -347,8 +347,9 @@ static inline enum oca_result oca_device_object(struct oca_device *device, size_
     return oca_device_object_words(device, index, &object->ono, offsetof(struct oca_object, role) / sizeof object->ono, object->role, sizeof object->role);
 }
 
-/* What the object at an index is now, counted as above: an addition of the struct makes the same object again, but for its lock; at index 0
- * oca_device_open_with makes the root. OCA_NOTHING behind the last. So a device saves what was set, by peers and at its front. */
+/* What an object is now, by its index from 0 at the root in order of adding: an addition of the struct makes the same object again, but for
+ * its lock, and of the root oca_device_open_with does. OCA_NOTHING behind the last. So a device saves what was set, by peers and at its
+ * front; oca_device_object has the object's number and that of its block. */
 enum oca_result oca_device_spec(struct oca_device *device, size_t index, struct oca_spec *spec) OCA_NONNULL;
 
 /* The lock of an object: kind 1 keeps other peers from all access, 2 from all but reading; and the peer that holds it. OCA_NOTHING
