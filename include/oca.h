@@ -410,6 +410,10 @@ enum oca_result oca_link_last_heard(struct oca_link *link, uint64_t *moment) OCA
 /* Whether the link is lost: a command got no answer to 20 sendings. It stays so; answers that still come are taken as before. */
 enum oca_result oca_link_is_lost(struct oca_link *link, bool *lost) OCA_NONNULL;
 
+/* Whether the link is late at a moment: a command was given out more than 100,000 ms before it and has no answer, as where the program stood
+ * still. A copy of it now could be carried out a second time: do not call oca_link_due, and open a new link. */
+enum oca_result oca_link_is_late(struct oca_link *link, uint64_t now, bool *late) OCA_NONNULL;
+
 /* Takes the answer to a command: its status and ParamCount, and its parameters. `out` has room for 1,452 bytes. */
 enum oca_result oca_link_take(struct oca_link *link, uint32_t handle, uint32_t *status, uint32_t *count, uint8_t *out, size_t out_len, size_t *len) OCA_NONNULL;
 

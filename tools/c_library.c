@@ -97,6 +97,7 @@ static void closed_link(struct oca_link *l) {
     same("closed: last heard", oca_link_last_heard(l, &moment), OCA_CLOSED);
     bool lost = true;
     same("closed: is lost", oca_link_is_lost(l, &lost), OCA_CLOSED);
+    same("closed: is late", oca_link_is_late(l, 0, &lost) == OCA_CLOSED && lost, 1);
     same("closed: take", oca_link_take(l, 1, &a, &b, bytes, sizeof bytes, &size), OCA_CLOSED);
     oca_link_close(l);
 }
@@ -763,6 +764,10 @@ static void asks(void) {
     same("give out", oca_link_due(&l, late + 2, bytes, sizeof bytes, &size, &due, &handle) == OCA_DONE && handle == 0x01020305, 1);
     same("a full datagram", size == OCA_MOST_BYTES && bytes[23] == 2 && bytes[25] == 9 && bytes[26] == 7 && bytes[27] == 0xa5 && bytes[1471] == 0xa5, 1);
     same("due again", oca_link_next_due(&l, &moment) == OCA_DONE && moment == late + 251, 1);
+    bool is_late = true;
+    same("not late", oca_link_is_late(&l, late + 100001, &is_late) == OCA_DONE && !is_late, 1);
+    same("late", oca_link_is_late(&l, late + 100002, &is_late) == OCA_DONE && is_late, 1);
+    same("asked and left as it was", oca_link_is_late(&l, late, &is_late) == OCA_DONE && !is_late, 1);
     oca_link_close(&l);
     oca_link_close(NULL);
 }

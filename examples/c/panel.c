@@ -20,11 +20,13 @@ static uint64_t now_ms(void) {
 
 struct answer { uint32_t status, count; size_t size; uint8_t params[OCA_MOST_ANSWER]; };
 
-/* Gives out all that is due; whether the link lives. */
+/* Gives out all that is due; whether the link lives. After a standstill of 100 seconds it does not: a copy could act a second time. */
 static bool give_out(struct oca_link *link, int file, const struct sockaddr_in *to) {
     static uint8_t bytes[OCA_MOST_BYTES];
     uint32_t due = OCA_DUE_NOTHING, handle = 0;
     size_t length = 0;
+    bool late = false;
+    if (oca_link_is_late(link, now_ms(), &late) != OCA_DONE || late) return false;
     for (;;) {
         if (oca_link_due(link, now_ms(), bytes, sizeof bytes, &length, &due, &handle) != OCA_DONE || due == OCA_DUE_LOST) return false;
         if (due == OCA_DUE_NOTHING) return true;
