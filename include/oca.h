@@ -38,7 +38,7 @@ extern "C" {
 
 /* The version of this header: 65,536 for each major one, 256 for each minor one, 1 for each patch. A library of the same major
  * version and at least this minor one keeps what this header says. */
-#define OCA_VERSION 0x010200u
+#define OCA_VERSION 0x010300u
 uint32_t oca_version(void);
 
 enum oca_result {
@@ -54,7 +54,7 @@ enum oca_result {
     OCA_STARTED = 12,     /* it is, so its tree is fixed */
     OCA_NOTHING = 13,     /* there is no such packet, object, setting, lock, moment or answer */
     OCA_TOO_SMALL = 14,   /* there was not room for all where it was to go, or might not have been */
-    OCA_BAD_SIZE = 15,    /* a room outside 1 to 4,096, a window or a number of peers outside 1 to 64, a span outside 1 to 32 */
+    OCA_BAD_SIZE = 15,    /* a room outside 1 to 4,096, a window or a number of peers outside 1 to 64, a span outside 1 to 32, another struct */
     /* Of a setting at the front, the first that applies: no such object; a block; another kind of value; out of range. */
     OCA_NO_OBJECT = 16, OCA_NO_SETTING = 17, OCA_OTHER_KIND = 18, OCA_OUT_OF_RANGE = 19,
     /* Of a submission, the first that applies: the link is lost; no handle is left; the span is full; above 1,445 bytes. */
@@ -196,6 +196,53 @@ struct oca_request { uint16_t level, index; uint8_t count, size; uint8_t params[
 enum oca_result oca_set_request(const struct oca_value *value, struct oca_request *request) OCA_NONNULL;
 enum oca_result oca_get_request(uint32_t class_number, struct oca_request *request) OCA_NONNULL;
 
+/* ---- objects ---- */
+
+/* A text: a role, a label or the name of a switch's position: how many bytes it has, at most 64, and they, in UTF-8. In a table: {3, "off"}. */
+struct oca_name { uint8_t size; uint8_t text[64]; };
+
+/* The text that a C string spells; one above 64 bytes is refused where it is added. */
+static inline struct oca_name oca_name_of(const char *text) {
+    struct oca_name name = {0, {0}};
+    while (name.size < 64 && text[name.size]) {
+        name.text[name.size] = (uint8_t)text[name.size];
+        name.size++;
+    }
+    if (text[name.size]) name.size = 65;
+    return name;
+}
+
+/* An object, as it is added and as it is told, so that a device can be made again as it was: its class with its setting and its limits (a
+ * block's class is OCA_CLASS_BLOCK, and nothing else of its reading is looked at; the limits of a mute, a polarity, a Boolean and a position
+ * are not looked at either), whether it can be locked and is enabled (0 no, any other byte yes), its role, its label, and of a switch
+ * its positions: how many there are, the name of each, and which are enabled. There is no pointer in it, and no byte between its fields.
+ * Its size comes first: a struct of another size than the library's is refused with OCA_BAD_SIZE. */
+struct oca_spec {
+    uint32_t size;
+    uint8_t lockable, enabled;
+    uint16_t positions;
+    struct oca_reading reading;
+    struct oca_name role, label, names[16];
+    uint8_t enableds[16], zeros[6];
+};
+
+/* An object of this role that is read so, lockable and enabled, with an empty label and no positions; a block; and one more position of a
+ * switch, enabled. */
+static inline struct oca_spec oca_spec_of(const char *role, struct oca_reading reading) {
+    struct oca_spec spec = {(uint32_t)sizeof(struct oca_spec), 1, 1, 0, {{0, 0, 0}, {0, 0, 0}, {0, 0, 0}}, {0, {0}}, {0, {0}}, {{0, {0}}}, {0}, {0}};
+    spec.reading = reading;
+    spec.role = oca_name_of(role);
+    return spec;
+}
+static inline struct oca_spec oca_spec_of_block(const char *role) { return oca_spec_of(role, oca_alone(oca_value_of(OCA_CLASS_BLOCK, 0))); }
+static inline void oca_spec_position(struct oca_spec *spec, const char *name) {
+    if (spec->positions < 16) {
+        spec->names[spec->positions] = oca_name_of(name);
+        spec->enableds[spec->positions] = 1;
+    }
+    if (spec->positions < 17) spec->positions++;
+}
+
 /* ---- the device ---- */
 
 struct oca_device { void *at; bool is_open; };
@@ -206,6 +253,10 @@ struct oca_device { void *at; bool is_open; };
 /* Opens a device that has its root alone (the block 100), with room for so many objects, the root counted: 1 to 4,096. */
 enum oca_result oca_device_open(struct oca_device *device, uint16_t room) OCA_CHECKED;
 
+/* The same with what was stored of the root: its label, and whether it is enabled; all else of the struct is not looked at. The first
+ * that applies: OCA_BAD_SIZE, OCA_BAD_TEXT for a label that is none, OCA_NO_MEMORY. */
+enum oca_result oca_device_open_with(struct oca_device *device, uint16_t room, const struct oca_spec *root) OCA_CHECKED;
+
 /* Closes a device and gives its memory back; a closed one stays closed, and at a null pointer nothing is done. */
 void oca_device_close(struct oca_device *device);
 static inline void oca_device_close_any(struct oca_device *device) {
@@ -213,7 +264,12 @@ static inline void oca_device_close_any(struct oca_device *device) {
 }
 #define oca_device_close(device) oca_device_close_any(device)
 
-/* The tree, from its root (the block 100) on, before the start. `muted` and `inverted` are the states at first. */
+/* Adds an object to the tree, in a block that is there (the root is the block 100), before the start. Before what enum oca_result has of an
+ * addition: OCA_BAD_SIZE; OCA_BAD_RANGE for more than 16 positions; OCA_BAD_TEXT for a role, a label or a name that is none; OCA_NO_VALUE
+ * where the words of the reading are those of none. */
+enum oca_result oca_device_add(struct oca_device *device, uint32_t container, uint32_t ono, const struct oca_spec *spec) OCA_CHECKED;
+
+/* The same with the fields one by one. `muted` and `inverted` are the states at first. */
 enum oca_result oca_device_add_block(struct oca_device *device, uint32_t container, uint32_t ono, const uint8_t *role, size_t role_len, bool lockable) OCA_CHECKED;
 enum oca_result oca_device_add_mute(struct oca_device *device, uint32_t container, uint32_t ono, const uint8_t *role, size_t role_len, bool lockable, bool muted) OCA_CHECKED;
 enum oca_result oca_device_add_polarity(struct oca_device *device, uint32_t container, uint32_t ono, const uint8_t *role, size_t role_len, bool lockable, bool inverted) OCA_CHECKED;
@@ -227,25 +283,12 @@ enum oca_result oca_device_add_uint16(struct oca_device *device, uint32_t contai
 enum oca_result oca_device_add_uint32(struct oca_device *device, uint32_t container, uint32_t ono, const uint8_t *role, size_t role_len, bool lockable, uint32_t setting, uint32_t least, uint32_t greatest) OCA_CHECKED;
 enum oca_result oca_device_add_uint64(struct oca_device *device, uint32_t container, uint32_t ono, const uint8_t *role, size_t role_len, bool lockable, uint64_t setting, uint64_t least, uint64_t greatest) OCA_CHECKED;
 
-/* A name of a switch's position: how many bytes it has, at most 64, and they, in UTF-8. In a table: {3, "off"}. */
-struct oca_name { uint8_t size; uint8_t text[64]; };
-
-/* The name that a C string spells; one above 64 bytes is refused where it is added. */
-static inline struct oca_name oca_name_of(const char *text) {
-    struct oca_name name = {0, {0}};
-    while (name.size < 64 && text[name.size]) {
-        name.text[name.size] = (uint8_t)text[name.size];
-        name.size++;
-    }
-    if (text[name.size]) name.size = 65;
-    return name;
-}
-
 /* A switch with 1 to 16 positions, all enabled, and the one that it stands at, counted from 0. */
 enum oca_result oca_device_add_switch(struct oca_device *device, uint32_t container, uint32_t ono, const uint8_t *role, size_t role_len, bool lockable, const struct oca_name *names, size_t names_len, uint16_t position) OCA_CHECKED;
 
 /* Starts the device, with reply windows of this size (1 to 64; 32 is usual) and sessions of so many peers (1 to 64; 16 is usual).
- * OCA_NO_MEMORY loses the objects: close the struct, and begin anew. */
+ * Where it is started already it is OCA_STARTED, whatever is asked for. OCA_NO_MEMORY loses the objects: close the struct, and begin
+ * anew. */
 enum oca_result oca_device_start(struct oca_device *device, uint8_t window, uint8_t peers) OCA_CHECKED;
 
 /* What became of a datagram. `kind` is 0 for one that was served, with how many of its commands were executed, were duplicates, were
@@ -259,7 +302,8 @@ static inline enum oca_result oca_device_datagram(struct oca_device *device, uin
     return oca_device_datagram_words(device, ip, port, bytes, len, now, &verdict->kind, sizeof *verdict / sizeof verdict->kind);
 }
 
-/* How many packets the last datagram's answers are, and the bytes of each, by its index from 0: OCA_NOTHING behind the last. */
+/* How many packets the last datagram's answers are (none before the first datagram), and the bytes of each, by its index from 0: OCA_NOTHING
+ * behind the last. */
 enum oca_result oca_device_packets(struct oca_device *device, size_t *count) OCA_NONNULL;
 enum oca_result oca_device_packet(struct oca_device *device, size_t i, uint8_t *out, size_t out_len, size_t *len) OCA_NONNULL;
 
@@ -302,6 +346,11 @@ enum oca_result oca_device_object_words(struct oca_device *device, size_t index,
 static inline enum oca_result oca_device_object(struct oca_device *device, size_t index, struct oca_object *object) {
     return oca_device_object_words(device, index, &object->ono, offsetof(struct oca_object, role) / sizeof object->ono, object->role, sizeof object->role);
 }
+
+/* What an object is now, by its index from 0 at the root in order of adding: an addition of the struct makes the same object again, but for
+ * its lock, and of the root oca_device_open_with does. OCA_NOTHING behind the last. So a device saves what was set, by peers and at its
+ * front; oca_device_object has the object's number and that of its block. */
+enum oca_result oca_device_spec(struct oca_device *device, size_t index, struct oca_spec *spec) OCA_NONNULL;
 
 /* The lock of an object: kind 1 keeps other peers from all access, 2 from all but reading; and the peer that holds it. OCA_NOTHING
  * where the object is not locked or not there. */
@@ -351,11 +400,19 @@ enum oca_result oca_link_next_due(struct oca_link *link, uint64_t *moment) OCA_N
 /* The lowest handle whose answer came and was not taken yet; OCA_NOTHING where there is none. */
 enum oca_result oca_link_answered(struct oca_link *link, uint32_t *handle) OCA_NONNULL;
 
+/* The handle that the next command gets: a link that is opened after this one to the same device begins there or above. OCA_NOTHING
+ * after the last one, 4294967295. */
+enum oca_result oca_link_next_handle(struct oca_link *link, uint32_t *handle) OCA_NONNULL;
+
 /* The moment at which the last well-formed datagram came from the device, and at first that of the opening. */
 enum oca_result oca_link_last_heard(struct oca_link *link, uint64_t *moment) OCA_NONNULL;
 
 /* Whether the link is lost: a command got no answer to 20 sendings. It stays so; answers that still come are taken as before. */
 enum oca_result oca_link_is_lost(struct oca_link *link, bool *lost) OCA_NONNULL;
+
+/* Whether the link is late at a moment: a command was given out more than 100,000 ms before it and has no answer, as where the program stood
+ * still. A copy of it now could be carried out a second time: do not call oca_link_due, and open a new link. */
+enum oca_result oca_link_is_late(struct oca_link *link, uint64_t now, bool *late) OCA_NONNULL;
 
 /* Takes the answer to a command: its status and ParamCount, and its parameters. `out` has room for 1,452 bytes. */
 enum oca_result oca_link_take(struct oca_link *link, uint32_t handle, uint32_t *status, uint32_t *count, uint8_t *out, size_t out_len, size_t *len) OCA_NONNULL;
@@ -365,11 +422,11 @@ enum oca_result oca_link_take(struct oca_link *link, uint32_t handle, uint32_t *
 static_assert(sizeof(struct oca_device) == 16 && sizeof(struct oca_link) == 16 && sizeof(struct oca_setting) == 16, "64 bits");
 static_assert(sizeof(struct oca_value) == 16 && sizeof(struct oca_reading) == 48 && sizeof(struct oca_request) == 14, "values");
 static_assert(sizeof(enum oca_result) == sizeof(uint32_t), "a result is a word");
-static_assert(sizeof(struct oca_verdict) == 28 && sizeof(struct oca_name) == 65 && offsetof(struct oca_object, role) == 16, "words");
+static_assert(sizeof(struct oca_verdict) == 28 && sizeof(struct oca_name) == 65 && sizeof(struct oca_spec) == 1248 && offsetof(struct oca_object, role) == 16, "words");
 #else
 _Static_assert(sizeof(struct oca_device) == 16 && sizeof(struct oca_link) == 16 && sizeof(struct oca_setting) == 16, "64 bits");
 _Static_assert(sizeof(struct oca_value) == 16 && sizeof(struct oca_reading) == 48 && sizeof(struct oca_request) == 14, "values");
 _Static_assert(sizeof(enum oca_result) == sizeof(uint32_t), "a result is a word");
-_Static_assert(sizeof(struct oca_verdict) == 28 && sizeof(struct oca_name) == 65 && offsetof(struct oca_object, role) == 16, "words");
+_Static_assert(sizeof(struct oca_verdict) == 28 && sizeof(struct oca_name) == 65 && sizeof(struct oca_spec) == 1248 && offsetof(struct oca_object, role) == 16, "words");
 #endif
 #endif

@@ -93,9 +93,11 @@ static void closed_link(struct oca_link *l) {
     same("closed: link datagram", oca_link_datagram(l, 1, 2, muted, sizeof muted, 0, &a, &b), OCA_CLOSED);
     same("closed: next due", oca_link_next_due(l, &moment), OCA_CLOSED);
     same("closed: answered", oca_link_answered(l, &a), OCA_CLOSED);
+    same("closed: next handle", oca_link_next_handle(l, &a) == OCA_CLOSED && a == 0, 1);
     same("closed: last heard", oca_link_last_heard(l, &moment), OCA_CLOSED);
     bool lost = true;
     same("closed: is lost", oca_link_is_lost(l, &lost), OCA_CLOSED);
+    same("closed: is late", oca_link_is_late(l, 0, &lost) == OCA_CLOSED && lost, 1);
     same("closed: take", oca_link_take(l, 1, &a, &b, bytes, sizeof bytes, &size), OCA_CLOSED);
     oca_link_close(l);
 }
@@ -267,6 +269,8 @@ static void device(void) {
     same("setting before the start", oca_device_setting(&d, 4097, &s), OCA_NOT_STARTED);
     same("state before the start", oca_device_set_state(&d, 4097, 1), OCA_NOT_STARTED);
     same("written before the start", oca_device_written(&d, words, 2, &size), OCA_NOT_STARTED);
+    same("packets before the start", oca_device_packets(&d, &size) == OCA_NOT_STARTED && size == 99, 1);
+    same("packet before the start", oca_device_packet(&d, 0, bytes, sizeof bytes, &size) == OCA_NOT_STARTED && size == 99, 1);
     same("objects before the start", oca_device_objects(&d, &size), OCA_NOT_STARTED);
     same("object before the start", oca_device_object(&d, 0, &o), OCA_NOT_STARTED);
     same("lock before the start", oca_device_lock(&d, 4097, &kind, &ip, &port), OCA_NOT_STARTED);
@@ -295,7 +299,8 @@ static void device(void) {
     same("65 peers", oca_device_start(&d, 32, 65), OCA_BAD_SIZE);
     same("start", oca_device_start(&d, 32, 16), OCA_DONE);
     same("start again", oca_device_start(&d, 32, 16), OCA_STARTED);
-    same("a window of 0 after the start", oca_device_start(&d, 0, 16), OCA_BAD_SIZE);
+    same("a window of 0 after the start", oca_device_start(&d, 0, 16), OCA_STARTED);
+    same("no packets before the first datagram", oca_device_packets(&d, &size) == OCA_DONE && size == 0, 1);
     same("an addition after the start", oca_device_add_block(&d, 100, 5000, text("late"), 4, true), OCA_STARTED);
     same("a switch after the start", oca_device_add_switch(&d, 100, 5000, text("late"), 4, true, positions, 3, 0), OCA_STARTED);
     same("no session to lapse", oca_device_next_lapse(&d, &moment), OCA_NOTHING);
@@ -476,6 +481,179 @@ static void sets_values(void) {
     oca_device_close(NULL);
 }
 
+/* An object of each class and a switch: as it is added, as it is told, and made again in another device; then as peers set it. */
+static struct oca_spec gain_spec(void) {
+    struct oca_spec spec = oca_spec_of("gain", oca_within(oca_int16(-5), oca_int16(-600), oca_int16(100)));
+    spec.lockable = 0;
+    spec.label = oca_name_of("Vocals");
+    return spec;
+}
+
+static struct oca_spec mode_spec(void) {
+    struct oca_spec spec = oca_spec_of("mode", oca_alone(oca_position(2)));
+    oca_spec_position(&spec, "off");
+    oca_spec_position(&spec, "");
+    oca_spec_position(&spec, "high");
+    spec.enabled = 0;
+    spec.enableds[1] = 0;
+    return spec;
+}
+
+static enum oca_result spec_added(struct oca_device *d, struct oca_spec spec) { return oca_device_add(d, 4096, 4200, &spec); }
+
+static void refuses_specs(struct oca_device *d) {
+    struct oca_spec s = gain_spec();
+    s.size--;
+    s.positions = 17;
+    same("another size", spec_added(d, s), OCA_BAD_SIZE);
+    s.size += 2;
+    same("a larger size", spec_added(d, s), OCA_BAD_SIZE);
+    s.size--, s.role.size = 65;
+    same("17 positions", spec_added(d, s), OCA_BAD_RANGE);
+    s.positions = 0, s.reading.value.class_number = 14;
+    same("a role above 64 bytes", spec_added(d, s), OCA_BAD_TEXT);
+    s.role = oca_name_of(""), s.label.size = 1, s.label.text[0] = 0xff;
+    same("a label that is no UTF-8", spec_added(d, s), OCA_BAD_TEXT);
+    s.label = oca_name_of("");
+    same("class 14", spec_added(d, s), OCA_NO_VALUE);
+    s.reading = oca_within(oca_int16(0), oca_int8(-6), oca_int16(6));
+    same("a limit of another class", spec_added(d, s), OCA_NO_VALUE);
+    s.reading = oca_within(oca_int16(0), oca_int16(-6), oca_value_of(OCA_CLASS_INT16, 32768));
+    same("a limit that is no value", spec_added(d, s), OCA_NO_VALUE);
+    s.reading = oca_within(oca_int16(0), oca_int16(6), oca_int16(-6));
+    same("an empty role", spec_added(d, s), OCA_BAD_TEXT);
+    s.role = oca_name_of("x");
+    same("limits the wrong way round", spec_added(d, s), OCA_BAD_RANGE);
+    same("no such block", oca_device_add(d, 4200, 4096, &s), OCA_TAKEN);
+    same("no such block", oca_device_add(d, 4200, 4201, &s), OCA_NO_SUCH_BLOCK);
+    s = mode_spec(), s.positions = 0;
+    same("a switch without positions", spec_added(d, s), OCA_BAD_RANGE);
+    s = mode_spec(), s.positions = 2;
+    same("a position behind the last", spec_added(d, s), OCA_BAD_RANGE);
+    s = mode_spec(), s.names[2] = oca_name_of("a name of a position that is longer than the 64 bytes of its room");
+    same("a long name", spec_added(d, s), OCA_BAD_TEXT);
+    s = mode_spec();
+    for (int i = 0; i < 13; i++) oca_spec_position(&s, "more");
+    same("16 positions", s.positions, 16);
+    for (int i = 0; i < 300; i++) oca_spec_position(&s, "more");
+    same("one too many", spec_added(d, s), OCA_BAD_RANGE);
+}
+
+/* An object of each class, whose setting and limits differ. */
+static size_t specs_of_each_class(struct oca_spec *specs) {
+    const struct oca_reading readings[] = {oca_alone(oca_mute(false)), oca_alone(oca_polarity(true)), oca_alone(oca_boolean(true)),
+        oca_within(oca_int8(-2), oca_int8(-128), oca_int8(127)), oca_within(oca_int16(-600), oca_int16(-601), oca_int16(32767)),
+        oca_within(oca_int32(INT32_MIN + 1), oca_int32(INT32_MIN), oca_int32(5)), oca_within(oca_int64(INT64_MIN + 1), oca_int64(INT64_MIN), oca_int64(INT64_MAX)),
+        oca_within(oca_uint8(254), oca_uint8(3), oca_uint8(255)), oca_within(oca_uint16(0xfedc), oca_uint16(0xfed0), oca_uint16(0xffff)),
+        oca_within(oca_uint32(0x89abcdef), oca_uint32(7), oca_uint32(UINT32_MAX)), oca_within(oca_uint64(UINT64_MAX - 1), oca_uint64(9), oca_uint64(UINT64_MAX))};
+    const size_t count = sizeof readings / sizeof *readings;
+    for (size_t i = 0; i < count; i++) {
+        specs[i] = oca_spec_of("each", readings[i]);
+        specs[i].role.text[3] = (uint8_t)('a' + i);
+        specs[i].lockable = i % 2;
+        specs[i].enabled = i % 3 != 0;
+        specs[i].label = oca_name_of(i % 5 ? "label" : "");
+    }
+    specs[count] = gain_spec();
+    specs[count + 1] = mode_spec();
+    specs[count + 1].reading = oca_within(oca_position(2), oca_position(0), oca_position(2));
+    return count + 2;
+}
+
+static bool same_object(const struct oca_spec *told, const struct oca_spec *given) { return memcmp(told, given, sizeof *told) == 0; }
+
+static void objects_by_struct(void) {
+    struct oca_device d = OCA_DEVICE_INIT, again = OCA_DEVICE_INIT;
+    struct oca_spec specs[16], told[16], block = oca_spec_of_block("desk"), root = oca_spec_of_block("root"), none = gain_spec();
+    struct oca_object o = {9, 9, 9, 9, {0}};
+    struct oca_verdict v = {9, 9, 9, 9, 9, 9, 9};
+    uint8_t bytes[OCA_MOST_BYTES] = {0};
+    size_t size = 9;
+    const size_t count = specs_of_each_class(specs);
+    same("closed: add", oca_device_add(&d, 100, 4096, &block), OCA_CLOSED);
+    same("closed: spec", oca_device_spec(&d, 0, &none), OCA_CLOSED);
+    same("left alone", none.label.size, 6);
+    same("room for none", oca_device_open_with(&d, 0, &root), OCA_BAD_SIZE);
+    root.size++;
+    same("another size", oca_device_open_with(&d, 16, &root), OCA_BAD_SIZE);
+    root.size--, root.label.size = 65;
+    same("a label above 64 bytes", oca_device_open_with(&d, 16, &root), OCA_BAD_TEXT);
+    root.label = oca_name_of("FOH"), root.enabled = 0;
+    same("open", oca_device_open_with(&d, 16, &root), OCA_DONE);
+    same("open again", oca_device_open_with(&d, 16, &root), OCA_OPEN);
+    same("block", oca_device_add(&d, 100, 4096, &block), OCA_DONE);
+    refuses_specs(&d);
+    for (uint32_t i = 0; i < count; i++) same("add", oca_device_add(&d, 4096, 4100 + i, &specs[i]), OCA_DONE);
+    same("full", oca_device_add(&d, 100, 4150, &block) == OCA_DONE && oca_device_add(&d, 100, 4151, &block) == OCA_FULL, 1);
+    same("spec before the start", oca_device_spec(&d, 0, &none) == OCA_NOT_STARTED && none.label.size == 6, 1);
+    same("start", oca_device_start(&d, 8, 2), OCA_DONE);
+    same("add after the start", oca_device_add(&d, 100, 4152, &block), OCA_STARTED);
+    same("the root", oca_device_spec(&d, 0, &told[0]) == OCA_DONE && same_object(&told[0], &root), 1);
+    same("the block", oca_device_spec(&d, 1, &told[0]) == OCA_DONE && same_object(&told[0], &block), 1);
+    for (size_t i = 0; i < count; i++) same("told as it was added", oca_device_spec(&d, 2 + i, &told[i]) == OCA_DONE && same_object(&told[i], &specs[i]), 1);
+    same("behind the last", oca_device_spec(&d, 3 + count, &none) == OCA_NOTHING && none.label.size == 6, 1);
+    /* peers set a label, whether it is enabled, a position, a name of one and the flags; and the root's label */
+    const uint16_t gain = (uint16_t)(4100 + count - 2), mode = (uint16_t)(gain + 1);
+    const uint64_t late = UINT64_C(3) << 33;
+    uint32_t handle = 1;
+    const struct { uint16_t ono; uint8_t level, index, count, size, params[24]; } rows[] = {
+        {gain, 2, 9, 1, 5, {0, 3, 'a', 'b', 'c'}}, {gain, 2, 2, 1, 1, {0}}, {gain, 5, 2, 1, 2, {0xff, 0xc4}}, {mode, 2, 2, 1, 1, {1}},
+        {mode, 4, 4, 2, 6, {0, 1, 0, 2, 'l', 'o'}}, {mode, 4, 8, 2, 3, {0, 0, 0}}, {mode, 4, 2, 1, 2, {0, 2}}, {100, 2, 9, 1, 4, {0, 1, 0xc3, 0xa9}},
+        {100, 2, 9, 1, 4, {0, 2, 0xc3, 0xa9}}};
+    for (size_t i = 0; i < sizeof rows / sizeof *rows; i++) {
+        size = command(bytes, handle++, rows[i].ono, rows[i].level, rows[i].index, rows[i].count, rows[i].params, rows[i].size);
+        same("a command", oca_device_datagram(&d, 1, 2, bytes, size, late + i, &v) == OCA_DONE && status_of(&d) == 0, i != 8);
+    }
+    const struct oca_value back = oca_position(0);
+    same("the front is refused a position that is off", oca_device_set(&d, mode, &back), OCA_OUT_OF_RANGE);
+    specs[count - 2].label = oca_name_of("abc"), specs[count - 2].enabled = 0;
+    specs[count - 2].reading.value = oca_int16(-60);
+    specs[count - 1].enabled = 1, specs[count - 1].names[1] = oca_name_of("lo"), specs[count - 1].enableds[0] = 0;
+    for (size_t i = 0; i < count; i++) same("told as peers set it", oca_device_spec(&d, 2 + i, &told[i]) == OCA_DONE && same_object(&told[i], &specs[i]), 1);
+    /* another device of what the first one tells */
+    same("the root told", oca_device_spec(&d, 0, &root) == OCA_DONE && root.label.size == 2 && root.label.text[1] == 0xa9 && root.enabled == 0
+         && oca_device_open_with(&again, 16, &root) == OCA_DONE, 1);
+    same("objects", oca_device_objects(&d, &size) == OCA_DONE && size == count + 3, 1);
+    for (size_t i = 1; i < size; i++) {
+        struct oca_spec one = gain_spec();
+        same("an object", oca_device_spec(&d, i, &one) == OCA_DONE && oca_device_object(&d, i, &o) == OCA_DONE, 1);
+        same("made again", oca_device_add(&again, o.container, o.ono, &one), OCA_DONE);
+    }
+    same("start again", oca_device_start(&again, 8, 2), OCA_DONE);
+    for (size_t i = 0; i < size; i++) {
+        struct oca_spec one = gain_spec(), other = mode_spec();
+        same("the same object", oca_device_spec(&d, i, &one) == OCA_DONE && oca_device_spec(&again, i, &other) == OCA_DONE && same_object(&other, &one), 1);
+    }
+    oca_device_close(&d);
+    oca_device_close(&again);
+}
+
+/* Each constant, by its number: of results as docs/EMBEDDING.md and the header promise them, of AES70 as docs/PROTOCOL.md has them. */
+static void numbers(void) {
+    const struct { uint32_t first; uint32_t numbers[16]; } runs[] = {
+        {0, {OCA_DONE, OCA_FULL, OCA_RESERVED, OCA_TAKEN, OCA_NO_SUCH_BLOCK, OCA_TOO_DEEP, OCA_BAD_TEXT, OCA_BAD_RANGE, OCA_NO_MEMORY, OCA_CLOSED,
+             OCA_OPEN, OCA_NOT_STARTED, OCA_STARTED, OCA_NOTHING, OCA_TOO_SMALL, OCA_BAD_SIZE}},
+        {16, {OCA_NO_OBJECT, OCA_NO_SETTING, OCA_OTHER_KIND, OCA_OUT_OF_RANGE, OCA_LOST, OCA_HANDLES_SPENT, OCA_SPAN_FULL, OCA_TOO_LONG, OCA_NO_VALUE}},
+        {0, {OCA_STATUS_OK, OCA_STATUS_PROTOCOL_VERSION_ERROR, OCA_STATUS_DEVICE_ERROR, OCA_STATUS_LOCKED, OCA_STATUS_BAD_FORMAT, OCA_STATUS_BAD_ONO,
+             OCA_STATUS_PARAMETER_ERROR, OCA_STATUS_PARAMETER_OUT_OF_RANGE, OCA_STATUS_NOT_IMPLEMENTED, OCA_STATUS_INVALID_REQUEST,
+             OCA_STATUS_PROCESSING_FAILED, OCA_STATUS_BAD_METHOD, OCA_STATUS_PARTIALLY_SUCCEEDED, OCA_STATUS_TIMEOUT, OCA_STATUS_BUFFER_OVERFLOW}},
+        {0x10001, {OCA_GET_CLASS_IDENTIFICATION, OCA_GET_LOCKABLE, OCA_LOCK_TOTAL, OCA_UNLOCK, OCA_GET_ROLE, OCA_LOCK_READONLY}},
+        {0x20001, {OCA_GET_ENABLED, OCA_SET_ENABLED}}, {0x20008, {OCA_GET_LABEL, OCA_SET_LABEL, OCA_GET_OWNER}},
+        {0x30005, {OCA_GET_MEMBERS, OCA_GET_MEMBERS_RECURSIVE}}, {0x40001, {OCA_GET_STATE, OCA_SET_STATE}},
+        {0x40001, {OCA_GET_POSITION, OCA_SET_POSITION, OCA_GET_POSITION_NAME, OCA_SET_POSITION_NAME, OCA_GET_POSITION_NAMES, OCA_SET_POSITION_NAMES,
+                   OCA_GET_POSITION_ENABLED, OCA_SET_POSITION_ENABLED, OCA_GET_POSITION_ENABLEDS, OCA_SET_POSITION_ENABLEDS}},
+        {0x50001, {OCA_GET_SETTING, OCA_SET_SETTING}},
+        {1, {OCA_FAULT_EMPTY, OCA_FAULT_TOO_LONG, OCA_FAULT_SYNC, OCA_FAULT_VERSION, OCA_FAULT_PDU_SIZE, OCA_FAULT_PDU_TYPE, OCA_FAULT_COUNT,
+             OCA_FAULT_MESSAGE_SIZE, OCA_FAULT_TRUNCATED}},
+        {1, {OCA_CLASS_BLOCK, OCA_CLASS_MUTE, OCA_CLASS_POLARITY, OCA_CLASS_SWITCH, OCA_CLASS_BOOLEAN, OCA_CLASS_INT8, OCA_CLASS_INT16, OCA_CLASS_INT32,
+             OCA_CLASS_INT64, OCA_CLASS_UINT8, OCA_CLASS_UINT16, OCA_CLASS_UINT32, OCA_CLASS_UINT64}},
+        {1, {OCA_MUTED, OCA_UNMUTED}}, {1, {OCA_NON_INVERTED, OCA_INVERTED}}, {1, {OCA_LOCKED_TOTAL, OCA_LOCKED_READONLY}},
+        {0, {OCA_DUE_NOTHING, OCA_DUE_COMMAND, OCA_DUE_KEEP_ALIVE, OCA_DUE_LOST}}, {0, {OCA_NOTHING_NEW, OCA_ANSWERED, OCA_STRANGER, OCA_MALFORMED}},
+        {1472, {OCA_MOST_BYTES}}, {1452, {OCA_MOST_ANSWER}}, {86, {OCA_MOST_WRITTEN}}};
+    for (size_t i = 0; i < sizeof runs / sizeof *runs; i++)
+        for (uint32_t k = 0; k < 16 && (k == 0 || runs[i].numbers[k] != 0); k++) same("a constant", runs[i].numbers[k], runs[i].first + k);
+}
+
 /* Texts of results and statuses. */
 static void texts(void) {
     for (uint32_t i = 0; i <= OCA_NO_VALUE; i++) same("a text", strlen(oca_result_text(i)) > 3 && strcmp(oca_result_text(i), oca_result_text(99)) != 0, 1);
@@ -512,9 +690,11 @@ static void link(void) {
     same("answered", oca_link_answered(&l, &a), OCA_NOTHING);
     same("last heard", oca_link_last_heard(&l, &moment), OCA_DONE);
     same("at the opening", moment == 0, 1);
+    same("the first handle is next", oca_link_next_handle(&l, &a) == OCA_DONE && a == 1, 1);
     same("above 1,445 bytes", oca_link_submit(&l, 4097, 4, 1, 0, bytes, 1446, 0, &handle), OCA_TOO_LONG);
     same("submit", oca_link_submit(&l, 4097, 4, 1, 0, bytes, 0, 0, &handle), OCA_DONE);
     same("its handle", handle, 1);
+    same("the second is next", oca_link_next_handle(&l, &a) == OCA_DONE && a == 2, 1);
     same("due at once", oca_link_next_due(&l, &moment) == OCA_DONE && moment == 0, 1);
     same("a full span", oca_link_submit(&l, 4097, 4, 1, 0, bytes, 0, 0, &handle), OCA_SPAN_FULL);
     same("no room", oca_link_due(&l, 0, bytes, sizeof bytes - 1, &size, &a, &b), OCA_TOO_SMALL);
@@ -558,6 +738,7 @@ static void link(void) {
     oca_link_close(&l);
     same("the last handle", oca_link_open(&l, 1, 2, UINT32_MAX, 0, 16), OCA_DONE);
     same("submit the last", oca_link_submit(&l, 4097, 4, 1, 0, bytes, 0, 0, &handle), OCA_DONE);
+    same("no handle is next", oca_link_next_handle(&l, &a), OCA_NOTHING);
     same("none is left", oca_link_submit(&l, 4097, 4, 1, 0, bytes, 0, 0, &handle), OCA_HANDLES_SPENT);
     oca_link_close(&l);
     closed_link(&l);
@@ -583,6 +764,10 @@ static void asks(void) {
     same("give out", oca_link_due(&l, late + 2, bytes, sizeof bytes, &size, &due, &handle) == OCA_DONE && handle == 0x01020305, 1);
     same("a full datagram", size == OCA_MOST_BYTES && bytes[23] == 2 && bytes[25] == 9 && bytes[26] == 7 && bytes[27] == 0xa5 && bytes[1471] == 0xa5, 1);
     same("due again", oca_link_next_due(&l, &moment) == OCA_DONE && moment == late + 251, 1);
+    bool is_late = true;
+    same("not late", oca_link_is_late(&l, late + 100001, &is_late) == OCA_DONE && !is_late, 1);
+    same("late", oca_link_is_late(&l, late + 100002, &is_late) == OCA_DONE && is_late, 1);
+    same("asked and left as it was", oca_link_is_late(&l, late, &is_late) == OCA_DONE && !is_late, 1);
     oca_link_close(&l);
     oca_link_close(NULL);
 }
@@ -594,6 +779,8 @@ int main(void) {
     depths();
     values();
     sets_values();
+    objects_by_struct();
+    numbers();
     texts();
     link();
     asks();

@@ -3,15 +3,18 @@
 
 Usage: c_library.py BIN     BIN is the folder with `ocadev` and `ocactl`; the library is proved and built
 
-The two programs of examples/c are compiled as C11 and as C++17 with -Wall -Wextra -Werror from what `make install` installs, by the
+Device and panel of examples/c are compiled as C11 and as C++17 with -Wall -Wextra -Werror from what `make install` installs, by the
 flags of oca.pc (the former with the shared library, the latter with the static one) and by CMake, and run against each other and
 against `ocadev` and `ocactl`, also under valgrind, for AArch64 under emulation, and on an emulated x86-64 of the first kind; what
-is not installed here is named as NOT TRIED. Each call is tried on a closed handle and at its limits (c_library.c). Each request
+is not installed here is named as NOT TRIED. The mixer is killed and started anew behind a network that loses one datagram of five, as
+it is and under the sanitizers. Each call is tried on a closed handle and at its limits (c_library.c). Each request
 for memory is refused in turn. Header and library name the same functions, and the library needs what EMBEDDING names. What is
 installed lies below its folder, also with a space in its name or a relative one, and `make uninstall` leaves nothing of it. The
 last line is 'N passed, M failed'."""
 import os
+import random
 import re
+import select
 import shlex
 import shutil
 import socket
@@ -19,6 +22,8 @@ import struct
 import subprocess
 import sys
 import tempfile
+import threading
+import time
 from pathlib import Path
 
 HERE = Path(__file__).resolve().parent
@@ -123,6 +128,139 @@ def full_datagram(checks, made):
     run.communicate(timeout=120)
 
 
+class Lossy:
+    """A network between panels and a device that loses one datagram of five each way; a panel has a port of its own behind it."""
+
+    def __init__(self, device, seed):
+        self.device, self.random, self.panels, self.lost, self.on = ("127.0.0.1", int(device)), random.Random(seed), {}, 0, True
+        self.front = self.end()
+        self.port = self.front.getsockname()[1]
+        self.thread = threading.Thread(target=self.run)
+        self.thread.start()
+
+    def end(self):
+        end = socket.socket(socket.AF_INET, socket.SOCK_DGRAM)
+        end.bind(("127.0.0.1", 0))
+        return end
+
+    def run(self):
+        while self.on:
+            for end in select.select([self.front, *self.panels.values()], [], [], 0.05)[0]:
+                try:
+                    data, sender = end.recvfrom(2000)
+                except OSError:
+                    continue
+                if end is self.front and sender not in self.panels:
+                    self.panels[sender] = self.end()
+                if self.random.random() < 0.2:
+                    self.lost += 1
+                elif end is self.front:
+                    self.panels[sender].sendto(data, self.device)
+                else:
+                    end_of = next(panel for panel, its in self.panels.items() if its is end)
+                    self.front.sendto(data, end_of)
+
+    def close(self):
+        self.on = False
+        self.thread.join()
+        for end in (self.front, *self.panels.values()):
+            end.close()
+
+
+class Asker:
+    """A panel's own commands, one at a time, each sent until it is answered."""
+
+    def __init__(self, port):
+        self.to, self.handle = ("127.0.0.1", int(port)), 0
+        self.end = socket.socket(socket.AF_INET, socket.SOCK_DGRAM)
+        self.end.settimeout(0.25)
+
+    def ask(self, ono, level, index, params=b"", count=0):
+        self.handle += 1
+        message = struct.pack(">IIIHHB", 17 + len(params), self.handle, ono, level, index, count) + params
+        for _ in range(40):
+            self.end.sendto(b"\x3b" + struct.pack(">HIBH", 1, 9 + len(message), 1, 1) + message, self.to)
+            try:
+                data = self.end.recv(2000)
+            except OSError:
+                continue
+            if data[7] == 3 and struct.unpack(">I", data[14:18])[0] == self.handle:
+                return data[18], data[20:]
+        return None
+
+
+# What the mixer's desk is asked for after its restart: an object, the method's level and index, and the answer's parameters.
+def desk(front):
+    number = struct.Struct(">hhh")
+    return [(4097, 4, 1, b"\x02"), (4098, 5, 1, number.pack(-60, -600, 100)), (4593, 4, 1, b"\x02"), (4594, 5, 1, number.pack(-60, -600, 100)),
+            (4113, 4, 1, b"\x01"), (4129, 4, 1, b"\x02"), (4194, 5, 1, number.pack(front, -600, 100)), (4146, 5, 1, number.pack(0, -600, 100)),
+            (4227, 4, 1, struct.pack(">HHH", 2, 0, 2)), (4243, 4, 1, struct.pack(">HHH", 0, 0, 2)), (4194, 2, 8, b"\0\4Bass"), (100, 2, 8, b"\0\3FOH"),
+            (4195, 2, 1, b"\0"), (4211, 4, 3, b"\0\3DAT"), (4211, 4, 9, b"\0\3\1\0\1")]
+
+
+def a_mixer(checks, made, name, before=()):
+    """The mixer of examples/c: what panels and its front set, with one datagram of five lost, is there after a kill and a restart; a file
+    that cannot be written stays as it was, and one that is broken is refused."""
+    kept, program = made / f"kept of {name}", made / f"mixer-{name}"
+    start = lambda seconds: subprocess.Popen([*before, program, kept, "0", str(seconds)], stdin=subprocess.PIPE, stdout=subprocess.PIPE, stderr=subprocess.PIPE, text=True)
+    told = lambda lines, run: (run.stdin.write("".join(f"{it}\n" for it in lines)), run.stdin.flush())
+
+    def until(test):
+        for _ in range(400):
+            if test():
+                return True
+            time.sleep(0.05)
+        return False
+
+    run = start(600)
+    network = Lossy(listening(run), 1)
+    for channel in (0, 31):
+        block = 4096 + 16 * channel
+        checks.same(f"{name}: the panel at channel {channel + 1}", said_by([made / "panel-c11", network.port, block + 1, block + 2]), (PANEL, 0))
+    asker = Asker(network.port)
+    for words in ((4194, 2, 9, b"\0\4Bass", 1), (100, 2, 9, b"\0\3FOH", 1), (4195, 2, 2, b"\0", 1), (4211, 4, 4, b"\0\1\0\3DAT", 2), (4211, 4, 8, b"\0\1\0", 2)):
+        checks.same(f"{name}: set {words[0]}", asker.ask(*words), (0, b""))
+    told(["gain 7 -30", "source 9 2", "open 3", "gain 4 101", "source 10 3", "gain 33 1", "gain 7 -31"], run)
+    checks.same(f"{name}: the front", until(lambda: asker.ask(4194, 5, 1)[1][:2] == b"\xff\xe1"), True)
+    checks.same(f"{name}: datagrams were lost", network.lost > 0, True)
+    network.close()
+    held = lambda: kept.exists() and b"Bass" in kept.read_bytes() and b"DAT" in kept.read_bytes() and struct.pack("<q", -31) in kept.read_bytes()
+    checks.same(f"{name}: what was set is kept", until(held), True)
+    run.kill()
+    noted = run.communicate(timeout=120)[1]
+    checks.same(f"{name}: its notes", sorted(set(noted.splitlines())), ["front: no such line"])
+    run = start(12 if before else 6)
+    asker = Asker(listening(run))
+    for ono, level, index, params in desk(-31):
+        asked = asker.ask(ono, level, index, struct.pack(">H", 1) if index == 3 else b"", 1 if index == 3 else 0)
+        checks.same(f"{name}: {ono} {level}.{index} after the restart", asked, (0, params))
+    whole = kept.read_bytes()
+    (made / f"kept of {name}.new").mkdir()
+    told(["gain 7 -32"], run)
+    checks.same(f"{name}: not kept", run.stderr.readline(), "not kept: Is a directory\n")
+    checks.same(f"{name}: and as it was", kept.read_bytes() == whole, True)
+    (made / f"kept of {name}.new").rmdir()
+    checks.same(f"{name}: kept later", until(lambda: struct.pack("<q", -32) in kept.read_bytes()), True)
+    checks.same(f"{name}: its end", (run.communicate(timeout=120)[1].replace("not kept: Is a directory\n", ""), run.returncode), ("", 0))
+    for what, bad in (("cut", whole[:-1]), ("longer", whole + b"\0"), ("turned", whole[:5000] + bytes([whole[5000] ^ 1]) + whole[5001:]), ("empty", b"")):
+        kept.write_bytes(bad)
+        run = start(1)
+        checks.same(f"{name}: a file that is {what}", (run.communicate(timeout=120)[1], run.returncode), (f"{kept}: not what a mixer kept\n", 1))
+        checks.same(f"{name}: and it stays", kept.read_bytes() == bad, True)
+
+
+def mixers(checks, made, prefix):
+    """The mixer as it is, over addresses and undefined behaviour, over threads, and under valgrind; and as C++."""
+    subprocess.run(["c++", "-x", "c++", "-std=c++17", *STRICT, f"-I{prefix}/include", "-c", "-o", made / "mixer.o", TOP / "examples/c/mixer.c"], check=True)
+    for name, more in (("plain", ["-O2"]), ("sanitized", SANITIZED), ("threads", ["-O1", "-g", "-fsanitize=thread"])):
+        subprocess.run(["cc", "-std=c11", *STRICT[1:], "-Wpedantic", *more, f"-I{prefix}/include", "-o", made / f"mixer-{name}", TOP / "examples/c/mixer.c",
+                        f"{prefix}/lib/liboca.a", "-pthread"], check=True)
+        a_mixer(checks, made, name)
+    if shutil.which("valgrind"):
+        shutil.copy(made / "mixer-plain", made / "mixer-valgrind")
+        a_mixer(checks, made, "valgrind", ["valgrind", "-q", "--error-exitcode=99", "--leak-check=full"])
+
+
 def refused_memory(checks, made):
     """Each request for memory refused in turn: the program says so and ends, or does without."""
     layer = made / "unreliable.so"
@@ -151,7 +289,7 @@ def arenas(checks, made):
 
 
 INSTALLED = ["include/oca.h", "lib/cmake/oca/oca-config-version.cmake", "lib/cmake/oca/oca-config.cmake", "lib/liboca.a", "lib/liboca.so",
-             "lib/liboca.so.1", "lib/liboca.so.1.2.0", "lib/liboca_c.a", "lib/pkgconfig/oca.pc",
+             "lib/liboca.so.1", "lib/liboca.so.1.3.0", "lib/liboca_c.a", "lib/pkgconfig/oca.pc",
              "share/man/man3/oca_*.3"]
 
 
@@ -286,6 +424,7 @@ def main():
         against_each_other(checks, made)
         against_the_programs(checks, made, folder)
         full_datagram(checks, made)
+        mixers(checks, made, prefix)
         refused_memory(checks, made)
         if shutil.which("valgrind"):
             careful = ["valgrind", "-q", "--error-exitcode=99", "--leak-check=full"]
@@ -295,7 +434,7 @@ def main():
             checks.same("the panel under valgrind", said_by([*careful, made / "panel-c11", port]), (PANEL, 0))
             checks.same("the device under valgrind", (run.communicate(timeout=120)[0], run.returncode), (AMPLIFIER, 0))
         arena = made / "arena"
-        subprocess.run(["cc", "-std=c11", "-DARENA=(3u<<20)", *STRICT, f"-I{prefix}/include", "-o", arena, TOP / "tools/c_library.c", TOP / "examples/c/heap.c",
+        subprocess.run(["cc", "-std=c11", "-DARENA=(6u<<20)", *STRICT, f"-I{prefix}/include", "-o", arena, TOP / "tools/c_library.c", TOP / "examples/c/heap.c",
                         f"{prefix}/lib/liboca_c.a"], check=True)
         checks.same("each call over an arena", said_by([arena])[1], 0)
         counted = made / "counted"

@@ -19,12 +19,13 @@ CALLS = TOP / "crates/oca_c/src"
 NUMBERS = {"bool": "bool", "usize": "size_t", **{f"{sign}{bits}": f"{'u' if sign == 'u' else ''}int{bits}_t" for sign in "iu" for bits in (8, 16, 32, 64)}}
 HANDLES = {"DeviceHandle": ("struct oca_device", "device"), "LinkHandle": ("struct oca_link", "link")}
 STRUCTS = {"Name": "struct oca_name", "Reading": "struct oca_setting", "ValueWords": "struct oca_value", "ReadingWords": "struct oca_reading",
-           "RequestWords": "struct oca_request"}
+           "RequestWords": "struct oca_request", "SpecWords": "struct oca_spec"}
 # A parameter that the header calls otherwise, by its call.
 RENAMED = {
     ("oca_device_datagram_words", "told"): "verdict", ("oca_device_object_words", "told"): "object", ("oca_device_setting", "reading"): "setting",
     ("oca_link_submit", "command"): "handle", ("oca_link_due", "kind"): "due", ("oca_link_due", "command"): "handle",
     ("oca_link_datagram", "kind"): "reception", ("oca_link_take", "command"): "handle", ("oca_link_answered", "command"): "handle",
+    ("oca_link_next_handle", "command"): "handle",
 }
 LENGTHS = {"bytes": "len", "verdict": "words", "object": "words"}
 
@@ -114,7 +115,8 @@ def struct(file, name):
     found = []
     for field, of in re.findall(r"pub (\w+): (.+),", body):
         size = re.fullmatch(r"\[(\w+); (\d+)\]", of)
-        found.append((f"{field}[{size[2]}]", NUMBERS[size[1]]) if size else (field, NUMBERS.get(of) or STRUCTS[of]))
+        kind = size[1] if size else of
+        found.append((f"{field}[{size[2]}]" if size else field, NUMBERS.get(kind) or STRUCTS[kind]))
     return found
 
 
@@ -155,6 +157,8 @@ def expected():
         "struct oca_value": struct("value_words.rt", "ValueWords"),
         "struct oca_reading": struct("value_words.rt", "ReadingWords"),
         "struct oca_request": struct("value_words.rt", "RequestWords"),
+        "struct oca_spec": struct("spec_words.rt", "SpecWords"),
+        "size of oca_spec": int(re.search(r"const SPEC_SIZE: u32 = (\d+);", text("spec_words.rt"))[1]),
         "enum oca_status": variants("oca_types/src/status.rt", "Status", "OCA_STATUS_"),
         "enum oca_fault": variants("oca_pdu/src/fault.rt", "PduFaultKind", "OCA_FAULT_"),
         "enum oca_method": methods(),
@@ -176,6 +180,8 @@ def stated(header, name):
         return {word: int(number) for word, number in re.findall(r"(OCA_MOST_\w+) = (\d+)", header)}
     if name == "version":
         return int(re.search(r"#define OCA_VERSION (0x[0-9a-fA-F]+)u", header)[1], 16)
+    if name == "size of oca_spec":
+        return int(re.search(r"sizeof\(struct oca_spec\) == (\d+)", header)[1])
     if name == "status texts":
         return re.findall(r'"(\w+)"', re.search(r"oca_status_text.*?\};", header, re.S)[0])
     if name == "result texts":
@@ -207,6 +213,11 @@ WRONG = [
     ("enum oca_result oca_device_tick(", "uint32_t oca_device_tick("),
     ("struct oca_value { uint32_t class_number, zero; uint64_t bits; };", "struct oca_value { uint32_t zero, class_number; uint64_t bits; };"),
     ("struct oca_value value, least, greatest;", "struct oca_value value, greatest, least;"),
+    ("uint8_t lockable, enabled;", "uint8_t enabled, lockable;"),
+    ("struct oca_name role, label, names[16];", "struct oca_name label, role, names[16];"),
+    ("uint8_t enableds[16], zeros[6];", "uint8_t zeros[6], enableds[16];"),
+    ("uint32_t container, uint32_t ono, const struct oca_spec *spec", "uint32_t ono, uint32_t container, const struct oca_spec *spec"),
+    ("size_t index, struct oca_spec *spec", "size_t index, const struct oca_spec *spec"),
     ("{ uint16_t level, index; uint8_t count, size;", "{ uint16_t level, index; uint8_t size, count;"),
     ("OCA_STATUS_LOCKED = 3, OCA_STATUS_BAD_FORMAT = 4", "OCA_STATUS_LOCKED = 4, OCA_STATUS_BAD_FORMAT = 3"),
     ("OCA_SET_LABEL = 0x20009", "OCA_SET_LABEL = 0x2000a"),
@@ -227,7 +238,7 @@ WRONG = [
     ("OCA_DUE_COMMAND = 1, OCA_DUE_KEEP_ALIVE = 2", "OCA_DUE_COMMAND = 2, OCA_DUE_KEEP_ALIVE = 1"),
     ("OCA_STRANGER = 2, OCA_MALFORMED = 3", "OCA_STRANGER = 3, OCA_MALFORMED = 2"),
     ("OCA_MOST_WRITTEN = 86", "OCA_MOST_WRITTEN = 85"),
-    ("OCA_VERSION 0x010200u", "OCA_VERSION 0x010100u"),
+    ("OCA_VERSION 0x010300u", "OCA_VERSION 0x010200u"),
 ]
 
 

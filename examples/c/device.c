@@ -18,18 +18,19 @@ static uint64_t now_ms(void) {
     return (uint64_t)time.tv_sec * 1000 + (uint64_t)time.tv_nsec / 1000000;
 }
 
-static const uint8_t *text(const char *words) { return (const uint8_t *)words; }
-
 /* The objects: for each channel a block with a mute and a gain. */
 static enum oca_result build(struct oca_device *device) {
+    const struct oca_spec mute = oca_spec_of("mute", oca_alone(oca_mute(true)));
+    const struct oca_spec gain = oca_spec_of("gain", oca_within(oca_int16(0), oca_int16(-600), oca_int16(100)));
     enum oca_result answer = oca_device_open(device, 128);
     for (uint32_t channel = 0; channel < 2 && answer == OCA_DONE; channel++) {
-        uint32_t block = 4096 + 16 * channel;
+        uint32_t number = 4096 + 16 * channel;
         char role[16];
-        int length = snprintf(role, sizeof role, "channel %u", channel + 1);
-        answer = oca_device_add_block(device, 100, block, text(role), (size_t)length, true);
-        if (answer == OCA_DONE) answer = oca_device_add_mute(device, block, block + 1, text("mute"), 4, true, true);
-        if (answer == OCA_DONE) answer = oca_device_add_int16(device, block, block + 2, text("gain"), 4, true, 0, -600, 100);
+        snprintf(role, sizeof role, "channel %u", (unsigned)channel + 1);
+        const struct oca_spec block = oca_spec_of_block(role);
+        answer = oca_device_add(device, 100, number, &block);
+        if (answer == OCA_DONE) answer = oca_device_add(device, number, number + 1, &mute);
+        if (answer == OCA_DONE) answer = oca_device_add(device, number, number + 2, &gain);
     }
     return answer == OCA_DONE ? oca_device_start(device, 32, 16) : answer;
 }

@@ -20,11 +20,13 @@ static uint64_t now_ms(void) {
 
 struct answer { uint32_t status, count; size_t size; uint8_t params[OCA_MOST_ANSWER]; };
 
-/* Gives out all that is due; whether the link lives. */
+/* Gives out all that is due; whether the link lives. After a standstill of 100 seconds it does not: a copy could act a second time. */
 static bool give_out(struct oca_link *link, int file, const struct sockaddr_in *to) {
     static uint8_t bytes[OCA_MOST_BYTES];
     uint32_t due = OCA_DUE_NOTHING, handle = 0;
     size_t length = 0;
+    bool late = false;
+    if (oca_link_is_late(link, now_ms(), &late) != OCA_DONE || late) return false;
     for (;;) {
         if (oca_link_due(link, now_ms(), bytes, sizeof bytes, &length, &due, &handle) != OCA_DONE || due == OCA_DUE_LOST) return false;
         if (due == OCA_DUE_NOTHING) return true;
@@ -33,11 +35,10 @@ static bool give_out(struct oca_link *link, int file, const struct sockaddr_in *
 }
 
 /* Sends a command and waits for its answer. */
-static bool ask(struct oca_link *link, int file, const struct sockaddr_in *to, uint32_t target, uint16_t level, uint16_t index,
-                uint8_t count, const uint8_t *params, size_t size, struct answer *answer) {
+static bool ask(struct oca_link *link, int file, const struct sockaddr_in *to, uint32_t target, const struct oca_request *request, struct answer *answer) {
     static uint8_t bytes[OCA_MOST_BYTES + 1];
     uint32_t handle = 0, reception = 0, answered = 0;
-    if (oca_link_submit(link, target, level, index, count, params, size, now_ms(), &handle) != OCA_DONE) return false;
+    if (oca_link_ask(link, target, request, now_ms(), &handle) != OCA_DONE) return false;
     while (give_out(link, file, to)) {
         struct sockaddr_in from;
         socklen_t length = sizeof from;
@@ -50,16 +51,27 @@ static bool ask(struct oca_link *link, int file, const struct sockaddr_in *to, u
     return false;
 }
 
+/* Sets an object to a value, and waits for the answer. */
+static bool set(struct oca_link *link, int file, const struct sockaddr_in *to, uint32_t target, struct oca_value value, struct answer *answer) {
+    struct oca_request request = {0, 0, 0, 0, {0}};
+    return oca_set_request(&value, &request) == OCA_DONE && ask(link, file, to, target, &request, answer);
+}
+
+/* Reads an object of a class, and waits for the answer. */
+static bool get(struct oca_link *link, int file, const struct sockaddr_in *to, uint32_t target, uint32_t class_number, struct answer *answer) {
+    struct oca_request request = {0, 0, 0, 0, {0}};
+    return oca_get_request(class_number, &request) == OCA_DONE && ask(link, file, to, target, &request, answer);
+}
+
 int main(int count, char **words) {
-    struct oca_link link;
+    struct oca_link link = OCA_LINK_INIT;
+    struct oca_reading gain_now = oca_alone(oca_int16(0));
     struct answer answer;
     struct sockaddr_in to;
     struct timeval wait = {0, 50000}, briefly = {0, 1000};
-    static const uint8_t open_it[] = {2}, minus_six[] = {0xff, 0xc4};
     uint32_t mute = count > 3 ? (uint32_t)atoi(words[2]) : 4097, gain = count > 3 ? (uint32_t)atoi(words[3]) : 4098;
     int file = socket(AF_INET, SOCK_DGRAM, 0);
     if (count < 2 || file < 0) return 2;
-    memset(&link, 0, sizeof link);
     memset(&answer, 0, sizeof answer);
     memset(&to, 0, sizeof to);
     to.sin_family = AF_INET;
@@ -67,17 +79,18 @@ int main(int count, char **words) {
     to.sin_addr.s_addr = htonl(INADDR_LOOPBACK);
     setsockopt(file, SOL_SOCKET, SO_RCVTIMEO, &wait, sizeof wait);
     setsockopt(file, SOL_SOCKET, SO_SNDTIMEO, &briefly, sizeof briefly);
-    uint32_t opened = oca_link_open(&link, 0x7F000001, (uint16_t)atoi(words[1]), 1, now_ms(), 16);
+    enum oca_result opened = oca_link_open(&link, 0x7F000001, (uint16_t)atoi(words[1]), 1, now_ms(), 16);
     if (opened != OCA_DONE) {
-        fprintf(stderr, "not opened: %u\n", opened);
+        fprintf(stderr, "not opened: %u\n", (unsigned)opened);
         return 1;
     }
-    bool good = ask(&link, file, &to, mute, 4, 2, 1, open_it, sizeof open_it, &answer);
+    bool good = set(&link, file, &to, mute, oca_mute(false), &answer);
     if (good) printf("open channel 1: status %u\n", answer.status);
-    good = good && ask(&link, file, &to, gain, 5, 2, 1, minus_six, sizeof minus_six, &answer);
+    good = good && set(&link, file, &to, gain, oca_int16(-60), &answer);
     if (good) printf("gain to -6 dB: status %u\n", answer.status);
-    good = good && ask(&link, file, &to, gain, 5, 1, 0, open_it, 0, &answer);
-    if (good && answer.status == 0 && answer.size >= 2) printf("gain: %d dB/10\n", (int16_t)(answer.params[0] << 8 | answer.params[1]));
+    good = good && get(&link, file, &to, gain, OCA_CLASS_INT16, &answer);
+    if (good && answer.status == OCA_STATUS_OK && oca_value_read(OCA_CLASS_INT16, answer.params, answer.size, &gain_now) == OCA_DONE)
+        printf("gain: %d dB/10\n", (int)oca_value_signed(gain_now.value));
     else puts(good ? "gain: not read" : "lost");
     oca_link_close(&link);
     return good ? 0 : 1;

@@ -16,7 +16,7 @@ use Rattle.oca_model.specs.declared.reading.Reading.{Reading}
 use Rattle.oca_model.specs.declared.reading.Reading.TheVariants as readings
 use Rattle.oca_model.specs.declared.value_request.ValueRequest.{ValueRequest}
 use Rattle.oca_model.specs.Values.{IsOfItsType, class_of_value, mute_number, polarity_number, get_method, set_method, value_encoding}
-use Rattle.oca_model.specs.Readings.{reading_in, value_of}
+use Rattle.oca_model.specs.Readings.{reading_in}
 use Rattle.oca_model.specs.ValueRequests.{Asks}
 use Rattle.oca_c.specs.declared.value_words.ValueWords.{ValueWords}
 use Rattle.oca_c.specs.declared.value_words.ReadingWords.{ReadingWords}

@@ -1,5 +1,5 @@
 -- What the calls promise of what is behind a handle.
-use Rattle.std.specs.Prelude.{◌≡◌, ◌⊎◌, ℕ, ◌<◌, ◌≤◌, Bool, List, [], ◌∷◌, take, map, length, Option, Some, None, Result, Ok, Err, IsSomeAnd, if◌then◌else◌}
+use Rattle.std.specs.Prelude.{◌≡◌, ◌⊎◌, ℕ, ◌<◌, ◌≤◌, Bool, List, [], ◌∷◌, take, map, length, Option, Some, None, Result, Ok, Err, IsSome, IsSomeAnd, if◌then◌else◌}
 use Rattle.std.specs.List.{AllByRecursion}
 use Rattle.std.specs.Str.{IsUtf8}
 use Rattle.oca_types.specs.Sizes.{DeviceSizes}
@@ -47,6 +47,10 @@ HandleRuns w behind tree events = IsSomeAnd behind (λ b. Runs w b tree events)
 abbrev pub HasPackets : Option DeviceBehind → List (List ℕ) → Type 0
 HasPackets behind packets = IsSomeAnd behind (λ b. b.outbox ≡ packets)
 
+-- behind an open handle there is a device, and these packets wait
+abbrev pub AnsweredWith : Option DeviceBehind → List (List ℕ) → Type 0
+AnsweredWith behind packets = IsSomeAnd behind (λ b. IsSome b.device × (b.outbox ≡ packets))
+
 -- the packets that wait stay
 abbrev pub KeepsPackets : Option DeviceBehind → Option DeviceBehind → Type 0
 KeepsPackets old new = (packets : List (List ℕ)) → HasPackets old packets → HasPackets new packets
@@ -64,10 +68,6 @@ RefusesBuilding old new number = IsSomeAnd old (λ b. b.device ≡ None) → (nu
 -- where no tree is being built, as after the start, nothing is added to one and none is started
 abbrev pub RefusesRunning : Option DeviceBehind → Option DeviceBehind → ℕ → Type 0
 RefusesRunning old new number = IsSomeAnd old (λ b. b.builder ≡ None) → (number ≡ 12) × (new ≡ old)
-
--- a start after the start changes nothing, whatever it asks for
-abbrev pub KeepsRunning : Option DeviceBehind → Option DeviceBehind → Type 0
-KeepsRunning old new = IsSomeAnd old (λ b. b.builder ≡ None) → new ≡ old
 
 -- ---- opening and starting
 

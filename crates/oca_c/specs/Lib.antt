@@ -5,3 +5,4 @@ pub mod Told
 pub mod Calls
 pub mod LinkCalls
 pub mod CValues
+pub mod CSpecs

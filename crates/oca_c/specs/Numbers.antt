@@ -2,6 +2,8 @@
 use Rattle.std.specs.Prelude.{ℕ}
 use Rattle.oca_tree.specs.declared.builder.AddFault.{AddFault}
 use Rattle.oca_tree.specs.declared.builder.AddFault.TheVariants as adds
+use Rattle.oca_tree.specs.declared.start.StartFault.{StartFault}
+use Rattle.oca_tree.specs.declared.start.StartFault.TheVariants as starts
 use Rattle.oca_tree.specs.declared.setting.SetFault.{SetFault}
 use Rattle.oca_tree.specs.declared.setting.SetFault.TheVariants as sets
 use Rattle.oca_control.specs.declared.fault.ControlFault.{ControlFault}
@@ -45,6 +47,11 @@ add_answer adds.TooDeep = answers.TooDeep
 add_answer adds.BadText = answers.BadText
 add_answer adds.BadRange = answers.BadRange
 add_answer adds.NoMemory = answers.NoMemory
+
+abbrev pub start_answer : StartFault → Answer
+start_answer (starts.Add fault) = add_answer fault
+start_answer starts.BadLabel = answers.BadText
+start_answer starts.BadFlags = answers.BadRange
 
 abbrev pub set_answer : SetFault → Answer
 set_answer sets.NoObject = answers.NoObject

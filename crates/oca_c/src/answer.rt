@@ -1,9 +1,9 @@
 //! The numbers that calls return.
 ghost use Rattle.std.specs.Prelude.{◌≡◌};
-ghost use Rattle.oca_c.specs.Numbers.{add_answer, answer_number, set_answer, submission_answer};
+ghost use Rattle.oca_c.specs.Numbers.{add_answer, answer_number, set_answer, start_answer, submission_answer};
 
 use oca_control::ControlFault;
-use oca_tree::{AddFault, SetFault};
+use oca_tree::{AddFault, SetFault, StartFault};
 
 /// What a call returns. The numbers are promised; 1 to 8 are those of `AddFault`.
 #[derive(Clone, Copy, Debug, PartialEq, Eq)]
@@ -64,6 +64,17 @@ impl Answer {
             AddFault::BadText => Answer::BadText,
             AddFault::BadRange => Answer::BadRange,
             AddFault::NoMemory => Answer::NoMemory,
+        }
+    }
+
+    /// The answer to an addition with what was stored, or to a root with it, that was refused.
+    pub fn of_start(fault: StartFault) -> Answer
+        ensures { result ≡ start_answer fault }
+    {
+        match fault {
+            StartFault::Add(fault) => Answer::of_add(fault),
+            StartFault::BadLabel => Answer::BadText,
+            StartFault::BadFlags => Answer::BadRange,
         }
     }
 

@@ -1,5 +1,5 @@
 //! What is behind an open handle of a device.
-ghost use Rattle.std.specs.Prelude.{◌≡◌, ◌≤◌, ◌<◌, ◌∷◌, List, Option, Some, None, IfSome, IfNone, length, take, slice_get};
+ghost use Rattle.std.specs.Prelude.{◌≡◌, ◌≤◌, ◌<◌, ◌∷◌, List, Option, Some, None, IfSome, IfNone, IsSome, length, take, slice_get};
 ghost use Rattle.oca_types.specs.Sizes.{DeviceSizes};
 ghost use Rattle.oca_tree.specs.Room.{room_size};
 ghost use Rattle.oca_tree.specs.declared.object.Object.{Object};
@@ -12,14 +12,18 @@ ghost use Rattle.oca_device.specs.Answers.{packets, verdict};
 ghost use Rattle.oca_device.specs.Written.{written};
 ghost use Rattle.oca_c.specs.declared.answer.Answer.TheVariants.{Done, NotStarted, Nothing, Started, TooSmall, BadSize, NoMemory};
 ghost use Rattle.oca_c.specs.Numbers.{answer_number};
-ghost use Rattle.oca_c.specs.Calls.{AddedBy, AddsSo, Builds, Runs, Starts, SwitchAddedBy, IsSize, root_alone, set_answers};
+ghost use Rattle.oca_c.specs.Calls.{AddedBy, AddsSo, Builds, Runs, Starts, SwitchAddedBy, root_alone, set_answers};
 ghost use Rattle.oca_model.specs.declared.value.Value.{Value};
 ghost use Rattle.oca_c.specs.CValues.{AreWordsOf, SetsTo};
+ghost use Rattle.oca_c.specs.CSpecs.{SpecAddedBy, TellsSpec};
 ghost use Rattle.oca_c.specs.Told.{TellsLock, TellsNextLapse, TellsObject, TellsSetting, TellsWords, put_words, verdict_words};
 
 use crate::answer::Answer;
 use crate::name::{MOST_POSITIONS, Name, texts_of};
 use crate::reading::Reading;
+use crate::spec_adding::add_spec;
+use crate::spec_telling::tell_spec;
+use crate::spec_words::SpecWords;
 use crate::value_words::{ValueWords, local_of};
 use crate::words::{lock_number, object_words, put_numbers, put_words, words_of};
 use oca_device::{Device, Outbox};
@@ -44,6 +48,13 @@ impl DeviceBehind {
         let Ok(builder) = TreeBuilder::with_room(alloc, room) else {
             return None;
         };
+        DeviceBehind::over(alloc, builder)
+    }
+
+    /// The objects that were built, and nothing else yet; nothing where memory was refused.
+    pub fn over(alloc: Global, builder: TreeBuilder) -> Option<DeviceBehind>
+        ensures { IfSome result (λ behind. Builds behind builder) }
+    {
         match Outbox::new(alloc) {
             Ok(outbox) => Some(DeviceBehind {
                 builder: Some(builder),
@@ -109,13 +120,27 @@ impl DeviceBehind {
         self.add(container, ono, role, lockable, kind)
     }
 
+    /// Adds an object that a struct describes, before the start.
+    pub fn add_spec(&mut self, container: u32, ono: u32, words: &SpecWords) -> Answer
+        ensures adds { (B : Store) → Builds self.old B →
+            (B' : Store) × Builds self.new B' × SpecAddedBy result B B' container ono words.now }
+        ensures started { self.old.builder ≡ None → (result ≡ Started) × (self.new ≡ self.old) }
+    {
+        let Some(builder) = &mut self.builder else {
+            return Answer::Started;
+        };
+        add_spec(builder, container, ono, words)
+    }
+
     /// Makes the device of the objects, with reply windows of this size and sessions of so many peers.
     pub fn start(&mut self, alloc: Global, window: u8, peers: u8) -> Answer
         ensures starts { (B : Store) → Builds self.old B → Starts result self.old self.new window peers B.list }
-        ensures started { IsSize window → IsSize peers → self.old.builder ≡ None → (result ≡ Started) × (self.new ≡ self.old) }
-        ensures running { self.old.builder ≡ None → self.new ≡ self.old }
+        ensures started { self.old.builder ≡ None → (result ≡ Started) × (self.new ≡ self.old) }
         ensures packets { self.new.outbox ≡ self.old.outbox }
     {
+        if self.builder.is_none() {
+            return Answer::Started;
+        }
         let Some(window) = Window::new(window) else {
             return Answer::BadSize;
         };
@@ -217,21 +242,30 @@ impl DeviceBehind {
         self.set(ono, local_of(value))
     }
 
-    /// How many packets the last datagram was answered with.
-    pub fn packets(&self) -> usize
-        ensures { result ≡ length self.now.outbox }
+    /// Tells how many packets the last datagram was answered with.
+    pub fn packets(&self, count: &mut usize) -> Answer
+        ensures told { IsSome self.now.device → (result ≡ Done) × (count.new ≡ length self.now.outbox) }
+        ensures building { self.now.device ≡ None → (result ≡ NotStarted) × (count.new ≡ count.old) }
     {
-        self.outbox.len()
+        if self.device.is_none() {
+            return Answer::NotStarted;
+        }
+        *count = self.outbox.len();
+        Answer::Done
     }
 
     /// Copies a packet to the front of `out`.
     pub fn packet(&self, i: usize, out: &mut [u8], len: &mut usize) -> Answer
-        ensures nothing { IfNone (slice_get self.now.outbox i) (result ≡ Nothing) }
-        ensures packet { IfSome (slice_get self.now.outbox i) (λ p. length p ≤ length out.old →
+        ensures nothing { IsSome self.now.device → IfNone (slice_get self.now.outbox i) (result ≡ Nothing) }
+        ensures packet { IsSome self.now.device → IfSome (slice_get self.now.outbox i) (λ p. length p ≤ length out.old →
             (result ≡ Done) × (len.new ≡ length p) × (take (length p) out.new ≡ p)) }
-        ensures small { IfSome (slice_get self.now.outbox i) (λ p. length out.old < length p →
+        ensures small { IsSome self.now.device → IfSome (slice_get self.now.outbox i) (λ p. length out.old < length p →
             (result ≡ TooSmall) × (len.new ≡ length p) × (out.new ≡ out.old)) }
+        ensures building { self.now.device ≡ None → result ≡ NotStarted }
     {
+        if self.device.is_none() {
+            return Answer::NotStarted;
+        }
         let Some(packet) = self.outbox.get(i) else {
             return Answer::Nothing;
         };
@@ -293,6 +327,18 @@ impl DeviceBehind {
         put_words(&object_words(&object), told);
         put_words(object.role.as_str().as_bytes(), role);
         Answer::Done
+    }
+
+    /// Tells of the object at this index all that an addition makes of it.
+    pub fn spec(&self, index: usize, told: &mut SpecWords) -> Answer
+        ensures told { (w : DeviceSizes) (T : List Object) (E : List Event) → Runs w self.now T E →
+            TellsSpec (state_after w T E).tree (info_at (state_after w T E).tree index) told.old told.new (answer_number result) }
+        ensures building { self.now.device ≡ None → (result ≡ NotStarted) × (told.new ≡ told.old) }
+    {
+        let Some(device) = &self.device else {
+            return Answer::NotStarted;
+        };
+        tell_spec(device.tree(), index, told)
     }
 
     /// Tells of an object's lock what it keeps other peers from, and its holder.

@@ -7,7 +7,7 @@ ghost use Rattle.oca_device.specs.Events.{Event, Datagram as DatagramEvent, Tick
 ghost use Rattle.oca_device.specs.States.{state_after};
 ghost use Rattle.oca_device.specs.Answers.{packets, verdict};
 ghost use Rattle.oca_device.specs.Written.{written};
-ghost use Rattle.oca_c.specs.Calls.{HandleBuilds, HandleRuns, HandleStarts, HasPackets, IsSize, KeepsPackets, KeepsRunning, Opens, RefusesBuilding, RefusesClosed, RefusesRunning};
+ghost use Rattle.oca_c.specs.Calls.{HandleBuilds, HandleRuns, HandleStarts, AnsweredWith, HasPackets, KeepsPackets, Opens, RefusesBuilding, RefusesClosed, RefusesRunning};
 ghost use Rattle.oca_c.specs.Told.{TellsNextLapse, TellsWords, put_words, verdict_words};
 
 use crate::answer::Answer;
@@ -58,8 +58,7 @@ pub extern "C" fn oca_device_start(
     peers: u8,
 ) -> u32
     ensures closed { RefusesClosed handle.old.slot.inner handle.new.slot.inner result }
-    ensures started { IsSize window → IsSize peers → RefusesRunning handle.old.slot.inner handle.new.slot.inner result }
-    ensures running { KeepsRunning handle.old.slot.inner handle.new.slot.inner }
+    ensures started { RefusesRunning handle.old.slot.inner handle.new.slot.inner result }
     ensures packets { KeepsPackets handle.old.slot.inner handle.new.slot.inner }
     ensures starts { (B : Store) → HandleBuilds handle.old.slot.inner B → HandleStarts result handle.old.slot.inner handle.new.slot.inner window peers B.list }
 {
@@ -146,14 +145,15 @@ pub extern "C" fn oca_device_packets(
 ) -> u32
     ensures closed { RefusesClosed handle.old.slot.inner handle.new.slot.inner result }
     ensures kept { handle.new.slot.inner ≡ handle.old.slot.inner }
-    ensures count { (P : List (List ℕ)) → HasPackets handle.old.slot.inner P → (result ≡ 0) × (count.new ≡ length P) }
+    ensures building { RefusesBuilding handle.old.slot.inner handle.new.slot.inner result }
+    ensures count { (P : List (List ℕ)) → AnsweredWith handle.old.slot.inner P → (result ≡ 0) × (count.new ≡ length P) }
 {
     let Some(behind) = handle.take(alloc) else {
         return Answer::Closed.number();
     };
-    *count = behind.packets();
+    let answer = behind.packets(count);
     handle.put(behind);
-    Answer::Done.number()
+    answer.number()
 }
 
 /// Copies a packet.
@@ -167,10 +167,11 @@ pub extern "C" fn oca_device_packet(
 ) -> u32
     ensures closed { RefusesClosed handle.old.slot.inner handle.new.slot.inner result }
     ensures kept { handle.new.slot.inner ≡ handle.old.slot.inner }
-    ensures nothing { (P : List (List ℕ)) → HasPackets handle.old.slot.inner P → IfNone (slice_get P i) (result ≡ 13) }
-    ensures packet { (P : List (List ℕ)) → HasPackets handle.old.slot.inner P → IfSome (slice_get P i) (λ p. length p ≤ length out.old →
+    ensures building { RefusesBuilding handle.old.slot.inner handle.new.slot.inner result }
+    ensures nothing { (P : List (List ℕ)) → AnsweredWith handle.old.slot.inner P → IfNone (slice_get P i) (result ≡ 13) }
+    ensures packet { (P : List (List ℕ)) → AnsweredWith handle.old.slot.inner P → IfSome (slice_get P i) (λ p. length p ≤ length out.old →
         (result ≡ 0) × (len.new ≡ length p) × (take (length p) out.new ≡ p)) }
-    ensures small { (P : List (List ℕ)) → HasPackets handle.old.slot.inner P → IfSome (slice_get P i) (λ p. length out.old < length p →
+    ensures small { (P : List (List ℕ)) → AnsweredWith handle.old.slot.inner P → IfSome (slice_get P i) (λ p. length out.old < length p →
         (result ≡ 14) × (len.new ≡ length p) × (out.new ≡ out.old)) }
 {
     let Some(behind) = handle.take(alloc) else {

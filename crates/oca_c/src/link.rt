@@ -6,13 +6,13 @@ ghost use Rattle.oca_types.specs.Sizes.{largest_datagram, most_parameter_bytes};
 ghost use Rattle.oca_pdu.specs.Messages.{Msg};
 ghost use Rattle.oca_control.specs.Answers.{answer_fields};
 ghost use Rattle.oca_control.specs.Contents.{IsContent};
-ghost use Rattle.oca_control.specs.Links.{decision, due_answer, due_bytes, gone_on, received, reception, submission, submitted, taken};
+ghost use Rattle.oca_control.specs.Links.{decision, due_answer, due_bytes, gone_on, late_at, received, reception, submission, submitted, taken};
 ghost use Rattle.oca_control.specs.Untaken.{answer_under, first_answered};
 ghost use Rattle.oca_c.specs.LinkCalls.{LiesIn, TellsNextDue, TellsNumber, TellsAnswer, TellsSubmission, answered_count, due_handle, due_kind, reception_kind};
 
 use crate::answer::Answer;
 use crate::words::put_front;
-use oca_control::{Due, Link, Reception};
+use oca_control::{Due, Link, Reception, is_late};
 use oca_types::{Handle, MOST_BYTES, MOST_PARAMETER_BYTES, MethodId, Ono, Packet, Peer};
 
 /// A link.
@@ -143,6 +143,19 @@ impl LinkBehind {
         }
     }
 
+    /// Tells the handle that the next command gets.
+    pub fn next_handle(&self, handle: &mut u32) -> u32
+        ensures { TellsNumber result handle.new self.now.link.next }
+    {
+        match self.link.next_handle() {
+            Some(next) => {
+                *handle = next.0;
+                Answer::Done.number()
+            }
+            None => Answer::Nothing.number(),
+        }
+    }
+
     /// Tells when the device was heard last.
     pub fn last_heard(&self, moment: &mut u64) -> u32
         ensures { (result ≡ 0) × (moment.new ≡ self.now.link.heard) }
@@ -156,6 +169,14 @@ impl LinkBehind {
         ensures { (result ≡ 0) × (lost.new ≡ self.now.link.lost) }
     {
         *lost = self.link.is_lost();
+        Answer::Done.number()
+    }
+
+    /// Tells whether a command was given out so long before this moment that it may not be given out again.
+    pub fn is_late(&self, now: u64, late: &mut bool) -> u32
+        ensures { (result ≡ 0) × (late.new ≡ late_at now self.now.link) }
+    {
+        *late = is_late(&self.link, now);
         Answer::Done.number()
     }
 }

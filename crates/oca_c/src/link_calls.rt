@@ -4,7 +4,7 @@ ghost use Rattle.oca_types.specs.Peers.{RequestFields};
 ghost use Rattle.oca_types.specs.Sizes.{largest_datagram, most_parameter_bytes};
 ghost use Rattle.oca_pdu.specs.Messages.{Msg};
 ghost use Rattle.oca_control.specs.Contents.{IsContent};
-ghost use Rattle.oca_control.specs.Links.{decision, due_answer, due_bytes, gone_on, new_link, received, reception, submission, submitted, taken};
+ghost use Rattle.oca_control.specs.Links.{decision, due_answer, due_bytes, gone_on, late_at, new_link, received, reception, submission, submitted, taken};
 ghost use Rattle.oca_control.specs.Untaken.{answer_under, first_answered};
 ghost use Rattle.oca_c.specs.Calls.{RefusesClosed};
 ghost use Rattle.oca_c.specs.LinkCalls.{HoldsLink, LiesIn, OpensLink, TellsNextDue, TellsNumber, TellsAnswer, TellsSubmission, answered_count, due_handle, due_kind, reception_kind};
@@ -190,6 +190,25 @@ pub extern "C" fn oca_link_answered(
     number
 }
 
+/// Tells the handle that the next command gets.
+#[unsafe(no_mangle)]
+pub extern "C" fn oca_link_next_handle(
+    alloc: Global,
+    handle: &mut LinkHandle,
+    command: &mut u32,
+) -> u32
+    ensures closed { RefusesClosed handle.old.slot.inner handle.new.slot.inner result }
+    ensures kept { handle.new.slot.inner ≡ handle.old.slot.inner }
+    ensures told { IfSome handle.old.slot.inner (λ b. TellsNumber result command.new b.link.next) }
+{
+    let Some(behind) = handle.take(alloc) else {
+        return Answer::Closed.number();
+    };
+    let number = behind.next_handle(command);
+    handle.put(behind);
+    number
+}
+
 /// Tells when the last well-formed datagram came from the device.
 #[unsafe(no_mangle)]
 pub extern "C" fn oca_link_last_heard(
@@ -220,6 +239,26 @@ pub extern "C" fn oca_link_is_lost(alloc: Global, handle: &mut LinkHandle, lost:
         return Answer::Closed.number();
     };
     let number = behind.is_lost(lost);
+    handle.put(behind);
+    number
+}
+
+/// Tells whether a command was given out so long before a moment that it may not be given out again.
+#[unsafe(no_mangle)]
+pub extern "C" fn oca_link_is_late(
+    alloc: Global,
+    handle: &mut LinkHandle,
+    now: u64,
+    late: &mut bool,
+) -> u32
+    ensures closed { RefusesClosed handle.old.slot.inner handle.new.slot.inner result }
+    ensures kept { handle.new.slot.inner ≡ handle.old.slot.inner }
+    ensures told { IfSome handle.old.slot.inner (λ b. (result ≡ 0) × (late.new ≡ late_at now b.link)) }
+{
+    let Some(behind) = handle.take(alloc) else {
+        return Answer::Closed.number();
+    };
+    let number = behind.is_late(now, late);
     handle.put(behind);
     number
 }

@@ -1,9 +1,11 @@
 //! The names of a switch's positions, as C hands them over.
-ghost use Rattle.std.specs.Prelude.{◌≡◌, ◌≤◌, length, map, IfNone, IfSome};
+ghost use Rattle.std.specs.Prelude.{◌≡◌, ◌≤◌, [], length, map, take, IfNone, IfSome};
 ghost use Rattle.std.specs.List.{AllByRecursion};
 ghost use Rattle.oca_c.specs.Calls.{IsName, name_bytes};
 
+use crate::words::{put_front, put_words};
 use arrayvec::ArrayVec;
+use oca_types::Text;
 use std::str;
 
 /// How many positions a switch has at most.
@@ -19,8 +21,49 @@ pub struct Name {
 
 const _: () = prove!(std::mem::size_of::<Name>() == 65);
 
+impl Default for Name {
+    ghost is_default = { λ name. name_bytes name ≡ [] };
+
+    /// The empty name.
+    fn default() -> Self {
+        Name {
+            size: 0,
+            text: [0; 64],
+        }
+    }
+}
+
+impl Name {
+    /// The name with this text, which has room in it.
+    pub fn of(text: &str) -> Name
+        requires { length text.now ≤ 64 }
+        ensures text { name_bytes result ≡ text.now }
+    {
+        let mut place = [0; 64];
+        let size = put_front(text.as_bytes(), &mut place);
+        Name {
+            size: size as u8,
+            text: place,
+        }
+    }
+}
+
+/// The names with these texts, in a place of their own.
+pub fn names_with(texts: &[Text]) -> [Name; MOST_POSITIONS]
+    requires { length texts.now ≤ 16 }
+    ensures { map name_bytes (take (length texts.now) result) ≡ texts.now }
+{
+    let mut names: ArrayVec<Name, MOST_POSITIONS> = ArrayVec::new();
+    for text in texts {
+        names.push(Name::of(text.as_str()));
+    }
+    let mut place = [Name::default(); MOST_POSITIONS];
+    put_words(names.as_slice(), &mut place);
+    place
+}
+
 /// The text of a name; nothing where it is longer than its room or no UTF-8.
-fn text_of(name: &Name) -> Option<&str>
+pub fn text_of(name: &Name) -> Option<&str>
     ensures text { IfSome result (λ text. IsName name.now × (text.now ≡ name_bytes name.now)) }
     ensures none { IfNone result (IsName name.now → ⊥) }
 {

@@ -55,7 +55,7 @@ pub fn object_words(object: &ObjectInfo) -> [u32; OBJECT_WORDS]
 }
 
 /// The number of a class.
-fn class_number(class: Class) -> u32
+pub fn class_number(class: Class) -> u32
     ensures { result ≡ class_number class }
 {
     match class {

@@ -217,6 +217,13 @@ impl Link {
         self.table.answered()
     }
 
+    /// The handle that the next command gets; nothing after the last one, 4294967295.
+    pub fn next_handle(&self) -> Option<Handle>
+        ensures { option_map (λ h. h.0) result ≡ self.now.next }
+    {
+        self.table.next()
+    }
+
     /// The moment at which the last well-formed datagram came from the device, and at first that of the link's making.
     /// A datagram from another address does not move it, nor one that is not well-formed. A device that is there and
     /// has room echoes each keep-alive, so it lags by little more than 2,500 ms while the link is driven and no command

@@ -6,8 +6,11 @@ use oca_control::{ControlFault, Reception};
 
 // No handle follows 4294967295.
 const LAST: &[Step] = &[
+    Next(Some(4_294_967_294)),
     Submits(0, Ok(4_294_967_294)),
+    Next(Some(4_294_967_295)),
     Submits(0, Ok(4_294_967_295)),
+    Next(None),
     Submits(0, Err(ControlFault::HandlesSpent)),
 ];
 

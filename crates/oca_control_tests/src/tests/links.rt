@@ -38,6 +38,8 @@ pub enum Step {
     NextDue(Option<u64>),
     /// The lowest handle whose answer came.
     Answered(Option<u32>),
+    /// The handle of the next command.
+    Next(Option<u32>),
     /// When the device was heard last.
     LastHeard(u64),
     /// Whether the link is lost.
@@ -159,9 +161,9 @@ fn takes(link: &mut Link, handle: u32, want: Option<Gave>) -> bool {
     }
 }
 
-/// Whether this handle is the lowest that is answered.
-fn is_answered(link: &Link, want: Option<u32>) -> bool {
-    match link.answered() {
+/// Whether this is the handle, or there is none.
+fn is_number(told: Option<Handle>, want: Option<u32>) -> bool {
+    match told {
         Some(handle) => want == Some(handle.0),
         None => want.is_none(),
     }
@@ -184,7 +186,8 @@ pub fn agrees(link: &mut Link, packet: &mut Packet, step: Step) -> bool {
         HearsOversize(now, want) => hear_oversize(link, now) == want,
         Takes(handle, want) => takes(link, handle, want),
         NextDue(want) => link.next_due() == want,
-        Answered(want) => is_answered(link, want),
+        Answered(want) => is_number(link.answered(), want),
+        Next(want) => is_number(link.next_handle(), want),
         LastHeard(want) => link.last_heard() == want,
         IsLost(want) => link.is_lost() == want,
     }

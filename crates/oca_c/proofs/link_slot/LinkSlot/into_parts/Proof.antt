@@ -1,13 +1,13 @@
 -- `into_parts` moves two fields, and what they own goes with them.
 use mathlib.Core.Path.{◌≡◌, refl, sym, subst}
 use lib.Dec.{T}
-use Rattle.std.specs.Prelude.{Option, None, Some, Bool, true, is_some}
+use Rattle.std.specs.Prelude.{Option, None, Some, true, is_some}
 use Rattle.oca_c.specs.contracts.link_slot.LinkSlot as S
 use types.Kit.{Seq, Goal}
 use mathlib.Core.List.{List, [], ◌∷◌, ◌++◌}
 use seplogic.Ra.Ura.{Ura}
 use mir.Val.{Val}
-use base.Logic.{SProp, ent, emp, id⊢}
+use base.Logic.{SProp, ent, id⊢}
 use base.Fml.{ftrue, fsep}
 use prog.Memory.{Memory}
 use prog.Routine.{Routine}

@@ -1,0 +1,110 @@
+//! What C calls with a struct that describes an object.
+ghost use Rattle.std.specs.Prelude.{◌≡◌, List, None, IsSome};
+ghost use Rattle.oca_types.specs.Sizes.{DeviceSizes};
+ghost use Rattle.oca_tree.specs.declared.object.Object.{Object};
+ghost use Rattle.oca_tree.specs.Objects.{Store};
+ghost use Rattle.oca_tree.specs.Readers.{info_at};
+ghost use Rattle.oca_device.specs.States.{state_after};
+ghost use Rattle.oca_device.specs.Events.{Event};
+ghost use Rattle.oca_c.specs.Calls.{HandleBuilds, HandleRuns, RefusesBuilding, RefusesClosed, RefusesRunning};
+ghost use Rattle.oca_c.specs.CSpecs.{HandleAddsSpec, OpensOver, OpensWith, TellsSpec};
+
+use crate::answer::Answer;
+use crate::device::DeviceBehind;
+use crate::device_handle::DeviceHandle;
+use crate::name::text_of;
+use crate::spec_adding::start_with;
+use crate::spec_words::{SPEC_SIZE, SpecWords};
+use oca_tree::{Room, TreeBuilder};
+use std::alloc::Global;
+
+/// Opens a device that has its root alone, with what was stored of the root and room for so many objects.
+#[unsafe(no_mangle)]
+pub extern "C" fn oca_device_open_with(
+    alloc: Global,
+    handle: &mut DeviceHandle,
+    room: u16,
+    root: &SpecWords,
+) -> u32
+    ensures open { IsSome handle.old.slot.inner → (result ≡ 10) × (handle.new.slot.inner ≡ handle.old.slot.inner) }
+    ensures opens { handle.old.slot.inner ≡ None → OpensWith result handle.new.slot.inner room root.now }
+{
+    if handle.is_open {
+        return Answer::Open.number();
+    }
+    let Some(room) = Room::new(room) else {
+        return Answer::BadSize.number();
+    };
+    if root.size != SPEC_SIZE {
+        return Answer::BadSize.number();
+    }
+    let Some(label) = text_of(&root.label) else {
+        return Answer::BadText.number();
+    };
+    let start = start_with(label, root.enabled != 0, None);
+    match TreeBuilder::with_root(alloc, room, &start) {
+        Ok(builder) => open_over(alloc, handle, builder),
+        Err(fault) => Answer::of_start(fault).number(),
+    }
+}
+
+/// Opens a closed device over what was built.
+fn open_over(alloc: Global, handle: &mut DeviceHandle, builder: TreeBuilder) -> u32
+    requires { handle.old.slot.inner ≡ None }
+    ensures { OpensOver result handle.new.slot.inner builder }
+{
+    let Some(behind) = DeviceBehind::over(alloc, builder) else {
+        return Answer::NoMemory.number();
+    };
+    match Box::new(alloc, behind) {
+        Ok(behind) => {
+            handle.put(behind);
+            Answer::Done.number()
+        }
+        Err(_) => Answer::NoMemory.number(),
+    }
+}
+
+/// Adds the object that the struct describes, with what was stored of it.
+#[unsafe(no_mangle)]
+pub extern "C" fn oca_device_add(
+    alloc: Global,
+    handle: &mut DeviceHandle,
+    container: u32,
+    ono: u32,
+    spec: &SpecWords,
+) -> u32
+    ensures closed { RefusesClosed handle.old.slot.inner handle.new.slot.inner result }
+    ensures started { RefusesRunning handle.old.slot.inner handle.new.slot.inner result }
+    ensures adds { (B : Store) → HandleBuilds handle.old.slot.inner B →
+        HandleAddsSpec result handle.new.slot.inner B container ono spec.now }
+{
+    let Some(mut behind) = handle.take(alloc) else {
+        return Answer::Closed.number();
+    };
+    let answer = behind.add_spec(container, ono, spec);
+    handle.put(behind);
+    answer.number()
+}
+
+/// Tells of the object at an index all that an addition of the struct makes of it.
+#[unsafe(no_mangle)]
+pub extern "C" fn oca_device_spec(
+    alloc: Global,
+    handle: &mut DeviceHandle,
+    index: usize,
+    spec: &mut SpecWords,
+) -> u32
+    ensures closed { RefusesClosed handle.old.slot.inner handle.new.slot.inner result }
+    ensures building { RefusesBuilding handle.old.slot.inner handle.new.slot.inner result }
+    ensures kept { handle.new.slot.inner ≡ handle.old.slot.inner }
+    ensures told { (w : DeviceSizes) (T : List Object) (E : List Event) → HandleRuns w handle.old.slot.inner T E →
+        TellsSpec (state_after w T E).tree (info_at (state_after w T E).tree index) spec.old spec.new result }
+{
+    let Some(behind) = handle.take(alloc) else {
+        return Answer::Closed.number();
+    };
+    let answer = behind.spec(index, spec);
+    handle.put(behind);
+    answer.number()
+}
