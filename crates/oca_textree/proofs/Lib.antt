@@ -1,2 +1,5 @@
 pub mod SplitLemmas
 pub mod SwitchLemmas
+pub mod StoredLemmas
+pub mod Standing
+pub mod WritingLemmas

@@ -16,8 +16,12 @@
 mod fault;
 mod field;
 mod line;
+mod quoted;
+mod stored;
 mod text;
 mod value;
+mod writing;
 
 pub use fault::{ObjectFault, TreeFault};
 pub use text::tree_from_text;
+pub use writing::print_tree;
