@@ -3,3 +3,7 @@ pub mod SwitchLemmas
 pub mod StoredLemmas
 pub mod Standing
 pub mod WritingLemmas
+pub mod FieldsBack
+pub mod TextsBack
+pub mod ValuesBack
+pub mod LinesBack

@@ -91,7 +91,7 @@ sound-found tree n o h found =
     let is : slice_get tree at ≡ Some o = sym (find_at (has_number n) tree) ∙ found in
     subst IsSound (get_or_from_slice_get tree at o o is) (h at o (slice_get_within tree at o is))
 
-integer-of : (k : NumberKind) (z : ℤ) → IsOfType k z → IsInteger z
+pub integer-of : (k : NumberKind) (z : ℤ) → IsOfType k z → IsInteger z
 integer-of kinds.Int8 z h = record { above = omega (arith, ints); below = omega (arith, ints) }
 integer-of kinds.Int16 z h = record { above = omega (arith, ints); below = omega (arith, ints) }
 integer-of kinds.Int32 z h = record { above = omega (arith, ints); below = omega (arith, ints) }

@@ -1,7 +1,8 @@
 -- How a tree is written as a text: a line an object, with all that is told of it (*profile*).
-use Rattle.std.specs.Prelude.{ℕ, ◌==◌, ◌&&◌, ◌||◌, not, nat_lt, Bool, true, false, if◌then◌else◌, List, [], ◌∷◌, ◌++◌, map, codes, decimal, Option, Some, None, ℤ}
+use Rattle.std.specs.Prelude.{◌≡◌, ◌<◌, ◌≤◌, ◌^◌, length, IsUtf8, Ok, ℕ, ◌==◌, ◌&&◌, ◌||◌, not, nat_lt, Bool, true, false, if◌then◌else◌, List, [], ◌∷◌, ◌++◌, map, codes, decimal, Option, Some, None, ℤ}
 use Rattle.std.specs.Fmt.{signed_decimal}
-use Rattle.std.specs.List.{flat_map, list_any}
+use Rattle.std.specs.List.{flat_map, list_any, All}
+use Rattle.hex.specs.Hex.{IsBytes}
 use Rattle.oca_types.specs.declared.class.Class.{Class}
 use Rattle.oca_types.specs.declared.class.Class.TheVariants as class
 use Rattle.oca_script.specs.Escapes.{has_hidden}
@@ -12,7 +13,8 @@ use Rattle.oca_tree.specs.declared.tree.Setting.TheVariants.{State, Position, Tr
 use Rattle.oca_tree.specs.Objects.{class_of}
 use Rattle.oca_tree.specs.Readers.{value_setting}
 use Rattle.oca_tree.specs.Building.{is_long}
-use Rattle.oca_tree.specs.Copies.{names_in, flags_in}
+use Rattle.oca_tree.specs.Copies.{names_in, flags_in, all_unlocked}
+use Rattle.oca_textree.specs.Texts.{objects_of_text}
 
 -- ---- texts
 
@@ -162,3 +164,29 @@ line_of o = (if o.container.0 == 0 then root_line o else object_line o) ++ 10 �
 -- A TREE AS A TEXT: the line of each object, in order.
 unfoldable pub text_of : List Object → List ℕ
 text_of tree = flat_map line_of tree
+
+-- ---- what a tree of a device is
+
+-- a text of at most 64 bytes
+pub record IsShortText (text : List ℕ) : Type 0 where
+  pub utf8 : IsUtf8 text
+  pub bytes : IsBytes text
+  pub short : length text ≤ 64
+
+-- What the types of an object's parts say of it, and that it has a role: its numbers are of 32 bits, its texts of at most 64 bytes.
+pub record IsNamed (o : Object) : Type 0 where
+  pub ono : o.ono.0 < 2 ^ 32
+  pub container : o.container.0 < 2 ^ 32
+  pub role : IsShortText o.role
+  pub some : 0 < length o.role
+  pub label : IsShortText o.label
+  pub names : All IsShortText (names_in o.value)
+
+-- the root as a builder makes it, whatever is stored of it
+abbrev pub IsRoot : List Object → Type 0
+IsRoot [] = Unit {0}
+IsRoot (o ∷ os) = (o.role ≡ codes "root") × (o.lockable ≡ true)
+
+-- A TREE THAT IS WRITTEN AS A TEXT IS READ BACK: the same objects, but for their locks.
+abbrev pub IsReadBack : List Object → Type 0
+IsReadBack tree = IsRoot tree → All IsNamed tree → objects_of_text (text_of tree) ≡ Ok (all_unlocked tree)

@@ -15,6 +15,7 @@
 
 mod fault;
 mod field;
+mod laws;
 mod line;
 mod quoted;
 mod stored;
@@ -23,5 +24,6 @@ mod value;
 mod writing;
 
 pub use fault::{ObjectFault, TreeFault};
+pub use laws::law_of_texts;
 pub use text::tree_from_text;
 pub use writing::print_tree;
