@@ -1,2 +1,9 @@
 pub mod SplitLemmas
 pub mod SwitchLemmas
+pub mod StoredLemmas
+pub mod Standing
+pub mod WritingLemmas
+pub mod FieldsBack
+pub mod TextsBack
+pub mod ValuesBack
+pub mod LinesBack

@@ -15,7 +15,8 @@ use Rattle.oca_tree.specs.declared.object.Object.{Object}
 use Rattle.oca_tree.specs.Objects.{Store}
 use Rattle.oca_textree.specs.declared.fault.TreeFault.{TreeFault}
 use Rattle.oca_textree.specs.declared.fault.TreeFault.TheVariants.{Line, NoMemory}
-use Rattle.oca_textree.specs.Lines.{names_after, is_text, place_of, after_line}
+use Rattle.oca_textree.specs.Lines.{names_after, is_text, place_of}
+use Rattle.oca_textree.specs.Stored.{after_line}
 use Rattle.oca_textree.specs.Texts.{after_lines, go_on}
 use Rattle.oca_textree.specs.PrivateLines.{IsRead, IsReadSoFar, names_view}
 
@@ -108,41 +109,43 @@ names-last old ns all rest r so none e = e ∙ sym (so ∙ ap (names_after ns) (
 
 -- ---- lines, one after another
 
-pub lines-failed : (all rest front after : List ℕ) (first tree : List Object) (n : ℕ) (f : ObjectFault)
-    → after_lines 1 first (split_on 10 all) ≡ after_lines n tree (split_on 10 rest) → Some (front, after) ≡ split_at 10 rest
-    → after_line tree front ≡ Err f → after_lines 1 first (split_on 10 all) ≡ Err (Line n f)
-lines-failed all rest front after first tree n f so found e =
+abbrev pub Said : Type 0
+Said = Result (List Object) TreeFault
+
+pub lines-failed : (said : Said) (rest front after : List ℕ) (tree : List Object) (n : ℕ) (f : ObjectFault)
+    → said ≡ after_lines n tree (split_on 10 rest) → Some (front, after) ≡ split_at 10 rest → after_line tree front ≡ Err f → said ≡ Err (Line n f)
+lines-failed said rest front after tree n f so found e =
     so ∙ ap (after_lines n tree) (split-more 10 rest front after (sym found))
     ∙ ap (λ (r : Result (List Object) ObjectFault). go_on r n (λ t. after_lines (n + 1) t (split_on 10 after))) e
 
-pub lines-on : (all rest front after : List ℕ) (first tree next : List Object) (n : ℕ)
-    → after_lines 1 first (split_on 10 all) ≡ after_lines n tree (split_on 10 rest) → Some (front, after) ≡ split_at 10 rest
-    → after_line tree front ≡ Ok next → after_lines 1 first (split_on 10 all) ≡ after_lines (n + 1) next (split_on 10 after)
-lines-on all rest front after first tree next n so found e =
+pub lines-on : (said : Said) (rest front after : List ℕ) (tree next : List Object) (n : ℕ)
+    → said ≡ after_lines n tree (split_on 10 rest) → Some (front, after) ≡ split_at 10 rest
+    → after_line tree front ≡ Ok next → said ≡ after_lines (n + 1) next (split_on 10 after)
+lines-on said rest front after tree next n so found e =
     so ∙ ap (after_lines n tree) (split-more 10 rest front after (sym found))
     ∙ ap (λ (r : Result (List Object) ObjectFault). go_on r n (λ t. after_lines (n + 1) t (split_on 10 after))) e
 
 -- the last line gives a tree, or its fault
-pub last-read : (all rest : List ℕ) (first : List Object) (old new : Store) (n : ℕ) (r : Result Unit TreeFault)
-    → after_lines 1 first (split_on 10 all) ≡ after_lines n old.list (split_on 10 rest) → split_at 10 rest ≡ None
-    → IsReadSoFar r old new n (after_line old.list rest) → IsRead r new.list (after_lines 1 first (split_on 10 all))
-last-read all rest first old new n (Ok u) so none h =
+pub last-read : (said : Said) (rest : List ℕ) (old new : Store) (n : ℕ) (r : Result Unit TreeFault)
+    → said ≡ after_lines n old.list (split_on 10 rest) → split_at 10 rest ≡ None
+    → IsReadSoFar r old new n (after_line old.list rest) → IsRead r new.list said
+last-read said rest old new n (Ok u) so none h =
     so ∙ ap (after_lines n old.list) (split-one 10 rest none)
     ∙ ap (λ (r : Result (List Object) ObjectFault). go_on r n (λ t. after_lines (n + 1) t [])) h.0
-last-read all rest first old new n (Err (Line m f)) so none h =
+last-read said rest old new n (Err (Line m f)) so none h =
     so ∙ ap (after_lines n old.list) (split-one 10 rest none)
     ∙ ap (λ (r : Result (List Object) ObjectFault). go_on r n (λ t. after_lines (n + 1) t [])) h.0
     ∙ ap (λ (k : ℕ). Err (Line k f)) (sym h.1)
-last-read all rest first old new n (Err NoMemory) so none h = absurd h
+last-read said rest old new n (Err NoMemory) so none h = absurd h
 
 -- an earlier line has a fault
-pub first-fault : (all rest front after : List ℕ) (first : List Object) (old new : Store) (n : ℕ) (r : Result Unit TreeFault) (e : TreeFault)
-    → r ≡ Err e → after_lines 1 first (split_on 10 all) ≡ after_lines n old.list (split_on 10 rest) → Some (front, after) ≡ split_at 10 rest
-    → IsReadSoFar (Err e) old new n (after_line old.list front) → IsRead r new.list (after_lines 1 first (split_on 10 all))
-first-fault all rest front after first old new n r (Line m f) is so found h =
-    subst (λ (x : Result Unit TreeFault). IsRead x new.list (after_lines 1 first (split_on 10 all))) (sym is)
-    (lines-failed all rest front after first old.list n f so found h.0 ∙ ap (λ (k : ℕ). Err (Line k f)) (sym h.1))
-first-fault all rest front after first old new n r NoMemory is so found h = absurd h
+pub first-fault : (said : Said) (rest front after : List ℕ) (old new : Store) (n : ℕ) (r : Result Unit TreeFault) (e : TreeFault)
+    → r ≡ Err e → said ≡ after_lines n old.list (split_on 10 rest) → Some (front, after) ≡ split_at 10 rest
+    → IsReadSoFar (Err e) old new n (after_line old.list front) → IsRead r new.list said
+first-fault said rest front after old new n r (Line m f) is so found h =
+    subst (λ (x : Result Unit TreeFault). IsRead x new.list said) (sym is)
+    (lines-failed said rest front after old.list n f so found h.0 ∙ ap (λ (k : ℕ). Err (Line k f)) (sym h.1))
+first-fault said rest front after old new n r NoMemory is so found h = absurd h
 
 -- whether one of the names passes a test
 pub any-map : (p : List ℕ → Bool) (xs : List (Bor (List ℕ))) → list_any p (map (λ x. x.now) xs) ≡ list_any (λ x. p x.now) xs

@@ -5,7 +5,6 @@ use Rattle.std.specs.List.{list_any}
 use denote.Ref.{Bor}
 use Rattle.oca_types.specs.declared.class.Class.TheVariants as class
 use Rattle.oca_tree.specs.declared.builder.Kind.TheVariants as given
-use Rattle.oca_tree.specs.declared.object.Object.{Object}
 use Rattle.oca_tree.specs.Objects.{Store}
 use Rattle.oca_tree.specs.Building.{is_long, switch, value_of}
 use Rattle.oca_textree.specs.declared.fault.ObjectFault.{ObjectFault}

@@ -2,6 +2,8 @@
 use Rattle.std.specs.Prelude.{ℕ, List, codes}
 use Rattle.oca_tree.specs.declared.builder.AddFault.{AddFault}
 use Rattle.oca_tree.specs.declared.builder.AddFault.TheVariants as adds
+use Rattle.oca_tree.specs.declared.start.StartFault.{StartFault}
+use Rattle.oca_tree.specs.declared.start.StartFault.TheVariants as starts
 use Rattle.oca_textree.specs.declared.fault.ObjectFault.{ObjectFault}
 use Rattle.oca_textree.specs.declared.fault.ObjectFault.TheVariants.{Form, Number, Class, Value, Lockable, Text, Full, Reserved, Taken, Container, Depth, Range, NoMemory}
 
@@ -30,3 +32,9 @@ fault_of adds.TooDeep = Depth
 fault_of adds.BadText = Text
 fault_of adds.BadRange = Range
 fault_of adds.NoMemory = NoMemory
+
+-- why it refuses it with what was stored of it
+abbrev pub stored_fault_of : StartFault → ObjectFault
+stored_fault_of (starts.Add fault) = fault_of fault
+stored_fault_of starts.BadLabel = Text
+stored_fault_of starts.BadFlags = Value

@@ -238,10 +238,3 @@ has_control line = list_any (λ b. nat_lt b 32) line
 abbrev pub is_skipped : List ℕ → Bool
 is_skipped [] = true
 is_skipped (b ∷ bs) = b == 35
-
--- THE OBJECTS AFTER A LINE: those before it and its own, or its first fault.
-unfoldable pub after_line : List Object → List ℕ → Result (List Object) ObjectFault
-after_line tree line =
-    if is_skipped line then Ok tree
-    else if has_control line then Err fault.Form
-    else added_by tree line

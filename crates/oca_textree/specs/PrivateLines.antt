@@ -1,5 +1,5 @@
 -- What the program's own values of a line's parts say.
-use Rattle.std.specs.Prelude.{◌≡◌, ℕ, List, ◌∷◌, map, Bool, Option, Result, Ok, Err, ℤ, ◌≤ℤ◌}
+use Rattle.std.specs.Prelude.{◌≡◌, ℕ, List, map, Bool, Option, Result, Ok, Err, ℤ, ◌≤ℤ◌}
 use Rattle.std.specs.Option.{option_copied}
 use denote.Ref.{Bor}
 use Rattle.oca_tree.specs.declared.object.Object.{Object}

@@ -2,7 +2,7 @@
 ghost use Rattle.std.specs.Prelude.{◌≡◌};
 ghost use Rattle.oca_textree.specs.Faults.{fault_word, fault_of};
 
-use oca_tree::AddFault;
+use oca_tree::{AddFault, StartFault};
 use thiserror::Error;
 
 /// What is wrong with a line: what is found first from its left, and where all its fields can be read why its object is
@@ -18,7 +18,7 @@ pub enum ObjectFault {
     /// No such class.
     #[error("class")]
     Class,
-    /// No value of the class, or no position of the switch.
+    /// No value of the class, no position of the switch, or other than one flag a position.
     #[error("value")]
     Value,
     /// Neither `lockable` nor `no-lock`.
@@ -91,6 +91,22 @@ impl From<AddFault> for ObjectFault {
             AddFault::BadText => ObjectFault::Text,
             AddFault::BadRange => ObjectFault::Range,
             AddFault::NoMemory => ObjectFault::NoMemory,
+        }
+    }
+}
+
+impl From<StartFault> for ObjectFault {
+    ghost use Rattle.std.specs.Prelude.{◌≡◌};
+    ghost use Rattle.oca_textree.specs.Faults.{stored_fault_of};
+
+    ghost from_gives = { λ fault r. r ≡ stored_fault_of fault };
+
+    /// Why the tree refuses the object of a line with what was stored of it.
+    fn from(fault: StartFault) -> ObjectFault {
+        match fault {
+            StartFault::Add(fault) => ObjectFault::from(fault),
+            StartFault::BadLabel => ObjectFault::Text,
+            StartFault::BadFlags => ObjectFault::Value,
         }
     }
 }

@@ -15,9 +15,15 @@
 
 mod fault;
 mod field;
+mod laws;
 mod line;
+mod quoted;
+mod stored;
 mod text;
 mod value;
+mod writing;
 
 pub use fault::{ObjectFault, TreeFault};
+pub use laws::law_of_texts;
 pub use text::tree_from_text;
+pub use writing::print_tree;

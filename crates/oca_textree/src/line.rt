@@ -2,12 +2,15 @@
 ghost use Rattle.std.specs.Prelude.{◌≡◌};
 ghost use Rattle.std.specs.Option.{option_copied};
 ghost use Rattle.oca_types.specs.declared.class.Class.TheVariants.{Switch};
-ghost use Rattle.oca_textree.specs.Lines.{last_of, value_at, added_with, added_by, added_as, after_line, is_skipped as skipped_line};
+ghost use Rattle.oca_textree.specs.Lines.{last_of, value_at, added_with, added_by, added_as, is_skipped as skipped_line};
+ghost use Rattle.oca_textree.specs.Stored.{after_line, behind as behind_word};
 ghost use Rattle.oca_textree.specs.PrivateLines.{last_view, Became, kind_valued};
 
 use super::fault::ObjectFault;
 use super::field::{class, field, has_control, ono, text_of};
+use super::stored::add_stored;
 use super::value::{Names, kind_at, lockable, positions};
+use oca_script::field::split_at_byte;
 use oca_tree::{Kind, Spec, TreeBuilder};
 use oca_types::{Class, Ono};
 
@@ -123,8 +126,18 @@ fn is_skipped(line: &[u8]) -> bool
     }
 }
 
+/// What stands behind this word and a space, where a line begins with them.
+pub fn behind<'a>(word: &[u8], line: &'a [u8]) -> Option<&'a [u8]>
+    ensures { option_copied result ≡ behind_word word.now line.entry.now }
+{
+    match split_at_byte(line, b' ') {
+        Some((first, rest)) => { if first == word { Some(rest) } else { None } }
+        None => None,
+    }
+}
+
 /// Adds the object that a line lists, where it lists one. Where it has a fault, the builder is as it was.
-#[tactic(auto, unfolding(crate::specs::Lines::after_line))]
+#[tactic(auto, unfolding(crate::specs::Stored::after_line))]
 pub fn add_line(builder: &mut TreeBuilder, line: &[u8]) -> Result<(), ObjectFault>
     requires { builder.old.room ≡ 4096 }
     ensures { Became result builder.old builder.new (after_line builder.old.list line.now) }
@@ -135,5 +148,8 @@ pub fn add_line(builder: &mut TreeBuilder, line: &[u8]) -> Result<(), ObjectFaul
     if has_control(line) {
         return Err(ObjectFault::Form);
     }
-    add_listed(builder, line)
+    match behind(b"object", line) {
+        Some(fields) => add_stored(builder, fields),
+        None => add_listed(builder, line),
+    }
 }

@@ -1,33 +1,104 @@
 //! A whole text.
-ghost use Rattle.std.specs.Prelude.{◌≡◌, ◌⊎◌, [], ◌∷◌, IfOk, IfErr, Ok as ok, Err as err};
+ghost use Rattle.std.specs.Prelude.{◌≡◌, ◌≤◌, ◌⊎◌, Some, None, [], ◌∷◌, IfOk, IfErr, Ok as ok, Err as err};
 ghost use Rattle.oca_tree.specs.Room.{room_size};
 ghost use Rattle.oca_tree.specs.Building.{root};
-ghost use Rattle.oca_textree.specs.Lines.{after_line};
+ghost use Rattle.oca_textree.specs.PrivateStored.{root_view};
+ghost use Rattle.oca_script.specs.Fields.{split_at, split_on};
+ghost use Rattle.oca_textree.specs.Stored.{after_line};
 ghost use Rattle.oca_textree.specs.PrivateLines.{IsRead, IsReadSoFar};
-ghost use Rattle.oca_textree.specs.Texts.{objects_of_text};
-ghost use Rattle.oca_textree.specs.declared.fault.TreeFault.TheVariants.{NoMemory};
+ghost use Rattle.oca_textree.specs.Texts.{objects_of_text, line_before, from_root, rooted_by, after_lines};
+ghost use Rattle.oca_textree.specs.declared.fault.TreeFault.TheVariants.{NoMemory, Line};
+ghost use Rattle.oca_textree.specs.declared.fault.ObjectFault.{ObjectFault as Fault};
 
-use super::fault::TreeFault;
-use super::line::add_line;
+use super::fault::{ObjectFault, TreeFault};
+use super::field::has_control;
+use super::line::{add_line, behind};
+use super::stored::start_of;
 use oca_script::field::split_at_byte;
-use oca_tree::{Room, Tree, TreeBuilder};
+use oca_tree::{Room, Start, Tree, TreeBuilder};
+use oca_types::Text;
 use std::alloc::Global;
 
 /// For how many objects there is room, the root counted.
 const MOST_OBJECTS: u16 = 4096;
 
-/// The tree of a text: the root, which is there without a line, and the objects of its lines in order. Refusals: `Line`
-/// with the number of the first line that has a fault, counted from 1, and the first fault of that line; `NoMemory`,
-/// where the room of 4,096 objects was refused. (The text's form is the profile's; [`crate`] has it.)
+/// The tree of a text: the root, of which the first line may say what was stored, and the objects of its lines in order.
+/// Refusals: `Line` with the number of the first line that has a fault, counted from 1, and the first fault of that line;
+/// `NoMemory`, where the room of 4,096 objects was refused. (The text's form is the profile's; [`crate`] has it.)
+#[tactic(auto, unfolding(crate::specs::Texts::objects_of_text))]
 pub fn tree_from_text(alloc: Global, text: &[u8]) -> Result<Tree, TreeFault>
     ensures ok { IfOk result (λ tree. objects_of_text text.now ≡ ok tree) }
     ensures err { IfErr result (λ e. (e ≡ NoMemory) ⊎ (objects_of_text text.now ≡ err e)) }
 {
+    match behind(b"root", first_line(text)) {
+        Some(fields) => rooted_tree(alloc, fields, text),
+        None => plain_tree(alloc, text),
+    }
+}
+
+/// The first line.
+fn first_line(text: &[u8]) -> &[u8]
+    ensures { result.now ≡ line_before (split_at 10 text.now) text.now }
+{
+    match split_at_byte(text, b'\n') {
+        Some((line, _)) => line,
+        None => text,
+    }
+}
+
+/// The tree of a text of which no line says what was stored of the root.
+fn plain_tree(alloc: Global, text: &[u8]) -> Result<Tree, TreeFault>
+    ensures ok { IfOk result (λ tree. from_root None text.now ≡ ok tree) }
+    ensures err { IfErr result (λ e. (e ≡ NoMemory) ⊎ (from_root None text.now ≡ err e)) }
+{
     let Ok(mut builder) = TreeBuilder::with_room(alloc, most_room()) else {
         return Err(TreeFault::NoMemory);
     };
-    add_lines(&mut builder, text)?;
+    add_lines(&mut builder, 1, text)?;
     Ok(builder.finish())
+}
+
+/// The tree of a text of which the first line has these fields of the root.
+fn rooted_tree(alloc: Global, fields: &[u8], text: &[u8]) -> Result<Tree, TreeFault>
+    ensures ok { IfOk result (λ tree. from_root (Some fields.now) text.now ≡ ok tree) }
+    ensures err { IfErr result (λ e. (e ≡ NoMemory) ⊎ (from_root (Some fields.now) text.now ≡ err e)) }
+{
+    let mut builder = rooted_builder(alloc, fields)?;
+    if let Some((_, rest)) = split_at_byte(text, b'\n') {
+        add_lines(&mut builder, 2, rest)?;
+    }
+    Ok(builder.finish())
+}
+
+/// What is said of the root by the fields of its line.
+#[tactic(auto, unfolding(crate::specs::Texts::rooted_by, crate::specs::Stored::rooted))]
+fn root_start(fields: &[u8]) -> Result<(bool, Text), ObjectFault>
+    ensures { root_view result ≡ rooted_by fields.now }
+{
+    if has_control(fields) {
+        return Err(ObjectFault::Form);
+    }
+    start_of(Some(fields))
+}
+
+/// A builder with the root that the fields of its line say.
+fn rooted_builder(alloc: Global, fields: &[u8]) -> Result<TreeBuilder, TreeFault>
+    ensures ok { IfOk result (λ builder. (builder.room ≡ 4096) × (rooted_by fields.now ≡ ok builder.list)) }
+    ensures err { IfErr result (λ e. (e ≡ NoMemory) ⊎ ((f : Fault) × (e ≡ Line 1 f) × (rooted_by fields.now ≡ err f))) }
+{
+    let (enabled, label) = match root_start(fields) {
+        Ok(start) => start,
+        Err(fault) => return Err(TreeFault::Line(1, fault)),
+    };
+    let start = Start {
+        label: label.as_str(),
+        enabled,
+        position_enableds: None,
+    };
+    match TreeBuilder::with_root(alloc, most_room(), &start) {
+        Ok(builder) => Ok(builder),
+        Err(_) => Err(TreeFault::NoMemory),
+    }
 }
 
 /// The room of 4,096 objects.
@@ -40,13 +111,14 @@ fn most_room() -> Room
     }
 }
 
-/// Adds the objects of a text to the root.
-fn add_lines(builder: &mut TreeBuilder, text: &[u8]) -> Result<(), TreeFault>
-    requires { builder.old ≡ record { room = 4096; list = root ∷ [] } }
-    ensures { IsRead result builder.new.list (objects_of_text text.now) }
+/// Adds the objects of further lines, of which the first has this number.
+fn add_lines(builder: &mut TreeBuilder, first: u64, text: &[u8]) -> Result<(), TreeFault>
+    requires room { builder.old.room ≡ 4096 }
+    requires first { first ≤ 2 }
+    ensures { IsRead result builder.new.list (after_lines first builder.old.list (split_on 10 text.now)) }
 {
     let mut rest = text;
-    let mut number = 1u64;
+    let mut number = first;
     while let Some((line, after)) = split_at_byte(rest, b'\n') {
         add_numbered(builder, number, line)?;
         rest = after;

@@ -59,7 +59,7 @@ fn polarity(word: &[u8]) -> Option<PolarityState>
 
 /// A Boolean by its word.
 #[tactic(auto, unfolding(crate::specs::Lines::one_of))]
-fn truth(word: &[u8]) -> Option<bool>
+pub fn truth(word: &[u8]) -> Option<bool>
     ensures { result ≡ one_of (codes "on") true (codes "off") false word.now }
 {
     if word == b"on".as_slice() {

@@ -1,3 +1,4 @@
 //! What lines list, and the fault of each that lists nothing.
+mod copies;
 mod faults;
 mod trees;

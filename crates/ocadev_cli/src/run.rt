@@ -3,7 +3,7 @@ use super::making::{make, objects};
 use super::replay::replay;
 use super::report::{print_listening, print_report};
 use super::serving::{serve_on, serve_traced};
-use super::show::show;
+use super::show::{show, show_text};
 use super::trace::Watched;
 use super::words::{Asked, Serving, asked_for};
 use oca_device::{Device, Outbox, serve};
@@ -53,6 +53,7 @@ fn served<N: Net + Clock + Files, S: AsStr, R: Source, W: Sink, F: Sink>(
         }
         Asked::Serve(serving) => serve_socket(alloc, system, serving, printer, faults)?,
         Asked::Show(listed) => show(&objects(alloc, system, listed)?, printer)?,
+        Asked::ShowText(listed) => show_text(&objects(alloc, system, listed)?, printer)?,
         Asked::Help(text) => {
             printer.print(text.as_bytes())?;
             printer.flush()?;

@@ -1,5 +1,9 @@
 //! The objects of a device, line by line.
+ghost use Rattle.oca_script.specs.Printing.{Prints};
+ghost use Rattle.oca_textree.specs.Written.{text_of};
+
 use oca_script::{Printer, Sink, WriteFailed};
+use oca_textree::print_tree;
 use oca_tree::{ObjectInfo, Tree};
 use oca_types::class_fields;
 
@@ -12,6 +16,14 @@ pub fn show<W: Sink>(tree: &Tree, printer: &mut Printer<W>) -> Result<(), WriteF
         };
         print_object(&object, printer)?;
     }
+    printer.flush()
+}
+
+/// Prints the objects as a text that `--tree` reads.
+pub fn show_text<W: Sink>(tree: &Tree, printer: &mut Printer<W>) -> Result<(), WriteFailed>
+    ensures { Prints result printer.old printer.new (text_of tree.now) }
+{
+    print_tree(tree, printer)?;
     printer.flush()
 }
 

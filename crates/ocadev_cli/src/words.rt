@@ -1,5 +1,5 @@
 //! The words of the command line.
-ghost use Rattle.std.specs.Prelude.{◌≡◌};
+ghost use Rattle.std.specs.Prelude.{◌≡◌, codes, if◌then◌else◌};
 ghost use Rattle.std.specs.Option.{option_map};
 ghost use Rattle.oca_types.specs.Sizes.{window_size, peer_count};
 ghost use Rattle.ocadev_cli.specs.Words.{window_of as window_said, window_in, peers_of as peers_said, peers_in, channels_in, said_objects, objects_in, making_fields, making_in, turns_in, says_so, serving_fields, serving_in};
@@ -24,6 +24,8 @@ pub enum Asked<'a> {
     Serve(Serving<'a>),
     /// The objects of a device.
     Show(Objects<'a>),
+    /// The same as a text that `--tree` reads.
+    ShowText(Objects<'a>),
     /// This text.
     Help(String),
 }
@@ -160,10 +162,16 @@ fn serve_command<'a>(alloc: Global) -> Result<Command<'a>, AllocError> {
 
 /// The command `show`.
 fn show_command<'a>(alloc: Global) -> Result<Command<'a>, AllocError> {
+    let text = Arg::new(alloc, "text")
+        .long("text")
+        .help(
+            "Prints them as a text that --tree reads, with labels and all else that a device stores",
+        )
+        .action(ArgAction::SetTrue);
     let command = Command::new(alloc, "show")
         .about("Prints the objects of the device: ONo, class identifier, container and role")
         .after_help("Example: ocadev show --tree examples/stagebox.tree");
-    listed(command, alloc)
+    listed(command, alloc)?.arg(text)
 }
 
 /// The whole program.
@@ -259,8 +267,19 @@ fn asked_by_matches<'a>(matches: &ArgMatches<'a>) -> Option<Asked<'a>> {
     match matches.subcommand() {
         Some(("replay", options)) => Some(Asked::Replay(making_of(options)?)),
         Some(("serve", options)) => Some(Asked::Serve(serving_of(options)?)),
-        Some(("show", options)) => Some(Asked::Show(objects_of(options)?)),
+        Some(("show", options)) => Some(shown_by(options, objects_of(options)?)),
         _ => None,
+    }
+}
+
+/// The objects as lines for a person, or as a text where the words say so.
+fn shown_by<'a>(options: &ArgMatches<'a>, objects: Objects<'a>) -> Asked<'a>
+    ensures { result ≡ (if says_so options.now (codes "text") then Asked.ShowText objects.entry else Asked.Show objects.entry) }
+{
+    if flag(options, "text") {
+        Asked::ShowText(objects)
+    } else {
+        Asked::Show(objects)
     }
 }
 

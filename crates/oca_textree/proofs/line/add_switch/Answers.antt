@@ -1,4 +1,4 @@
-use Rattle.std.proofs.Common.{◌≡◌, ℕ, List, Ok, map, ap, ◌∙◌}
+use Rattle.std.proofs.Common.{ℕ, List, Ok, map, ap, ◌∙◌}
 use Rattle.std.specs.Option.{option_copied}
 use denote.Ref.{Bor}
 use Rattle.oca_textree.proofs.SwitchLemmas.{switch-added}

@@ -1,0 +1,85 @@
+//! Texts of any characters: in quotes as they are, or in hexadecimal digits.
+ghost use Rattle.std.specs.Prelude.{◌≡◌};
+ghost use Rattle.std.specs.Option.{option_copied};
+ghost use Rattle.oca_textree.specs.Stored.{short, short_utf8, digits_said, text_said as said_text, is_quoted as stands_quoted, text_at as next_text};
+ghost use Rattle.oca_textree.specs.PrivateStored.{text_view};
+
+use super::fault::ObjectFault;
+use super::field::{field, text_of};
+use oca_script::field::hex_bytes;
+use oca_types::Text;
+use std::str::from_utf8;
+
+/// The most digits of a text of 64 bytes.
+const MOST_DIGITS: usize = 128;
+
+/// Whether the next field stands in quotes.
+pub fn is_quoted(rest: Option<&[u8]>) -> bool
+    ensures { result ≡ stands_quoted (option_copied rest.entry) }
+{
+    let Some(text) = rest else {
+        return false;
+    };
+    match text {
+        [] => false,
+        [first, ..] => *first == b'"',
+    }
+}
+
+/// A text of at most 64 bytes.
+fn short_text(text: &str) -> Option<Text>
+    ensures { result ≡ short text.now }
+{
+    if text.len() > 64 {
+        return None;
+    }
+    Text::new(text)
+}
+
+/// A text of at most 64 bytes, where the bytes are UTF-8.
+fn short_text_of(bytes: &[u8]) -> Option<Text>
+    ensures { result ≡ short_utf8 bytes.now }
+{
+    match from_utf8(bytes) {
+        Ok(text) => short_text(text),
+        Err(_) => None,
+    }
+}
+
+/// The text that hexadecimal digits say, `-` for none.
+fn text_of_digits(digits: &[u8]) -> Option<Text>
+    ensures { result ≡ digits_said digits.now }
+{
+    if digits.len() > MOST_DIGITS {
+        return None;
+    }
+    let mut room = [0u8; 64];
+    let bytes = hex_bytes(digits, &mut room)?;
+    short_text_of(bytes)
+}
+
+/// The text that a field says.
+pub fn text_said(quoted: bool, bytes: &[u8]) -> Option<Text>
+    ensures { result ≡ said_text quoted bytes.now }
+{
+    if !quoted {
+        return text_of_digits(bytes);
+    }
+    match text_of(bytes) {
+        Some(text) => short_text(text),
+        None => None,
+    }
+}
+
+/// The text that the next field says, and what is left.
+#[tactic(auto, unfolding(crate::specs::Stored::text_at))]
+pub fn text_at(rest: Option<&[u8]>) -> Result<(Text, Option<&[u8]>), ObjectFault>
+    ensures { text_view result ≡ next_text (option_copied rest.entry) }
+{
+    let quoted = is_quoted(rest);
+    let (bytes, rest) = field(rest)?;
+    match text_said(quoted, bytes) {
+        Some(text) => Ok((text, rest)),
+        None => Err(ObjectFault::Text),
+    }
+}

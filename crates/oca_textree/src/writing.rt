@@ -1,0 +1,492 @@
+//! A tree written as a text.
+ghost use Rattle.std.specs.Prelude.{◌≡◌, ◌+◌, ◌*◌, ◌≤◌, ◌++◌, ◌∷◌, [], length, map, not, decimal, Some};
+ghost use Rattle.std.specs.Fmt.{signed_decimal};
+ghost use Rattle.std.specs.Option.{option_copied, option_map};
+ghost use Rattle.std.specs.List.{flat_map, list_any};
+ghost use Rattle.oca_script.specs.Ends.{output};
+ghost use Rattle.oca_script.specs.Printing.{Prints};
+ghost use Rattle.oca_tree.specs.Copies.{stored_in};
+ghost use Rattle.oca_textree.specs.Written.{is_plain as is_plain_text, is_plain_name as is_plain_part, text_field, name_part, joined, names_field, flag_digit, flags_field, state_word, truth_word, truth_field, limit_field, range_fields, number_fields, holds_mark, holds_comma, position_field, switch_fields, set_fields, class_before, value_fields, lock_word, start_fields, place_fields, end_fields, text_of};
+ghost use Rattle.oca_textree.specs.PrivateWritten.{IsInteger, IsWritten, few_flags, Fits, flags_told, end_told, root_told, object_told, line_told};
+
+use oca_script::escape::has_hidden;
+use oca_script::{Printer, Sink, WriteFailed};
+use oca_tree::{ObjectInfo, Setting, Start, Tree};
+use oca_types::{Class, Text};
+
+/// Room for a line.
+const LINE_ROOM: usize = 4000;
+
+/// Whether a control character or a quote stands in a text.
+fn has_mark(text: &[u8]) -> bool
+    ensures { result ≡ holds_mark text.now }
+{
+    text.iter().any(|byte| *byte < 32 || *byte == b'"')
+}
+
+/// Whether a comma stands in a text.
+fn has_comma(text: &[u8]) -> bool
+    ensures { result ≡ holds_comma text.now }
+{
+    text.iter().any(|byte| *byte == b',')
+}
+
+/// Whether a text is written in quotes.
+fn stands_plain(text: &str) -> bool
+    ensures { result ≡ is_plain_text text.now }
+{
+    if has_hidden(text) {
+        return false;
+    }
+    !has_mark(text.as_bytes())
+}
+
+/// Whether a position's name is written as it is.
+fn is_plain_name(name: &str) -> bool
+    ensures { result ≡ is_plain_part name.now }
+{
+    if !stands_plain(name) {
+        return false;
+    }
+    !has_comma(name.as_bytes())
+}
+
+/// Holds a text: in quotes, or in hexadecimal digits.
+#[tactic(auto, unfolding(crate::specs::Written::text_field))]
+fn put_text<W: Sink>(text: &str, printer: &mut Printer<W>)
+    requires short { length text.now ≤ 64 }
+    requires room { length printer.old.held + 130 ≤ 8192 }
+    ensures value { printer.new ≡ output printer.old.contents (printer.old.held ++ text_field text.now) printer.old.failed }
+    ensures len { length printer.new.held ≤ length printer.old.held + 130 }
+{
+    if stands_plain(text) {
+        printer.put(b"\"");
+        printer.put(text.as_bytes());
+        printer.put(b"\"");
+    } else {
+        printer.put_hex(text.as_bytes());
+    }
+}
+
+/// Holds a position's name.
+fn put_name<W: Sink>(name: &str, plain: bool, printer: &mut Printer<W>)
+    requires short { length name.now ≤ 64 }
+    requires room { length printer.old.held + 129 ≤ 8192 }
+    ensures value { printer.new ≡ output printer.old.contents (printer.old.held ++ name_part plain name.now) printer.old.failed }
+    ensures len { length printer.new.held ≤ length printer.old.held + 129 }
+{
+    if plain {
+        printer.put(name.as_bytes());
+    } else {
+        printer.put_hex(name.as_bytes());
+    }
+}
+
+/// Holds further names of positions, each behind a comma.
+fn put_more_names<W: Sink>(names: &[Text], plain: bool, printer: &mut Printer<W>)
+    requires few { length names.now ≤ 16 }
+    requires room { length printer.old.held + 130 * 16 ≤ 8192 }
+    ensures value { printer.new ≡ output printer.old.contents (printer.old.held ++ flat_map (λ n. 44 ∷ name_part plain n) names.now) printer.old.failed }
+    ensures len { length printer.new.held ≤ length printer.old.held + 130 * length names.now }
+{
+    for name in names {
+        printer.put(b",");
+        put_name(name.as_str(), plain, printer);
+    }
+}
+
+/// Holds the names of positions between commas.
+fn put_joined<W: Sink>(names: &[Text], plain: bool, printer: &mut Printer<W>)
+    requires few { length names.now ≤ 16 }
+    requires room { length printer.old.held + 130 * 17 ≤ 8192 }
+    ensures value { printer.new ≡ output printer.old.contents (printer.old.held ++ joined (name_part plain) names.now) printer.old.failed }
+    ensures len { length printer.new.held ≤ length printer.old.held + 130 * 17 }
+{
+    let Some((first, more)) = names.split_first() else {
+        return;
+    };
+    put_name(first.as_str(), plain, printer);
+    put_more_names(more, plain, printer);
+}
+
+/// Whether a name is not written as it is.
+fn has_odd_name(names: &[Text]) -> bool
+    ensures { result ≡ list_any (λ n. not (is_plain_part n)) names.now }
+{
+    names.iter().any(|name| !is_plain_name(name.as_str()))
+}
+
+/// Holds the names of a switch's positions.
+#[tactic(auto, unfolding(crate::specs::Written::names_field))]
+fn put_names<W: Sink>(names: &[Text], printer: &mut Printer<W>)
+    requires few { length names.now ≤ 16 }
+    requires room { length printer.old.held + 2300 ≤ 8192 }
+    ensures value { printer.new ≡ output printer.old.contents (printer.old.held ++ names_field names.now) printer.old.failed }
+    ensures len { length printer.new.held ≤ length printer.old.held + 2300 }
+{
+    if has_odd_name(names) {
+        put_joined(names, false, printer);
+    } else {
+        printer.put(b"\"");
+        put_joined(names, true, printer);
+        printer.put(b"\"");
+    }
+}
+
+/// Holds a digit for each position: whether it is enabled.
+fn put_digits<W: Sink>(flags: &[bool], printer: &mut Printer<W>)
+    requires few { length flags.now ≤ 16 }
+    requires room { length printer.old.held + 16 ≤ 8192 }
+    ensures value { printer.new ≡ output printer.old.contents (printer.old.held ++ map flag_digit flags.now) printer.old.failed }
+    ensures len { length printer.new.held ≤ length printer.old.held + 16 }
+{
+    for flag in flags {
+        printer.put(if *flag { b"1" } else { b"0" });
+    }
+}
+
+/// The same, where there are flags.
+fn put_flags<W: Sink>(flags: Option<&[bool]>, printer: &mut Printer<W>)
+    requires few { few_flags (option_copied flags) ≤ 16 }
+    requires room { length printer.old.held + 16 ≤ 8192 }
+    ensures value { printer.new ≡ output printer.old.contents (printer.old.held ++ flags_field (option_copied flags.entry)) printer.old.failed }
+    ensures len { length printer.new.held ≤ length printer.old.held + 16 }
+{
+    if let Some(flags) = flags {
+        put_digits(flags, printer);
+    }
+}
+
+/// Holds an integer.
+fn put_integer<W: Sink>(value: i128, printer: &mut Printer<W>)
+    requires integer { IsInteger value }
+    requires room { length printer.old.held + 21 ≤ 8192 }
+    ensures value { printer.new ≡ output printer.old.contents (printer.old.held ++ signed_decimal value) printer.old.failed }
+    ensures len { length printer.new.held ≤ length printer.old.held + 21 }
+{
+    if value < 0 {
+        printer.put(b"-");
+        printer.put_number((-value) as u64);
+    } else {
+        printer.put_number(value as u64);
+    }
+}
+
+/// Holds a limit of an integer.
+fn put_limit<W: Sink>(value: i128, printer: &mut Printer<W>)
+    requires integer { IsInteger value }
+    requires room { length printer.old.held + 22 ≤ 8192 }
+    ensures value { printer.new ≡ output printer.old.contents (printer.old.held ++ limit_field value) printer.old.failed }
+    ensures len { length printer.new.held ≤ length printer.old.held + 22 }
+{
+    put_integer(value, printer);
+    printer.put(b" ");
+}
+
+/// Holds an integer behind its limits.
+fn put_range<W: Sink>(least: i128, greatest: i128, setting: i128, printer: &mut Printer<W>)
+    requires least { IsInteger least }
+    requires greatest { IsInteger greatest }
+    requires setting { IsInteger setting }
+    requires room { length printer.old.held + 65 ≤ 8192 }
+    ensures value { printer.new ≡ output printer.old.contents (printer.old.held ++ range_fields least greatest setting) printer.old.failed }
+    ensures len { length printer.new.held ≤ length printer.old.held + 65 }
+{
+    put_limit(least, printer);
+    put_limit(greatest, printer);
+    put_integer(setting, printer);
+}
+
+/// Holds the limits and the setting of an integer.
+fn put_numbers<W: Sink>(setting: Option<Setting>, printer: &mut Printer<W>)
+    requires written { IsWritten setting }
+    requires room { length printer.old.held + 65 ≤ 8192 }
+    ensures value { printer.new ≡ output printer.old.contents (printer.old.held ++ number_fields setting) printer.old.failed }
+    ensures len { length printer.new.held ≤ length printer.old.held + 65 }
+{
+    if let Some(
+        Setting::Number {
+            setting,
+            least,
+            greatest,
+        },
+    ) = setting
+    {
+        put_range(least, greatest, setting, printer);
+    }
+}
+
+/// Holds the word of the state of a mute or a polarity.
+fn put_state<W: Sink>(
+    setting: Option<Setting>,
+    first: &[u8],
+    second: &[u8],
+    printer: &mut Printer<W>,
+)
+    requires words { (length first.now ≤ 20) × (length second.now ≤ 20) }
+    requires room { length printer.old.held + 20 ≤ 8192 }
+    ensures value { printer.new ≡ output printer.old.contents (printer.old.held ++ state_word first.now second.now setting) printer.old.failed }
+    ensures len { length printer.new.held ≤ length printer.old.held + 20 }
+{
+    match setting {
+        Some(Setting::State(1)) => printer.put(first),
+        _ => printer.put(second),
+    }
+}
+
+/// Holds the word of a truth.
+fn put_truth<W: Sink>(truth: bool, printer: &mut Printer<W>)
+    requires { length printer.old.held + 3 ≤ 8192 }
+    ensures value { printer.new ≡ output printer.old.contents (printer.old.held ++ truth_word truth) printer.old.failed }
+    ensures len { length printer.new.held ≤ length printer.old.held + 3 }
+{
+    printer.put(if truth { b"on".as_slice() } else { b"off" });
+}
+
+/// Holds the word of a Boolean's setting.
+fn put_boolean<W: Sink>(setting: Option<Setting>, printer: &mut Printer<W>)
+    requires { length printer.old.held + 3 ≤ 8192 }
+    ensures value { printer.new ≡ output printer.old.contents (printer.old.held ++ truth_field setting) printer.old.failed }
+    ensures len { length printer.new.held ≤ length printer.old.held + 3 }
+{
+    match setting {
+        Some(Setting::Truth(truth)) => put_truth(truth, printer),
+        _ => put_truth(false, printer),
+    }
+}
+
+/// Holds the current position of a switch.
+fn put_position<W: Sink>(setting: Option<Setting>, printer: &mut Printer<W>)
+    requires { length printer.old.held + 20 ≤ 8192 }
+    ensures value { printer.new ≡ output printer.old.contents (printer.old.held ++ position_field setting) printer.old.failed }
+    ensures len { length printer.new.held ≤ length printer.old.held + 20 }
+{
+    if let Some(Setting::Position(position)) = setting {
+        printer.put_number(u64::from(position));
+    }
+}
+
+/// The word of a class, and a space where something stands behind it.
+#[tactic(auto, unfolding(crate::specs::Written::class_before))]
+fn class_word(class: Class) -> &'static [u8]
+    ensures value { result.now ≡ class_before class }
+    ensures short { length result.now ≤ 9 }
+{
+    match class {
+        Class::Block => b"block",
+        Class::Mute => b"mute ",
+        Class::Polarity => b"polarity ",
+        Class::Switch => b"switch ",
+        Class::Boolean => b"boolean ",
+        Class::Int8 => b"int8 ",
+        Class::Int16 => b"int16 ",
+        Class::Int32 => b"int32 ",
+        Class::Int64 => b"int64 ",
+        Class::Uint8 => b"uint8 ",
+        Class::Uint16 => b"uint16 ",
+        Class::Uint32 => b"uint32 ",
+        Class::Uint64 => b"uint64 ",
+    }
+}
+
+/// Holds the positions of a switch: their flags, their names and the current one.
+fn put_switch<W: Sink>(
+    setting: Option<Setting>,
+    names: &[Text],
+    flags: Option<&[bool]>,
+    printer: &mut Printer<W>,
+)
+    requires names { length names.now ≤ 16 }
+    requires flags { few_flags (option_copied flags) ≤ 16 }
+    requires room { length printer.old.held + 2350 ≤ 8192 }
+    ensures value { printer.new ≡ output printer.old.contents (printer.old.held ++ switch_fields setting names.now (option_copied flags.entry)) printer.old.failed }
+    ensures len { length printer.new.held ≤ length printer.old.held + 2350 }
+{
+    put_flags(flags, printer);
+    printer.put(b" ");
+    put_names(names, printer);
+    printer.put(b" ");
+    put_position(setting, printer);
+}
+
+/// Holds how an object of the class is set.
+#[tactic(auto, unfolding(crate::specs::Written::set_fields))]
+fn put_setting<W: Sink>(
+    class: Class,
+    setting: Option<Setting>,
+    names: &[Text],
+    flags: Option<&[bool]>,
+    printer: &mut Printer<W>,
+)
+    requires written { IsWritten setting }
+    requires names { length names.now ≤ 16 }
+    requires flags { few_flags (option_copied flags) ≤ 16 }
+    requires room { length printer.old.held + 2350 ≤ 8192 }
+    ensures value { printer.new ≡ output printer.old.contents (printer.old.held ++ set_fields class setting names.now (option_copied flags.entry)) printer.old.failed }
+    ensures len { length printer.new.held ≤ length printer.old.held + 2350 }
+{
+    match class {
+        Class::Block => {}
+        Class::Mute => put_state(setting, b"muted", b"unmuted", printer),
+        Class::Polarity => put_state(setting, b"non-inverted", b"inverted", printer),
+        Class::Switch => put_switch(setting, names, flags, printer),
+        Class::Boolean => put_boolean(setting, printer),
+        _ => put_numbers(setting, printer),
+    }
+}
+
+/// Holds whether an object is enabled, and its label.
+fn put_start<W: Sink>(start: &Start<'_>, printer: &mut Printer<W>)
+    requires { length printer.old.held + 140 ≤ 8192 }
+    ensures value { printer.new ≡ output printer.old.contents (printer.old.held ++ start_fields start.now.enabled start.now.label.now) printer.old.failed }
+    ensures len { length printer.new.held ≤ length printer.old.held + 140 }
+{
+    let label = if start.label.len() > 64 {
+        ""
+    } else {
+        start.label
+    };
+    put_truth(start.enabled, printer);
+    printer.put(b" ");
+    put_text(label, printer);
+}
+
+/// Holds the end of an object's line.
+fn put_end<W: Sink>(
+    lockable: Option<bool>,
+    role: &Text,
+    start: Option<Start<'_>>,
+    printer: &mut Printer<W>,
+)
+    requires { length printer.old.held + 300 ≤ 8192 }
+    ensures value { printer.new ≡ output printer.old.contents (printer.old.held ++ end_told lockable role.now (option_map stored_in start.entry)) printer.old.failed }
+    ensures len { length printer.new.held ≤ length printer.old.held + 300 }
+{
+    let Some(lockable) = lockable else {
+        return;
+    };
+    let Some(start) = start else {
+        return;
+    };
+    printer.put(if lockable {
+        b" lockable ".as_slice()
+    } else {
+        b" no-lock "
+    });
+    put_text(role.as_str(), printer);
+    printer.put(b" ");
+    put_start(&start, printer);
+}
+
+/// The flags of its positions, of a switch.
+fn flags_in(start: Option<Start<'_>>) -> Option<&[bool]>
+    ensures { option_copied result ≡ flags_told (option_map stored_in start.entry) }
+{
+    match start {
+        Some(start) => start.position_enableds,
+        None => None,
+    }
+}
+
+/// Holds an object's number and its container's.
+fn put_place<W: Sink>(ono: u32, container: u32, printer: &mut Printer<W>)
+    requires { length printer.old.held + 60 ≤ 8192 }
+    ensures value { printer.new ≡ output printer.old.contents (printer.old.held ++ place_fields ono container) printer.old.failed }
+    ensures len { length printer.new.held ≤ length printer.old.held + 60 }
+{
+    printer.put(b"object ");
+    printer.put_number(u64::from(ono));
+    printer.put(b" ");
+    printer.put_number(u64::from(container));
+    printer.put(b" ");
+}
+
+/// Holds an object's class and how it is set.
+fn put_value<W: Sink>(
+    class: Class,
+    setting: Option<Setting>,
+    names: &[Text],
+    flags: Option<&[bool]>,
+    printer: &mut Printer<W>,
+)
+    requires written { IsWritten setting }
+    requires names { length names.now ≤ 16 }
+    requires flags { few_flags (option_copied flags) ≤ 16 }
+    requires room { length printer.old.held + 2400 ≤ 8192 }
+    ensures value { printer.new ≡ output printer.old.contents (printer.old.held ++ value_fields class setting names.now (option_copied flags.entry)) printer.old.failed }
+    ensures len { length printer.new.held ≤ length printer.old.held + 2400 }
+{
+    printer.put(class_word(class));
+    put_setting(class, setting, names, flags, printer);
+}
+
+/// Holds the line of an object that is in a container.
+fn put_object<W: Sink>(tree: &Tree, info: &ObjectInfo, printer: &mut Printer<W>)
+    requires fits { Fits tree.now info.now.ono.0 }
+    requires room { length printer.old.held + 3000 ≤ 8192 }
+    ensures value { printer.new ≡ output printer.old.contents (printer.old.held ++ object_told tree.now info.now) printer.old.failed }
+    ensures len { length printer.new.held ≤ length printer.old.held + 3000 }
+{
+    let ono = info.ono;
+    let start = tree.start_of(ono);
+    let setting = tree.setting_of(ono);
+    let names = tree.position_names_of(ono);
+    put_place(ono.0, info.container.0, printer);
+    put_value(info.class, setting, names, flags_in(start), printer);
+    put_end(tree.is_lockable(ono), &info.role, start, printer);
+}
+
+/// Holds the line of the root.
+fn put_root<W: Sink>(start: Option<Start<'_>>, printer: &mut Printer<W>)
+    requires { length printer.old.held + 200 ≤ 8192 }
+    ensures value { printer.new ≡ output printer.old.contents (printer.old.held ++ root_told (option_map stored_in start.entry)) printer.old.failed }
+    ensures len { length printer.new.held ≤ length printer.old.held + 200 }
+{
+    if let Some(start) = start {
+        printer.put(b"root ");
+        put_start(&start, printer);
+    }
+}
+
+/// Holds the line of an object with its end.
+fn put_line<W: Sink>(tree: &Tree, info: &ObjectInfo, printer: &mut Printer<W>)
+    requires fits { Fits tree.now info.now.ono.0 }
+    requires room { length printer.old.held + 4000 ≤ 8192 }
+    ensures { printer.new ≡ output printer.old.contents (printer.old.held ++ line_told tree.now info.now) printer.old.failed }
+{
+    if info.container.0 == 0 {
+        put_root(tree.start_of(info.ono), printer);
+    } else {
+        put_object(tree, info, printer);
+    }
+    printer.put(b"\n");
+}
+
+/// Prints the line of an object.
+fn print_line<W: Sink>(
+    tree: &Tree,
+    info: &ObjectInfo,
+    printer: &mut Printer<W>,
+) -> Result<(), WriteFailed>
+    requires { Fits tree.now info.now.ono.0 }
+    ensures { Prints result printer.old printer.new (line_told tree.now info.now) }
+{
+    printer.make_room(LINE_ROOM)?;
+    put_line(tree, info, printer);
+    Ok(())
+}
+
+/// Prints a tree as a text that [`tree_from_text`](crate::tree_from_text) reads: a line an object, in order. Locks are
+/// not written. What is printed may be held: [`Printer::flush`] hands it on.
+#[tactic(auto, unfolding(crate::specs::Written::text_of))]
+pub fn print_tree<W: Sink>(tree: &Tree, printer: &mut Printer<W>) -> Result<(), WriteFailed>
+    ensures { Prints result printer.old printer.new (text_of tree.now) }
+{
+    for i in 0..tree.len() {
+        let Some(info) = tree.object_at(i) else {
+            return Ok(());
+        };
+        print_line(tree, &info, printer)?;
+    }
+    Ok(())
+}
