@@ -4,3 +4,6 @@ pub mod Objects
 pub mod Walks
 pub mod OwnPorts
 pub mod PrivateObjects
+pub mod Beginnings
+pub mod Renewals
+pub mod WalksApart

@@ -13,6 +13,7 @@
 #![tactic(auto)]
 
 mod asked;
+mod beginning;
 mod objects;
 mod outcomes;
 mod own_port;
@@ -20,6 +21,7 @@ mod panel;
 mod trouble;
 mod walk;
 
+pub use beginning::answer_of;
 pub use outcomes::done_in;
 pub use own_port::{OwnPort, law_of_turns};
 pub use panel::Panel;

@@ -7,6 +7,8 @@ use oca_net::End;
 use oca_types::{Handle, Peer, Request, Span};
 use std::marker::Model;
 
+mod renewal;
+
 /// A panel for one device: a link, the end that it is driven over, how many turns a command waits for its answer, and
 /// whether one that was waited for got none.
 ///

@@ -12,6 +12,8 @@ use oca_types::{Class, NoMemory, Ono, Text};
 use std::alloc::Global;
 use std::marker::Model;
 
+mod apart;
+
 /// The root block (AES70-2).
 pub const ROOT: Ono = Ono(100);
 

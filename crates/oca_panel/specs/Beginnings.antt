@@ -1,0 +1,47 @@
+-- Commands of any method that are begun, and what their answers say (AES70-2).
+use Rattle.std.specs.Prelude.{◌≡◌, ℕ, ◌==◌, if◌then◌else◌, Result, Ok, Err}
+use Rattle.oca_types.specs.declared.class.Class.{Class}
+use Rattle.oca_types.specs.declared.class.Method.{Method}
+use Rattle.oca_types.specs.declared.words.Handle.{Handle}
+use Rattle.oca_types.specs.Peers.{RequestFields}
+use Rattle.oca_control.specs.declared.outcome.Outcome.{Outcome}
+use Rattle.oca_control.specs.declared.outcome.Outcome.TheVariants as outcomes
+use Rattle.oca_control.specs.declared.fault.ControlFault.{ControlFault}
+use Rattle.oca_model.specs.declared.answer.Answer.{Answer}
+use Rattle.oca_model.specs.declared.request.Request.{Request}
+use Rattle.oca_model.specs.declared.request.RequestFault.{RequestFault}
+use Rattle.oca_model.specs.Answers.{answer_in}
+use Rattle.oca_model.specs.Requests.{IsRefusedCall}
+use Rattle.oca_panel.specs.declared.trouble.Trouble.{Trouble}
+use Rattle.oca_panel.specs.declared.trouble.Trouble.TheVariants as trouble
+use Rattle.oca_panel.specs.Outcomes.{readable}
+use Rattle.oca_panel.specs.Panels.{PanelState, BeginsIn}
+use Rattle.oca_panel.specs.Objects.{IsRequestTo}
+
+-- The command that asks this of an object of the class was begun, or refused by the link.
+pub record BeginsRequest (target : ℕ) (of : Class) (asked : Request) (returned : Result Handle ControlFault) (old new : PanelState) : Type 0 where
+  pub request : RequestFields
+  pub calls : IsRequestTo target of asked request
+  pub begins : BeginsIn request returned old new
+
+-- No method of the class asks this, or its parameters are too long: nothing was asked.
+abbrev pub AsksNothing : Class → Request → PanelState → PanelState → Type 0
+AsksNothing of asked old new = (fault : RequestFault) × IsRefusedCall of asked fault × (new ≡ old)
+
+-- THIS WAS BEGUN: its handle, or why it was not, which changes nothing.
+abbrev pub BeginsAsking : ℕ → Class → Request → Result Handle Trouble → PanelState → PanelState → Type 0
+BeginsAsking target of asked (Ok handle) old new = BeginsRequest target of asked (Ok handle) old new
+BeginsAsking target of asked (Err (trouble.NotSubmitted fault)) old new = BeginsRequest target of asked (Err fault) old new
+BeginsAsking target of asked (Err trouble.NoValue) old new = AsksNothing of asked old new
+BeginsAsking target of asked (Err (trouble.Refused status)) old new = ⊥
+BeginsAsking target of asked (Err trouble.Unreadable) old new = ⊥
+BeginsAsking target of asked (Err trouble.NoSuchWord) old new = ⊥
+BeginsAsking target of asked (Err trouble.Lost) old new = ⊥
+BeginsAsking target of asked (Err trouble.Unanswered) old new = ⊥
+
+-- what the answer to a method of an object of the class says
+abbrev pub model_answered : Class → Method → Outcome → Result Answer Trouble
+model_answered of method (outcomes.Answered a) = if a.status == 0 then readable (answer_in of method a.count a.params.items) else Err (trouble.Refused a.status)
+model_answered of method (outcomes.Refused fault) = Err (trouble.NotSubmitted fault)
+model_answered of method outcomes.Lost = Err trouble.Lost
+model_answered of method outcomes.Unanswered = Err trouble.Unanswered

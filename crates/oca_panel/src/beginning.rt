@@ -1,0 +1,77 @@
+//! Commands of any method that are begun, for several in flight at once, and what the answers to them say.
+ghost use Rattle.std.specs.Prelude.{◌≡◌};
+ghost use Rattle.oca_model.specs.Answers.{answer_in};
+ghost use Rattle.oca_panel.specs.Outcomes.{readable};
+ghost use Rattle.oca_panel.specs.Beginnings.{model_answered};
+
+use crate::panel::Panel;
+use crate::trouble::Trouble;
+use oca_control::Outcome;
+use oca_model::{Answer, Request};
+use oca_net::End;
+use oca_types::{Class, Handle, Method, Ono, Params};
+
+impl<E: End> Panel<E> {
+    ghost use Rattle.oca_panel.specs.Beginnings.{BeginsAsking};
+
+    /// Submits what is asked of an object of the class and sends it at once, and returns its handle. Refusals, which
+    /// change nothing: `NotSubmitted` for those of [`begin`](Panel::begin); `NoValue` where no method of the class asks
+    /// it, or its parameters are too long.
+    pub fn begin_request(
+        &mut self,
+        ono: Ono,
+        class: Class,
+        asked: &Request,
+    ) -> Result<Handle, Trouble>
+        ensures { BeginsAsking ono.0 class asked.now result self.old self.new }
+    {
+        let mut params = Params::new();
+        match asked.call(class, &mut params) {
+            Ok(call) => {
+                let request = oca_types::Request {
+                    target: ono,
+                    method: call.method,
+                    count: call.count,
+                    params: params.as_slice(),
+                };
+                match self.begin(request) {
+                    Ok(handle) => Ok(handle),
+                    Err(fault) => Err(Trouble::NotSubmitted(fault)),
+                }
+            }
+            Err(_) => Err(Trouble::NoValue),
+        }
+    }
+}
+
+/// What the answer to a method of an object of the class says, by how its command fared.
+pub fn answer_of(class: Class, method: Method, outcome: &Outcome) -> Result<Answer, Trouble>
+    ensures { result ≡ model_answered class method outcome.now }
+{
+    match outcome {
+        Outcome::Answered(answer) => {
+            if answer.status == 0 {
+                read_answer(class, method, answer)
+            } else {
+                Err(Trouble::Refused(answer.status))
+            }
+        }
+        Outcome::Refused(fault) => Err(Trouble::NotSubmitted(*fault)),
+        Outcome::Lost => Err(Trouble::Lost),
+        Outcome::Unanswered => Err(Trouble::Unanswered),
+    }
+}
+
+/// What an answer with the status OK says.
+fn read_answer(
+    class: Class,
+    method: Method,
+    answer: &oca_control::Answer,
+) -> Result<Answer, Trouble>
+    ensures { result ≡ readable (answer_in class method answer.now.count answer.now.params.items) }
+{
+    match Answer::read(class, method, answer.count, answer.params.as_slice()) {
+        Some(read) => Ok(read),
+        None => Err(Trouble::Unreadable),
+    }
+}

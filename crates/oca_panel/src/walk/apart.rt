@@ -1,0 +1,36 @@
+//! The places of a walk one by one, for a walk whose commands are in flight beside one another.
+use super::{MOST_PLACES, Place, Walk, is_in, put_first};
+use oca_types::{NoMemory, Ono};
+
+impl Walk {
+    ghost use Rattle.std.specs.Prelude.{◌≡◌, ◌++◌, IfOk};
+    ghost use Rattle.oca_panel.specs.Walks.{places_of};
+    ghost use Rattle.oca_panel.specs.WalksApart.{TakesPlace};
+
+    /// Takes the next place, whose object counts as visited from then on, and tells whether it was visited before.
+    /// `None` where none is left, or 4,096 were visited. Nothing is asked. Refusal: `NoMemory`, behind which the walk may
+    /// leave objects out.
+    pub fn take_place(&mut self) -> Result<Option<(Place, bool)>, NoMemory>
+        ensures { IfOk result (λ taken. TakesPlace self.old taken self.new) }
+    {
+        if self.visited.len() >= MOST_PLACES {
+            return Ok(None);
+        }
+        let Some(place) = self.waiting.pop() else {
+            return Ok(None);
+        };
+        let again = is_in(self.visited.as_slice(), place.ono);
+        match self.visited.push(place.ono) {
+            Ok(()) => Ok(Some((place, again))),
+            Err(_) => Err(NoMemory),
+        }
+    }
+
+    /// Puts the members of a block before all places that wait, in their order. Refusal: `NoMemory`, behind which the
+    /// walk may leave objects out.
+    pub fn put_members(&mut self, container: Ono, members: &[u32]) -> Result<(), NoMemory>
+        ensures { IfOk result (λ u. self.new ≡ record self.old { waiting = self.old.waiting ++ places_of container members.now }) }
+    {
+        put_first(container, members, &mut self.waiting)
+    }
+}

@@ -1,0 +1,5 @@
+use Rattle.oca_web.specs.Walking.{KeepsWalk}
+use Rattle.oca_web.proofs.inventory.Inventory.add.Given as goal
+
+abbrev pub invariant-loop-ask : goal.invariant-loop-ask
+invariant-loop-ask l = KeepsWalk l.fn.self l.self

@@ -1,0 +1,5 @@
+use Rattle.oca_web.specs.Orders.{NoStep}
+use Rattle.oca_web.proofs.turns.settle_orders.Goals as goal
+
+pub loop-order-init : goal.loop-order-init
+loop-order-init g c = NoStep

@@ -1,0 +1,53 @@
+-- What is asked of an object to know it (AES70-2).
+use Rattle.std.specs.Prelude.{◌≡◌, ℕ, ◌-◌, ◌*◌, nat_lt, Bool, true, Option, Some, None, Ok}
+use Rattle.oca_types.specs.declared.class.Class.{Class}
+use Rattle.oca_types.specs.declared.class.Class.TheVariants as class
+use Rattle.oca_types.specs.declared.class.Method.{Method}
+use Rattle.oca_types.specs.declared.class.Method.TheVariants as method
+use Rattle.oca_model.specs.declared.request.Request.{Request}
+use Rattle.oca_model.specs.declared.request.Request.TheVariants as requests
+use Rattle.oca_types.specs.declared.words.Handle.{Handle}
+use Rattle.oca_panel.specs.Panels.{PanelState}
+use Rattle.oca_panel.specs.Beginnings.{BeginsAsking}
+use Rattle.oca_web.specs.declared.ask.Ask.{Ask}
+use Rattle.oca_web.specs.declared.ask.Ask.TheVariants as asks
+
+-- what is asked: nothing that sets
+abbrev pub request_for : Ask → Request
+request_for asks.Members = requests.GetMembers
+request_for asks.Role = requests.GetRole
+request_for asks.Label = requests.GetLabel
+request_for asks.Lockable = requests.GetLockable
+request_for asks.Enabled = requests.GetEnabled
+request_for asks.Names = requests.GetPositionNames
+request_for asks.Flags = requests.GetPositionEnableds
+request_for asks.Value = requests.Get
+
+-- the method by which it is asked; of a value that of a setting, whose answer is read by the class
+abbrev pub method_for : Ask → Method
+method_for asks.Members = method.GetMembers
+method_for asks.Role = method.GetRole
+method_for asks.Label = method.GetLabel
+method_for asks.Lockable = method.GetLockable
+method_for asks.Enabled = method.GetEnabled
+method_for asks.Names = method.GetPositionNames
+method_for asks.Flags = method.GetPositionEnableds
+method_for asks.Value = method.GetSetting
+
+-- the class by whose methods an object is asked
+abbrev pub class_for : Option Class → Class
+class_for None = class.Block
+class_for (Some of) = of
+
+-- ---- half of the span is left for orders
+
+-- THE SHARE OF THE ORDERS. A question is asked only where fewer than half of the span's handles lie between the lowest in
+-- flight and the next one.
+abbrev pub leaves_half : Option ℕ → ℕ → ℕ → Bool
+leaves_half None next span = true
+leaves_half (Some lowest) next span = nat_lt (2 * (next - lowest)) span
+
+-- ONE QUESTION WAS ASKED, where it may be and the link took it; else nothing was.
+abbrev pub AsksOne : Bool → ℕ → Option Class → Ask → Option Handle → PanelState → PanelState → Type 0
+AsksOne may ono of ask (Some handle) old new = (may ≡ true) × BeginsAsking ono (class_for of) (request_for ask) (Ok handle) old new
+AsksOne may ono of ask None old new = new ≡ old

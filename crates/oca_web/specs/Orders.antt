@@ -1,0 +1,152 @@
+-- Orders: what pages want done with objects, in the order in which they came (*profile*).
+use Rattle.std.specs.Prelude.{◌≡◌, ◌⊎◌, ℕ, ◌+◌, ◌==◌, ◌||◌, Bool, true, false, if◌then◌else◌, List, [], ◌∷◌, ◌++◌, length, drop, remove, slice_get, Option, Some, None, Result, Ok, Err}
+use Rattle.std.specs.List.{list_any}
+use Rattle.oca_types.specs.declared.class.Class.{Class}
+use Rattle.oca_types.specs.declared.class.Class.TheVariants as class
+use Rattle.oca_types.specs.declared.words.Ono.{Ono}
+use Rattle.oca_types.specs.declared.words.Handle.{Handle}
+use Rattle.oca_control.specs.declared.fault.ControlFault.TheVariants as faults
+use Rattle.oca_control.specs.declared.outcome.Outcome.{Outcome}
+use Rattle.oca_model.specs.declared.request.Request.{Request}
+use Rattle.oca_model.specs.declared.request.Request.TheVariants as requests
+use Rattle.oca_model.specs.Values.{class_of_value}
+use Rattle.oca_panel.specs.declared.trouble.Trouble.{Trouble}
+use Rattle.oca_panel.specs.declared.trouble.Trouble.TheVariants as trouble
+use Rattle.oca_panel.specs.Panels.{PanelState, SettlesIn}
+use Rattle.oca_panel.specs.Outcomes.{done_answered}
+use Rattle.oca_panel.specs.Beginnings.{BeginsAsking}
+use Rattle.oca_panel.specs.Renewals.{IsFoundLost}
+use Rattle.oca_web.specs.declared.order.Deed.{Deed}
+use Rattle.oca_web.specs.declared.order.Deed.TheVariants as deeds
+use Rattle.oca_web.specs.declared.order.Order.{Order}
+use Rattle.oca_web.specs.declared.order.Sent.{Sent}
+use Rattle.oca_web.specs.declared.order.Told.{Told}
+
+-- The orders that wait, the first that came first; those in flight under their handles; how the last ones fared, the
+-- last of them last; and the ticket of the last order.
+pub record OrdersState : Type 0 where
+  pub waiting : List Order
+  pub in_flight : List Sent
+  pub told : List Told
+  pub tickets : ℕ
+
+abbrev pub no_orders : OrdersState
+no_orders = record { waiting = []; in_flight = []; told = []; tickets = 0 }
+
+-- what is asked for an order, and of which class
+abbrev pub class_asked : Deed → Class
+class_asked (deeds.Set value) = class_of_value value
+class_asked deeds.Lock = class.Block
+class_asked deeds.Unlock = class.Block
+
+abbrev pub request_asked : Deed → Request
+request_asked (deeds.Set value) = requests.Set value
+request_asked deeds.Lock = requests.LockTotal
+request_asked deeds.Unlock = requests.Unlock
+
+-- ---- an order comes
+
+-- ONE ORDER WAS ADDED, behind all others, with a ticket of its own: one more than that of the order before it.
+abbrev pub order_added : Ono → Deed → OrdersState → Order
+order_added ono deed s = record { ticket = s.tickets + 1; ono = ono; deed = deed }
+
+abbrev pub with_order : Ono → Deed → OrdersState → OrdersState
+with_order ono deed s = record s { waiting = s.waiting ++ order_added ono deed s ∷ []; tickets = s.tickets + 1 }
+
+-- Where it was added, this is its ticket; where 64 wait, or no ticket is left, none was.
+abbrev pub Adds : Ono → Deed → OrdersState → Option ℕ → OrdersState → Type 0
+Adds ono deed old (Some ticket) new = (ticket ≡ old.tickets + 1) × (new ≡ with_order ono deed old)
+Adds ono deed old None new = (new ≡ old) × ((length old.waiting ≡ 64) ⊎ (old.tickets ≡ 18446744073709551615))
+
+-- ---- an order is submitted
+
+-- an order of this object is in flight
+abbrev pub is_in_flight : ℕ → List Sent → Bool
+is_in_flight ono sent = list_any (λ s. s.order.ono.0 == ono) sent
+
+-- THE ORDER THAT IS SUBMITTED NEXT is the first that waits, unless one of its object is in flight, or 32 are.
+abbrev pub ready_of : List Order → List Sent → Option Order
+ready_of [] sent = None
+ready_of (o ∷ os) sent = if is_in_flight o.ono.0 sent || (length sent == 32) then None else Some o
+
+-- THAT ORDER WAS SUBMITTED, once: it no longer waits, and is in flight under the handle of its command.
+pub record SubmitsOrder (old : OrdersState) (before : PanelState) (new : OrdersState) (after : PanelState) : Type 0 where
+  pub order : Order
+  pub handle : Handle
+  pub ready : ready_of old.waiting old.in_flight ≡ Some order
+  pub first : old.waiting ≡ order ∷ new.waiting
+  pub in_flight : new.in_flight ≡ old.in_flight ++ (record { handle = handle; order = order }) ∷ []
+  pub told : new.told ≡ old.told
+  pub tickets : new.tickets ≡ old.tickets
+  pub begins : BeginsAsking order.ono.0 (class_asked order.deed) (request_asked order.deed) (Ok handle) before after
+
+-- whether one was submitted: where none was, nothing changed
+abbrev pub SubmitsFirst : Bool → OrdersState → PanelState → OrdersState → PanelState → Type 0
+SubmitsFirst true old before new after = SubmitsOrder old before new after
+SubmitsFirst false old before new after = (new ≡ old) × (after ≡ before)
+
+-- ---- an order is answered
+
+-- what is kept of how orders fared, with one more: at most 128
+abbrev pub with_told : List Told → Told → List Told
+with_told told t = (if length told == 128 then drop 1 told else told) ++ t ∷ []
+
+-- how an order fared
+abbrev pub told_of : Order → Result Unit Trouble → Told
+told_of order done = record { ticket = order.ticket; ono = order.ono; done = done }
+
+-- AN ORDER IN FLIGHT CAME OUT SO, which its ticket is told: as the answer says that the link held under its handle, or
+-- as lost where the link is lost and holds none.
+pub record SettlesOrder (at : ℕ) (sent : Sent) (done : Result Unit Trouble) (old : OrdersState) (before : PanelState) (new : OrdersState) (after : PanelState) : Type 0 where
+  pub stood : slice_get old.in_flight at ≡ Some sent
+  pub outcome : Outcome
+  pub settles : SettlesIn sent.handle.0 before after outcome
+  pub answered : done ≡ done_answered outcome
+  pub orders : new ≡ record old { in_flight = remove old.in_flight at; told = with_told old.told (told_of sent.order done) }
+
+abbrev pub SettlesAt : ℕ → Option (Sent × Result Unit Trouble) → OrdersState → PanelState → OrdersState → PanelState → Type 0
+SettlesAt at (Some settled) old before new after = SettlesOrder at settled.0 settled.1 old before new after
+SettlesAt at None old before new after = (new ≡ old) × (after ≡ before)
+
+-- ---- the link is lost
+
+abbrev pub lost_told : Sent → Told
+lost_told sent = told_of sent.order (Err trouble.Lost)
+
+abbrev pub unsent_told : Order → Told
+unsent_told order = told_of order (Err (trouble.NotSubmitted faults.Lost))
+
+abbrev pub with_lost : List Sent → List Told → List Told
+with_lost [] told = told
+with_lost (s ∷ sent) told = with_lost sent (with_told told (lost_told s))
+
+abbrev pub with_unsent : List Order → List Told → List Told
+with_unsent [] told = told
+with_unsent (o ∷ orders) told = with_unsent orders (with_told told (unsent_told o))
+
+-- ALL ORDERS ARE LOST with the link: those in flight, which may have been carried out, and those that wait, which were
+-- never sent.
+abbrev pub lost_orders : OrdersState → OrdersState
+lost_orders s = record s { waiting = []; in_flight = []; told = with_unsent s.waiting (with_lost s.in_flight s.told) }
+
+-- They are lost where the link is lost, or late at the present moment, and only there.
+abbrev pub LosesOrders : Bool → PanelState → OrdersState → OrdersState → Type 0
+LosesOrders true p old new = IsFoundLost p true × (new ≡ lost_orders old)
+LosesOrders false p old new = IsFoundLost p false × (new ≡ old)
+
+-- ---- one step after another
+
+pub data Steps {S P : Type 0} (Step : S → P → S → P → Type 0) : S → P → S → P → Type 0 where
+  NoStep : {s : S} {p : P} → Steps Step s p s p
+  OneMore : {s t u : S} {p q r : P} → Steps Step s p t q → Step t q u r → Steps Step s p u r
+
+-- ORDERS WERE SUBMITTED, in the order in which they came, each once; nothing else was asked.
+abbrev pub SubmitsOrders : OrdersState → PanelState → OrdersState → PanelState → Type 0
+SubmitsOrders = Steps SubmitsOrder
+
+-- WHAT TICKETS WERE TOLD: of one order after another, how it came out.
+abbrev pub SettlesOne : OrdersState → PanelState → OrdersState → PanelState → Type 0
+SettlesOne old before new after = (at : ℕ) × (sent : Sent) × (done : Result Unit Trouble) × SettlesOrder at sent done old before new after
+
+abbrev pub SettlesOrders : OrdersState → PanelState → OrdersState → PanelState → Type 0
+SettlesOrders = Steps SettlesOne

@@ -1,0 +1,86 @@
+-- What requests do to the view of a device (*profile*). The link is not in their reach at all.
+use Rattle.std.specs.Prelude.{◌≡◌, ◌≢◌, ◌⊎◌, ℕ, ◌+◌, List, [], codes, decimal, true, Result, Ok, Err}
+use Rattle.std.specs.Str.{bytes_eq}
+use Rattle.std.specs.declared.alloc.AllocError.{AllocError}
+use Rattle.http.specs.declared.request.Request.{Request}
+use Rattle.http.specs.Request.{head_of}
+use Rattle.http_uri.specs.Uri.{uri_path}
+use Rattle.http_server.specs.declared.response.Response.{Response}
+use Rattle.oca_types.specs.declared.words.Ono.{Ono}
+use Rattle.oca_web.specs.declared.order.Deed.{Deed}
+use Rattle.oca_web.specs.declared.order.Deed.TheVariants as deeds
+use Rattle.oca_web.specs.declared.site.Site.{Site}
+use Rattle.oca_web.specs.Admission.{lets_request_in}
+use Rattle.oca_web.specs.Orders.{with_order}
+
+-- the order sets something
+abbrev pub IsSetting : Deed → Type 0
+IsSetting (deeds.Set value) = Unit {0}
+IsSetting deeds.Lock = ⊥
+IsSetting deeds.Unlock = ⊥
+
+-- the deed that a path asks for
+abbrev pub IsDeedFor : List ℕ → Deed → Type 0
+IsDeedFor path (deeds.Set value) = path ≡ codes "/set"
+IsDeedFor path deeds.Lock = path ≡ codes "/lock"
+IsDeedFor path deeds.Unlock = path ≡ codes "/unlock"
+
+-- the orders are as they were, and so are the names by which the site may be asked
+pub record KeepsAll (old new : Site) : Type 0 where
+  pub orders : new.view.orders ≡ old.view.orders
+  pub names : new.names ≡ old.names
+
+-- ONE ORDER WAS ADDED, and its ticket answered, with the status 202.
+pub record AddsOrder (ono : Ono) (deed : Deed) (old : Site) (response : Response) (new : Site) : Type 0 where
+  pub status : response.status ≡ 202
+  pub ticket : response.body.items ≡ decimal (old.view.orders.tickets + 1)
+  pub orders : new.view.orders ≡ with_order ono deed old.view.orders
+  pub names : new.names ≡ old.names
+
+-- none was, and the status is another one
+pub record AddsNone (old : Site) (response : Response) (new : Site) : Type 0 where
+  pub status : response.status ≢ 202
+  pub keeps : KeepsAll old new
+
+abbrev pub TakesOrder : Result Unit AllocError → Ono → Deed → Site → Response → Site → Type 0
+TakesOrder (Ok u) ono deed old response new = AddsOrder ono deed old response new ⊎ AddsNone old response new
+TakesOrder (Err e) ono deed old response new = KeepsAll old new
+
+abbrev pub AddsFor : List ℕ → Site → Response → Site → Type 0
+AddsFor path old response new = (ono : Ono) × (deed : Deed) × IsDeedFor path deed × AddsOrder ono deed old response new
+
+abbrev pub PostsOrder : List ℕ → Result Unit AllocError → Site → Response → Site → Type 0
+PostsOrder path (Ok u) old response new = AddsFor path old response new ⊎ AddsNone old response new
+PostsOrder path (Err e) old response new = KeepsAll old new
+
+abbrev pub KeepsOrders : Result Unit AllocError → Site → Response → Site → Type 0
+KeepsOrders (Ok u) old response new = AddsNone old response new
+KeepsOrders (Err e) old response new = KeepsAll old new
+
+abbrev pub method_of : Request (List ℕ) → List ℕ
+method_of r = (head_of r).method
+
+-- A POST THAT IS LET IN adds one order, which its path asks for, and is answered 202 with the order's own ticket; or it is
+-- refused with another status, and adds none.
+pub record Orders (old : Site) (request : Request (List ℕ)) (response : Response) (new : Site) : Type 0 where
+  pub let_in : lets_request_in old.names.items request ≡ true
+  pub post : bytes_eq (codes "POST") (method_of request) ≡ true
+  pub adds : AddsFor (uri_path (head_of request).uri) old response new
+
+-- NOTHING IS ORDERED: of a request that is not let in the whole view stays as it was.
+pub record OrdersNothing (old : Site) (request : Request (List ℕ)) (response : Response) (new : Site) : Type 0 where
+  pub status : response.status ≢ 202
+  pub keeps : KeepsAll old new
+  pub refused : (lets_request_in old.names.items request ≡ true) ⊎ (new.view ≡ old.view)
+
+abbrev pub Answers : Site → Request (List ℕ) → Response → Site → Type 0
+Answers old request response new = Orders old request response new ⊎ OrdersNothing old request response new
+
+-- the same before memory that was refused is answered for
+pub record Fails (old : Site) (request : Request (List ℕ)) (new : Site) : Type 0 where
+  pub keeps : KeepsAll old new
+  pub refused : (lets_request_in old.names.items request ≡ true) ⊎ (new.view ≡ old.view)
+
+abbrev pub IsAnswered : Result Unit AllocError → Site → Request (List ℕ) → Response → Site → Type 0
+IsAnswered (Ok u) old request response new = Answers old request response new
+IsAnswered (Err e) old request response new = Fails old request new

@@ -1,0 +1,106 @@
+//! What is asked of an object to know it: nothing here sets anything.
+ghost use Rattle.std.specs.Prelude.{◌≡◌};
+ghost use Rattle.oca_web.specs.Asking.{class_for, method_for, request_for};
+
+use oca_model::Request;
+use oca_types::{Class, Handle, Method};
+
+/// What is asked of an object.
+#[derive(Clone, Copy, Debug, PartialEq, Eq)]
+pub enum Ask {
+    /// The members of a block.
+    Members,
+    /// Its role.
+    Role,
+    /// Its label.
+    Label,
+    /// Whether it can be locked.
+    Lockable,
+    /// Whether it is enabled.
+    Enabled,
+    /// The names of a switch's positions.
+    Names,
+    /// Which of a switch's positions are enabled.
+    Flags,
+    /// What it is set to.
+    Value,
+}
+
+impl Ask {
+    /// What is asked, which only reads.
+    pub fn request(self) -> Request
+        ensures { result ≡ request_for self }
+    {
+        match self {
+            Ask::Members => Request::GetMembers,
+            Ask::Role => Request::GetRole,
+            Ask::Label => Request::GetLabel,
+            Ask::Lockable => Request::GetLockable,
+            Ask::Enabled => Request::GetEnabled,
+            Ask::Names => Request::GetPositionNames,
+            Ask::Flags => Request::GetPositionEnableds,
+            Ask::Value => Request::Get,
+        }
+    }
+
+    /// The method by which it is asked.
+    pub fn method(self) -> Method
+        ensures { result ≡ method_for self }
+    {
+        match self {
+            Ask::Members => Method::GetMembers,
+            Ask::Role => Method::GetRole,
+            Ask::Label => Method::GetLabel,
+            Ask::Lockable => Method::GetLockable,
+            Ask::Enabled => Method::GetEnabled,
+            Ask::Names => Method::GetPositionNames,
+            Ask::Flags => Method::GetPositionEnableds,
+            Ask::Value => Method::GetSetting,
+        }
+    }
+}
+
+/// The class by whose methods an object is asked: its own, or, where that is not known here, as a block, whose methods of
+/// OcaRoot are those of all classes.
+pub fn class_for(class: Option<Class>) -> Class
+    ensures { result ≡ class_for class }
+{
+    match class {
+        Some(class) => class,
+        None => Class::Block,
+    }
+}
+
+/// A question about the object that stands at this place of the list, made in this round through the device.
+#[derive(Clone, Copy, Debug, PartialEq, Eq)]
+pub struct Question {
+    /// Where the object stands.
+    pub place: usize,
+    /// What is asked.
+    pub ask: Ask,
+    /// The walk in which the object was found.
+    pub epoch: u64,
+}
+
+/// A question in flight.
+#[derive(Clone, Copy, Debug, PartialEq, Eq)]
+pub struct Asked {
+    /// The handle of its command.
+    pub handle: Handle,
+    /// The question.
+    pub question: Question,
+}
+
+impl Default for Asked {
+    /// A question that nobody asked.
+    fn default() -> Self {
+        Asked {
+            handle: Handle(0),
+            question: Question {
+                place: 0,
+                ask: Ask::Role,
+                epoch: 0,
+            },
+        }
+    }
+}

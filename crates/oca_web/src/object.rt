@@ -1,0 +1,135 @@
+//! What is known of an object.
+use oca_model::{Flags, Names, Reading, Value, word_of};
+use oca_panel::Trouble;
+use oca_types::{Class, Ono, Text};
+
+/// Whose lock is on an object, as far as answers told.
+#[derive(Clone, Copy, Debug, PartialEq, Eq)]
+pub enum Lock {
+    /// None that is known.
+    Free,
+    /// This panel's own.
+    Own,
+    /// That of a different controller.
+    Other,
+}
+
+impl Lock {
+    /// Its name.
+    pub fn name(self) -> &'static str {
+        match self {
+            Lock::Free => "free",
+            Lock::Own => "own",
+            Lock::Other => "other",
+        }
+    }
+}
+
+/// What changes of an object, and is told again and again.
+#[derive(Clone, Copy, Debug, PartialEq, Eq)]
+pub struct Shown {
+    /// What it is set to, with its limits; none before it was read.
+    pub reading: Option<Reading>,
+    /// Why it could not be read, or a block's members be listed.
+    pub trouble: Option<Trouble>,
+    /// Whose lock is on it.
+    pub lock: Lock,
+    /// Whether it is enabled.
+    pub enabled: bool,
+}
+
+impl Shown {
+    /// That of an object of which nothing was read yet.
+    pub fn unread() -> Shown {
+        Shown {
+            reading: None,
+            trouble: None,
+            lock: Lock::Free,
+            enabled: true,
+        }
+    }
+}
+
+/// An object of the device, as far as it is known.
+#[derive(Drop)]
+pub struct Object {
+    /// Its number.
+    pub ono: Ono,
+    /// The block that lists it.
+    pub container: Ono,
+    /// Its class, where that is one of this profile.
+    pub class: Option<Class>,
+    /// Its role.
+    pub role: Text,
+    /// Its label.
+    pub label: Text,
+    /// Whether it can be locked.
+    pub lockable: bool,
+    /// The names of a switch's positions.
+    pub names: Names,
+    /// Which of a switch's positions are enabled.
+    pub flags: Flags,
+    /// What changes of it.
+    pub shown: Shown,
+    /// The number of the change after which it is as it stands here.
+    pub changed: u64,
+}
+
+impl Object {
+    /// An object of which only its number, its container and its class are known.
+    pub fn new(ono: Ono, container: Ono, class: Option<Class>) -> Object {
+        Object {
+            ono,
+            container,
+            class,
+            role: Text::default(),
+            label: Text::default(),
+            lockable: false,
+            names: Names::new(),
+            flags: Flags::new(),
+            shown: Shown::unread(),
+            changed: 0,
+        }
+    }
+}
+
+/// The least and the greatest of a reading, where it has them.
+pub fn limits_of(reading: Reading) -> Option<(Value, Value)> {
+    match reading {
+        Reading::Mute(_) | Reading::Polarity(_) | Reading::Boolean(_) => None,
+        Reading::Switch(r) => Some((Value::Switch(r.least), Value::Switch(r.greatest))),
+        Reading::Int8(r) => Some((Value::Int8(r.least), Value::Int8(r.greatest))),
+        Reading::Int16(r) => Some((Value::Int16(r.least), Value::Int16(r.greatest))),
+        Reading::Int32(r) => Some((Value::Int32(r.least), Value::Int32(r.greatest))),
+        Reading::Int64(r) => Some((Value::Int64(r.least), Value::Int64(r.greatest))),
+        Reading::Uint8(r) => Some((Value::Uint8(r.least), Value::Uint8(r.greatest))),
+        Reading::Uint16(r) => Some((Value::Uint16(r.least), Value::Uint16(r.greatest))),
+        Reading::Uint32(r) => Some((Value::Uint32(r.least), Value::Uint32(r.greatest))),
+        Reading::Uint64(r) => Some((Value::Uint64(r.least), Value::Uint64(r.greatest))),
+    }
+}
+
+/// The word for what a reading says.
+pub fn word_in(reading: Reading) -> Text {
+    word_of(reading.value())
+}
+
+/// The name of a class.
+pub fn class_name(class: Option<Class>) -> &'static str {
+    match class {
+        None => "unknown",
+        Some(Class::Block) => "block",
+        Some(Class::Mute) => "mute",
+        Some(Class::Polarity) => "polarity",
+        Some(Class::Switch) => "switch",
+        Some(Class::Boolean) => "boolean",
+        Some(Class::Int8) => "int8",
+        Some(Class::Int16) => "int16",
+        Some(Class::Int32) => "int32",
+        Some(Class::Int64) => "int64",
+        Some(Class::Uint8) => "uint8",
+        Some(Class::Uint16) => "uint16",
+        Some(Class::Uint32) => "uint32",
+        Some(Class::Uint64) => "uint64",
+    }
+}

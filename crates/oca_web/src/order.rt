@@ -1,0 +1,113 @@
+//! An order: what a page wants done with an object, and how it fared.
+ghost use Rattle.std.specs.Prelude.{◌≡◌};
+ghost use Rattle.oca_web.specs.Orders.{class_asked, request_asked};
+
+use oca_model::{Request, Value};
+use oca_panel::Trouble;
+use oca_types::{Class, Handle, Ono};
+
+/// The most orders that wait.
+pub const MOST_WAITING: usize = 64;
+
+/// The most orders that are in flight: as many as a span has handles.
+pub const MOST_IN_FLIGHT: usize = 32;
+
+/// The most orders of which it is kept how they fared.
+pub const MOST_TOLD: usize = 128;
+
+/// What a page wants done with an object.
+#[derive(Clone, Copy, Debug, PartialEq, Eq)]
+pub enum Deed {
+    /// That it is set to this.
+    Set(Value),
+    /// That it is locked against all access of others.
+    Lock,
+    /// That this panel's lock is taken off.
+    Unlock,
+}
+
+impl Deed {
+    /// The class by whose methods it is asked.
+    pub fn class(self) -> Class
+        ensures { result ≡ class_asked self }
+    {
+        match self {
+            Deed::Set(value) => value.class(),
+            Deed::Lock | Deed::Unlock => Class::Block,
+        }
+    }
+
+    /// What is asked.
+    pub fn request(self) -> Request
+        ensures { result ≡ request_asked self }
+    {
+        match self {
+            Deed::Set(value) => Request::Set(value),
+            Deed::Lock => Request::LockTotal,
+            Deed::Unlock => Request::Unlock,
+        }
+    }
+}
+
+/// An order of a page.
+#[derive(Clone, Copy, Debug, PartialEq, Eq)]
+pub struct Order {
+    /// The number by which the page is told how it fared.
+    pub ticket: u64,
+    /// The object.
+    pub ono: Ono,
+    /// What is to be done with it.
+    pub deed: Deed,
+}
+
+impl Default for Order {
+    /// An order that nobody gave.
+    fn default() -> Self {
+        Order {
+            ticket: 0,
+            ono: Ono(0),
+            deed: Deed::Unlock,
+        }
+    }
+}
+
+/// An order in flight.
+#[derive(Clone, Copy, Debug, PartialEq, Eq)]
+pub struct Sent {
+    /// The handle of its command.
+    pub handle: Handle,
+    /// The order.
+    pub order: Order,
+}
+
+impl Default for Sent {
+    /// An order that nobody gave.
+    fn default() -> Self {
+        Sent {
+            handle: Handle(0),
+            order: Order::default(),
+        }
+    }
+}
+
+/// How an order fared.
+#[derive(Clone, Copy, Debug, PartialEq, Eq)]
+pub struct Told {
+    /// The number by which the page knows it.
+    pub ticket: u64,
+    /// The object.
+    pub ono: Ono,
+    /// Whether it was carried out, or why not.
+    pub done: Result<(), Trouble>,
+}
+
+impl Default for Told {
+    /// An order that nobody gave.
+    fn default() -> Self {
+        Told {
+            ticket: 0,
+            ono: Ono(0),
+            done: Err(Trouble::Unanswered),
+        }
+    }
+}

@@ -1,0 +1,205 @@
+//! The orders of the pages: those that wait, those in flight, and how the last ones fared.
+use crate::order::{Deed, MOST_IN_FLIGHT, MOST_TOLD, MOST_WAITING, Order, Sent, Told};
+use arrayvec::ArrayVec;
+use oca_control::ControlFault;
+use oca_panel::Trouble;
+use oca_types::{Handle, Ono};
+use std::marker::Model;
+
+/// The orders of the pages: those that wait, those in flight, and how the last ones fared. It takes no memory.
+#[derive(Drop)]
+pub struct Orders {
+    waiting: ArrayVec<Order, MOST_WAITING>,
+    in_flight: ArrayVec<Sent, MOST_IN_FLIGHT>,
+    told: ArrayVec<Told, MOST_TOLD>,
+    tickets: u64,
+}
+
+impl Model for Orders {
+    ghost use Rattle.oca_web.specs.Orders.{OrdersState};
+
+    ghost Value = { OrdersState };
+
+    ghost view = { λ o. record { waiting = o.waiting.items; in_flight = o.in_flight.items; told = o.told.items; tickets = o.tickets } };
+}
+
+impl Orders {
+    ghost use Rattle.std.specs.Prelude.{◌≡◌, ◌∷◌, ◌++◌, remove, slice_get, length, [], Some};
+    ghost use Rattle.oca_web.specs.Objects.{one_more};
+    ghost use Rattle.oca_web.specs.Orders.{Adds, is_in_flight, lost_orders, lost_told, no_orders, ready_of, told_of, unsent_told, with_lost, with_order, with_told, with_unsent};
+
+    /// No orders.
+    pub fn new() -> Orders
+        ensures { result ≡ no_orders }
+    {
+        Orders {
+            waiting: ArrayVec::new(),
+            in_flight: ArrayVec::new(),
+            told: ArrayVec::new(),
+            tickets: 0,
+        }
+    }
+
+    /// The ticket of the next order.
+    pub fn next_ticket(&self) -> u64
+        ensures { result ≡ one_more self.now.tickets }
+    {
+        self.tickets.saturating_add(1)
+    }
+
+    /// Adds an order behind all others, and returns its ticket. `None` where 64 wait, which changes nothing.
+    pub fn add(&mut self, ono: Ono, deed: Deed) -> Option<u64>
+        ensures { Adds ono deed self.old result self.new }
+    {
+        if self.waiting.is_full() || self.tickets == u64::MAX {
+            return None;
+        }
+        let ticket = self.tickets + 1;
+        self.waiting.push(Order { ticket, ono, deed });
+        self.tickets = ticket;
+        Some(ticket)
+    }
+
+    /// Whether an order of this object is in flight.
+    fn is_in_flight(&self, ono: Ono) -> bool
+        ensures { result ≡ is_in_flight ono.0 self.now.in_flight }
+    {
+        self.in_flight
+            .as_slice()
+            .iter()
+            .any(|sent| sent.order.ono.0 == ono.0)
+    }
+
+    /// The order that is submitted next: the first that waits, unless one of its object is in flight, or 32 are.
+    pub fn ready(&self) -> Option<Order>
+        ensures { result ≡ ready_of self.now.waiting self.now.in_flight }
+    {
+        let Some(order) = self.waiting.as_slice().first().copied() else {
+            return None;
+        };
+        if self.is_in_flight(order.ono) || self.in_flight.is_full() {
+            return None;
+        }
+        Some(order)
+    }
+
+    /// The order that is submitted next is in flight under this handle from now on.
+    #[tactic(auto, using(crate::proofs::OrderLemmas::ready_is_first, crate::proofs::OrderLemmas::ready_has_room))]
+    pub(crate) fn note_sent(&mut self, order: Order, handle: Handle)
+        requires { ready_of self.old.waiting self.old.in_flight ≡ Some order }
+        ensures first { self.old.waiting ≡ order ∷ self.new.waiting }
+        ensures in_flight { self.new.in_flight ≡ self.old.in_flight ++ (record { handle = handle; order = order }) ∷ [] }
+        ensures told { self.new.told ≡ self.old.told }
+        ensures tickets { self.new.tickets ≡ self.old.tickets }
+    {
+        let _ = self.waiting.pop_at(0);
+        let _ = self.in_flight.try_push(Sent { handle, order });
+    }
+
+    /// The order in flight at this place.
+    pub(crate) fn sent_at(&self, at: usize) -> Option<Sent>
+        ensures { result ≡ slice_get self.now.in_flight at }
+    {
+        self.in_flight.as_slice().get(at).copied()
+    }
+
+    /// How many orders are in flight.
+    pub fn in_flight(&self) -> usize
+        ensures { result ≡ length self.now.in_flight }
+    {
+        self.in_flight.len()
+    }
+
+    /// Whether an order waits.
+    pub fn waits(&self) -> bool {
+        !self.waiting.is_empty()
+    }
+
+    /// Keeps how an order fared, and forgets the oldest of 128.
+    fn tell(&mut self, order: Order, done: Result<(), Trouble>)
+        ensures { self.new ≡ record self.old { told = with_told self.old.told (told_of order done) } }
+    {
+        if self.told.is_full() {
+            self.told.remove(0);
+        }
+        self.told.push(Told {
+            ticket: order.ticket,
+            ono: order.ono,
+            done,
+        });
+    }
+
+    /// The order in flight at this place came out so.
+    pub(crate) fn settle(&mut self, at: usize, sent: Sent, done: Result<(), Trouble>)
+        requires { slice_get self.old.in_flight at ≡ Some sent }
+        ensures { self.new ≡ record self.old { in_flight = remove self.old.in_flight at; told = with_told self.old.told (told_of sent.order done) } }
+    {
+        let _ = self.in_flight.pop_at(at);
+        self.tell(sent.order, done);
+    }
+
+    /// Tells all orders that they are lost with the link: those in flight may have been carried out, and those that wait
+    /// were never sent.
+    pub(crate) fn lose(&mut self)
+        ensures { self.new ≡ lost_orders self.old }
+    {
+        self.lose_sent();
+        self.lose_waiting();
+    }
+
+    /// Tells the orders in flight that they are lost.
+    #[tactic(auto, using(crate::proofs::OrderLemmas::first_and_rest))]
+    fn lose_sent(&mut self)
+        ensures { self.new ≡ record self.old { in_flight = []; told = with_lost self.old.in_flight self.old.told } }
+    {
+        let Some(sent) = self.in_flight.pop_at(0) else {
+            return;
+        };
+        self.tell(sent.order, Err(Trouble::Lost));
+        self.lose_sent();
+    }
+
+    /// Tells the orders that wait that they were not sent.
+    #[tactic(auto, using(crate::proofs::OrderLemmas::first_and_rest))]
+    fn lose_waiting(&mut self)
+        ensures { self.new ≡ record self.old { waiting = []; told = with_unsent self.old.waiting self.old.told } }
+    {
+        let Some(order) = self.waiting.pop_at(0) else {
+            return;
+        };
+        self.tell(order, Err(Trouble::NotSubmitted(ControlFault::Lost)));
+        self.lose_waiting();
+    }
+
+    /// How the last orders fared, the last of them last, at most 128.
+    pub fn told(&self) -> &[Told]
+        ensures { result.now ≡ self.now.told }
+    {
+        self.told.as_slice()
+    }
+
+    /// The handle above those of all orders in flight; 0 where none is.
+    pub(crate) fn next_handle(&self) -> u32 {
+        match self.in_flight.as_slice().last() {
+            Some(sent) => sent.handle.0.saturating_add(1),
+            None => 0,
+        }
+    }
+
+    /// The lowest handle of an order in flight.
+    pub(crate) fn lowest_handle(&self) -> Option<u32> {
+        let mut lowest: Option<u32> = None;
+        for sent in self.in_flight.as_slice() {
+            lowest = lower(lowest, sent.handle.0);
+        }
+        lowest
+    }
+}
+
+/// The lower one.
+pub(crate) fn lower(lowest: Option<u32>, handle: u32) -> Option<u32> {
+    match lowest {
+        Some(least) => Some(least.min(handle)),
+        None => Some(handle),
+    }
+}

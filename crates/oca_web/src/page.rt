@@ -1,0 +1,180 @@
+//! The page: one document with its style and its script.
+
+/// What the page may do: run its own script, wear its own style, and ask the panel that sent it, and nothing else. The
+/// hashes are those of the script and of the style below; `tools/panel.py` compares them.
+pub const POLICY: &str = "default-src 'none'; style-src 'sha256-Ov7GtGMcNFTmWBvwEUqHR9VtXltK12Nbkp2VOoP/zyA='; script-src 'sha256-ZyjkCXVYBIPizZ5pEb9lkZoiuaI5Ns6bJztCIeWy8YQ='; connect-src 'self'; frame-ancestors 'none'; base-uri 'none'; form-action 'none'";
+
+/// The page. It asks for `/tree` and `/values`, and sends orders to `/set`, `/lock` and `/unlock`. What comes from the device
+/// goes into it by `textContent` and by properties alone, never as HTML.
+pub const PAGE: &str = r###"<!doctype html>
+<html lang="en"><head><meta charset="utf-8"><title>OCA panel</title>
+<meta name="viewport" content="width=device-width,initial-scale=1">
+<style>
+:root{color-scheme:light dark;--page:#f3f4f6;--card:#fff;--inner:#eef0f4;--text:#1b1f26;--soft:#4d5766;--edge:#c3c9d3;--good:#17722f;--bad:#b3261e;--on:#b3261e;--turn:#1f56a8;--yes:#17722f;--focus:#1f56a8}
+@media(prefers-color-scheme:dark){:root{--page:#16181c;--card:#23272e;--inner:#2d323b;--text:#e4e7ec;--soft:#a9b3c1;--edge:#454c58;--good:#6fd38a;--bad:#ff8a80;--on:#d5473e;--turn:#3d7bd6;--yes:#2d8f4a;--focus:#8ab4f8}}
+*{box-sizing:border-box}
+body{margin:0;font:15px/1.35 system-ui,sans-serif;background:var(--page);color:var(--text)}
+header{position:sticky;top:0;z-index:1;background:var(--card);border-bottom:1px solid var(--edge);padding:8px 12px;display:flex;flex-wrap:wrap;gap:4px 18px;align-items:baseline}
+h1{font-size:16px;margin:0}
+#link{font-weight:600}.good{color:var(--good)}.bad{color:var(--bad)}.soft{color:var(--soft);font-variant-numeric:tabular-nums}
+main{display:grid;grid-template-columns:repeat(auto-fill,minmax(290px,1fr));gap:10px;padding:10px;align-items:start}
+section{background:var(--card);border:1px solid var(--edge);border-radius:8px;padding:8px 10px;min-width:0;content-visibility:auto;contain-intrinsic-size:auto 150px}
+section section{background:var(--inner);margin:6px 0}
+h2{font-size:14px;margin:0 0 4px;display:flex;gap:8px;align-items:center;justify-content:space-between;overflow-wrap:anywhere}
+.row{display:grid;grid-template-columns:minmax(70px,1fr) minmax(120px,1.6fr) auto;gap:4px 8px;align-items:center;padding:3px 0}
+.row>.name{color:var(--soft);overflow-wrap:anywhere}
+.control{display:flex;gap:6px;align-items:center;min-width:0}
+input[type=range]{flex:1 1 60px;min-width:50px}input[type=number],input.wide{width:7em}input.wide{width:100%}
+button,select,input{font:inherit;color:inherit;background:var(--inner);border:1px solid var(--edge);border-radius:5px;padding:3px 8px;max-width:100%}
+button[aria-pressed=true]{color:#fff}button.mute[aria-pressed=true]{background:var(--on)}button.polarity[aria-pressed=true]{background:var(--turn)}button.boolean[aria-pressed=true],button.lock[aria-pressed=true]{background:var(--yes)}
+button.lock{font-size:12px;padding:2px 6px}
+:focus-visible{outline:2px solid var(--focus);outline-offset:2px}
+.held .control,.off .control,.off>.name{opacity:.45}.sent .control{outline:1px dashed var(--turn);outline-offset:2px}
+.said{grid-column:1/-1;color:var(--bad);font-size:13px;overflow-wrap:anywhere}.said:empty{display:none}
+.away main{opacity:.6}
+</style></head><body>
+<header><h1>OCA panel</h1><span id="link" role="status">asking the device</span><span class="soft" id="flight"></span><span class="soft" id="again"></span><span class="soft" id="lost"></span><span class="bad" id="note" role="alert"></span></header>
+<main id="main" aria-busy="true"></main>
+<script>
+"use strict";
+const node=(tag,cls,text)=>{const e=document.createElement(tag);if(cls)e.className=cls;if(text!==undefined)e.textContent=text;return e};
+const by=id=>document.getElementById(id);
+const put=(e,text)=>{if(e.textContent!==text)e.textContent=text};
+let epoch=0,since=0,rows=new Map(),awaited=new Map(),timer=0,busy=false,again=false;
+const times=[];
+async function order(path,row,value){
+ if(row.ticket){row.next=[path,value];return}
+ row.ticket=-1;row.begun=performance.now();row.box.classList.add("sent");
+ try{
+  const body={ono:row.ono};if(value!==undefined)body.value=value;
+  const r=await fetch(path,{method:"POST",headers:{"Content-Type":"application/json"},body:JSON.stringify(body)});
+  if(r.status===202){row.ticket=await r.json();awaited.set(row.ticket,row);poll()}
+  else settle(row,r.status===503?"too many orders wait":r.status===404?"no such object":r.status===422?"no such value":"refused: "+r.status);
+ }catch(e){settle(row,"the panel's program does not answer")}
+}
+function settle(row,why){
+ row.ticket=0;row.box.classList.remove("sent");
+ times.push(performance.now()-row.begun);if(times.length>1000)times.shift();
+ row.why=why==="lost"?"lost: it may have been carried out":why||"";
+ if(row.next){const n=row.next;row.next=null;order(n[0],row,n[1])}else show(row);
+}
+function toggle(row,cls,on,off){
+ const c=node("button",cls);c.type="button";
+ c.onclick=()=>order("/set",row,row.value===on?off:on);
+ row.draw=()=>{put(c,row.value===null?"?":row.value);c.setAttribute("aria-pressed",row.value===on)};
+ return[c];
+}
+function choice(row){
+ const c=node("select");
+ c.onchange=()=>order("/set",row,c.value);
+ row.draw=()=>{
+  const [least,greatest]=row.limits?row.limits.map(Number):[0,row.names.length-1];
+  const key=least+" "+greatest+" "+row.flags.join();
+  if(key!==row.key){row.key=key;c.textContent="";
+   for(let i=least;i<=greatest;i++){const o=node("option","",row.names[i-least]||String(i));o.value=String(i);o.disabled=row.flags[i-least]===false;c.append(o)}}
+  if(row.value!==null)c.value=row.value};
+ return[c];
+}
+function number(row){
+ const wide=row.kind.endsWith("64"),field=node("input",wide?"wide":""),fader=wide?null:node("input");
+ field.type=wide?"text":"number";if(wide)field.inputMode="numeric";
+ field.onchange=()=>order("/set",row,field.value.trim());
+ if(fader){fader.type="range";fader.step=1;fader.oninput=()=>{field.value=fader.value;order("/set",row,fader.value)};fader.onchange=fader.oninput}
+ row.draw=()=>{
+  if(row.limits){const[least,greatest]=row.limits;field.title=least+" to "+greatest;
+   if(!wide){field.min=fader.min=least;field.max=fader.max=greatest}else field.setAttribute("aria-description",least+" to "+greatest)}
+  if(row.value!==null){if(document.activeElement!==field)field.value=row.value;if(fader)fader.value=row.value}};
+ row.second=fader;
+ return fader?[fader,field]:[field];
+}
+function controls(row){
+ switch(row.kind){
+ case"mute":return toggle(row,"mute","muted","unmuted");
+ case"polarity":return toggle(row,"polarity","inverted","non-inverted");
+ case"boolean":return toggle(row,"boolean","on","off");
+ case"switch":return choice(row);
+ case"block":case"unknown":row.draw=()=>{};return[];
+ default:return number(row)}
+}
+function title(row){return row.label||row.role||"object "+row.ono}
+function show(row){
+ if(row.ticket===0)row.draw();
+ put(row.name,title(row));
+ row.box.classList.toggle("held",row.lock==="other");row.box.classList.toggle("off",!row.enabled);
+ for(const c of row.inputs){c.setAttribute("aria-label",title(row)+(row.strip?", "+row.strip:""));c.disabled=!row.enabled}
+ if(row.locker){put(row.locker,row.lock==="own"?"unlock":"lock");row.locker.setAttribute("aria-pressed",row.lock==="own");
+  row.locker.setAttribute("aria-label",(row.lock==="own"?"unlock ":"lock ")+title(row)+(row.strip?", "+row.strip:""))}
+ const words=[];
+ if(row.lock==="other")words.push("Locked by a different controller");
+ if(!row.enabled)words.push("not enabled");
+ if(row.kind==="unknown")words.push("a class that is not known here");
+ if(row.trouble)words.push(row.kind==="block"?"its members can't be listed: "+row.trouble:row.trouble);
+ if(row.why&&!(row.why==="Locked"&&row.lock==="other"))words.push(row.why);
+ put(row.said,words.join("; "));
+}
+function locker(row,lockable){
+ if(!lockable)return;
+ const c=node("button","lock","lock");c.type="button";
+ c.onclick=()=>order(row.lock==="own"?"/unlock":"/lock",row);
+ row.locker=c;return c;
+}
+function build(tree){
+ epoch=tree.epoch;since=0;rows=new Map();awaited.clear();
+ const main=node("main");main.id="main";
+ const boxes=new Map([[100,{box:main,title:""}]]);
+ tree.objects.forEach((o,place)=>{
+  const row={ono:o.ono,kind:o.class,role:o.role,label:"",names:o.names,flags:[],value:null,limits:null,lock:"free",enabled:true,trouble:null,why:"",ticket:0,next:null,place};
+  const within=boxes.get(o.in)||boxes.get(100);row.strip=within.title;
+  row.name=node("span","name",o.role);row.said=node("div","said");row.said.setAttribute("role","status");row.inputs=[];
+  if(o.class==="block"){
+   if(o.ono===100){row.box=main;row.draw=()=>{};main.append(row.said);rows.set(100,row);return}
+   row.box=node("section");const head=node("h2");head.append(row.name);row.draw=()=>{};
+   const lock=locker(row,o.lockable);if(lock)head.append(lock);
+   row.box.append(head,row.said);row.box.setAttribute("aria-label",o.role);boxes.set(o.ono,{box:row.box,title:o.role});
+  }else{
+   row.box=node("div","row");row.inputs=controls(row);const c=node("div","control");c.append(...row.inputs);
+   row.box.append(row.name,c);const lock=locker(row,o.lockable);row.box.append(lock||node("span"));row.box.append(row.said);
+  }
+  row.box.dataset.ono=o.ono;
+  if(o.class!=="block"&&within.box===main){const s=node("section");s.append(row.box);main.append(s)}else within.box.append(row.box);
+  rows.set(o.ono,row);
+ });
+ by("main").replaceWith(main);
+}
+function visible(){
+ const high=innerHeight;let first=null,last=0;
+ for(const s of by("main").children){
+  const r=s.getBoundingClientRect();if(r.bottom<0||r.top>high)continue;
+  const inside=s.matches("[data-ono]")?[s,...s.querySelectorAll("[data-ono]")]:s.querySelectorAll("[data-ono]");
+  for(const e of inside){const p=rows.get(+e.dataset.ono)?.place;if(p===undefined)continue;if(first===null||p<first)first=p;if(p>last)last=p}
+ }
+ return first===null?"":"&first="+first+"&count="+(last-first+1);
+}
+const ms=n=>n<1000?n+" ms":n<60000?(n/1000).toFixed(1)+" s":Math.floor(n/60000)+" min";
+function tell(v){
+ const l=v.link,away=l.lost_for!==null;
+ by("link").className=away||l.heard===null?"bad":"good";
+ const heard=l.heard===null?"not heard yet":"heard "+ms(l.heard)+" ago";
+ const text=away?"device lost since "+new Date(Date.now()-l.lost_for).toLocaleTimeString()+", "+heard:"device "+heard;
+ by("link").textContent=text;
+ put(by("flight"),l.in_flight+" in flight");put(by("again"),l.again+" retransmissions");put(by("lost"),l.lost+" sessions lost");
+ document.body.classList.toggle("away",away);put(by("note"),"");
+}
+async function poll(){
+ clearTimeout(timer);if(busy){again=true;return}busy=true;again=false;
+ try{
+  const r=await fetch("/values?since="+since+(epoch?visible():""));if(!r.ok)throw 0;const v=await r.json();
+  if(v.walked&&v.epoch!==epoch){const t=await fetch("/tree");if(!t.ok)throw 0;const tree=await t.json();if(tree.walked){build(tree);again=true}}
+  else if(v.epoch===epoch){
+   since=v.change;
+   for(const o of v.objects){const row=rows.get(o.ono);if(row){Object.assign(row,{value:o.value,limits:o.limits,trouble:o.trouble,lock:o.lock,enabled:o.enabled,label:o.label,flags:o.flags});show(row)}}
+   by("main").removeAttribute("aria-busy");
+  }
+  for(const t of v.told){const row=awaited.get(t.ticket);if(row){awaited.delete(t.ticket);settle(row,t.trouble)}}
+  tell(v);
+ }catch(e){put(by("note"),"the panel's program does not answer")}
+ busy=false;timer=setTimeout(poll,again?0:awaited.size?8:document.hidden?1000:100);
+}
+poll();
+</script></body></html>
+"###;

@@ -1,0 +1,339 @@
+//! The service: which requests are let in, and what answers them.
+ghost use Rattle.std.specs.Prelude.{◌≡◌, ◌≢◌, IfErr};
+
+use crate::admission::{Name, field, has_host, has_page, lets_in};
+use crate::order::Deed;
+use crate::page::{PAGE, POLICY};
+use crate::told::{tree_told, values_told};
+use crate::view::{NoOrder, View};
+use bytes::{BufMut, Bytes};
+use http::{HeaderName, HeaderValue, Request, StatusCode, header};
+use http_server::{Response, Service};
+use itoa::Buffer;
+use oca_types::Ono;
+use serde_json::Value;
+use std::alloc::{AllocError, Global};
+
+/// The service over a view, at the host names by which it may be asked.
+#[derive(Drop)]
+pub struct Site {
+    alloc: Global,
+    view: View,
+    names: Vec<Name>,
+    calls: u64,
+}
+
+impl Site {
+    ghost use Rattle.std.specs.Prelude.{◌≡◌, ◌≢◌, [], IfOk, IfErr};
+    ghost use Rattle.http_server.specs.Response.{IsBlank};
+    ghost use Rattle.oca_web.specs.Admission.{lets_request_in};
+    ghost use Rattle.oca_web.specs.Sites.{IsAnswered, IsDeedFor, IsSetting, KeepsOrders, PostsOrder, TakesOrder};
+
+    /// The service that answers to these names.
+    pub fn new(alloc: Global, view: View, names: Vec<Name>) -> Site {
+        Site {
+            alloc,
+            view,
+            names,
+            calls: 0,
+        }
+    }
+
+    /// The view.
+    pub fn view(&mut self) -> &mut View {
+        &mut self.view
+    }
+
+    /// How many requests were answered.
+    pub fn calls(&self) -> u64 {
+        self.calls
+    }
+
+    /// Whether a request is let in.
+    fn lets_in(&self, request: &Request<Bytes>) -> bool
+        ensures { result ≡ lets_request_in self.now.names.items request.now }
+    {
+        let headers = request.headers();
+        let method = request.method().as_str().as_bytes();
+        let host = field(headers, header::HOST);
+        let origin = field(headers, header::ORIGIN);
+        let kind = field(headers, header::CONTENT_TYPE);
+        lets_in(self.names.as_slice(), method, host, origin, kind)
+    }
+
+    /// The status of a request that is not let in: for another host, from another page, or of another kind.
+    fn refusal(&self, request: &Request<Bytes>) -> StatusCode
+        ensures { result ≢ 202 }
+    {
+        let headers = request.headers();
+        let host = field(headers, header::HOST);
+        if !has_host(self.names.as_slice(), host) {
+            return StatusCode::MISDIRECTED_REQUEST;
+        }
+        let origin = field(headers, header::ORIGIN);
+        if has_page(self.names.as_slice(), host, origin) {
+            StatusCode::UNSUPPORTED_MEDIA_TYPE
+        } else {
+            StatusCode::FORBIDDEN
+        }
+    }
+
+    /// Answers a request: one that is not let in with its refusal.
+    fn respond(
+        &mut self,
+        request: &Request<Bytes>,
+        response: &mut Response,
+    ) -> Result<(), AllocError>
+        requires { IsBlank response.old }
+        ensures { IsAnswered result self.old request.now response.new self.new }
+    {
+        put_guards(response)?;
+        if request.uri().host().is_some() {
+            response.status = StatusCode::BAD_REQUEST;
+            return Ok(());
+        }
+        if !self.lets_in(request) {
+            response.status = self.refusal(request);
+            return Ok(());
+        }
+        if request.method().as_str() == "POST" {
+            let body = request.body().as_slice();
+            return self.post(request.uri().path(), body, response);
+        }
+        self.get(request, response)
+    }
+
+    /// Answers a request that reads.
+    fn get(
+        &mut self,
+        request: &Request<Bytes>,
+        response: &mut Response,
+    ) -> Result<(), AllocError>
+        requires { response.old.status ≡ 200 }
+        ensures { KeepsOrders result self.old response.new self.new }
+    {
+        let path = request.uri().path();
+        if request.method().as_str() != "GET" {
+            response.status = StatusCode::METHOD_NOT_ALLOWED;
+            return Ok(());
+        }
+        match path {
+            "/" => put_page(response),
+            "/tree" => self.get_tree(response),
+            "/values" => self.get_values(request.uri().query(), response),
+            "/set" | "/lock" | "/unlock" => {
+                response.status = StatusCode::METHOD_NOT_ALLOWED;
+                Ok(())
+            }
+            _ => {
+                response.status = StatusCode::NOT_FOUND;
+                Ok(())
+            }
+        }
+    }
+
+    /// Answers with the objects.
+    fn get_tree(&self, response: &mut Response) -> Result<(), AllocError>
+        ensures { response.new.status ≡ response.old.status }
+    {
+        let told = tree_told(self.alloc, self.view.inventory())?;
+        put_json(self.alloc, &told, response)
+    }
+
+    /// Answers with what changed, to a page that is open.
+    fn get_values(&mut self, query: Option<&str>, response: &mut Response) -> Result<(), AllocError>
+        ensures orders { self.new.view.orders ≡ self.old.view.orders }
+        ensures names { self.new.names ≡ self.old.names }
+        ensures status { response.new.status ≡ response.old.status }
+    {
+        let since = number_in(query, "since");
+        let first = number_in(query, "first").min(65_535) as usize;
+        let count = number_in(query, "count").min(65_535) as usize;
+        self.view.open(first, count);
+        let told = values_told(self.alloc, &self.view, since)?;
+        put_json(self.alloc, &told, response)
+    }
+
+    /// Answers a request that orders something.
+    fn post(
+        &mut self,
+        path: &str,
+        body: &[u8],
+        response: &mut Response,
+    ) -> Result<(), AllocError>
+        requires { response.old.body.items ≡ [] }
+        ensures { PostsOrder path.now result self.old response.new self.new }
+    {
+        match self.order_in(path, body) {
+            Ok((ono, deed)) => self.take_order(ono, deed, response),
+            Err(status) => {
+                response.status = status;
+                Ok(())
+            }
+        }
+    }
+
+    /// What is ordered: the path says the deed, and the body the object and, for `/set`, its value.
+    fn order_in(&self, path: &str, body: &[u8]) -> Result<(Ono, Deed), StatusCode>
+        ensures deed { IfOk result (λ o. IsDeedFor path.now o.1) }
+        ensures refused { IfErr result (λ status. status ≢ 202) }
+    {
+        let Ok(wanted) = Value::from_slice(self.alloc, body) else {
+            return Err(StatusCode::BAD_REQUEST);
+        };
+        match path {
+            "/set" => self.setting_in(&wanted),
+            "/lock" => Ok((self.known_in(&wanted)?, Deed::Lock)),
+            "/unlock" => Ok((self.known_in(&wanted)?, Deed::Unlock)),
+            "/" | "/tree" | "/values" => Err(StatusCode::METHOD_NOT_ALLOWED),
+            _ => Err(StatusCode::NOT_FOUND),
+        }
+    }
+
+    /// The object that a body names, where it is known.
+    fn known_in(&self, wanted: &Value) -> Result<Ono, StatusCode>
+        ensures { IfErr result (λ status. status ≢ 202) }
+    {
+        let ono = ono_in(wanted)?;
+        if self.view.knows(ono) { Ok(ono) } else { Err(StatusCode::NOT_FOUND) }
+    }
+
+    /// The object that a body names, and what it is to be set to.
+    fn setting_in(&self, wanted: &Value) -> Result<(Ono, Deed), StatusCode>
+        ensures deed { IfOk result (λ o. IsSetting o.1) }
+        ensures refused { IfErr result (λ status. status ≢ 202) }
+    {
+        let ono = ono_in(wanted)?;
+        let Some(word) = wanted.get("value").and_then(Value::as_str) else {
+            return Err(StatusCode::BAD_REQUEST);
+        };
+        match self.view.value_named(ono, word) {
+            Ok(value) => Ok((ono, Deed::Set(value))),
+            Err(NoOrder::NoObject) => Err(StatusCode::NOT_FOUND),
+            Err(NoOrder::NoValue) => Err(StatusCode::UNPROCESSABLE_ENTITY),
+        }
+    }
+
+    /// Takes an order, and answers with its ticket. Where memory is refused the order is not taken.
+    fn take_order(&mut self, ono: Ono, deed: Deed, response: &mut Response) -> Result<(), AllocError>
+        requires { response.old.body.items ≡ [] }
+        ensures { TakesOrder result ono deed self.old response.new self.new }
+    {
+        let mut buffer = Buffer::new();
+        let ticket = self.view.next_ticket();
+        put_kind(response)?;
+        response.body.put_slice(buffer.format(ticket).as_bytes())?;
+        match self.view.order(ono, deed) {
+            Some(_) => response.status = StatusCode::ACCEPTED,
+            None => {
+                response.body.clear();
+                response.status = StatusCode::SERVICE_UNAVAILABLE;
+            }
+        }
+        Ok(())
+    }
+}
+
+impl Service for Site {
+    ghost use Rattle.oca_web.specs.Sites.{Answers};
+
+    ghost answers = { λ old request response new. Answers old request response new };
+
+    /// Answers a request. Where memory is refused the answer is 503, with no body.
+    fn call(
+        &mut self,
+        request: &Request<Bytes>,
+        response: &mut Response,
+    ) -> Result<(), AllocError> {
+        self.calls = self.calls.saturating_add(1);
+        if self.respond(request, response).is_err() {
+            response.clear();
+            response.status = StatusCode::SERVICE_UNAVAILABLE;
+        }
+        Ok(())
+    }
+}
+
+/// The number of the object that a body names.
+fn ono_in(wanted: &Value) -> Result<Ono, StatusCode>
+    ensures { IfErr result (λ status. status ≢ 202) }
+{
+    let Some(ono) = wanted.get("ono").and_then(Value::as_u64) else {
+        return Err(StatusCode::BAD_REQUEST);
+    };
+    match u32::try_from(ono) {
+        Ok(ono) => Ok(Ono(ono)),
+        Err(_) => Err(StatusCode::BAD_REQUEST),
+    }
+}
+
+/// The number that a query gives under this name; 0 where it gives none.
+fn number_in(query: Option<&str>, name: &str) -> u64 {
+    let Some(query) = query else {
+        return 0;
+    };
+    for part in query.split('&') {
+        if let Some((key, digits)) = part.split_once('=') {
+            if key == name {
+                return digits.parse::<u64>().unwrap_or(0);
+            }
+        }
+    }
+    0
+}
+
+/// The body is JSON.
+fn put_kind(response: &mut Response) -> Result<(), AllocError>
+    ensures status { response.new.status ≡ response.old.status }
+    ensures body { response.new.body ≡ response.old.body }
+{
+    response.add_header(
+        header::CONTENT_TYPE,
+        HeaderValue::from_static("application/json"),
+    )
+}
+
+/// Answers with JSON.
+fn put_json(alloc: Global, told: &Value, response: &mut Response) -> Result<(), AllocError>
+    ensures { response.new.status ≡ response.old.status }
+{
+    put_kind(response)?;
+    let text = told.to_string(alloc)?;
+    response.body.put_slice(text.as_bytes())
+}
+
+/// Answers with the page.
+fn put_page(response: &mut Response) -> Result<(), AllocError>
+    ensures { response.new.status ≡ response.old.status }
+{
+    response.add_header(
+        header::CONTENT_TYPE,
+        HeaderValue::from_static("text/html; charset=utf-8"),
+    )?;
+    response.add_header(
+        header::CONTENT_SECURITY_POLICY,
+        HeaderValue::from_static(POLICY),
+    )?;
+    response.body.push(Bytes::from_static(PAGE.as_bytes()))
+}
+
+/// What every answer says to the browser: to keep nothing, to guess no type, and to lend it to no other page.
+fn put_guards(response: &mut Response) -> Result<(), AllocError>
+    ensures status { response.new.status ≡ response.old.status }
+    ensures body { response.new.body ≡ response.old.body }
+{
+    response.add_header(header::CACHE_CONTROL, HeaderValue::from_static("no-store"))?;
+    response.add_header(
+        header::X_CONTENT_TYPE_OPTIONS,
+        HeaderValue::from_static("nosniff"),
+    )?;
+    response.add_header(header::X_FRAME_OPTIONS, HeaderValue::from_static("DENY"))?;
+    response.add_header(
+        header::REFERRER_POLICY,
+        HeaderValue::from_static("no-referrer"),
+    )?;
+    response.add_header(
+        HeaderName::from_static("cross-origin-resource-policy"),
+        HeaderValue::from_static("same-origin"),
+    )
+}

@@ -1,0 +1,104 @@
+//! Orders over a panel: they are submitted in their order, and their tickets are told what the answers say.
+ghost use Rattle.std.specs.Prelude.{◌≡◌};
+ghost use Rattle.oca_web.specs.Orders.{LosesOrders, SettlesAt, SettlesOrders, SubmitsFirst, SubmitsOrders};
+
+use crate::order::Sent;
+use crate::orders::Orders;
+use arrayvec::ArrayVec;
+use oca_net::End;
+use oca_panel::{Panel, Trouble, done_in};
+
+/// Submits the order that is next, where one is, and the link takes its command. Returns whether it did.
+pub fn submit_first<E: End>(orders: &mut Orders, panel: &mut Panel<E>) -> bool
+    ensures { SubmitsFirst result orders.old panel.old orders.new panel.new }
+{
+    let Some(order) = orders.ready() else {
+        return false;
+    };
+    match panel.begin_request(order.ono, order.deed.class(), &order.deed.request()) {
+        Ok(handle) => {
+            orders.note_sent(order, handle);
+            true
+        }
+        Err(_) => false,
+    }
+}
+
+/// Submits the orders that wait, as far as the link takes them, in the order in which they came and each once.
+#[tactic(auto, using(crate::proofs::StepLemmas::one_submitted))]
+pub fn submit_orders<E: End>(orders: &mut Orders, panel: &mut Panel<E>)
+    ensures { SubmitsOrders orders.old panel.old orders.new panel.new }
+{
+    for _order in 0..32u32 {
+        if !submit_first(orders, panel) {
+            return;
+        }
+    }
+}
+
+/// Looks whether the order in flight at this place was answered, or the link is lost, and tells its ticket so.
+pub fn settle_at<E: End>(
+    orders: &mut Orders,
+    panel: &mut Panel<E>,
+    at: usize,
+) -> Option<(Sent, Result<(), Trouble>)>
+    ensures { SettlesAt at result orders.old panel.old orders.new panel.new }
+{
+    let sent = orders.sent_at(at)?;
+    let outcome = panel.try_finish(sent.handle)?;
+    let done = done_in(&outcome);
+    orders.settle(at, sent, done);
+    Some((sent, done))
+}
+
+/// An order in flight that came out.
+#[derive(Clone, Copy, Debug, PartialEq, Eq)]
+pub struct Settled {
+    /// The order, with the handle of its command.
+    pub sent: Sent,
+    /// Whether it was carried out, or why not.
+    pub done: Result<(), Trouble>,
+}
+
+impl Default for Settled {
+    /// An order that nobody gave.
+    fn default() -> Self {
+        Settled {
+            sent: Sent::default(),
+            done: Err(Trouble::Unanswered),
+        }
+    }
+}
+
+/// Looks at each order in flight, and tells the tickets of those that were answered, or are lost with the link. Returns
+/// them.
+#[tactic(auto, using(crate::proofs::StepLemmas::one_settled))]
+pub fn settle_orders<E: End>(
+    orders: &mut Orders,
+    panel: &mut Panel<E>,
+) -> ArrayVec<Settled, 32>
+    ensures { SettlesOrders orders.old panel.old orders.new panel.new }
+{
+    let mut all = ArrayVec::new();
+    let mut at = 0usize;
+    for _order in 0..32u32 {
+        match settle_at(orders, panel, at) {
+            Some((sent, done)) => {
+                let _ = all.try_push(Settled { sent, done });
+            }
+            None => at = at.saturating_add(1),
+        }
+    }
+    all
+}
+
+/// Tells all orders that they are lost, where the link is lost or late. Returns whether it is.
+pub fn lose_orders<E: End>(orders: &mut Orders, panel: &Panel<E>) -> bool
+    ensures { LosesOrders result panel.now orders.old orders.new }
+{
+    if !panel.finds_lost() {
+        return false;
+    }
+    orders.lose();
+    true
+}

@@ -1,0 +1,330 @@
+//! A view of a device: what is known of it, the orders of the pages, and how its link is.
+ghost use Rattle.std.specs.Prelude.{◌≡◌};
+
+use crate::ask::Question;
+use crate::asking::{ask_one, leaves_half};
+use crate::inventory::Inventory;
+use crate::order::Deed;
+use crate::orders::{Orders, lower};
+use crate::turns::{lose_orders, settle_orders, submit_orders};
+use oca_model::{Value, value_from_word};
+use oca_net::End;
+use oca_panel::{Panel, answer_of};
+use oca_types::{Handle, NoMemory, Ono, Peer, Span};
+use std::alloc::Global;
+
+/// Where the device is, and how many of its commands are in flight at most.
+#[derive(Clone, Copy, Debug)]
+pub struct Reach {
+    /// The device's address.
+    pub device: Peer,
+    /// How far above the lowest untaken command the next handle may lie.
+    pub span: Span,
+}
+
+/// How the link to the device is. Moments are in milliseconds.
+#[derive(Clone, Copy, Debug)]
+pub struct LinkNews {
+    /// The present moment.
+    pub now: u64,
+    /// When the device was last heard, where it was.
+    pub heard: Option<u64>,
+    /// Since when the device is lost, where it is.
+    pub lost_since: Option<u64>,
+    /// How many links were lost.
+    pub lost: u64,
+    /// How many datagrams were sent.
+    pub sent: u64,
+    /// How many keep-alives were sent.
+    pub keep_alives: u64,
+}
+
+/// Why an order is not taken.
+#[derive(Clone, Copy, Debug, PartialEq, Eq)]
+pub enum NoOrder {
+    /// There is no such object.
+    NoObject,
+    /// The word is for no value of the object.
+    NoValue,
+}
+
+/// A view of a device: what is known of it, the orders of the pages, and how its link is. The link itself lies in a
+/// [`Panel`], which each call that needs it is lent.
+#[derive(Drop)]
+pub struct View {
+    reach: Reach,
+    next_handle: u32,
+    first_handle: u32,
+    made: u64,
+    pub(crate) orders: Orders,
+    inventory: Inventory,
+    news: LinkNews,
+}
+
+impl View {
+    ghost use Rattle.std.specs.Prelude.{◌≡◌};
+    ghost use Rattle.oca_web.specs.Objects.{one_more};
+    ghost use Rattle.oca_web.specs.Orders.{Adds, SettlesOrders};
+    ghost use Rattle.oca_web.specs.Views.{GoesOn, RenewsLost, TakesTurn};
+    ghost use Rattle.oca_web.specs.Walking.{BeginsAnew, KeepsWalk, StaysOver};
+
+    /// A view of a device of which nothing is known, over a panel whose first handle this is.
+    pub fn new(
+        alloc: Global,
+        device: Peer,
+        span: Span,
+        first: Handle,
+        now: u64,
+    ) -> Result<View, NoMemory> {
+        Ok(View {
+            reach: Reach { device, span },
+            first_handle: first.0,
+            next_handle: first.0,
+            made: now,
+            orders: Orders::new(),
+            inventory: Inventory::new(alloc, now)?,
+            news: LinkNews {
+                now,
+                heard: None,
+                lost_since: None,
+                lost: 0,
+                sent: 0,
+                keep_alives: 0,
+            },
+        })
+    }
+
+    /// The orders.
+    pub fn orders(&self) -> &Orders {
+        &self.orders
+    }
+
+    /// What is known of the device.
+    pub fn inventory(&self) -> &Inventory {
+        &self.inventory
+    }
+
+    /// How the link is.
+    pub fn news(&self) -> LinkNews {
+        self.news
+    }
+
+    /// How many commands are in flight.
+    pub fn in_flight(&self) -> usize {
+        self.orders
+            .in_flight()
+            .saturating_add(self.inventory.in_flight())
+    }
+
+    /// How many commands were submitted.
+    pub fn submitted(&self) -> u64 {
+        u64::from(self.next_handle.saturating_sub(self.first_handle))
+    }
+
+    /// Whether no handle is left: another link over another port is to be made.
+    pub fn is_spent(&self) -> bool {
+        self.next_handle == u32::MAX
+    }
+
+    /// A page asked for values at the present moment, which shows so many objects from this one on.
+    pub fn open(&mut self, first: usize, visible: usize)
+        ensures { self.new.orders ≡ self.old.orders }
+    {
+        let now = self.news.now;
+        self.inventory.open(now, first, visible);
+    }
+
+    /// The present moment, which never goes back, and how many datagrams were sent until then.
+    pub fn note(&mut self, now: u64, sent: u64)
+        ensures { self.new.orders ≡ self.old.orders }
+    {
+        self.news.now = self.news.now.max(now);
+        self.news.sent = sent;
+    }
+
+    /// Whether an object has this number.
+    pub fn knows(&self, ono: Ono) -> bool {
+        self.inventory.class_of(ono).is_some()
+    }
+
+    /// The value of an object that a word names.
+    pub fn value_named(&self, ono: Ono, word: &str) -> Result<Value, NoOrder> {
+        let Some(class) = self.inventory.class_of(ono) else {
+            return Err(NoOrder::NoObject);
+        };
+        let Some(class) = class else {
+            return Err(NoOrder::NoValue);
+        };
+        match value_from_word(class, word) {
+            Some(value) => Ok(value),
+            None => Err(NoOrder::NoValue),
+        }
+    }
+
+    /// The ticket of the next order.
+    pub fn next_ticket(&self) -> u64
+        ensures { result ≡ one_more self.now.orders.tickets }
+    {
+        self.orders.next_ticket()
+    }
+
+    /// Takes an order behind all others, and returns its ticket. `None` where 64 wait, which changes nothing.
+    pub fn order(&mut self, ono: Ono, deed: Deed) -> Option<u64>
+        ensures orders { Adds ono deed self.old.orders result self.new.orders }
+        ensures rest { self.new ≡ record self.old { orders = self.new.orders } }
+    {
+        self.orders.add(ono, deed)
+    }
+
+    /// Takes one turn of the panel, which receives once and sends what is due, and takes the answers that came.
+    #[tactic(auto, using(crate::proofs::WalkLemmas::keeps_stays, crate::proofs::WalkLemmas::stays_on))]
+    pub fn take_turn<E: End>(&mut self, panel: &mut Panel<E>) -> Result<(), NoMemory>
+        ensures orders { TakesTurn self.old.orders panel.old self.new.orders panel.new }
+        ensures walk { StaysOver self.old.inventory self.new.inventory }
+    {
+        let report = panel.turn_with_report();
+        self.news.keep_alives = self.news.keep_alives.saturating_add(report.keep_alives);
+        self.take_order_answers(panel)?;
+        self.take_answers(panel)?;
+        self.note_heard(panel.last_heard());
+        Ok(())
+    }
+
+    /// Goes on: a link that is lost is renewed, and orders and then questions are submitted as far as there is room.
+    #[tactic(auto, using(crate::proofs::WalkLemmas::begins_stays, crate::proofs::WalkLemmas::keeps_stays, crate::proofs::WalkLemmas::stays_on, crate::proofs::WalkLemmas::submits_behind))]
+    pub fn go_on<E: End>(&mut self, panel: &mut Panel<E>) -> Result<(), NoMemory>
+        ensures orders { GoesOn result self.old.orders panel.old self.new.orders panel.new }
+        ensures walk { StaysOver self.old.inventory self.new.inventory }
+    {
+        if self.inventory.is_stale() {
+            self.inventory.begin_anew()?;
+        }
+        self.renew_lost(panel)?;
+        submit_orders(&mut self.orders, panel);
+        self.next_handle = self.next_handle.max(self.orders.next_handle());
+        self.ask_all(panel)
+    }
+
+    /// Notes when the device was heard: a link counts its own making.
+    fn note_heard(&mut self, heard: u64)
+        ensures orders { self.new.orders ≡ self.old.orders }
+        ensures inventory { self.new.inventory ≡ self.old.inventory }
+    {
+        if heard > self.made {
+            self.news.heard = Some(heard);
+            self.news.lost_since = None;
+        }
+    }
+
+    /// Takes the answers to orders, and tells their tickets.
+    fn take_order_answers<E: End>(&mut self, panel: &mut Panel<E>) -> Result<(), NoMemory>
+        ensures orders { SettlesOrders self.old.orders panel.old self.new.orders panel.new }
+        ensures walk { KeepsWalk self.old.inventory self.new.inventory }
+    {
+        let settled = settle_orders(&mut self.orders, panel);
+        for one in settled.as_slice() {
+            self.inventory.learn_order(one.sent.order, one.done)?;
+        }
+        Ok(())
+    }
+
+    /// Takes the answers to questions, and learns what they say.
+    #[tactic(auto, using(crate::proofs::WalkLemmas::keeps_stays))]
+    fn take_answers<E: End>(&mut self, panel: &mut Panel<E>) -> Result<(), NoMemory>
+        ensures orders { self.new.orders ≡ self.old.orders }
+        ensures walk { StaysOver self.old.inventory self.new.inventory }
+    {
+        let mut at = 0usize;
+        for _ in 0..32u32 {
+            if !self.take_answer(panel, at)? {
+                at = at.saturating_add(1);
+            }
+        }
+        self.inventory.note_walked();
+        Ok(())
+    }
+
+    /// Takes the answer to the question in flight at this place. Returns whether it is there.
+    fn take_answer<E: End>(&mut self, panel: &mut Panel<E>, at: usize) -> Result<bool, NoMemory>
+        ensures orders { self.new.orders ≡ self.old.orders }
+        ensures walk { KeepsWalk self.old.inventory self.new.inventory }
+    {
+        let Some(asked) = self.inventory.asked_at(at) else {
+            return Ok(false);
+        };
+        let Some(outcome) = panel.try_finish(asked.handle) else {
+            return Ok(false);
+        };
+        let class = self.inventory.class_at(asked.question);
+        let answer = answer_of(class, asked.question.ask.method(), &outcome);
+        self.inventory.settle(at);
+        self.inventory.learn(asked.question, answer)?;
+        Ok(true)
+    }
+
+    /// Where the link is lost or late, all orders are told so, and another link and another walk begin.
+    #[tactic(auto, using(crate::proofs::WalkLemmas::keeps_begins))]
+    fn renew_lost<E: End>(&mut self, panel: &mut Panel<E>) -> Result<(), NoMemory>
+        ensures orders { RenewsLost self.old.orders panel.old self.new.orders panel.new }
+        ensures walk { BeginsAnew self.old.inventory self.new.inventory }
+    {
+        if !lose_orders(&mut self.orders, panel) {
+            return Ok(());
+        }
+        panel.renew(self.reach.device, Handle(self.next_handle), self.reach.span);
+        self.made = panel.last_heard();
+        self.news.lost = self.news.lost.saturating_add(1);
+        self.news.lost_since = self.news.lost_since.or(Some(self.news.now));
+        self.inventory.forget_asked();
+        self.inventory.begin_anew()
+    }
+
+    /// Asks what is to be asked, as far as half of the span is left for orders.
+    fn ask_all<E: End>(&mut self, panel: &mut Panel<E>) -> Result<(), NoMemory>
+        ensures orders { self.new.orders ≡ self.old.orders }
+        ensures walk { KeepsWalk self.old.inventory self.new.inventory }
+    {
+        for _ in 0..32u32 {
+            let Some(question) = self.inventory.next_question(self.news.now) else {
+                return Ok(());
+            };
+            if !self.ask(panel, question) {
+                return self.inventory.ask_again(question);
+            }
+        }
+        Ok(())
+    }
+
+    /// Asks one question. Returns whether it was submitted, or is about no object.
+    fn ask<E: End>(&mut self, panel: &mut Panel<E>, question: Question) -> bool
+        ensures orders { self.new.orders ≡ self.old.orders }
+        ensures walk { KeepsWalk self.old.inventory self.new.inventory }
+    {
+        let Some((ono, class)) = self.inventory.target_of(question.place) else {
+            return true;
+        };
+        let may = self.may_ask();
+        match ask_one(panel, ono, class, question.ask, may) {
+            Some(handle) => {
+                self.next_handle = handle.0.saturating_add(1);
+                self.inventory.note_asked(handle, question);
+                true
+            }
+            None => false,
+        }
+    }
+
+    /// Whether a question may be asked now.
+    fn may_ask(&self) -> bool {
+        let lowest = match (self.orders.lowest_handle(), self.inventory.lowest_handle()) {
+            (Some(one), other) => lower(other, one),
+            (None, other) => other,
+        };
+        !self.inventory.asks_most() && leaves_half(lowest, self.next_handle, self.reach.span.get())
+    }
+
+    /// The earliest moment at which there is something to do, but for what the link is due to send.
+    pub fn next_moment(&self) -> Option<u64> {
+        self.inventory.next_moment(self.news.now)
+    }
+}
