@@ -3,4 +3,3 @@ pub mod ServeLemmas
 pub mod ExchangeLemmas
 mod TurnLemmas
 mod HandLemmas
-mod OwnLemmas

@@ -3,7 +3,6 @@ pub mod Printing
 pub mod Replaying
 pub mod Exchanges
 pub mod Hands
-pub mod OwnPorts
 pub mod Reasons
 pub mod PrivateRequests
 pub mod PrivateLines

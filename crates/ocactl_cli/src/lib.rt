@@ -12,7 +12,6 @@ pub mod hands;
 mod holding;
 mod line;
 mod objects;
-pub mod own;
 pub mod probe;
 mod reaching;
 mod reason;

@@ -3,7 +3,6 @@ use super::commands::send_all;
 use super::exchange::ask_once;
 use super::hands::{get_all, lock_all, set_all};
 use super::holding::hold;
-use super::own::own_now;
 use super::reaching::reached;
 use super::reason::note_silence;
 use super::replay::replay;
@@ -14,6 +13,7 @@ use super::walk::walk;
 use super::watched::Watched;
 use super::words::{Asked, Reach, Sending, asked_for};
 use oca_net::{End, UdpEnd};
+use oca_panel::OwnPort;
 use oca_program::socket::bind;
 use oca_program::{Failure, print_note, report};
 use oca_script::{Printer, Sink, Source};
@@ -135,7 +135,7 @@ fn send_one<C: Clock, E: End, W: Sink>(
     sending: &Sending,
     printer: &mut Printer<W>,
 ) -> Result<u8, Failure> {
-    let mut link = reach.link(own_now(clock).first_handle);
+    let mut link = reach.link(OwnPort::now(clock).first_handle.0);
     Ok(ask_once(&mut link, end, sending.command(), sending.turns, printer)?)
 }
 

@@ -1,45 +1,11 @@
-//! The program's own port and first handle by the clock, and whether a device answers a port.
+//! Whether a device answers the commands of a port.
 use super::none_wrong;
 use oca_net::{MemoryEnd, Scripted};
 use oca_types::{Handle, Peer};
-use ocactl_cli::own::own_at;
 use ocactl_cli::probe::{Found, probe};
 use ocactl_cli::watched::Watched;
 use std::alloc::Global;
 use std::process::Abort;
-
-/// Seconds and microseconds since the beginning of 1970; the port whose turn it is, and the first handle.
-const TURNS: &[(u64, u32, u16, u32)] = &[
-    (0, 0, 65001, 0),
-    (0, 9, 65001, 0),
-    (0, 10, 65001, 1),
-    (1, 999_999, 65001, 199_999),
-    (21_474, 836_479, 65001, 2_147_483_647),
-    (21_474, 836_480, 65002, 0),
-    (42_949, 672_959, 65002, 2_147_483_647),
-    (42_949, 672_960, 65001, 0),
-    (1_784_000_000, 0, 65002, 2_090_909_696),
-    (18_446_744_073_709_551_615, 999_999, 65002, 2_147_483_647),
-];
-
-/// The first row that is otherwise.
-fn first_other_turn() -> Option<usize> {
-    for (at, (seconds, microseconds, port, handle)) in TURNS.iter().enumerate() {
-        let own = own_at(*seconds, *microseconds);
-        let other = if *port == 65001 { 65002 } else { 65001 };
-        if (own.port, own.other, own.first_handle) != (*port, other, *handle) {
-            return Some(at);
-        }
-    }
-    None
-}
-
-/// The ports take turns, and handles rise in each.
-#[test]
-fn turns(rt: HostRuntime) {
-    let wrong = first_other_turn();
-    none_wrong(&rt, wrong);
-}
 
 const DEVICE: Peer = Peer {
     ip: 0x7f00_0001,
