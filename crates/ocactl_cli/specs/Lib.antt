@@ -9,3 +9,5 @@ pub mod PrivateLines
 pub mod PrivateExchanges
 pub mod PrivateHands
 pub mod Words
+pub mod Trees
+pub mod PrivateTrees
