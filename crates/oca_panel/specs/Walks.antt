@@ -105,3 +105,14 @@ pub record Ends (old : WalkState) (before after : PanelState) (new : WalkState) 
 abbrev pub StepsTo : WalkState → PanelState → PanelState → Option Visit → WalkState → Type 0
 StepsTo old before after None new = Ends old before after new
 StepsTo old before after (Some visit) new = VisitsNext old before after visit new
+
+-- THE NEXT PLACE WAS VISITED, also where its object was visited before, and this was found there: nothing was set.
+pub record VisitsPlace (old : WalkState) (before after : PanelState) (visit : Visit) (new : WalkState) : Type 0 where
+  pub rest : List Place
+  pub next : old.waiting ≡ rest ++ visit.place ∷ []
+  pub visited : new.visited ≡ old.visited ++ visit.place.ono ∷ []
+  pub finds : Finds false visit.place.ono rest before after visit.found new.waiting
+
+abbrev pub StepsToPlace : WalkState → PanelState → PanelState → Option Visit → WalkState → Type 0
+StepsToPlace old before after None new = Ends old before after new
+StepsToPlace old before after (Some visit) new = VisitsPlace old before after visit new

@@ -2,7 +2,7 @@
 ghost use Rattle.std.specs.Prelude.{◌≡◌, ◌++◌, IfOk};
 ghost use Rattle.oca_model.specs.Members.{class_with};
 ghost use Rattle.oca_panel.specs.Outcomes.{on_ok};
-ghost use Rattle.oca_panel.specs.Walks.{Describes, Finds, FindsObject, StepsTo, is_block, is_visited, parts_of, places_of};
+ghost use Rattle.oca_panel.specs.Walks.{Describes, Finds, FindsObject, StepsTo, StepsToPlace, is_block, is_visited, parts_of, places_of};
 
 use crate::panel::Panel;
 use crate::trouble::Trouble;
@@ -78,7 +78,7 @@ impl Model for Walk {
 
 impl Walk {
     ghost use Rattle.std.specs.Prelude.{◌≡◌, length, nat_lt, IfOk};
-    ghost use Rattle.oca_panel.specs.Walks.{StepsTo, begun_walk};
+    ghost use Rattle.oca_panel.specs.Walks.{StepsTo, StepsToPlace, begun_walk};
 
     /// A walk that begins at the root block. Refusal: `NoMemory`.
     pub fn new(alloc: Global) -> Result<Walk, NoMemory>
@@ -104,6 +104,14 @@ impl Walk {
         ensures { IfOk result (λ found. StepsTo self.old panel.old panel.new found self.new) }
     {
         step(&mut self.waiting, &mut self.visited, panel)
+    }
+
+    /// Visits the next place as [`next`](Walk::next) does, but asks its object also where that was visited before: a
+    /// block that contains itself is then visited 4,096 times.
+    pub fn next_place<E: End>(&mut self, panel: &mut Panel<E>) -> Result<Option<Visit>, NoMemory>
+        ensures { IfOk result (λ found. StepsToPlace self.old panel.old panel.new found self.new) }
+    {
+        step_to_place(&mut self.waiting, &mut self.visited, panel)
     }
 
     /// Whether objects are left that were not visited.
@@ -133,6 +141,29 @@ fn step<E: End>(
         return Err(NoMemory);
     }
     match find(panel, place.ono, again, waiting) {
+        Ok(found) => Ok(Some(Visit { place, found })),
+        Err(NoMemory) => Err(NoMemory),
+    }
+}
+
+/// Visits the next place of those that wait, also where its object was visited before, unless 4,096 were visited.
+fn step_to_place<E: End>(
+    waiting: &mut Vec<Place>,
+    visited: &mut Vec<Ono>,
+    panel: &mut Panel<E>,
+) -> Result<Option<Visit>, NoMemory>
+    ensures { IfOk result (λ found. StepsToPlace (record { waiting = waiting.old.items; visited = visited.old.items }) panel.old panel.new found (record { waiting = waiting.new.items; visited = visited.new.items })) }
+{
+    if visited.len() >= MOST_PLACES {
+        return Ok(None);
+    }
+    let Some(place) = waiting.pop() else {
+        return Ok(None);
+    };
+    if visited.push(place.ono).is_err() {
+        return Err(NoMemory);
+    }
+    match find(panel, place.ono, false, waiting) {
         Ok(found) => Ok(Some(Visit { place, found })),
         Err(NoMemory) => Err(NoMemory),
     }

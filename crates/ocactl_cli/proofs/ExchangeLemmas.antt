@@ -1,6 +1,6 @@
 -- How commands fare, and are printed.
-use Rattle.std.proofs.Common.{◌≡◌, ℕ, ◌+◌, ◌-◌, ◌<◌, ◌≤◌, Bool, true, false, List, [], ◌∷◌, ◌++◌, length, Option, Some, None, Result, Ok, Err, refl, sym, ap, ◌∙◌, subst, arith, append-nil, append_assoc}
-use Rattle.std.specs.Prelude.{OnOk, IfSome, slice_index_or, ◌==◌, ◌||◌}
+use Rattle.std.proofs.Common.{◌≡◌, ℕ, ◌+◌, ◌-◌, ◌<◌, ◌≤◌, true, false, List, [], ◌∷◌, ◌++◌, length, Result, Ok, Err, refl, sym, ap, ◌∙◌, subst, arith, append-nil, append_assoc}
+use Rattle.std.specs.Prelude.{OnOk, slice_index_or, ◌==◌, ◌||◌}
 use Rattle.std.specs.List.{remove}
 use Rattle.oca_types.specs.declared.words.Handle.{Handle}
 use Rattle.oca_types.specs.Peers.{RequestFields}
@@ -17,7 +17,7 @@ use Rattle.oca_control.specs.Links.{LinkState}
 use Rattle.oca_net.specs.Ends.{last_u64}
 use Rattle.oca_control.specs.Asking.{refused_by, Begins, Waits, ReceivesSoOften}
 use Rattle.ocactl_cli.specs.Requests.{LineAsked, Send}
-use Rattle.ocactl_cli.specs.Exchanges.{SessionState, FirstIsOpen, TakesOne, Idles, NothingDone, OneTurned, OnePrinted, AwaitsFirst, Awaits, NoneAwaited, OneAwaited, AwaitsUntil, Submits, Sends, Serves, Refuses, Concludes, Finishes, ended_by, most_turns, outcome_text, outcome_status, WritesOutcome}
+use Rattle.ocactl_cli.specs.Exchanges.{SessionState, FirstIsOpen, TakesOne, Idles, NothingDone, OneTurned, OnePrinted, AwaitsFirst, Awaits, NoneAwaited, OneAwaited, AwaitsUntil, Submits, Refuses, Concludes, Finishes, ended_by, most_turns, outcome_text, outcome_status, WritesOutcome}
 use Rattle.ocactl_cli.specs.PrivateExchanges.{GoesOn, AwaitsAndPrints, IdlesAndPrints, SendsAndPrints, ServesAndPrints, Submitted, is_write_failure}
 
 -- ---- printing, unless a write has failed
@@ -159,10 +159,11 @@ idles-more r s t v z a b c o h first k =
 -- ---- a line
 
 pub sends-one : (request : RequestFields) (answer : Result Handle ControlFault) (h : Handle) (left : ℕ) (w v : Result Unit WriteFailed) (old s new : SessionState) (a b : Output)
-    → answer ≡ Ok h → Submitted request answer old s → left < s.ahead → AwaitsAndPrints left w s new v a b → SendsAndPrints request w old new v a b
-sends-one request answer h left w v old s new a b is submits less k =
+    → answer ≡ Ok h → Submitted request answer old s → left ≡ s.ahead - 1 → AwaitsAndPrints left w s new v a b → SendsAndPrints request w old new v a b
+sends-one request answer h left w v old s new a b is submits same k =
     let one : Submits request h old s = subst (λ (z : Result Handle ControlFault). Submitted request z old s) is submits in
-    record { returned = Ok h; text = k.text; sends = (s, left, one, subst (λ (n : ℕ). left < n) one.ahead less, k.awaits); prints = k.prints }
+    let all_but_one : left ≡ old.ahead - 1 = same ∙ ap (λ (n : ℕ). n - 1) one.ahead in
+    record { returned = Ok h; text = k.text; sends = (s, one, subst (λ (n : ℕ). AwaitsUntil n s new k.text) all_but_one k.awaits); prints = k.prints }
 
 pub sends-none : (request : RequestFields) (answer : Result Handle ControlFault) (fault : ControlFault) (o : Outcome) (w v z : Result Unit WriteFailed) (old s t new : SessionState) (a b c : Output)
     → answer ≡ Err fault → Submitted request answer old s → AwaitsAndPrints 0 w s t v a b → new ≡ record t { unanswered = true } → o ≡ refused_by fault → GoesOn v z b c (outcome_text o)

@@ -1,10 +1,10 @@
 -- Facts on how many fields a text has.
-use Rattle.std.proofs.Common.{◌≡◌, ℕ, List, [], ◌∷◌, ◌++◌, Option, Some, None, refl, sym, ap, ◌∙◌, ◌==◌, Bool, true, false, cond}
+use Rattle.std.proofs.Common.{◌≡◌, ℕ, List, [], ◌∷◌, Option, Some, None, refl, sym, ap, ◌∙◌, ◌==◌, true, false, cond}
 use Rattle.oca_script.specs.Fields.{fields, fields_after, onto_first}
 use Rattle.std.specs.Prelude.{Err, codes}
 use Rattle.std.specs.Str.{bytes_eq}
 use Rattle.oca_script.specs.declared.fault.LineFault.TheVariants as fault
-use Rattle.ocactl_cli.specs.Requests.{is_wait, one_text, two_texts, CommandTexts, command_texts, due_of}
+use Rattle.ocactl_cli.specs.Requests.{is_wait, one_text, two_texts, command_texts, due_of}
 
 -- there is at least one field
 pub record AtLeastOne (fs : List (List ℕ)) : Type 0 where

@@ -3,4 +3,4 @@ pub mod ServeLemmas
 pub mod ExchangeLemmas
 mod TurnLemmas
 mod HandLemmas
-mod OwnLemmas
+mod TreeLemmas

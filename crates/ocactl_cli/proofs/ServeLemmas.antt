@@ -1,6 +1,5 @@
 -- What serving a call does to a link, and prints.
-use Rattle.std.proofs.Common.{◌≡◌, ℕ, List, [], ◌++◌, Option, Some, None, Result, Ok, Err, refl, sym, ap, ◌∙◌, subst}
-use Rattle.std.specs.Option.{option_map}
+use Rattle.std.proofs.Common.{◌≡◌, ℕ, List, Option, Result, refl, ap, ◌∙◌}
 use Rattle.oca_types.specs.declared.words.Handle.{Handle}
 use Rattle.oca_types.specs.declared.words.Peer.{Peer}
 use Rattle.oca_script.specs.declared.fault.WriteFailed.{WriteFailed}
@@ -13,9 +12,9 @@ use Rattle.oca_control.specs.Answers.{AnswerFields}
 use Rattle.oca_control.specs.Links.{LinkState, Request, submission, submitted, decision, due_answer, due_bytes, gone_on, taken}
 use Rattle.oca_control.specs.Untaken.{answer_under}
 use Rattle.oca_control.specs.Steps.{ReceivesDatagram}
-use Rattle.ocactl_cli.specs.Requests.{LinkCall, Submit, Due as GivesOut, Datagram, Take}
+use Rattle.ocactl_cli.specs.Requests.{Submit, Due as GivesOut, Datagram, Take}
 use Rattle.ocactl_cli.specs.Printing.{submission_text, due_text, reception_text, taken_text}
-use Rattle.ocactl_cli.specs.Replaying.{Serves, ServesAndPrints}
+use Rattle.ocactl_cli.specs.Replaying.{ServesAndPrints}
 
 pub submit-served : (old new : LinkState) (now : ℕ) (request : Request) (answer : Result Handle ControlFault) (r : Result Unit WriteFailed) (was is : Output)
     → answer ≡ submission request old → new ≡ submitted request now old → Prints r was is (submission_text answer) → ServesAndPrints old (Submit now request) new r was is

@@ -1,5 +1,5 @@
 -- How commands fare that are sent over a network, one or those of lines (*profile*).
-use Rattle.std.specs.Prelude.{IfSome, ◌≡◌, ℕ, ◌+◌, ◌-◌, ◌<◌, ◌≤◌, ◌==◌, Bool, ◌||◌, true, false, None, if◌then◌else◌, List, [], ◌∷◌, ◌++◌, length, codes, Result, Ok, Err}
+use Rattle.std.specs.Prelude.{IfSome, ◌≡◌, ℕ, ◌-◌, ◌<◌, ◌≤◌, ◌==◌, Bool, ◌||◌, true, false, None, if◌then◌else◌, List, [], ◌∷◌, ◌++◌, length, codes, Result, Ok, Err}
 use Rattle.oca_types.specs.declared.words.Handle.{Handle}
 use Rattle.oca_types.specs.Peers.{RequestFields}
 use Rattle.oca_net.specs.Ends.{last_u64}
@@ -116,11 +116,11 @@ pub record Submits (request : RequestFields) (handle : Handle) (old new : Sessio
 abbrev pub Refuses : RequestFields → ControlFault → SessionState → Type 0
 Refuses request fault s = Begins request (Err fault) s.link s.link s.end_state s.end_state
 
--- A command is submitted, and as many are waited for as need be, so that fewer are under way than may be. Where it is refused all
--- that are under way are waited for first.
+-- A command is submitted, and no more are waited for than need be, so that one more may be under way. Where it is refused all that are
+-- under way are waited for first, and it is told behind them.
 abbrev pub Sends : RequestFields → Result Handle ControlFault → SessionState → SessionState → List ℕ → Type 0
 Sends request (Ok handle) old new text =
-    (s : SessionState) × (left : ℕ) × Submits request handle old s × (left < old.ahead) × AwaitsUntil left s new text
+    (s : SessionState) × Submits request handle old s × AwaitsUntil (old.ahead - 1) s new text
 Sends request (Err fault) old new text =
     (s : SessionState) × (x : List ℕ) × Refuses request fault old × AwaitsUntil 0 old s x × (new ≡ record s { unanswered = true }) × (text ≡ x ++ outcome_text (refused_by fault))
 

@@ -1,255 +1,71 @@
--- What is asked of objects in words, and what answers say of them (AES70-2; the words are the profile's).
-use Rattle.std.specs.Prelude.{◌≡◌, ◌≤◌, ◌<◌, ◌+◌, ℕ, Bool, true, false, ◌==◌, ◌||◌, ◌&&◌, not, if◌then◌else◌, List, [], ◌∷◌, ◌++◌, length, map, codes, decimal, Option, Some, None, Result, Ok, Err}
-use Rattle.std.specs.List.{position, flat_map, fold, slice_get}
+-- What is asked of objects in words, and what is told of them (AES70-2; the words are the profile's).
+use Rattle.std.specs.Prelude.{◌≡◌, ◌⊎◌, ◌<◌, ℕ, Bool, true, false, ◌==◌, ◌||◌, if◌then◌else◌, List, [], ◌∷◌, ◌++◌, length, codes, decimal, Option, Some, None, Result, Ok, Err}
+use Rattle.std.specs.List.{position, flat_map, fold}
 use Rattle.std.specs.Str.{bytes_eq}
 use Rattle.oca_types.specs.declared.class.Class.{Class}
 use Rattle.oca_types.specs.declared.class.Class.TheVariants as class
-use Rattle.oca_types.specs.declared.class.Method.{Method}
-use Rattle.oca_types.specs.declared.class.MethodKind.TheVariants.{Known}
-use Rattle.oca_types.specs.Methods.{method_kind, access}
-use Rattle.std.specs.Int.{w16}
 use Rattle.oca_types.specs.declared.words.Handle.{Handle}
-use Rattle.oca_types.specs.Numbers.{unsigned_encoding}
 use Rattle.oca_script.specs.Escapes.{escaped}
-use Rattle.oca_types.specs.Reading.{text_at}
-use Rattle.oca_types.specs.Peers.{RequestFields}
-use Rattle.oca_model.specs.Parameters.{whole}
-use Rattle.oca_net.specs.EndStates.{EndState}
 use Rattle.oca_script.specs.Fields.{number_of}
 use Rattle.oca_script.specs.Ends.{Output}
-use Rattle.oca_script.specs.Printing.{PrintsAll}
+use Rattle.oca_script.specs.Printing.{WritesWhole}
+use Rattle.oca_program.specs.declared.fault.Failure.{Failure}
+use Rattle.oca_program.specs.declared.fault.RunFault.TheVariants as runs
 use Rattle.oca_control.specs.declared.fault.ControlFault.{ControlFault}
 use Rattle.oca_control.specs.declared.fault.ControlFault.TheVariants as faults
 use Rattle.oca_control.specs.declared.outcome.Outcome.{Outcome}
-use Rattle.oca_control.specs.declared.outcome.Outcome.TheVariants as outcomes
-use Rattle.oca_control.specs.declared.report.DriveReport.{DriveReport}
-use Rattle.oca_control.specs.Links.{LinkState}
-use Rattle.oca_control.specs.Turning.{Turns}
-use Rattle.oca_control.specs.Asking.{Begins, Waits}
+use Rattle.oca_model.specs.declared.request.Request.TheVariants as requests
 use Rattle.oca_model.specs.declared.value.Value.{Value}
 use Rattle.oca_model.specs.declared.value.Value.TheVariants as values
-use Rattle.oca_model.specs.Values.{get_method, set_method, class_of_value, value_encoding}
-use Rattle.oca_model.specs.Readings.{value_read}
 use Rattle.oca_model.specs.Words.{IsRead, word_of}
-use Rattle.oca_model.specs.Members.{class_id_in, class_with, members_in}
-use Rattle.oca_model.specs.Answers.{names_in}
 use Rattle.oca_model.specs.Statuses.{status_name_of}
-use Rattle.ocactl_cli.specs.declared.talk.Trouble.{Trouble}
-use Rattle.ocactl_cli.specs.declared.talk.Trouble.TheVariants as trouble
+use Rattle.oca_panel.specs.declared.trouble.Trouble.{Trouble}
+use Rattle.oca_panel.specs.declared.trouble.Trouble.TheVariants as trouble
+use Rattle.oca_panel.specs.Panels.{PanelState, EndsIn}
+use Rattle.oca_panel.specs.Outcomes.{done_answered, names_answered, text_answered}
+use Rattle.oca_panel.specs.Objects.{AsksClass, BeginsSetting, GetsValue, Reads, SetsValue}
 use Rattle.ocactl_cli.specs.declared.tasks.Task.{Task}
 use Rattle.ocactl_cli.specs.declared.tasks.Task.TheVariants as task
 use Rattle.ocactl_cli.specs.declared.told.Told.{Told}
-use Rattle.ocactl_cli.specs.declared.told.Told.TheVariants as told
-
--- ---- what an answer says
-
-abbrev pub on_ok : {A B : Type 0} → (A → B) → Result A Trouble → Result B Trouble
-on_ok f (Ok x) = Ok (f x)
-on_ok f (Err t) = Err t
-
--- the parameters of an answer with status OK, or why there are none
-abbrev pub said : Outcome → Result (List ℕ) Trouble
-said (outcomes.Answered a) = if a.status == 0 then Ok a.params.items else Err (trouble.Refused a.status)
-said (outcomes.Refused fault) = Err (trouble.NotSubmitted fault)
-said outcomes.Lost = Err trouble.Lost
-said outcomes.Unanswered = Err trouble.Unanswered
-
--- what is read, or that the answer is none to the command
-abbrev pub readable : {A : Type 0} → Option A → Result A Trouble
-readable None = Err trouble.Unreadable
-readable (Some x) = Ok x
-
-abbrev pub read_from : {A : Type 0} → (List ℕ → Option A) → Result (List ℕ) Trouble → Result A Trouble
-read_from read (Ok params) = readable (read params)
-read_from read (Err t) = Err t
-
--- the command was carried out
-abbrev pub carried_out : Result (List ℕ) Trouble → Result Unit Trouble
-carried_out (Ok params) = Ok tt
-carried_out (Err t) = Err t
-
-abbrev pub fields_said : Outcome → Result (List ℕ) Trouble
-fields_said outcome = read_from class_id_in (said outcome)
-
--- a class that has values here, or OcaBlock
-abbrev pub known_class : Option Class → Result Class Trouble
-known_class None = Err trouble.NoValue
-known_class (Some c) = Ok c
-
-abbrev pub class_of_said : Result (List ℕ) Trouble → Result Class Trouble
-class_of_said (Ok fields) = known_class (class_with fields)
-class_of_said (Err t) = Err t
-
-abbrev pub class_said : Outcome → Result Class Trouble
-class_said outcome = class_of_said (fields_said outcome)
-
-abbrev pub value_said : Class → Outcome → Result Value Trouble
-value_said of outcome = read_from (value_read of) (said outcome)
-
-abbrev pub text_said : Outcome → Result (List ℕ) Trouble
-text_said outcome = read_from (λ params. whole (text_at params)) (said outcome)
-
-abbrev pub members_said : Outcome → Result (List ℕ) Trouble
-members_said outcome = read_from members_in (said outcome)
-
--- ---- what is asked
-
--- A link, what the end that it is driven over says of itself, how many turns a command waits, and whether one that was
--- waited for got no answer.
-pub record TalkState : Type 0 where
-  pub link : LinkState
-  pub end_state : EndState
-  pub turns : ℕ
-  pub unanswered : Bool
-
--- no answer came
-abbrev pub came_to_nothing : Outcome → Bool
-came_to_nothing (outcomes.Answered a) = false
-came_to_nothing (outcomes.Refused fault) = false
-came_to_nothing outcomes.Lost = true
-came_to_nothing outcomes.Unanswered = true
-
--- The request was begun: it got its handle and what was due was given out, or it was refused, which changes nothing.
-pub record BeginsIn (request : RequestFields) (returned : Result Handle ControlFault) (old new : TalkState) : Type 0 where
-  pub begins : Begins request returned old.link new.link old.end_state new.end_state
-  pub turns : new.turns ≡ old.turns
-  pub unanswered : new.unanswered ≡ old.unanswered
-
--- The answer under this handle was waited for.
-pub record FinishesIn (handle : ℕ) (old new : TalkState) (outcome : Outcome) : Type 0 where
-  pub waits : Waits handle old.turns old.link outcome new.link old.end_state new.end_state
-  pub turns : new.turns ≡ old.turns
-  pub unanswered : new.unanswered ≡ (old.unanswered || came_to_nothing outcome)
-
--- The link took a turn; and whether it may go on: it was a turn, and the link was found neither lost nor late.
-pub record TurnsOnce (old new : TalkState) (further : Bool) : Type 0 where
-  pub report : DriveReport
-  pub takes : Turns old.link new.link old.end_state new.end_state report
-  pub goes_on : further ≡ (report.turns == 1 && not report.lost)
-  pub turns : new.turns ≡ old.turns
-  pub unanswered : new.unanswered ≡ old.unanswered
-
--- How a command fared for which submit was called: it was waited for, or the link refused it, so that it was never sent.
-abbrev pub EndsIn : Result Handle ControlFault → TalkState → TalkState → Outcome → Type 0
-EndsIn (Ok handle) old new outcome = FinishesIn handle.0 old new outcome
-EndsIn (Err fault) old new outcome = (outcome ≡ outcomes.Refused fault) × (new ≡ old)
-
--- The request was asked, and came out so: submit was called for it, and then it was waited for, unless it was refused.
-pub record AsksIn (request : RequestFields) (old new : TalkState) (outcome : Outcome) : Type 0 where
-  pub returned : Result Handle ControlFault
-  pub between : TalkState
-  pub begins : BeginsIn request returned old between
-  pub ends : EndsIn returned between new outcome
-
--- a call of an object's method, without parameters
-abbrev pub call : ℕ → ℕ → ℕ → RequestFields
-call target level index = record { target = target; level = level; index = index; count = 0; params = [] }
-
--- LockTotal and Unlock of every object
-abbrev pub lock_total : ℕ → RequestFields
-lock_total target = call target 1 3
-
-abbrev pub unlocking : ℕ → RequestFields
-unlocking target = call target 1 4
-
--- GetClassIdentification of every object
-abbrev pub get_class : ℕ → RequestFields
-get_class target = call target 1 1
-
--- GetPositionNames of a switch
-abbrev pub get_names : ℕ → RequestFields
-get_names target = call target 4 5
-
--- The request calls this method of the class, with so many parameters in these bytes.
-pub record Calls (target : ℕ) (of : Class) (called : Method) (number : ℕ) (bytes : List ℕ) (request : RequestFields) : Type 0 where
-  pub object : request.target ≡ target
-  pub method : method_kind of (record { level = request.level; index = request.index }) ≡ Known called (access called)
-  pub count : request.count ≡ number
-  pub params : request.params ≡ bytes
-
--- THE CLASS of an object was asked, and this is what was said.
-abbrev pub AsksClass : ℕ → TalkState → TalkState → Result Class Trouble → Type 0
-AsksClass target old new result = (o : Outcome) × AsksIn (get_class target) old new o × (result ≡ class_said o)
-
--- a request was asked whose answer gives a value of this class
-abbrev pub ReadsWith : RequestFields → Class → TalkState → TalkState → Result Value Trouble → Type 0
-ReadsWith request of old new result = (o : Outcome) × AsksIn request old new o × (result ≡ value_said of o)
-
--- A VALUE was read by the class's get method, where it has one.
-abbrev pub ReadsBy : ℕ → Class → Option Method → TalkState → TalkState → Result Value Trouble → Type 0
-ReadsBy target of None old new result = (new ≡ old) × (result ≡ Err trouble.NoValue)
-ReadsBy target of (Some method) old new result =
-    (request : RequestFields) × Calls target of method 0 [] request × ReadsWith request of old new result
-
-abbrev pub ReadsFor : ℕ → Result Class Trouble → TalkState → TalkState → Result Value Trouble → Type 0
-ReadsFor target (Ok of) old new result = ReadsBy target of (get_method of) old new result
-ReadsFor target (Err t) old new result = (new ≡ old) × (result ≡ Err t)
-
--- The class was asked first, and then the value.
-abbrev pub ReadsValue : ℕ → TalkState → TalkState → Result Value Trouble → Type 0
-ReadsValue target old new result = (s : TalkState) × (of : Result Class Trouble) × AsksClass target old s of × ReadsFor target of s new result
+use Rattle.ocactl_cli.specs.declared.told.Told.TheVariants as tells
 
 -- ---- a word for a value
 
-abbrev pub found_position : Option ℕ → Result ℕ Trouble
+abbrev pub found_position : Option ℕ → Result Value Trouble
 found_position None = Err trouble.NoSuchWord
-found_position (Some n) = Ok n
+found_position (Some n) = Ok (values.Switch n)
 
 -- the first position whose name is printed so
-abbrev pub position_of : List ℕ → Result (List (List ℕ)) Trouble → Result ℕ Trouble
+abbrev pub position_of : List ℕ → Result (List (List ℕ)) Trouble → Result Value Trouble
 position_of word (Ok names) = found_position (position (λ name. bytes_eq (escaped name) word) names)
 position_of word (Err t) = Err t
 
-abbrev pub position_said : List ℕ → Outcome → Result ℕ Trouble
-position_said word outcome = position_of word (read_from names_in (said outcome))
-
-abbrev pub at_position : Result ℕ Trouble → Result Value Trouble
-at_position (Ok n) = Ok (values.Switch n)
-at_position (Err t) = Err t
-
-abbrev pub FindsPosition : ℕ → List ℕ → TalkState → TalkState → Result Value Trouble → Type 0
-FindsPosition target word old new result = (o : Outcome) × AsksIn (get_names target) old new o × (result ≡ at_position (position_said word o))
+abbrev pub FindsPosition : ℕ → List ℕ → PanelState → PanelState → Result Value Trouble → Type 0
+FindsPosition target word old new result =
+    (names : Result (List (List ℕ)) Trouble) × Reads target class.Switch requests.GetPositionNames names_answered old new names × (result ≡ position_of word names)
 
 -- A word that is none of the class's: of a switch it may be the name of a position, by GetPositionNames.
-abbrev pub FindsName : ℕ → List ℕ → Class → TalkState → TalkState → Result Value Trouble → Type 0
+abbrev pub FindsName : ℕ → List ℕ → Class → PanelState → PanelState → Result Value Trouble → Type 0
 FindsName target word class.Block old new result = (new ≡ old) × (result ≡ Err trouble.NoValue)
 FindsName target word class.Switch old new result = FindsPosition target word old new result
 FindsName target word _ old new result = (new ≡ old) × (result ≡ Err trouble.NoSuchWord)
 
 -- what a word of the class stands for, where it is one
-abbrev pub FindsBy : ℕ → List ℕ → Class → Option Value → TalkState → TalkState → Result Value Trouble → Type 0
+abbrev pub FindsBy : ℕ → List ℕ → Class → Option Value → PanelState → PanelState → Result Value Trouble → Type 0
 FindsBy target word of None old new result = FindsName target word of old new result
 FindsBy target word of (Some v) old new result = (new ≡ old) × (result ≡ Ok v)
 
-abbrev pub FindsOf : ℕ → List ℕ → Class → TalkState → TalkState → Result Value Trouble → Type 0
+abbrev pub FindsOf : ℕ → List ℕ → Class → PanelState → PanelState → Result Value Trouble → Type 0
 FindsOf target word of old new result = (found : Option Value) × IsRead of word found × FindsBy target word of found old new result
 
-abbrev pub FindsFor : ℕ → List ℕ → Result Class Trouble → TalkState → TalkState → Result Value Trouble → Type 0
+abbrev pub FindsFor : ℕ → List ℕ → Result Class Trouble → PanelState → PanelState → Result Value Trouble → Type 0
 FindsFor target word (Ok of) old new result = FindsOf target word of old new result
 FindsFor target word (Err t) old new result = (new ≡ old) × (result ≡ Err t)
 
 -- THE VALUE THAT A WORD NAMES of an object: its class was asked first, and of a switch maybe the names of its positions.
-abbrev pub FindsValue : ℕ → List ℕ → TalkState → TalkState → Result Value Trouble → Type 0
-FindsValue target word old new result = (s : TalkState) × (of : Result Class Trouble) × AsksClass target old s of × FindsFor target word of s new result
-
--- ---- what is done
-
--- AN OBJECT WAS SET to a value, by the set method of the value's class, or it was not.
-pub record SetsValue (target : ℕ) (value : Value) (old new : TalkState) (result : Result Unit Trouble) : Type 0 where
-  pub request : RequestFields
-  pub outcome : Outcome
-  pub calls : Calls target (class_of_value value) (set_method value) 1 (value_encoding value) request
-  pub asks : AsksIn request old new outcome
-  pub done : result ≡ carried_out (said outcome)
-
--- A method without parameters was called.
-abbrev pub DoesCall : RequestFields → TalkState → TalkState → Result Unit Trouble → Type 0
-DoesCall request old new result = (o : Outcome) × AsksIn request old new o × (result ≡ carried_out (said o))
-
--- The name of a position of a switch was asked: GetPositionName, with the position as its parameter.
-abbrev pub AsksName : ℕ → ℕ → TalkState → TalkState → Result (List ℕ) Trouble → Type 0
-AsksName target n old new result =
-    (o : Outcome) × AsksIn (record { target = target; level = 4; index = 3; count = 1; params = unsigned_encoding w16 n }) old new o × (result ≡ text_said o)
+abbrev pub FindsValue : ℕ → List ℕ → PanelState → PanelState → Result Value Trouble → Type 0
+FindsValue target word old new result =
+    (s : PanelState) × (of : Result Class Trouble) × AsksClass target old s of × FindsFor target word of s new result
 
 -- ---- lines
 
@@ -274,20 +90,17 @@ trouble_text (trouble.NotSubmitted fault) = refused_text fault
 trouble_text trouble.Lost = codes "lost"
 trouble_text trouble.Unanswered = codes "no answer"
 
+-- what is told of an object: a value by its word, the name of a position behind it as a text is printed
 abbrev pub told_text : Told → List ℕ
-told_text (told.Word word) = word.now
-told_text (told.Named word name) = word.now ++ codes " " ++ escaped name.now
-told_text (told.Hindered why) = trouble_text why
+told_text (tells.Value value) = word_of value
+told_text (tells.Position n name) = word_of (values.Switch n) ++ codes " " ++ escaped name
+told_text tells.Locked = codes "locked"
+told_text tells.Unlocked = codes "unlocked"
+told_text (tells.Hindered why) = trouble_text why
 
 -- the line of an object
 abbrev pub line_of : ℕ → Told → List ℕ
 line_of ono told = decimal ono ++ codes " " ++ told_text told ++ codes "\n"
-
--- a word of a line has at most 64 bytes
-abbrev pub ToldWithin : Told → Type 0
-ToldWithin (told.Word word) = length word.now ≤ 64
-ToldWithin (told.Named word name) = (length word.now ≤ 64) × (length name.now ≤ 64)
-ToldWithin (told.Hindered why) = Unit {0}
 
 -- the fields of a class's identifier
 abbrev pub dotted : List ℕ → List ℕ
@@ -313,6 +126,13 @@ trouble_status (trouble.NotSubmitted fault) = 3
 trouble_status trouble.Lost = 3
 trouble_status trouble.Unanswered = 3
 
+abbrev pub told_status : Told → ℕ
+told_status (tells.Value value) = 0
+told_status (tells.Position n name) = 0
+told_status tells.Locked = 0
+told_status tells.Unlocked = 0
+told_status (tells.Hindered why) = trouble_status why
+
 -- of two statuses: 3 before 2 before 4 before 0
 abbrev pub graver_of : ℕ → ℕ → ℕ
 graver_of a b =
@@ -323,37 +143,34 @@ graver_of a b =
 
 -- ---- several objects
 
--- what is told of an object: its word, or why it is not as it was asked for
-abbrev pub fared_text : Result (List ℕ) Trouble → List ℕ
-fared_text (Ok word) = word
-fared_text (Err why) = trouble_text why
+-- the line of an object of which this is told
+abbrev pub fared_line : ℕ × Told → List ℕ
+fared_line fared = line_of fared.0 fared.1
 
-abbrev pub fared_line : ℕ × Result (List ℕ) Trouble → List ℕ
-fared_line fared = decimal fared.0 ++ codes " " ++ fared_text fared.1 ++ codes "\n"
-
-abbrev pub fared_status : Result (List ℕ) Trouble → ℕ
-fared_status (Ok word) = 0
-fared_status (Err why) = trouble_status why
-
--- the lines of several, and the gravest of their exit statuses
-abbrev pub fared_lines : List (ℕ × Result (List ℕ) Trouble) → List ℕ
+abbrev pub fared_lines : List (ℕ × Told) → List ℕ
 fared_lines fared = flat_map fared_line fared
 
-abbrev pub gravest : List (ℕ × Result (List ℕ) Trouble) → ℕ
-gravest fared = fold (λ worst one. graver_of worst (fared_status one.1)) 0 fared
+abbrev pub gravest : List (ℕ × Told) → ℕ
+gravest fared = fold (λ worst one. graver_of worst (told_status one.1)) 0 fared
+
+-- that it was done is told so, else why it was not
+abbrev pub told_done : Told → Result Unit Trouble → Told
+told_done told (Ok u) = told
+told_done told (Err why) = tells.Hindered why
 
 -- The values that words name were found, one after another: those that there are, in order, and the objects for which there is none, and
 -- why.
-pub data FindsAll : List (ℕ × List ℕ) → List (ℕ × Value) → (missed : List (ℕ × Result (List ℕ) Trouble)) → (old new : TalkState) → Type 0 where
-  NoneSought : {s : TalkState} → FindsAll [] [] [] s s
-  OneFound : {pairs : List (ℕ × List ℕ)} {wishes : List (ℕ × Value)} {missed : List (ℕ × Result (List ℕ) Trouble)} {r s t : TalkState}
+pub data FindsAll : List (ℕ × List ℕ) → List (ℕ × Value) → (missed : List (ℕ × Told)) → (old new : PanelState) → Type 0 where
+  NoneSought : {s : PanelState} → FindsAll [] [] [] s s
+  OneFound : {pairs : List (ℕ × List ℕ)} {wishes : List (ℕ × Value)} {missed : List (ℕ × Told)} {r s t : PanelState}
       (target : ℕ) (word : List ℕ) (value : Value)
       → FindsAll pairs wishes missed r s → FindsValue target word s t (Ok value) → FindsAll (pairs ++ (target, word) ∷ []) (wishes ++ (target, value) ∷ []) missed r t
-  OneMissed : {pairs : List (ℕ × List ℕ)} {wishes : List (ℕ × Value)} {missed : List (ℕ × Result (List ℕ) Trouble)} {r s t : TalkState}
+  OneMissed : {pairs : List (ℕ × List ℕ)} {wishes : List (ℕ × Value)} {missed : List (ℕ × Told)} {r s t : PanelState}
       (target : ℕ) (word : List ℕ) (why : Trouble)
-      → FindsAll pairs wishes missed r s → FindsValue target word s t (Err why) → FindsAll (pairs ++ (target, word) ∷ []) wishes (missed ++ (target, Err why) ∷ []) r t
+      → FindsAll pairs wishes missed r s → FindsValue target word s t (Err why)
+      → FindsAll (pairs ++ (target, word) ∷ []) wishes (missed ++ (target, tells.Hindered why) ∷ []) r t
 
--- A set command for which `submit` was called: its object, the value, and its handle, or why the link refused it.
+-- A set command that was to be submitted: its object, the value, and its handle, or why the link refused it.
 pub record SetCommand : Type 0 where
   pub target : ℕ
   pub value : Value
@@ -363,94 +180,132 @@ abbrev pub wish_in : SetCommand → ℕ × Value
 wish_in command = (command.target, command.value)
 
 -- It was submitted, as the set method of the value's class.
-pub record BeginsSet (command : SetCommand) (old new : TalkState) : Type 0 where
-  pub request : RequestFields
-  pub calls : Calls command.target (class_of_value command.value) (set_method command.value) 1 (value_encoding command.value) request
-  pub begins : BeginsIn request command.returned old new
+abbrev pub BeginsSet : SetCommand → PanelState → PanelState → Type 0
+BeginsSet command old new = BeginsSetting command.target command.value command.returned old new
 
 -- what is told of it, by its outcome
-abbrev pub fared_by : SetCommand → Outcome → ℕ × Result (List ℕ) Trouble
-fared_by command outcome = (command.target, on_ok (λ done. word_of command.value) (carried_out (said outcome)))
+abbrev pub fared_by : SetCommand → Outcome → ℕ × Told
+fared_by command outcome = (command.target, told_done (tells.Value command.value) (done_answered outcome))
 
--- SET COMMANDS WERE SUBMITTED, one after another, and those that were waited for so far fared so: in the same order, each by its own
--- handle. Never were more than `ahead` submitted that had not been waited for.
-pub data SetsUpTo (ahead : ℕ) : (begun : List SetCommand) (fared : List (ℕ × Result (List ℕ) Trouble)) (old new : TalkState) → Type 0 where
-  NoneBegun : {s : TalkState} → SetsUpTo ahead [] [] s s
-  OneBegun : {begun : List SetCommand} {fared : List (ℕ × Result (List ℕ) Trouble)} {r s t : TalkState} (command : SetCommand)
-      → SetsUpTo ahead begun fared r s → length begun < length fared + ahead → BeginsSet command s t → SetsUpTo ahead (begun ++ command ∷ []) fared r t
-  OneFared : {begun : List SetCommand} {fared : List (ℕ × Result (List ℕ) Trouble)} {r s t : TalkState} (command : SetCommand) (outcome : Outcome)
-      → SetsUpTo ahead begun fared r s → slice_get begun (length fared) ≡ Some command → EndsIn command.returned s t outcome
-      → SetsUpTo ahead begun (fared ++ fared_by command outcome ∷ []) r t
+-- the link refused it
+abbrev pub is_refused : Result Handle ControlFault → Bool
+is_refused (Ok handle) = false
+is_refused (Err fault) = true
+
+-- the link refused the last of these
+abbrev pub last_refused : List SetCommand → Bool
+last_refused commands = fold (λ before command. is_refused command.returned) false commands
+
+-- A command is waited for where as many are in flight as may be, where all are submitted, or where the last one was refused.
+abbrev pub IsAwaited : ℕ → (wishes begun : List (ℕ × Value)) → List SetCommand → Type 0
+IsAwaited ahead wishes begun waiting = (length waiting ≡ ahead) ⊎ (begun ≡ wishes) ⊎ (last_refused waiting ≡ true)
+
+-- SET COMMANDS WERE SUBMITTED for these wishes, one after another: for those that were begun. Some of them are in flight, and the others
+-- were waited for and fared so: in the same order, each by its own handle. Never are more than `ahead` in flight, and none is waited for
+-- earlier than need be; behind one that was refused none is submitted before it was told.
+pub data SetsUpTo (ahead : ℕ) (wishes : List (ℕ × Value)) : (begun : List (ℕ × Value)) (waiting : List SetCommand) (fared : List (ℕ × Told)) (old new : PanelState) → Type 0 where
+  NoneBegun : {s : PanelState} → SetsUpTo ahead wishes [] [] [] s s
+  OneBegun : {begun : List (ℕ × Value)} {waiting : List SetCommand} {fared : List (ℕ × Told)} {r s t : PanelState} (command : SetCommand)
+      → SetsUpTo ahead wishes begun waiting fared r s → length waiting < ahead → last_refused waiting ≡ false → BeginsSet command s t
+      → SetsUpTo ahead wishes (begun ++ wish_in command ∷ []) (waiting ++ command ∷ []) fared r t
+  OneFared : {begun : List (ℕ × Value)} {waiting : List SetCommand} {fared : List (ℕ × Told)} {r s t : PanelState} (command : SetCommand) (outcome : Outcome)
+      → SetsUpTo ahead wishes begun (command ∷ waiting) fared r s → IsAwaited ahead wishes begun (command ∷ waiting) → EndsIn command.returned s t outcome
+      → SetsUpTo ahead wishes begun waiting (fared ++ fared_by command outcome ∷ []) r t
 
 -- Objects were set to values, one after another in this order, and fared so.
-pub data SetsInTurn : List (ℕ × Value) → (fared : List (ℕ × Result (List ℕ) Trouble)) → (old new : TalkState) → Type 0 where
-  NoneSet : {s : TalkState} → SetsInTurn [] [] s s
-  OneSet : {wishes : List (ℕ × Value)} {fared : List (ℕ × Result (List ℕ) Trouble)} {r s t : TalkState} (target : ℕ) (value : Value) (result : Result Unit Trouble)
+pub data SetsInTurn : List (ℕ × Value) → (fared : List (ℕ × Told)) → (old new : PanelState) → Type 0 where
+  NoneSet : {s : PanelState} → SetsInTurn [] [] s s
+  OneSet : {wishes : List (ℕ × Value)} {fared : List (ℕ × Told)} {r s t : PanelState} (target : ℕ) (value : Value) (result : Result Unit Trouble)
       → SetsInTurn wishes fared r s → SetsValue target value s t result
-      → SetsInTurn (wishes ++ (target, value) ∷ []) (fared ++ (target, on_ok (λ done. word_of value) result) ∷ []) r t
+      → SetsInTurn (wishes ++ (target, value) ∷ []) (fared ++ (target, told_done (tells.Value value) result) ∷ []) r t
 
 -- Each of these wishes was submitted, in this order, and each was waited for. One at a time: each was asked, and waited for before the next.
-pub record SetsEach (ahead : ℕ) (wishes : List (ℕ × Value)) (fared : List (ℕ × Result (List ℕ) Trouble)) (old new : TalkState) : Type 0 where
-  pub begun : List SetCommand
-  pub sets : SetsUpTo ahead begun fared old new
-  pub every : map wish_in begun ≡ wishes
-  pub none_left : length fared ≡ length begun
+pub record SetsEach (ahead : ℕ) (wishes : List (ℕ × Value)) (fared : List (ℕ × Told)) (old new : PanelState) : Type 0 where
+  pub sets : SetsUpTo ahead wishes wishes [] fared old new
   pub one_at_a_time : ahead ≡ 1 → SetsInTurn wishes fared old new
 
 -- where there is a value for each, they are set; else nothing is, and it is told of which there is none
-abbrev pub SetsWhere : ℕ → List (ℕ × Value) → (missed fared : List (ℕ × Result (List ℕ) Trouble)) → TalkState → TalkState → Type 0
+abbrev pub SetsWhere : ℕ → List (ℕ × Value) → (missed fared : List (ℕ × Told)) → PanelState → PanelState → Type 0
 SetsWhere ahead wishes [] fared old new = SetsEach ahead wishes fared old new
 SetsWhere ahead wishes (m ∷ missed) fared old new = (fared ≡ m ∷ missed) × (new ≡ old)
 
--- ALL OBJECTS WERE SET to what words name, up to `ahead` commands at once, or none: all values were found first, which sets nothing. The
--- line of each that fared in some way was printed, in the order of the words, and the exit status is the gravest.
-pub record SetsAll (ahead : ℕ) (pairs : List (ℕ × List ℕ)) (old new : TalkState) (status : ℕ) (was is : Output) : Type 0 where
+-- ALL OBJECTS WERE SET to what words name, `ahead` commands at once, or none: all values were found first, which sets nothing. The
+-- line of each that fared in some way was written, in the order of the words, and the exit status is the gravest.
+pub record SetsAll (ahead : ℕ) (pairs : List (ℕ × List ℕ)) (old new : PanelState) (status : ℕ) (was is : Output) : Type 0 where
   pub wishes : List (ℕ × Value)
-  pub missed : List (ℕ × Result (List ℕ) Trouble)
-  pub fared : List (ℕ × Result (List ℕ) Trouble)
-  pub between : TalkState
+  pub missed : List (ℕ × Told)
+  pub fared : List (ℕ × Told)
+  pub between : PanelState
   pub finds : FindsAll pairs wishes missed old between
   pub sets : SetsWhere ahead wishes missed fared between new
   pub worst : status ≡ gravest fared
-  pub prints : PrintsAll was is (fared_lines fared)
+  pub writes : WritesWhole was is (fared_lines fared)
+
+-- the values of the first of these objects were sought, and nothing else was asked
+pub record OnlyFinds (pairs : List (ℕ × List ℕ)) (old new : PanelState) : Type 0 where
+  pub front : List (ℕ × List ℕ)
+  pub rest : List (ℕ × List ℕ)
+  pub wishes : List (ℕ × Value)
+  pub missed : List (ℕ × Told)
+  pub whole : pairs ≡ front ++ rest
+  pub finds : FindsAll front wishes missed old new
+
+-- a value was found for each of these objects
+pub record FindsForEach (pairs : List (ℕ × List ℕ)) (old : PanelState) : Type 0 where
+  pub wishes : List (ℕ × Value)
+  pub between : PanelState
+  pub finds : FindsAll pairs wishes [] old between
+
+-- NOTHING WAS SET WHERE A VALUE IS MISSING, also where setting was given up.
+abbrev pub SetsNoneUnfound : List (ℕ × List ℕ) → PanelState → PanelState → Type 0
+SetsNoneUnfound pairs old new = OnlyFinds pairs old new ⊎ FindsForEach pairs old
+
+-- It was given up since the sink failed, or memory was refused.
+abbrev pub GivesUp : Failure → Output → Type 0
+GivesUp failure is = ((failure.fault ≡ runs.Write) × (is.failed ≡ true)) ⊎ (failure.fault ≡ runs.NoMemory)
 
 -- ---- objects that are read or locked
 
 -- Of an object it is told that it is locked, or that it is not any more, or why not: by LockTotal or Unlock.
-abbrev pub Locks : Bool → ℕ → TalkState → TalkState → Result (List ℕ) Trouble → Type 0
-Locks true target old new told = (done : Result Unit Trouble) × DoesCall (lock_total target) old new done × (told ≡ on_ok (λ u. codes "locked") done)
-Locks false target old new told = (done : Result Unit Trouble) × DoesCall (unlocking target) old new done × (told ≡ on_ok (λ u. codes "unlocked") done)
+abbrev pub Locks : Bool → ℕ → PanelState → PanelState → Told → Type 0
+Locks true target old new told = (done : Result Unit Trouble) × Reads target class.Block requests.LockTotal done_answered old new done × (told ≡ told_done tells.Locked done)
+Locks false target old new told = (done : Result Unit Trouble) × Reads target class.Block requests.Unlock done_answered old new done × (told ≡ told_done tells.Unlocked done)
 
--- a word, and the name behind it where there is one, as a text is printed
-abbrev pub named : List ℕ → Result (List ℕ) Trouble → List ℕ
-named word (Ok name) = word ++ codes " " ++ escaped name
-named word (Err why) = word
+-- a position, with its name where there is one
+abbrev pub named : ℕ → Result (List ℕ) Trouble → Told
+named n (Ok name) = tells.Position n name
+named n (Err why) = tells.Value (values.Switch n)
 
--- Of a value its word is told; of a switch's position its name was asked, which is told too.
-abbrev pub TellsValue : Value → ℕ → TalkState → TalkState → Result (List ℕ) Trouble → Type 0
-TellsValue (values.Switch n) target old new told = (name : Result (List ℕ) Trouble) × AsksName target n old new name × (told ≡ Ok (named (word_of (values.Switch n)) name))
-TellsValue value target old new told = (new ≡ old) × (told ≡ Ok (word_of value))
+-- Of a position of a switch its name was asked, which is told too.
+abbrev pub TellsPosition : ℕ → ℕ → PanelState → PanelState → Told → Type 0
+TellsPosition n target old new told =
+    (name : Result (List ℕ) Trouble) × Reads target class.Switch (requests.GetPositionName n) text_answered old new name × (told ≡ named n name)
 
-abbrev pub TellsRead : Result Value Trouble → ℕ → TalkState → TalkState → Result (List ℕ) Trouble → Type 0
+-- A value is told.
+abbrev pub TellsValue : Value → ℕ → PanelState → PanelState → Told → Type 0
+TellsValue (values.Switch n) target old new told = TellsPosition n target old new told
+TellsValue value target old new told = (new ≡ old) × (told ≡ tells.Value value)
+
+abbrev pub TellsRead : Result Value Trouble → ℕ → PanelState → PanelState → Told → Type 0
 TellsRead (Ok value) target old new told = TellsValue value target old new told
-TellsRead (Err why) target old new told = (new ≡ old) × (told ≡ Err why)
+TellsRead (Err why) target old new told = (new ≡ old) × (told ≡ tells.Hindered why)
 
 -- Of an object its value was read, and is told.
-abbrev pub Gets : ℕ → TalkState → TalkState → Result (List ℕ) Trouble → Type 0
-Gets target old new told = (read : Result Value Trouble) × (s : TalkState) × ReadsValue target old s read × TellsRead read target s new told
+abbrev pub Gets : ℕ → PanelState → PanelState → Told → Type 0
+Gets target old new told = (read : Result Value Trouble) × (s : PanelState) × GetsValue target old s read × TellsRead read target s new told
 
 -- One thing was asked of objects, one after another in this order, and this is told of them.
-pub data InTurn (One : ℕ → TalkState → TalkState → Result (List ℕ) Trouble → Type 0) : List ℕ → (fared : List (ℕ × Result (List ℕ) Trouble)) → (old new : TalkState) → Type 0 where
-  NoneAsked : {s : TalkState} → InTurn One [] [] s s
-  OneAsked : {targets : List ℕ} {fared : List (ℕ × Result (List ℕ) Trouble)} {r s t : TalkState} (target : ℕ) (told : Result (List ℕ) Trouble)
+pub data InTurn (One : ℕ → PanelState → PanelState → Told → Type 0) : List ℕ → (fared : List (ℕ × Told)) → (old new : PanelState) → Type 0 where
+  NoneAsked : {s : PanelState} → InTurn One [] [] s s
+  OneAsked : {targets : List ℕ} {fared : List (ℕ × Told)} {r s t : PanelState} (target : ℕ) (told : Told)
       → InTurn One targets fared r s → One target s t told → InTurn One (targets ++ target ∷ []) (fared ++ (target, told) ∷ []) r t
 
--- ALL OBJECTS WERE ASKED so: the line of each was printed, in their order, and the exit status is the gravest.
-pub record AsksAll (One : ℕ → TalkState → TalkState → Result (List ℕ) Trouble → Type 0) (targets : List ℕ) (old new : TalkState) (status : ℕ) (was is : Output) : Type 0 where
-  pub fared : List (ℕ × Result (List ℕ) Trouble)
+-- ALL OBJECTS WERE ASKED so: the line of each was written, in their order, and the exit status is the gravest.
+pub record AsksAll (One : ℕ → PanelState → PanelState → Told → Type 0) (targets : List ℕ) (old new : PanelState) (status : ℕ) (was is : Output) : Type 0 where
+  pub fared : List (ℕ × Told)
   pub turns : InTurn One targets fared old new
   pub worst : status ≡ gravest fared
-  pub prints : PrintsAll was is (fared_lines fared)
+  pub writes : WritesWhole was is (fared_lines fared)
 
 -- ---- the words of the command line
 

@@ -3,10 +3,11 @@ pub mod Printing
 pub mod Replaying
 pub mod Exchanges
 pub mod Hands
-pub mod OwnPorts
 pub mod Reasons
 pub mod PrivateRequests
 pub mod PrivateLines
 pub mod PrivateExchanges
 pub mod PrivateHands
 pub mod Words
+pub mod Trees
+pub mod PrivateTrees

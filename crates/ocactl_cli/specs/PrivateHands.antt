@@ -1,16 +1,22 @@
 -- For private contracts: objects and values as the program has them, and what is done for one of several.
-use Rattle.std.specs.Prelude.{◌≡◌, ℕ, Bool, true, false, List, [], ◌∷◌, ◌++◌, length, map, Result, Ok, Err}
+use Rattle.std.specs.Prelude.{◌≡◌, ◌⊎◌, ◌<◌, ◌≤◌, ℕ, Bool, true, false, List, [], ◌∷◌, ◌++◌, length, map, Result, Ok, Err}
 use Rattle.oca_types.specs.declared.words.Ono.{Ono}
+use Rattle.oca_script.specs.declared.fault.WriteFailed.{WriteFailed}
 use Rattle.oca_script.specs.Ends.{Output}
-use Rattle.oca_script.specs.Printing.{PrintsAll}
+use Rattle.oca_script.specs.Printing.{WritesWhole, WritesFront}
+use Rattle.oca_program.specs.declared.fault.Failure.{Failure}
+use Rattle.oca_program.specs.declared.fault.RunFault.TheVariants.{NoMemory, Write}
 use Rattle.oca_control.specs.declared.outcome.Outcome.{Outcome}
 use Rattle.oca_model.specs.declared.value.Value.{Value}
+use Rattle.oca_panel.specs.declared.trouble.Trouble.{Trouble}
+use Rattle.oca_panel.specs.Panels.{PanelState, EndsIn}
 use Rattle.ocactl_cli.specs.declared.hands.Pair.{Pair}
 use Rattle.ocactl_cli.specs.declared.hands.Search.{Search}
 use Rattle.ocactl_cli.specs.declared.setting.Wish.{Wish}
 use Rattle.ocactl_cli.specs.declared.setting.Submitted.{Submitted}
-use Rattle.ocactl_cli.specs.declared.talk.Trouble.{Trouble}
-use Rattle.ocactl_cli.specs.Hands.{TalkState, FindsValue, FindsAll, SetCommand, EndsIn, SetsUpTo, SetsEach, wish_in, fared_by, fared_status, fared_line, fared_lines, gravest, graver_of}
+use Rattle.ocactl_cli.specs.declared.told.Told.{Told}
+use Rattle.ocactl_cli.specs.declared.told.Told.TheVariants.{Hindered}
+use Rattle.ocactl_cli.specs.Hands.{FindsValue, FindsAll, OnlyFinds, GivesUp, SetCommand, SetsUpTo, SetsEach, fared_by, fared_line, fared_lines, gravest, graver_of, last_refused, line_of, told_status}
 
 abbrev pub pair_of : Pair → ℕ × List ℕ
 pair_of p = (p.ono.0, p.word)
@@ -24,71 +30,96 @@ wish_of w = (w.ono.0, w.value)
 abbrev pub command_of : Submitted → SetCommand
 command_of s = record { target = s.wish.ono.0; value = s.wish.value; returned = s.returned }
 
--- what is told of one object was printed, and this is its status
-abbrev pub TellsFared : ℕ × Result (List ℕ) Trouble → ℕ → Output → Output → Type 0
-TellsFared fared status was is = (status ≡ fared_status fared.1) × PrintsAll was is (fared_line fared)
+-- a line was written, and this is its status; or a write failed
+abbrev pub WritesLine : (status : ℕ) (line : List ℕ) → Result ℕ WriteFailed → Output → Output → Type 0
+WritesLine status line (Ok s) was is = (s ≡ status) × WritesWhole was is line
+WritesLine status line (Err e) was is = WritesFront was is line
 
--- one object was asked so, and what is told of it was printed
-pub record TellsOne (One : ℕ → TalkState → TalkState → Result (List ℕ) Trouble → Type 0) (target status : ℕ) (old new : TalkState) (was is : Output) : Type 0 where
-  pub told : Result (List ℕ) Trouble
+-- one object was asked so, and what is told of it was written, or a write failed
+pub record TellsOne (One : ℕ → PanelState → PanelState → Told → Type 0) (target : ℕ) (old new : PanelState) (result : Result ℕ WriteFailed) (was is : Output) : Type 0 where
+  pub told : Told
   pub asks : One target old new told
-  pub tells : TellsFared (target, told) status was is
+  pub writes : WritesLine (told_status told) (line_of target told) result was is
 
--- the same behind what was told before
-pub record TellsNext (fared : ℕ × Result (List ℕ) Trouble) (status now : ℕ) (was is : Output) : Type 0 where
-  pub worst : now ≡ graver_of status (fared_status fared.1)
-  pub prints : PrintsAll was is (fared_line fared)
+-- what is told of one more was written
+pub record TellsNext (fared : ℕ × Told) (status now : ℕ) (was is : Output) : Type 0 where
+  pub worst : now ≡ graver_of status (told_status fared.1)
+  pub writes : WritesWhole was is (fared_line fared)
 
 -- all that was told so far
-pub record TellsAll (fared : List (ℕ × Result (List ℕ) Trouble)) (status : ℕ) (was is : Output) : Type 0 where
+pub record TellsAll (fared : List (ℕ × Told)) (status : ℕ) (was is : Output) : Type 0 where
   pub worst : status ≡ gravest fared
-  pub prints : PrintsAll was is (fared_lines fared)
+  pub writes : WritesWhole was is (fared_lines fared)
 
 -- ---- values that are sought
 
-abbrev pub is_none : List (ℕ × Result (List ℕ) Trouble) → Bool
+abbrev pub is_none : List (ℕ × Told) → Bool
 is_none [] = true
 is_none (m ∷ missed) = false
 
-pub record FindsAllTo (pairs : List (ℕ × List ℕ)) (wishes : List Wish) (search : Search) (old new : TalkState) (was is : Output) : Type 0 where
-  pub missed : List (ℕ × Result (List ℕ) Trouble)
+pub record FindsAllTo (pairs : List (ℕ × List ℕ)) (wishes : List Wish) (search : Search) (old new : PanelState) (was is : Output) : Type 0 where
+  pub missed : List (ℕ × Told)
   pub finds : FindsAll pairs (map wish_of wishes) missed old new
   pub all : search.all ≡ is_none missed
   pub tells : TellsAll missed search.status was is
 
--- what was found is behind what was found before; what was not is told, and makes that there is not a value for each
-abbrev pub AddsFound : Result Value Trouble → ℕ → List Wish → Search → List Wish → Search → Output → Output → Type 0
-AddsFound (Ok v) target wishes search more now was is = (map wish_of more ≡ map wish_of wishes ++ (target, v) ∷ []) × (now ≡ search) × (is ≡ was)
-AddsFound (Err why) target wishes search more now was is =
-    (more ≡ wishes) × (now.all ≡ false) × TellsNext (target, Err why) search.status now.status was is
+-- it was given up, and nothing was set
+abbrev pub GivesUpFinding : List (ℕ × List ℕ) → Failure → PanelState → PanelState → Output → Type 0
+GivesUpFinding pairs failure old new is = GivesUp failure is × OnlyFinds pairs old new
 
-abbrev pub FindsOneTo : ℕ × List ℕ → List Wish → Search → TalkState → List Wish → Search → TalkState → Output → Output → Type 0
-FindsOneTo pair wishes search old more now new was is =
-    (found : Result Value Trouble) × FindsValue pair.0 pair.1 old new found × AddsFound found pair.0 wishes search more now was is
+-- what was found is behind what was found before, or memory was refused
+abbrev pub AddsWish : ℕ × Value → List Wish → Search → List Wish → Result Search Failure → Type 0
+AddsWish wish wishes search more (Ok now) = (map wish_of more ≡ map wish_of wishes ++ wish ∷ []) × (now ≡ search)
+AddsWish wish wishes search more (Err failure) = failure.fault ≡ NoMemory
+
+-- what was not found is told, and makes that there is not a value for each; or the sink failed
+abbrev pub TellsMissed : ℕ × Told → Search → Result Search Failure → Output → Output → Type 0
+TellsMissed missed search (Ok now) was is = (now.all ≡ false) × TellsNext missed search.status now.status was is
+TellsMissed missed search (Err failure) was is = (failure.fault ≡ Write) × (is.failed ≡ true)
+
+abbrev pub AddsFound : Result Value Trouble → ℕ → List Wish → Search → List Wish → Result Search Failure → Output → Output → Type 0
+AddsFound (Ok v) target wishes search more result was is = AddsWish (target, v) wishes search more result × (is ≡ was)
+AddsFound (Err why) target wishes search more result was is = TellsMissed (target, Hindered why) search result was is × (more ≡ wishes)
+
+pub record FindsOneTo (pair : ℕ × List ℕ) (wishes : List Wish) (search : Search) (old : PanelState) (more : List Wish) (result : Result Search Failure) (new : PanelState) (was is : Output) : Type 0 where
+  pub found : Result Value Trouble
+  pub finds : FindsValue pair.0 pair.1 old new found
+  pub adds : AddsFound found pair.0 wishes search more result was is
 
 -- ---- set commands
 
--- the commands that were submitted from a start on, of which these are still waited for, and what was told of the others
-pub record SoFar (ahead : ℕ) (start : TalkState) (before : Output) (wishes : List (ℕ × Value)) (talk : TalkState) (waiting : List SetCommand) (status : ℕ) (is : Output) : Type 0 where
-  pub front : List SetCommand
-  pub fared : List (ℕ × Result (List ℕ) Trouble)
-  pub sets : SetsUpTo ahead (front ++ waiting) fared start talk
-  pub known : length front ≡ length fared
-  pub every : map wish_in (front ++ waiting) ≡ wishes
+-- the commands of the first wishes were submitted from a start on, of which these are in flight, and what was told of the others
+pub record SoFar (ahead : ℕ) (wishes : List (ℕ × Value)) (start : PanelState) (before : Output) (begun : List (ℕ × Value)) (panel : PanelState) (waiting : List SetCommand) (status : ℕ) (is : Output) : Type 0 where
+  pub fared : List (ℕ × Told)
+  pub sets : SetsUpTo ahead wishes begun waiting fared start panel
   pub tells : TellsAll fared status before is
 
--- whatever was submitted so far, some more of it was waited for and told
-pub record WaitsOn (old new : TalkState) (waiting more : List SetCommand) (status now : ℕ) (was is : Output) : Type 0 where
-  pub on : (ahead : ℕ) (start : TalkState) (before : Output) (wishes : List (ℕ × Value))
-      → SoFar ahead start before wishes old waiting status was → SoFar ahead start before wishes new more now is
+-- all are to be waited for: all are submitted, or the last one was refused
+abbrev pub AllAwaited : (wishes begun : List (ℕ × Value)) → List SetCommand → Type 0
+AllAwaited wishes begun waiting = (begun ≡ wishes) ⊎ (last_refused waiting ≡ true)
+
+-- whatever was submitted so far, some more of it was waited for and told, where all is to be waited for
+pub record WaitsOn (old new : PanelState) (waiting more : List SetCommand) (status now : ℕ) (was is : Output) : Type 0 where
+  pub on : (ahead : ℕ) (wishes : List (ℕ × Value)) (start : PanelState) (before : Output) (begun : List (ℕ × Value)) → AllAwaited wishes begun waiting
+      → SoFar ahead wishes start before begun old waiting status was → SoFar ahead wishes start before begun new more now is
+  pub last : 0 < length more → last_refused more ≡ last_refused waiting
+
+-- whatever was submitted so far, the first was waited for and told, if as many are in flight as may be: one more may be then
+pub record MakesPlace (ahead : ℕ) (old new : PanelState) (waiting more : List SetCommand) (status now : ℕ) (was is : Output) : Type 0 where
+  pub on : (wishes : List (ℕ × Value)) (start : PanelState) (before : Output) (begun : List (ℕ × Value))
+      → SoFar ahead wishes start before begun old waiting status was → SoFar ahead wishes start before begun new more now is
+  pub few : length more < ahead
+  pub accepted : last_refused more ≡ false
 
 -- whatever was submitted so far, one more was
-pub record SetsOn (ahead : ℕ) (wish : ℕ × Value) (old new : TalkState) (waiting more : List SetCommand) (status now : ℕ) (was is : Output) : Type 0 where
-  pub on : (start : TalkState) (before : Output) (wishes : List (ℕ × Value))
-      → SoFar ahead start before wishes old waiting status was → SoFar ahead start before (wishes ++ wish ∷ []) new more now is
+pub record SetsOn (ahead : ℕ) (wish : ℕ × Value) (old new : PanelState) (waiting more : List SetCommand) (status now : ℕ) (was is : Output) : Type 0 where
+  pub on : (wishes : List (ℕ × Value)) (start : PanelState) (before : Output) (begun : List (ℕ × Value))
+      → SoFar ahead wishes start before begun old waiting status was → SoFar ahead wishes start before (begun ++ wish ∷ []) new more now is
+  pub few : length more ≤ ahead
+  pub accepted : last_refused more ≡ false
 
 -- the first that is waited for fared so, and was told
-pub record WaitsForFirst (old new : TalkState) (waiting more : List Submitted) (status now : ℕ) (was is : Output) : Type 0 where
+pub record WaitsForFirst (old new : PanelState) (waiting more : List Submitted) (status now : ℕ) (was is : Output) : Type 0 where
   pub command : Submitted
   pub outcome : Outcome
   pub first : waiting ≡ command ∷ more
@@ -96,7 +127,16 @@ pub record WaitsForFirst (old new : TalkState) (waiting more : List Submitted) (
   pub tells : TellsNext (fared_by (command_of command) outcome) status now was is
 
 -- all wishes were set, and told
-pub record SetsEachTo (ahead : ℕ) (wishes : List (ℕ × Value)) (status : ℕ) (old new : TalkState) (was is : Output) : Type 0 where
-  pub fared : List (ℕ × Result (List ℕ) Trouble)
+pub record SetsEachTo (ahead : ℕ) (wishes : List (ℕ × Value)) (status : ℕ) (old new : PanelState) (was is : Output) : Type 0 where
+  pub fared : List (ℕ × Told)
   pub sets : SetsEach ahead wishes fared old new
   pub tells : TellsAll fared status was is
+
+-- where there is a value for each, they are set; else nothing is
+abbrev pub SetsOnlyIf : Bool → ℕ → List (ℕ × Value) → (before : ℕ) → PanelState → PanelState → Result ℕ Failure → Output → Output → Type 0
+SetsOnlyIf true ahead wishes before old new (Ok status) was is = SetsEachTo ahead wishes status old new was is
+SetsOnlyIf true ahead wishes before old new (Err failure) was is = (failure.fault ≡ Write) × (is.failed ≡ true)
+SetsOnlyIf false ahead wishes before old new result was is = (result ≡ Ok before) × (new ≡ old) × (is ≡ was)
+
+abbrev pub SetsFound : ℕ → List (ℕ × Value) → Search → PanelState → PanelState → Result ℕ Failure → Output → Output → Type 0
+SetsFound ahead wishes search old new result was is = SetsOnlyIf search.all ahead wishes search.status old new result was is

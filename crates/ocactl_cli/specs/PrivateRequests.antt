@@ -1,5 +1,5 @@
 -- For private contracts: what the program's own values say.
-use Rattle.std.specs.Prelude.{◌≤◌, ℕ, List, length, Option, Some, None, Result, Ok, Err}
+use Rattle.std.specs.Prelude.{ℕ, List, Option, Result, Ok, Err}
 use Rattle.std.specs.Option.{option_map}
 use Rattle.oca_types.specs.declared.words.Request.{Request}
 use Rattle.oca_types.specs.Peers.{RequestFields, request_of}

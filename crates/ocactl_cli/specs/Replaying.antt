@@ -1,10 +1,10 @@
 -- What a replay does to a link, and what it writes (*profile*).
-use Rattle.std.specs.Prelude.{◌≡◌, ℕ, List, Result, Ok, Err}
+use Rattle.std.specs.Prelude.{◌≡◌, ℕ, List, Result}
 use Rattle.oca_script.specs.declared.fault.WriteFailed.{WriteFailed}
 use Rattle.oca_script.specs.Ends.{Output}
 use Rattle.oca_script.specs.Printing.{Prints}
 use Rattle.oca_control.specs.declared.reception.Reception.{Reception}
-use Rattle.oca_control.specs.Links.{LinkState, Request, submission, submitted, decision, due_answer, due_bytes, gone_on, taken}
+use Rattle.oca_control.specs.Links.{LinkState, submission, submitted, decision, due_answer, due_bytes, gone_on, taken}
 use Rattle.oca_control.specs.Untaken.{answer_under}
 use Rattle.oca_control.specs.Steps.{ReceivesDatagram}
 use Rattle.ocactl_cli.specs.Requests.{LinkCall, Submit, Due, Datagram, Take}

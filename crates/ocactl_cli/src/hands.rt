@@ -1,17 +1,16 @@
 //! Several objects: read, set, locked, unlocked. Each has its line.
-ghost use Rattle.std.specs.Prelude.{◌≡◌, ◌≤◌, [], map, length, IfOk, Err};
+ghost use Rattle.std.specs.Prelude.{◌≡◌, [], map, true, IfOk, IfErr, OnErr};
 ghost use Rattle.oca_types.specs.Sizes.{span_size};
-ghost use Rattle.oca_model.specs.declared.value.Value.TheVariants as values;
-ghost use Rattle.oca_model.specs.Words.{word_of};
-ghost use Rattle.ocactl_cli.specs.Hands.{on_ok, TellsValue, Gets, Locks, AsksAll, SetsAll};
-ghost use Rattle.ocactl_cli.specs.PrivateHands.{number_of, pair_of, FindsAllTo, FindsOneTo, TellsFared, TellsOne};
+ghost use Rattle.ocactl_cli.specs.declared.told.Told.TheVariants.{Hindered};
+ghost use Rattle.ocactl_cli.specs.Hands.{AsksAll, Gets, Locks, SetsAll, SetsNoneUnfound, GivesUp, TellsValue, TellsPosition, told_done};
+ghost use Rattle.ocactl_cli.specs.PrivateHands.{number_of, pair_of, wish_of, AddsWish, FindsAllTo, FindsOneTo, GivesUpFinding, SetsFound, TellsMissed, TellsOne};
 
-use super::objects::{lock, name_of, unlock, value_of, wanted};
 use super::setting::{Wish, set_wishes};
-use super::talk::{Talk, Trouble};
-use super::told::{Told, graver, status_of, tell};
-use oca_model::{Value, word_of};
+use super::told::{Told, graver, tell};
+use super::wanted::wanted;
+use oca_model::Value;
 use oca_net::End;
+use oca_panel::{Panel, Trouble};
 use oca_program::{Failure, RunFault};
 use oca_script::{Printer, Sink, WriteFailed};
 use oca_types::{Ono, Span, Text};
@@ -26,110 +25,60 @@ pub struct Pair {
 
 /// Reads the objects one after another, and prints the value of each. Returns the exit status.
 pub fn get_all<E: End, W: Sink>(
-    talk: &mut Talk<E>,
+    panel: &mut Panel<E>,
     onos: &[Ono],
     printer: &mut Printer<W>,
 ) -> Result<u8, WriteFailed>
-    ensures { IfOk result (λ status. AsksAll Gets (map number_of onos.now) talk.old talk.new status printer.old printer.new) }
+    ensures all { IfOk result (λ status. AsksAll Gets (map number_of onos.now) panel.old panel.new status printer.old printer.new) }
+    ensures fails { OnErr result (printer.new.failed ≡ true) }
 {
+    printer.flush()?;
     let mut status = 0;
     for ono in onos {
-        status = graver(status, get_one(talk, *ono, printer)?);
+        status = graver(status, get_one(panel, *ono, printer)?);
     }
     Ok(status)
 }
 
 /// Reads an object, and prints its value, or why there is none. Returns the exit status.
 fn get_one<E: End, W: Sink>(
-    talk: &mut Talk<E>,
+    panel: &mut Panel<E>,
     ono: Ono,
     printer: &mut Printer<W>,
 ) -> Result<u8, WriteFailed>
-    ensures { IfOk result (λ status. TellsOne Gets ono.0 status talk.old talk.new printer.old printer.new) }
+    ensures { TellsOne Gets ono.0 panel.old panel.new result printer.old printer.new }
 {
-    match value_of(talk, ono) {
-        Ok(value) => tell_value(talk, ono, value, printer),
-        Err(trouble) => tell_trouble(ono, trouble, printer),
+    let told = read(panel, ono);
+    tell(ono, &told, printer)
+}
+
+/// Reads an object: its value, or why there is none.
+fn read<E: End>(panel: &mut Panel<E>, ono: Ono) -> Told
+    ensures { Gets ono.0 panel.old panel.new result }
+{
+    match panel.get(ono) {
+        Ok(value) => told_of(panel, ono, value),
+        Err(trouble) => Told::Hindered(trouble),
     }
 }
 
-/// Prints the value of an object, of a switch with the position's name. Returns the exit status.
-fn tell_value<E: End, W: Sink>(
-    talk: &mut Talk<E>,
-    ono: Ono,
-    value: Value,
-    printer: &mut Printer<W>,
-) -> Result<u8, WriteFailed>
-    ensures { IfOk result (λ status. TellsOne (TellsValue value) ono.0 status talk.old talk.new printer.old printer.new) }
+/// What is told of an object with this value: of a switch the position's name too.
+fn told_of<E: End>(panel: &mut Panel<E>, ono: Ono, value: Value) -> Told
+    ensures { TellsValue value ono.0 panel.old panel.new result }
 {
     match value {
-        Value::Switch(position) => tell_position(talk, ono, position, printer),
-        other => tell_fared(ono, Ok(other), printer),
+        Value::Switch(position) => position_of(panel, ono, position),
+        other => Told::Value(other),
     }
 }
 
-/// Prints the position of a switch, with its name where the switch gives it. Returns the exit status.
-fn tell_position<E: End, W: Sink>(
-    talk: &mut Talk<E>,
-    ono: Ono,
-    position: u16,
-    printer: &mut Printer<W>,
-) -> Result<u8, WriteFailed>
-    ensures { IfOk result (λ status. TellsOne (TellsValue (values.Switch position)) ono.0 status talk.old talk.new printer.old printer.new) }
+/// The position of a switch, with its name where the switch gives it.
+fn position_of<E: End>(panel: &mut Panel<E>, ono: Ono, position: u16) -> Told
+    ensures { TellsPosition position ono.0 panel.old panel.new result }
 {
-    let word = word_of(Value::Switch(position));
-    match name_of(talk, ono, position) {
-        Ok(name) => tell(ono, Told::Named(word.as_str(), name.as_str()), printer)?,
-        Err(_) => tell(ono, Told::Word(word.as_str()), printer)?,
-    }
-    Ok(0)
-}
-
-/// Prints the value of an object, or why it is not as it was asked for. Returns the exit status.
-pub fn tell_fared<W: Sink>(
-    ono: Ono,
-    fared: Result<Value, Trouble>,
-    printer: &mut Printer<W>,
-) -> Result<u8, WriteFailed>
-    ensures { IfOk result (λ status. TellsFared (ono.0, on_ok word_of fared) status printer.old printer.new) }
-{
-    match fared {
-        Ok(value) => {
-            tell(ono, Told::Word(word_of(value).as_str()), printer)?;
-            Ok(0)
-        }
-        Err(trouble) => tell_trouble(ono, trouble, printer),
-    }
-}
-
-/// Prints why an object is not as it was asked for. Returns the exit status.
-pub fn tell_trouble<W: Sink>(
-    ono: Ono,
-    trouble: Trouble,
-    printer: &mut Printer<W>,
-) -> Result<u8, WriteFailed>
-    ensures { IfOk result (λ status. TellsFared (ono.0, Err trouble) status printer.old printer.new) }
-{
-    tell(ono, Told::Hindered(trouble), printer)?;
-    Ok(status_of(trouble))
-}
-
-/// Prints that an object is as it was asked for, by a word, or why it is not. Returns the exit status.
-fn tell_done<W: Sink>(
-    ono: Ono,
-    done: Result<(), Trouble>,
-    word: &str,
-    printer: &mut Printer<W>,
-) -> Result<u8, WriteFailed>
-    requires { length word.now ≤ 64 }
-    ensures { IfOk result (λ status. TellsFared (ono.0, on_ok (λ u. word.now) done) status printer.old printer.new) }
-{
-    match done {
-        Ok(()) => {
-            tell(ono, Told::Word(word), printer)?;
-            Ok(0)
-        }
-        Err(trouble) => tell_trouble(ono, trouble, printer),
+    match panel.position_name(ono, position) {
+        Ok(name) => Told::Position(position, name),
+        Err(_) => Told::Value(Value::Switch(position)),
     }
 }
 
@@ -137,19 +86,19 @@ fn tell_done<W: Sink>(
 /// it, or its class can't be read, nothing is set, and this is printed of each such object. Returns the exit status.
 pub fn set_all<E: End, W: Sink>(
     alloc: Global,
-    talk: &mut Talk<E>,
+    panel: &mut Panel<E>,
     pairs: &[Pair],
     ahead: Span,
     printer: &mut Printer<W>,
 ) -> Result<u8, Failure>
-    ensures { IfOk result (λ status. SetsAll (span_size ahead) (map pair_of pairs.now) talk.old talk.new status printer.old printer.new) }
+    ensures all { IfOk result (λ status. SetsAll (span_size ahead) (map pair_of pairs.now) panel.old panel.new status printer.old printer.new) }
+    ensures fails { IfErr result (λ failure. GivesUp failure printer.new) }
+    ensures unset { OnErr result (SetsNoneUnfound (map pair_of pairs.now) panel.old panel.new) }
 {
     let mut wishes = Vec::new(alloc);
-    let search = find_wishes(talk, pairs, &mut wishes, printer)?;
-    if search.all {
-        Ok(set_wishes(talk, wishes.as_slice(), ahead, printer)?)
-    } else {
-        Ok(search.status)
+    match find_wishes(panel, pairs, &mut wishes, printer) {
+        Ok(search) => set_found(panel, wishes.as_slice(), search, ahead, printer),
+        Err(failure) => Err(failure),
     }
 }
 
@@ -160,87 +109,144 @@ struct Search {
     all: bool,
 }
 
+/// Sets the objects where there is a value for each.
+fn set_found<E: End, W: Sink>(
+    panel: &mut Panel<E>,
+    wishes: &[Wish],
+    search: Search,
+    ahead: Span,
+    printer: &mut Printer<W>,
+) -> Result<u8, Failure>
+    requires { printer.old.held ≡ [] }
+    ensures { SetsFound (span_size ahead) (map wish_of wishes.now) search panel.old panel.new result printer.old printer.new }
+{
+    if search.all {
+        Ok(set_wishes(panel, wishes, ahead, printer)?)
+    } else {
+        Ok(search.status)
+    }
+}
+
 /// Finds the values that words name, and prints of each object where there is none.
 fn find_wishes<E: End, W: Sink>(
-    talk: &mut Talk<E>,
+    panel: &mut Panel<E>,
     pairs: &[Pair],
     wishes: &mut Vec<Wish>,
     printer: &mut Printer<W>,
 ) -> Result<Search, Failure>
     requires { wishes.old.items ≡ [] }
-    ensures { IfOk result (λ s. FindsAllTo (map pair_of pairs.now) wishes.new.items s talk.old talk.new printer.old printer.new) }
+    ensures finds { IfOk result (λ s. FindsAllTo (map pair_of pairs.now) wishes.new.items s panel.old panel.new printer.old printer.new) }
+    ensures fails { IfErr result (λ failure. GivesUpFinding (map pair_of pairs.now) failure panel.old panel.new printer.new) }
 {
+    printer.flush()?;
     let mut search = Search {
         status: 0,
         all: true,
     };
     for pair in pairs {
-        search = find_one(talk, pair, wishes, search, printer)?;
+        search = find_one(panel, pair, wishes, search, printer)?;
     }
     Ok(search)
 }
 
 /// Finds the value that a word names, or prints why there is none.
 fn find_one<E: End, W: Sink>(
-    talk: &mut Talk<E>,
+    panel: &mut Panel<E>,
     pair: &Pair,
     wishes: &mut Vec<Wish>,
     search: Search,
     printer: &mut Printer<W>,
 ) -> Result<Search, Failure>
-    ensures { IfOk result (λ s. FindsOneTo (pair_of pair.now) wishes.old.items search talk.old wishes.new.items s talk.new printer.old printer.new) }
+    ensures { FindsOneTo (pair_of pair.now) wishes.old.items search panel.old wishes.new.items result panel.new printer.old printer.new }
 {
-    match wanted(talk, pair.ono, pair.word.as_str()) {
-        Ok(value) => {
-            let wish = Wish {
-                ono: pair.ono,
-                value,
-            };
-            match wishes.push(wish) {
-                Ok(()) => Ok(search),
-                Err(_) => Err(Failure::from(RunFault::NoMemory)),
-            }
-        }
-        Err(trouble) => {
-            let status = tell_trouble(pair.ono, trouble, printer)?;
-            Ok(Search {
-                status: graver(search.status, status),
-                all: false,
-            })
-        }
+    let found = wanted(panel, pair.ono, pair.word.as_str());
+    match found {
+        Ok(value) => add_wish(pair.ono, value, wishes, search),
+        Err(trouble) => tell_missed(pair.ono, trouble, search, printer),
     }
+}
+
+/// Lists a value that was found.
+fn add_wish(
+    ono: Ono,
+    value: Value,
+    wishes: &mut Vec<Wish>,
+    search: Search,
+) -> Result<Search, Failure>
+    ensures { AddsWish (ono.0, value) wishes.old.items search wishes.new.items result }
+{
+    match wishes.push(Wish { ono, value }) {
+        Ok(()) => Ok(search),
+        Err(_) => Err(Failure::from(RunFault::NoMemory)),
+    }
+}
+
+/// Prints why there is no value for an object.
+fn tell_missed<W: Sink>(
+    ono: Ono,
+    trouble: Trouble,
+    search: Search,
+    printer: &mut Printer<W>,
+) -> Result<Search, Failure>
+    ensures { TellsMissed (ono.0, Hindered trouble) search result printer.old printer.new }
+{
+    let status = tell(ono, &Told::Hindered(trouble), printer)?;
+    Ok(Search {
+        status: graver(search.status, status),
+        all: false,
+    })
 }
 
 /// Locks the objects one after another, or takes their locks off, and prints how each fared. Returns the exit status.
 pub fn lock_all<E: End, W: Sink>(
-    talk: &mut Talk<E>,
+    panel: &mut Panel<E>,
     onos: &[Ono],
     locks: bool,
     printer: &mut Printer<W>,
 ) -> Result<u8, WriteFailed>
-    ensures { IfOk result (λ status. AsksAll (Locks locks) (map number_of onos.now) talk.old talk.new status printer.old printer.new) }
+    ensures all { IfOk result (λ status. AsksAll (Locks locks) (map number_of onos.now) panel.old panel.new status printer.old printer.new) }
+    ensures fails { OnErr result (printer.new.failed ≡ true) }
 {
+    printer.flush()?;
     let mut status = 0;
     for ono in onos {
-        status = graver(status, lock_one(talk, *ono, locks, printer)?);
+        status = graver(status, lock_one(panel, *ono, locks, printer)?);
     }
     Ok(status)
 }
 
 /// Locks an object, or takes its lock off, and prints how it fared. Returns the exit status.
 pub fn lock_one<E: End, W: Sink>(
-    talk: &mut Talk<E>,
+    panel: &mut Panel<E>,
     ono: Ono,
     locks: bool,
     printer: &mut Printer<W>,
 ) -> Result<u8, WriteFailed>
-    ensures { IfOk result (λ status. TellsOne (Locks locks) ono.0 status talk.old talk.new printer.old printer.new) }
+    ensures { TellsOne (Locks locks) ono.0 panel.old panel.new result printer.old printer.new }
+{
+    let told = lock(panel, ono, locks);
+    tell(ono, &told, printer)
+}
+
+/// Locks an object, or takes its lock off.
+fn lock<E: End>(panel: &mut Panel<E>, ono: Ono, locks: bool) -> Told
+    ensures { Locks locks ono.0 panel.old panel.new result }
 {
     if locks {
-        let done = lock(talk, ono);
-        tell_done(ono, done, "locked", printer)
+        let done = panel.lock(ono);
+        told_done(done, Told::Locked)
     } else {
-        let done = unlock(talk, ono);
-        tell_done(ono, done, "unlocked", printer)
+        let done = panel.unlock(ono);
+        told_done(done, Told::Unlocked)
+    }
+}
+
+/// That it was done, told so, else why it was not.
+fn told_done(done: Result<(), Trouble>, told: Told) -> Told
+    ensures { result ≡ told_done told done }
+{
+    match done {
+        Ok(()) => told,
+        Err(trouble) => Told::Hindered(trouble),
     }
 }

@@ -2,11 +2,11 @@
 ghost use Rattle.std.specs.Prelude.{◌≡◌};
 
 use super::hands::{lock_all, lock_one};
-use super::talk::Talk;
 use super::told::graver;
 use libc::net::{POLLIN, poll};
 use libc::types::pollfd;
 use oca_net::End;
+use oca_panel::Panel;
 use oca_program::{Failure, RunFault};
 use oca_script::{Printer, Sink, Source};
 use oca_types::Ono;
@@ -24,31 +24,31 @@ const PIECE: usize = 4096;
 /// locked, nothing is awaited.
 pub fn hold<E: End, R: Source, W: Sink>(
     alloc: Global,
-    talk: &mut Talk<E>,
+    panel: &mut Panel<E>,
     onos: &[Ono],
     reader: &mut R,
     printer: &mut Printer<W>,
 ) -> Result<u8, Failure> {
     let mut held = Vec::new(alloc);
-    let status = lock_each(talk, onos, &mut held, printer)?;
+    let status = lock_each(panel, onos, &mut held, printer)?;
     if held.is_empty() {
         return Ok(status);
     }
-    keep(talk, reader);
-    let after = lock_all(talk, held.as_slice(), false, printer)?;
+    keep(panel, reader);
+    let after = lock_all(panel, held.as_slice(), false, printer)?;
     Ok(graver(status, after))
 }
 
 /// Locks the objects one after another, and adds those that were locked to the others. Returns the exit status.
 fn lock_each<E: End, W: Sink>(
-    talk: &mut Talk<E>,
+    panel: &mut Panel<E>,
     onos: &[Ono],
     held: &mut Vec<Ono>,
     printer: &mut Printer<W>,
 ) -> Result<u8, Failure> {
     let mut status = 0;
     for ono in onos {
-        let own = lock_one(talk, *ono, true, printer)?;
+        let own = lock_one(panel, *ono, true, printer)?;
         if own == 0 && held.push(*ono).is_err() {
             return Err(Failure::from(RunFault::NoMemory));
         }
@@ -58,9 +58,9 @@ fn lock_each<E: End, W: Sink>(
 }
 
 /// Drives the link, which sends keep-alives, until the input ends.
-fn keep<E: End, R: Source>(talk: &mut Talk<E>, reader: &mut R) {
+fn keep<E: End, R: Source>(panel: &mut Panel<E>, reader: &mut R) {
     for _turn in 0..u64::MAX {
-        if has_ended(reader) || !talk.turn() {
+        if has_ended(reader) || !panel.turn() {
             return;
         }
     }

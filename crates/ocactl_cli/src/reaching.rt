@@ -4,12 +4,12 @@ ghost use Rattle.oca_types.specs.Sizes.{span_size};
 ghost use Rattle.oca_control.specs.Links.{new_link};
 ghost use Rattle.ocactl_cli.specs.Reasons.{first_of};
 
-use super::own::{Own, own_now};
 use super::probe::{Found, probe};
 use super::watched::Watched;
 use super::words::Reach;
 use oca_control::Link;
 use oca_net::UdpEnd;
+use oca_panel::OwnPort;
 use oca_program::socket::bind;
 use oca_program::{Failure, print_note};
 use oca_script::{Printer, Sink};
@@ -34,10 +34,10 @@ pub fn reached<'a, N: Net + Clock, F: Sink>(
     own_alone: bool,
     faults: &mut Printer<F>,
 ) -> Result<(Link, DeviceEnd<'a, N>), Failure> {
-    let own = own_now(system);
+    let own = OwnPort::now(system);
     if let Some(port) = reach.port {
         let end = bind_at(alloc, system, reach, port)?;
-        return Ok((link_of(reach, own.first_handle, 0), end));
+        return Ok((link_of(reach, own.first_handle.0, 0), end));
     }
     if own_alone {
         bind_at(alloc, system, reach, own.other)?;
@@ -49,7 +49,7 @@ pub fn reached<'a, N: Net + Clock, F: Sink>(
                 return Err(failure);
             }
             let end = bind_at(alloc, system, reach, 0)?;
-            Ok((link_of(reach, own.first_handle, 0), end))
+            Ok((link_of(reach, own.first_handle.0, 0), end))
         }
     }
 }
@@ -60,25 +60,25 @@ fn answering<'a, N: Net + Clock, F: Sink>(
     alloc: Global,
     system: &'a N,
     reach: Reach,
-    own: Own,
+    own: OwnPort,
     mut end: DeviceEnd<'a, N>,
     faults: &mut Printer<F>,
 ) -> (Link, DeviceEnd<'a, N>)
-    requires { own.first_handle < 2147483648 }
+    requires { own.first_handle.0 < 2147483648 }
 {
     if reach.first_handle.is_some() {
-        return (link_of(reach, own.first_handle, 0), end);
+        return (link_of(reach, own.first_handle.0, 0), end);
     }
-    let found = probe(&mut end, reach.device, Handle(own.first_handle));
+    let found = probe(&mut end, reach.device, own.first_handle);
     if found == Found::Deaf {
         if let Ok(other) = bind_at(alloc, system, reach, own.other) {
             note_other(alloc, reach.device, own, faults);
-            return (link_of(reach, own.first_handle, 0), other);
+            return (link_of(reach, own.first_handle.0, 0), other);
         }
         end.forget();
     }
     let now = end.end().now();
-    (link_of(reach, own.first_handle + 1, now), end)
+    (link_of(reach, own.first_handle.0 + 1, now), end)
 }
 
 /// A new link, made at this moment, with this first handle unless the words give one.
@@ -119,8 +119,8 @@ fn naming(alloc: Global, failure: Failure, port: u16) -> Failure
 }
 
 /// Prints that the other port is taken.
-fn note_other<F: Sink>(alloc: Global, device: Peer, own: Own, faults: &mut Printer<F>) {
-    let Own { port, other, .. } = own;
+fn note_other<F: Sink>(alloc: Global, device: Peer, own: OwnPort, faults: &mut Printer<F>) {
+    let OwnPort { port, other, .. } = own;
     let note = format!(in alloc;
         "{device} answers no command from port {port}: port {other} is taken"
     );

@@ -3,17 +3,16 @@ use super::commands::send_all;
 use super::exchange::ask_once;
 use super::hands::{get_all, lock_all, set_all};
 use super::holding::hold;
-use super::own::own_now;
 use super::reaching::reached;
 use super::reason::note_silence;
 use super::replay::replay;
 use super::session::Session;
-use super::talk::Talk;
 use super::tasks::Task;
 use super::walk::walk;
 use super::watched::Watched;
 use super::words::{Asked, Reach, Sending, asked_for};
 use oca_net::{End, UdpEnd};
+use oca_panel::{OwnPort, Panel};
 use oca_program::socket::bind;
 use oca_program::{Failure, print_note, report};
 use oca_script::{Printer, Sink, Source};
@@ -88,7 +87,7 @@ fn served<N: Net + Clock, S: AsStr, R: Source, W: Sink, F: Sink>(
         }
         Asked::Do(reach, turns, task) => {
             let (link, end) = reached(alloc, system, reach, task.locks(), faults)?;
-            let mut talk = Talk::new(link, end, turns);
+            let mut talk = Panel::new(link, end, turns);
             let status = do_task(alloc, &mut talk, &task, reader, printer)?;
             let silent = status == 3 && talk.unanswered();
             note_no_answer(
@@ -112,7 +111,7 @@ fn served<N: Net + Clock, S: AsStr, R: Source, W: Sink, F: Sink>(
 /// Does something with the objects of a device, and prints it. Returns the exit status.
 fn do_task<E: End, R: Source, W: Sink>(
     alloc: Global,
-    talk: &mut Talk<E>,
+    talk: &mut Panel<E>,
     task: &Task,
     reader: &mut R,
     printer: &mut Printer<W>,
@@ -135,7 +134,7 @@ fn send_one<C: Clock, E: End, W: Sink>(
     sending: &Sending,
     printer: &mut Printer<W>,
 ) -> Result<u8, Failure> {
-    let mut link = reach.link(own_now(clock).first_handle);
+    let mut link = reach.link(OwnPort::now(clock).first_handle.0);
     Ok(ask_once(&mut link, end, sending.command(), sending.turns, printer)?)
 }
 

@@ -1,20 +1,22 @@
-//! Set commands, as many under way at once as may be.
-ghost use Rattle.std.specs.Prelude.{◌≡◌, ◌≤◌, ◌<◌, [], map, length, IfOk};
+//! Set commands, as many in flight at once as may be.
+ghost use Rattle.std.specs.Prelude.{◌≡◌, ◌≤◌, ◌<◌, [], map, length, true, false, IfOk, OnOk, OnErr};
 ghost use Rattle.oca_types.specs.Sizes.{span_size};
-ghost use Rattle.ocactl_cli.specs.Hands.{SetCommand, BeginsSet, EndsIn, on_ok, said, carried_out};
-ghost use Rattle.ocactl_cli.specs.PrivateHands.{wish_of, command_of, WaitsForFirst, WaitsOn, SetsOn, SetsEachTo};
+ghost use Rattle.oca_panel.specs.Panels.{EndsIn};
+ghost use Rattle.oca_panel.specs.Outcomes.{done_answered};
+ghost use Rattle.ocactl_cli.specs.declared.told.Told.TheVariants as tells;
+ghost use Rattle.ocactl_cli.specs.Hands.{BeginsSet, last_refused, told_done};
+ghost use Rattle.ocactl_cli.specs.PrivateHands.{wish_of, command_of, MakesPlace, SetsEachTo, SetsOn, WaitsForFirst, WaitsOn};
 
-use super::hands::tell_fared;
-use super::talk::{Talk, Trouble, done_in};
-use super::told::graver;
+use super::told::{Told, graver, tell};
 use arrayvec::ArrayVec;
 use oca_control::{ControlFault, Outcome};
-use oca_model::{Value, set_request};
+use oca_model::Value;
 use oca_net::End;
+use oca_panel::{Panel, done_in};
 use oca_script::{Printer, Sink, WriteFailed};
 use oca_types::{Handle, Ono, Span};
 
-/// The most set commands that can be under way: the largest span.
+/// The most set commands that can be in flight: the largest span.
 const MOST_AHEAD: usize = 32;
 
 /// An object, and the value that it is to have.
@@ -24,7 +26,7 @@ pub struct Wish {
     pub value: Value,
 }
 
-/// A set command for which `submit` was called: its handle, or why the link refused it.
+/// A set command that was to be submitted: its handle, or why the link refused it.
 #[derive(Clone, Copy)]
 struct Submitted {
     wish: Wish,
@@ -50,105 +52,127 @@ impl Default for Submitted {
 
 /// Sets objects, so many at once, and prints how each fared, in the order of the wishes. Returns the exit status.
 pub fn set_wishes<E: End, W: Sink>(
-    talk: &mut Talk<E>,
+    panel: &mut Panel<E>,
     wishes: &[Wish],
     ahead: Span,
     printer: &mut Printer<W>,
 ) -> Result<u8, WriteFailed>
-    ensures { IfOk result (λ status. SetsEachTo (span_size ahead) (map wish_of wishes.now) status talk.old talk.new printer.old printer.new) }
+    requires { printer.old.held ≡ [] }
+    ensures sets { IfOk result (λ status. SetsEachTo (span_size ahead) (map wish_of wishes.now) status panel.old panel.new printer.old printer.new) }
+    ensures fails { OnErr result (printer.new.failed ≡ true) }
 {
     let mut waiting = ArrayVec::new();
     let mut status = 0;
     for wish in wishes {
-        status = set_next(talk, wish, ahead, &mut waiting, status, printer)?;
+        status = set_next(panel, wish, ahead, &mut waiting, status, printer)?;
     }
-    await_until(talk, &mut waiting, 0, status, printer)
+    await_all(panel, &mut waiting, status, printer)
 }
 
-/// Submits the command that sets an object, as soon as one more may be under way. Where the link refuses it, all before it are waited
+/// Submits the command that sets an object, as soon as one more may be in flight. Where the link refuses it, all before it are waited
 /// for, and it is told behind them.
 fn set_next<E: End, W: Sink>(
-    talk: &mut Talk<E>,
+    panel: &mut Panel<E>,
     wish: &Wish,
     ahead: Span,
     waiting: &mut ArrayVec<Submitted, MOST_AHEAD>,
     status: u8,
     printer: &mut Printer<W>,
 ) -> Result<u8, WriteFailed>
-    ensures { IfOk result (λ now. SetsOn (span_size ahead) (wish_of wish.now) talk.old talk.new (map command_of waiting.old.items) (map command_of waiting.new.items) status now printer.old printer.new) }
+    requires few { length waiting.old.items ≤ span_size ahead }
+    requires accepted { last_refused (map command_of waiting.old.items) ≡ false }
+    ensures sets { IfOk result (λ now. SetsOn (span_size ahead) (wish_of wish.now) panel.old panel.new (map command_of waiting.old.items) (map command_of waiting.new.items) status now printer.old printer.new) }
+    ensures fails { OnErr result (printer.new.failed ≡ true) }
 {
-    let left = usize::from(ahead.get()) - 1;
-    let so_far = await_until(talk, waiting, left, status, printer)?;
-    let command = begin(talk, *wish);
+    let so_far = make_place(panel, ahead, waiting, status, printer)?;
+    let command = begin(panel, *wish);
     waiting.push(command);
     match command.returned {
         Ok(_) => Ok(so_far),
-        Err(_) => await_until(talk, waiting, 0, so_far, printer),
+        Err(_) => await_all(panel, waiting, so_far, printer),
     }
 }
 
 /// Submits the command that sets an object.
-fn begin<E: End>(talk: &mut Talk<E>, wish: Wish) -> Submitted
+fn begin<E: End>(panel: &mut Panel<E>, wish: Wish) -> Submitted
     ensures wish { result.wish ≡ wish }
-    ensures begins { BeginsSet (command_of result) talk.old talk.new }
+    ensures begins { BeginsSet (command_of result) panel.old panel.new }
 {
-    let request = set_request(wish.value);
-    let returned = talk.begin(request.of(wish.ono));
+    let returned = panel.begin_set(wish.ono, wish.value);
     Submitted { wish, returned }
 }
 
-/// Waits for set commands, the first first, until at most so many are under way, and prints how each fared. Returns the exit status so
-/// far.
-fn await_until<E: End, W: Sink>(
-    talk: &mut Talk<E>,
+/// Waits for the first set command in flight where as many are as may be, and prints how it fared. Returns the exit status so far.
+fn make_place<E: End, W: Sink>(
+    panel: &mut Panel<E>,
+    ahead: Span,
     waiting: &mut ArrayVec<Submitted, MOST_AHEAD>,
-    left: usize,
     status: u8,
     printer: &mut Printer<W>,
 ) -> Result<u8, WriteFailed>
-    ensures waits { IfOk result (λ now. WaitsOn talk.old talk.new (map command_of waiting.old.items) (map command_of waiting.new.items) status now printer.old printer.new) }
-    ensures few { IfOk result (λ now. length waiting.new.items ≤ left) }
+    requires few { length waiting.old.items ≤ span_size ahead }
+    requires accepted { last_refused (map command_of waiting.old.items) ≡ false }
+    ensures makes { IfOk result (λ now. MakesPlace (span_size ahead) panel.old panel.new (map command_of waiting.old.items) (map command_of waiting.new.items) status now printer.old printer.new) }
+    ensures fails { OnErr result (printer.new.failed ≡ true) }
+{
+    if waiting.len() < usize::from(ahead.get()) {
+        return Ok(status);
+    }
+    await_first(panel, waiting, status, printer)
+}
+
+/// Waits for all set commands in flight, the first first, and prints how each fared. Returns the exit status so far.
+fn await_all<E: End, W: Sink>(
+    panel: &mut Panel<E>,
+    waiting: &mut ArrayVec<Submitted, MOST_AHEAD>,
+    status: u8,
+    printer: &mut Printer<W>,
+) -> Result<u8, WriteFailed>
+    ensures waits { IfOk result (λ now. WaitsOn panel.old panel.new (map command_of waiting.old.items) [] status now printer.old printer.new) }
+    ensures empty { OnOk result (waiting.new.items ≡ []) }
+    ensures fails { OnErr result (printer.new.failed ≡ true) }
 {
     let mut so_far = status;
-    while waiting.len() > left {
-        so_far = await_first(talk, waiting, so_far, printer)?;
+    while !waiting.is_empty() {
+        so_far = await_first(panel, waiting, so_far, printer)?;
     }
     Ok(so_far)
 }
 
-/// Waits for the first set command under way, and prints how it fared. Returns the exit status so far.
+/// Waits for the first set command in flight, and prints how it fared. Returns the exit status so far.
 fn await_first<E: End, W: Sink>(
-    talk: &mut Talk<E>,
+    panel: &mut Panel<E>,
     waiting: &mut ArrayVec<Submitted, MOST_AHEAD>,
     status: u8,
     printer: &mut Printer<W>,
 ) -> Result<u8, WriteFailed>
     requires { 0 < length waiting.old.items }
-    ensures { IfOk result (λ now. WaitsForFirst talk.old talk.new waiting.old.items waiting.new.items status now printer.old printer.new) }
+    ensures waits { IfOk result (λ now. WaitsForFirst panel.old panel.new waiting.old.items waiting.new.items status now printer.old printer.new) }
+    ensures fails { OnErr result (printer.new.failed ≡ true) }
 {
     let command = waiting.remove(0);
-    let outcome = outcome_of(talk, command.returned);
-    let fared = fared_by(command.wish.value, &outcome);
-    let own = tell_fared(command.wish.ono, fared, printer)?;
+    let outcome = outcome_of(panel, command.returned);
+    let told = told_by(command.wish.value, &outcome);
+    let own = tell(command.wish.ono, &told, printer)?;
     Ok(graver(status, own))
 }
 
 /// How a submitted command fares: it is waited for, unless it was refused.
-fn outcome_of<E: End>(talk: &mut Talk<E>, returned: Result<Handle, ControlFault>) -> Outcome
-    ensures { EndsIn returned talk.old talk.new result }
+fn outcome_of<E: End>(panel: &mut Panel<E>, returned: Result<Handle, ControlFault>) -> Outcome
+    ensures { EndsIn returned panel.old panel.new result }
 {
     match returned {
-        Ok(handle) => talk.finish(handle),
+        Ok(handle) => panel.finish(handle),
         Err(fault) => Outcome::Refused(fault),
     }
 }
 
-/// The value that an object then has, or why it has not.
-fn fared_by(value: Value, outcome: &Outcome) -> Result<Value, Trouble>
-    ensures { result ≡ on_ok (λ done. value) (carried_out (said outcome.now)) }
+/// What is told of an object that was to be set: its value, or why it has not got it.
+fn told_by(value: Value, outcome: &Outcome) -> Told
+    ensures { result ≡ told_done (tells.Value value) (done_answered outcome.now) }
 {
     match done_in(outcome) {
-        Ok(()) => Ok(value),
-        Err(trouble) => Err(trouble),
+        Ok(()) => Told::Value(value),
+        Err(trouble) => Told::Hindered(trouble),
     }
 }

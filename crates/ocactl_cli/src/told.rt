@@ -1,72 +1,91 @@
 //! The lines that tell of objects.
 ghost use Rattle.std.specs.Prelude.{◌≡◌, ◌+◌, ◌*◌, ◌++◌, ◌≤◌, codes, length, decimal};
 ghost use Rattle.oca_script.specs.Ends.{output};
-ghost use Rattle.oca_script.specs.Printing.{Prints};
+ghost use Rattle.oca_script.specs.Printing.{WritesOut};
+ghost use Rattle.oca_model.specs.declared.value.Value.TheVariants.{Switch};
 ghost use Rattle.oca_model.specs.Statuses.{status_name_of};
-ghost use Rattle.ocactl_cli.specs.Hands.{or_number, refused_text, trouble_text, told_text, line_of, ToldWithin, dotted, fields_text, place_text, trouble_status, graver_of};
+ghost use Rattle.oca_model.specs.Words.{word_of};
+ghost use Rattle.ocactl_cli.specs.Hands.{or_number, refused_text, trouble_text, told_text, line_of, dotted, fields_text, place_text, trouble_status, told_status, graver_of};
+ghost use Rattle.ocactl_cli.specs.PrivateHands.{WritesLine};
 
-use super::talk::Trouble;
 use oca_control::ControlFault;
-use oca_model::status_name;
+use oca_model::{Value, status_name, word_of};
+use oca_panel::Trouble;
 use oca_script::{Escaped, Printer, Sink, WriteFailed};
-use oca_types::Ono;
+use oca_types::{Ono, Text};
 
 /// Room for a line.
 const LINE_ROOM: usize = 1100;
 
 /// What an object's line says behind its number.
-#[derive(Clone, Copy)]
-pub enum Told<'a> {
-    /// A word.
-    Word(&'a str),
-    /// A word, and the name of the position that it is for, as a text is printed.
-    Named(&'a str, &'a str),
+#[derive(Drop)]
+pub enum Told {
+    /// Its value.
+    Value(Value),
+    /// The position of a switch, and the position's name.
+    Position(u16, Text),
+    /// It is locked.
+    Locked,
+    /// It is not locked any more.
+    Unlocked,
     /// Why it is not as it was asked for.
     Hindered(Trouble),
 }
 
-/// Prints the line of an object, and hands it on.
-pub fn tell<W: Sink>(ono: Ono, told: Told<'_>, printer: &mut Printer<W>) -> Result<(), WriteFailed>
-    requires { ToldWithin told }
-    ensures { Prints result printer.old printer.new (line_of ono.0 told.entry) }
+/// Prints the line of an object, and hands it on. Returns the exit status for what it tells.
+pub fn tell<W: Sink>(ono: Ono, told: &Told, printer: &mut Printer<W>) -> Result<u8, WriteFailed>
+    ensures { WritesLine (told_status told.now) (line_of ono.0 told.now) result printer.old printer.new }
 {
-    print_told(ono.0, told, printer)?;
+    write_told(ono, told, printer)?;
+    Ok(told_status(told))
+}
+
+/// Prints the line of an object, and hands it on.
+fn write_told<W: Sink>(ono: Ono, told: &Told, printer: &mut Printer<W>) -> Result<(), WriteFailed>
+    ensures { WritesOut result printer.old printer.new (line_of ono.0 told.now) }
+{
+    printer.make_room(LINE_ROOM)?;
+    put_line(ono, told, printer);
     printer.flush()
 }
 
-/// Prints the line of an object.
-fn print_told<W: Sink>(
-    ono: u32,
-    told: Told<'_>,
-    printer: &mut Printer<W>,
-) -> Result<(), WriteFailed>
-    requires { ToldWithin told }
-    ensures { Prints result printer.old printer.new (line_of ono told.entry) }
+/// Holds the line of an object.
+pub fn put_line<W: Sink>(ono: Ono, told: &Told, printer: &mut Printer<W>)
+    requires { length printer.old.held + 700 ≤ 8192 }
+    ensures { printer.new ≡ output printer.old.contents (printer.old.held ++ line_of ono.0 told.now) printer.old.failed }
 {
-    printer.make_room(LINE_ROOM)?;
-    printer.put_number(u64::from(ono));
+    printer.put_number(u64::from(ono.0));
     printer.put(b" ");
     put_told(told, printer);
     printer.put(b"\n");
-    Ok(())
 }
 
 /// Holds what a line says behind the number.
-fn put_told<W: Sink>(told: Told<'_>, printer: &mut Printer<W>)
-    requires within { ToldWithin told }
-    requires room { length printer.old.held + 600 ≤ 8192 }
-    ensures value { printer.new ≡ output printer.old.contents (printer.old.held ++ told_text told.entry) printer.old.failed }
+fn put_told<W: Sink>(told: &Told, printer: &mut Printer<W>)
+    requires { length printer.old.held + 600 ≤ 8192 }
+    ensures value { printer.new ≡ output printer.old.contents (printer.old.held ++ told_text told.now) printer.old.failed }
     ensures len { length printer.new.held ≤ length printer.old.held + 580 }
 {
     match told {
-        Told::Word(word) => printer.put(word.as_bytes()),
-        Told::Named(word, name) => {
-            printer.put(word.as_bytes());
+        Told::Value(value) => put_value(*value, printer),
+        Told::Position(position, name) => {
+            put_value(Value::Switch(*position), printer);
             printer.put(b" ");
-            printer.put(Escaped::of(name).as_bytes());
+            printer.put(Escaped::of(name.as_str()).as_bytes());
         }
-        Told::Hindered(trouble) => put_trouble(trouble, printer),
+        Told::Locked => printer.put(b"locked"),
+        Told::Unlocked => printer.put(b"unlocked"),
+        Told::Hindered(trouble) => put_trouble(*trouble, printer),
     }
+}
+
+/// Holds the word for a value.
+fn put_value<W: Sink>(value: Value, printer: &mut Printer<W>)
+    requires { length printer.old.held + 100 ≤ 8192 }
+    ensures word { printer.new ≡ output printer.old.contents (printer.old.held ++ word_of value) printer.old.failed }
+    ensures len { length printer.new.held ≤ length printer.old.held + 64 }
+{
+    printer.put(word_of(value).as_str().as_bytes());
 }
 
 /// Holds why an object is not as it was asked for.
@@ -114,43 +133,9 @@ fn put_status<W: Sink>(status: u8, printer: &mut Printer<W>)
     }
 }
 
-/// Prints the line of an object in a tree, and hands it on: its number, the fields of its class's identifier, the number of its
-/// container, and its role
-/// as a text is printed.
-pub fn tell_place<W: Sink>(
-    ono: u32,
-    fields: &[u16],
-    container: u32,
-    role: &str,
-    printer: &mut Printer<W>,
-) -> Result<(), WriteFailed>
-    requires fields { length fields.now ≤ 16 }
-    requires role { length role.now ≤ 64 }
-    ensures { Prints result printer.old printer.new (place_text ono fields.now container role.now) }
-{
-    print_place(ono, fields, container, role, printer)?;
-    printer.flush()
-}
-
-/// Prints the line of an object in a tree.
-fn print_place<W: Sink>(
-    ono: u32,
-    fields: &[u16],
-    container: u32,
-    role: &str,
-    printer: &mut Printer<W>,
-) -> Result<(), WriteFailed>
-    requires fields { length fields.now ≤ 16 }
-    requires role { length role.now ≤ 64 }
-    ensures { Prints result printer.old printer.new (place_text ono fields.now container role.now) }
-{
-    printer.make_room(LINE_ROOM)?;
-    put_place(ono, fields, container, role, printer);
-    Ok(())
-}
-
-/// Holds the line of an object in a tree.
-fn put_place<W: Sink>(
+/// Holds the line of an object in a tree: its number, the fields of its class's identifier, the number of its container, and its role as
+/// a text is printed.
+pub fn put_place<W: Sink>(
     ono: u32,
     fields: &[u16],
     container: u32,
@@ -160,7 +145,8 @@ fn put_place<W: Sink>(
     requires fields { length fields.now ≤ 16 }
     requires role { length role.now ≤ 64 }
     requires room { length printer.old.held + 1100 ≤ 8192 }
-    ensures { printer.new ≡ output printer.old.contents (printer.old.held ++ place_text ono fields.now container role.now) printer.old.failed }
+    ensures value { printer.new ≡ output printer.old.contents (printer.old.held ++ place_text ono fields.now container role.now) printer.old.failed }
+    ensures len { length printer.new.held ≤ length printer.old.held + 1000 }
 {
     printer.put_number(u64::from(ono));
     put_fields(fields, printer);
@@ -195,6 +181,16 @@ fn put_dotted<W: Sink>(fields: &[u16], printer: &mut Printer<W>)
     for field in fields {
         printer.put(b".");
         printer.put_number(u64::from(*field));
+    }
+}
+
+/// The exit status for what is told of an object.
+fn told_status(told: &Told) -> u8
+    ensures { result ≡ told_status told.now }
+{
+    match told {
+        Told::Value(_) | Told::Position(_, _) | Told::Locked | Told::Unlocked => 0,
+        Told::Hindered(trouble) => status_of(*trouble),
     }
 }
 

@@ -1,133 +1,192 @@
-//! A walk through the objects of a device.
-use super::hands::tell_trouble;
-use super::objects::plain;
-use super::talk::{Talk, Trouble, fields_in, members_in, text_in};
-use super::told::{graver, tell_place};
-use oca_model::{ClassFields, MemberNumbers, class_with};
+//! The objects of a device, printed as a tree.
+ghost use Rattle.std.specs.Prelude.{◌≡◌, ◌+◌, ◌++◌, ◌≤◌, [], length, IfOk, IfErr};
+ghost use Rattle.oca_script.specs.Ends.{output};
+ghost use Rattle.oca_script.specs.Printing.{WritesOut};
+ghost use Rattle.oca_panel.specs.Walks.{begun_walk};
+ghost use Rattle.ocactl_cli.specs.Hands.{GivesUp};
+ghost use Rattle.ocactl_cli.specs.Trees.{PrintsTree, described_text, found_status, listed_status, unlisted_text, visit_status, visit_text};
+ghost use Rattle.ocactl_cli.specs.PrivateHands.{WritesLine};
+ghost use Rattle.ocactl_cli.specs.PrivateTrees.{TellsFound, TellsLeft, VisitsOne};
+ghost use Rattle.std.specs.Prelude.{codes};
+
+use super::told::{Told, graver, put_line, put_place, status_of};
 use oca_net::End;
+use oca_panel::{Description, Found, MOST_PLACES, Panel, Place, Trouble, Visit, Walk};
 use oca_program::{Failure, RunFault};
 use oca_script::{Printer, Sink, WriteFailed};
-use oca_types::{Class, MethodId, Ono, Text};
+use oca_types::{NoMemory, Ono};
 use std::alloc::Global;
 
-/// The root block (AES70-2).
-const ROOT: u32 = 100;
+/// Room for the lines of a place.
+const ROOM: usize = 2000;
 
-/// The most objects that are visited, which a device of the profile has at most.
-const MOST_OBJECTS: u32 = 4096;
-
-/// GetClassIdentification of every object.
-const GET_CLASS: MethodId = MethodId { level: 1, index: 1 };
-
-/// GetRole of every object.
-const GET_ROLE: MethodId = MethodId { level: 1, index: 5 };
-
-/// GetMembers of a block.
-const GET_MEMBERS: MethodId = MethodId { level: 3, index: 5 };
-
-/// An object that is to be visited, and its container.
-#[derive(Clone, Copy)]
-struct Place {
-    ono: u32,
-    container: u32,
-}
-
-/// What an object says of itself.
-#[derive(Drop)]
-struct Known {
-    fields: ClassFields,
-    role: Text,
-}
-
-/// Visits the objects from the root block on, each block's members behind it in their order, and prints a line for each. What an object
-/// refuses is printed in its place, and the walk goes on. Returns the exit status. At most 4,096 objects are visited.
+/// Visits the places of a device from the root block on, each block's members behind it in their order, and prints a line for each. What an
+/// object refuses is printed in its place, and the walk goes on. Returns the exit status. At most 4,096 places are visited.
 pub fn walk<E: End, W: Sink>(
     alloc: Global,
-    talk: &mut Talk<E>,
+    panel: &mut Panel<E>,
     printer: &mut Printer<W>,
-) -> Result<u8, Failure> {
-    let mut waiting = Vec::new(alloc);
-    let root = Place {
-        ono: ROOT,
-        container: 0,
-    };
-    if waiting.push(root).is_err() {
-        return Err(Failure::from(RunFault::NoMemory));
+) -> Result<u8, Failure>
+    ensures tree { IfOk result (λ status. PrintsTree panel.old panel.new status printer.old printer.new) }
+    ensures fails { IfErr result (λ failure. GivesUp failure printer.new) }
+{
+    match Walk::new(alloc) {
+        Ok(mut walk) => walk_on(&mut walk, panel, printer),
+        Err(NoMemory) => Err(Failure::from(RunFault::NoMemory)),
     }
+}
+
+/// Visits the places of a walk that begins, and prints a line for each. Returns the exit status.
+fn walk_on<E: End, W: Sink>(
+    walk: &mut Walk,
+    panel: &mut Panel<E>,
+    printer: &mut Printer<W>,
+) -> Result<u8, Failure>
+    requires { walk.old ≡ begun_walk }
+    ensures tree { IfOk result (λ status. PrintsTree panel.old panel.new status printer.old printer.new) }
+    ensures fails { IfErr result (λ failure. GivesUp failure printer.new) }
+{
+    printer.flush()?;
     let mut status = 0;
-    for _ in 0..MOST_OBJECTS {
-        let Some(place) = waiting.pop() else {
-            return Ok(status);
+    for _place in 0..MOST_PLACES {
+        let Some(now) = visit_one(walk, panel, status, printer)? else {
+            return tell_left(walk, status, printer);
         };
-        status = graver(status, visit(talk, place, &mut waiting, printer)?);
+        status = now;
     }
-    if !waiting.is_empty() {
-        printer.print(b"more than 4096 objects\n")?;
-        printer.flush()?;
-        return Ok(graver(status, 4));
-    }
-    Ok(status)
+    tell_left(walk, status, printer)
 }
 
-/// Visits an object: prints its line, and puts its members before all that wait. Returns the exit status.
-fn visit<E: End, W: Sink>(
-    talk: &mut Talk<E>,
-    place: Place,
-    waiting: &mut Vec<Place>,
+/// Visits the next place, and prints its lines. Returns the exit status so far, nothing where no place is left.
+fn visit_one<E: End, W: Sink>(
+    walk: &mut Walk,
+    panel: &mut Panel<E>,
+    status: u8,
     printer: &mut Printer<W>,
-) -> Result<u8, Failure> {
-    let known = match known_of(talk, place.ono) {
-        Ok(known) => known,
-        Err(trouble) => return Ok(tell_trouble(Ono(place.ono), trouble, printer)?),
-    };
-    tell_place(
-        place.ono,
-        known.fields.as_slice(),
-        place.container,
-        known.role.as_str(),
+) -> Result<Option<u8>, Failure>
+    ensures { VisitsOne status result walk.old panel.old printer.old walk.new panel.new printer.new }
+{
+    match walk.next_place(panel) {
+        Ok(found) => tell_found(found, status, printer),
+        Err(NoMemory) => Err(Failure::from(RunFault::NoMemory)),
+    }
+}
+
+/// Prints the lines of a place, where one was visited. Returns the exit status so far.
+fn tell_found<W: Sink>(
+    found: Option<Visit>,
+    status: u8,
+    printer: &mut Printer<W>,
+) -> Result<Option<u8>, Failure>
+    ensures { TellsFound found status result printer.old printer.new }
+{
+    match found {
+        Some(visit) => {
+            let own = tell_visit(&visit, printer)?;
+            Ok(Some(graver(status, own)))
+        }
+        None => Ok(None),
+    }
+}
+
+/// Prints the lines of a place, and hands them on. Returns the exit status.
+fn tell_visit<W: Sink>(visit: &Visit, printer: &mut Printer<W>) -> Result<u8, WriteFailed>
+    ensures { WritesLine (visit_status visit.now) (visit_text visit.now) result printer.old printer.new }
+{
+    write_visit(visit, printer)?;
+    Ok(found_status(&visit.found))
+}
+
+/// Prints the lines of a place, and hands them on.
+fn write_visit<W: Sink>(visit: &Visit, printer: &mut Printer<W>) -> Result<(), WriteFailed>
+    ensures { WritesOut result printer.old printer.new (visit_text visit.now) }
+{
+    printer.make_room(ROOM)?;
+    put_visit(visit, printer);
+    printer.flush()
+}
+
+/// Holds the lines of a place.
+fn put_visit<W: Sink>(visit: &Visit, printer: &mut Printer<W>)
+    requires { length printer.old.held + 2000 ≤ 8192 }
+    ensures { printer.new ≡ output printer.old.contents (printer.old.held ++ visit_text visit.now) printer.old.failed }
+{
+    match &visit.found {
+        Found::Object(description) => put_description(visit.place, description, printer),
+        Found::Block(description, listed) => {
+            put_description(visit.place, description, printer);
+            put_unlisted(visit.place.ono, listed, printer);
+        }
+        Found::Undescribed(trouble) => {
+            put_line(visit.place.ono, &Told::Hindered(*trouble), printer);
+        }
+        Found::Again => {}
+    }
+}
+
+/// Holds the line of an object that says what it is.
+fn put_description<W: Sink>(place: Place, description: &Description, printer: &mut Printer<W>)
+    requires { length printer.old.held + 1100 ≤ 8192 }
+    ensures value { printer.new ≡ output printer.old.contents (printer.old.held ++ described_text place description.now) printer.old.failed }
+    ensures len { length printer.new.held ≤ length printer.old.held + 1000 }
+{
+    put_place(
+        place.ono.0,
+        description.fields.as_slice(),
+        place.container.0,
+        description.role.as_str(),
         printer,
-    )?;
-    if class_with(known.fields.as_slice()) != Some(Class::Block) {
-        return Ok(0);
-    }
-    match members_of(talk, place.ono) {
-        Ok(members) => {
-            put_first(place.ono, &members, waiting)?;
-            Ok(0)
-        }
-        Err(trouble) => Ok(tell_trouble(Ono(place.ono), trouble, printer)?),
+    );
+}
+
+/// Holds why the members of a block are not listed, where they are not.
+fn put_unlisted<W: Sink>(ono: Ono, listed: &Result<(), Trouble>, printer: &mut Printer<W>)
+    requires { length printer.old.held + 700 ≤ 8192 }
+    ensures { printer.new ≡ output printer.old.contents (printer.old.held ++ unlisted_text ono.0 listed.now) printer.old.failed }
+{
+    match listed {
+        Ok(()) => {}
+        Err(trouble) => put_line(ono, &Told::Hindered(*trouble), printer),
     }
 }
 
-/// Asks an object for its class and its role.
-fn known_of<E: End>(talk: &mut Talk<E>, ono: u32) -> Result<Known, Trouble> {
-    let outcome = talk.ask(plain(Ono(ono), GET_CLASS));
-    let fields = fields_in(&outcome)?;
-    let outcome = talk.ask(plain(Ono(ono), GET_ROLE));
-    let role = text_in(&outcome)?;
-    Ok(Known { fields, role })
-}
-
-/// Asks a block for its members.
-fn members_of<E: End>(talk: &mut Talk<E>, ono: u32) -> Result<MemberNumbers, Trouble> {
-    let outcome = talk.ask(plain(Ono(ono), GET_MEMBERS));
-    members_in(&outcome)
-}
-
-/// Puts members before all that wait, in their order: the last place is visited first.
-fn put_first(
-    container: u32,
-    members: &MemberNumbers,
-    waiting: &mut Vec<Place>,
-) -> Result<(), RunFault> {
-    for ono in members.as_slice().iter().rev() {
-        let place = Place {
-            ono: *ono,
-            container,
-        };
-        if waiting.push(place).is_err() {
-            return Err(RunFault::NoMemory);
-        }
+/// The exit status for what was found.
+fn found_status(found: &Found) -> u8
+    ensures { result ≡ found_status found.now }
+{
+    match found {
+        Found::Object(_) | Found::Again => 0,
+        Found::Block(_, listed) => listed_status(listed),
+        Found::Undescribed(trouble) => status_of(*trouble),
     }
-    Ok(())
+}
+
+/// The exit status for a block.
+fn listed_status(listed: &Result<(), Trouble>) -> u8
+    ensures { result ≡ listed_status listed.now }
+{
+    match listed {
+        Ok(()) => 0,
+        Err(trouble) => status_of(*trouble),
+    }
+}
+
+/// Prints that places are left, where some are. Returns the exit status.
+fn tell_left<W: Sink>(walk: &Walk, status: u8, printer: &mut Printer<W>) -> Result<u8, Failure>
+    requires { printer.old.held ≡ [] }
+    ensures { TellsLeft walk.now.waiting status result printer.old printer.new }
+{
+    if !walk.is_unfinished() {
+        return Ok(status);
+    }
+    write_left(printer)?;
+    Ok(graver(status, 4))
+}
+
+/// Prints that places are left.
+fn write_left<W: Sink>(printer: &mut Printer<W>) -> Result<(), WriteFailed>
+    ensures { WritesOut result printer.old printer.new (codes "more than 4096 objects\n") }
+{
+    printer.print(b"more than 4096 objects\n")?;
+    printer.flush()
 }

@@ -9,8 +9,8 @@ use std::rt::Clock;
 
 mod commands;
 mod hands;
-mod own;
 mod pair;
+mod probes;
 mod replay;
 mod sockets;
 mod words;

@@ -3,10 +3,10 @@ use super::{NO_LIMIT, none_wrong};
 use oca_control::Link;
 use oca_fakes::ShortWriter;
 use oca_net::{MemoryEnd, Scripted};
+use oca_panel::Panel;
 use oca_script::Printer;
 use oca_types::{Handle, Ono, Peer, Span, Text};
 use ocactl_cli::hands::{Pair, set_all};
-use ocactl_cli::talk::Talk;
 use std::alloc::Global;
 use std::process::Abort;
 
@@ -107,14 +107,14 @@ fn put_statuses(alloc: Global, script: &mut Vec<Scripted>, statuses: &[(u32, u8)
     Some(())
 }
 
-/// A talk over an end that delivers these answers.
-fn talk(alloc: Global, setting: &Setting) -> Option<Talk<MemoryEnd>> {
+/// A panel over an end that delivers these answers.
+fn panel(alloc: Global, setting: &Setting) -> Option<Panel<MemoryEnd>> {
     let mut script = Vec::new(alloc);
     put_classes(alloc, &mut script, &setting.classes)?;
     put_statuses(alloc, &mut script, setting.statuses)?;
     let end = MemoryEnd::new(alloc, script, 30, None).ok()?;
     let link = Link::new(DEVICE, Handle(setting.classes[0]), 0, Span::default());
-    Some(Talk::new(link, end, 10))
+    Some(Panel::new(link, end, 10))
 }
 
 /// Three mutes and the words for their values.
@@ -130,15 +130,15 @@ fn pairs(alloc: Global) -> Option<Vec<Pair>> {
 
 /// Whether the setting ends so, asks each command once, and prints just that.
 fn sets_so(alloc: Global, setting: &Setting) -> Option<bool> {
-    let mut talk = talk(alloc, setting)?;
+    let mut panel = panel(alloc, setting)?;
     let pairs = pairs(alloc)?;
     let ahead = Span::new(setting.ahead)?;
     let mut to = Printer::new(ShortWriter::new(5000, NO_LIMIT));
-    let status = set_all(alloc, &mut talk, pairs.as_slice(), ahead, &mut to).ok()?;
+    let status = set_all(alloc, &mut panel, pairs.as_slice(), ahead, &mut to).ok()?;
     Some(
         status == setting.status
             && to.sink().taken.as_slice() == setting.output
-            && talk.end().taken().len() == 3 + setting.statuses.len(),
+            && panel.end().taken().len() == 3 + setting.statuses.len(),
     )
 }
 

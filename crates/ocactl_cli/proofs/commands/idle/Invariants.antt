@@ -1,4 +1,4 @@
-use Rattle.std.proofs.Common.{◌≡◌, [], Ok}
+use Rattle.std.proofs.Common.{◌≡◌, Ok}
 use Rattle.oca_script.specs.Ends.{input}
 use Rattle.ocactl_cli.specs.PrivateExchanges.{IdlesAndPrints}
 use Rattle.ocactl_cli.proofs.commands.idle.Given as goal

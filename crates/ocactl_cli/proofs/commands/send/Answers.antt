@@ -4,7 +4,7 @@ use Rattle.ocactl_cli.proofs.commands.send.Goals as goal
 
 pub returns-in-Ok : goal.returns-in-Ok
 returns-in-Ok g c =
-    sends-one (request_of c.args.request) c.submit.result _ c.left-left.result _ _ _ c.submit.new.self _ _ _ c.in-Ok.is c.submit.ensures c.left-left.ensures.less c.await_until.ensures
+    sends-one (request_of c.args.request) c.submit.result _ c.left-left.result _ _ _ c.submit.new.self _ _ _ c.in-Ok.is c.submit.ensures c.left-left.ensures.value c.await_until.ensures
 
 pub returns-in-Err : goal.returns-in-Err
 returns-in-Err g c =

@@ -1,8 +1,5 @@
-use Rattle.std.proofs.Common.{ℕ, Result, sym, subst, refl}
 use Rattle.std.proofs.lemmas.Result.{err_from_is_err_and}
-use Rattle.oca_script.specs.declared.fault.WriteFailed.{WriteFailed}
 use Rattle.oca_script.proofs.PrintLemmas.{written}
-use Rattle.ocactl_cli.specs.Exchanges.{WritesOutcome}
 use Rattle.ocactl_cli.proofs.ExchangeLemmas.{wrote-part, part-flushed}
 use Rattle.ocactl_cli.proofs.exchange.ask_once.Goals as goal
 

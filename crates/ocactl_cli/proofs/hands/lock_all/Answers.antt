@@ -3,7 +3,7 @@ use Rattle.ocactl_cli.proofs.HandLemmas.{asked-none, asked-next}
 use Rattle.ocactl_cli.proofs.hands.lock_all.Goals as goal
 
 pub loop-ono-init : goal.loop-ono-init
-loop-ono-init g c = asked-none (Locks c.args.locks) _ _
+loop-ono-init g c = asked-none (Locks c.args.locks) _ _ _ c.in_ok-flush.ensures.prints c.in_ok-flush.ensures.empty
 
 pub loop-ono-preserved : goal.loop-ono-preserved
 loop-ono-preserved g c =

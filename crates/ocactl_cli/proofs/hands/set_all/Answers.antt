@@ -1,10 +1,14 @@
-use Rattle.ocactl_cli.proofs.HandLemmas.{sets-found, sets-nothing}
+use Rattle.ocactl_cli.proofs.HandLemmas.{sets-found, sets-failed, sets-unset}
 use Rattle.ocactl_cli.proofs.hands.set_all.Goals as goal
 
-pub returns-then-search : goal.returns-then-search
-returns-then-search g c =
-    sets-found _ _ c.find_wishes.new.wishes.items c.in_ok-search.search _ _ _ _ _ _ _ c.in_ok-search.ensures c.if-search.true
-    (rw c.as_slice.ensures.value at c.in_ok-set_wishes.ensures)
+pub returns-in-Ok-clause-all : goal.returns-in-Ok-clause-all
+returns-in-Ok-clause-all g c =
+    sets-found _ _ c.find_wishes.new.wishes.items c.in-Ok.search _ _ _ _ _ _ _ c.in-Ok.ensures.finds (rw c.as_slice.ensures.value at c.set_found.ensures)
 
-pub returns : goal.returns
-returns g c = sets-nothing _ _ c.find_wishes.new.wishes.items c.in_ok-search.search _ _ _ _ c.in_ok-search.ensures c.if-search.false
+pub returns-in-Ok-clause-fails : goal.returns-in-Ok-clause-fails
+returns-in-Ok-clause-fails g c =
+    sets-failed _ _ c.find_wishes.new.wishes.items c.in-Ok.search _ _ _ _ _ _ _ c.in-Ok.ensures.finds (rw c.as_slice.ensures.value at c.set_found.ensures)
+
+pub returns-in-Ok-clause-unset : goal.returns-in-Ok-clause-unset
+returns-in-Ok-clause-unset g c =
+    sets-unset _ _ c.find_wishes.new.wishes.items c.in-Ok.search _ _ _ _ _ _ _ c.in-Ok.ensures.finds (rw c.as_slice.ensures.value at c.set_found.ensures)

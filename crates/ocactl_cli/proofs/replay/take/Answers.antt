@@ -1,6 +1,6 @@
 use Rattle.std.proofs.Common.{ap, sym, ◌∙◌, Some, None}
 use Rattle.std.specs.Option.{option_map}
-use Rattle.oca_control.specs.Answers.{AnswerFields, answer_fields}
+use Rattle.oca_control.specs.Answers.{answer_fields}
 use Rattle.ocactl_cli.proofs.ServeLemmas.{take-served}
 use Rattle.ocactl_cli.proofs.replay.take.Goals as goal
 

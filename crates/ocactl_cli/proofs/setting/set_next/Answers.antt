@@ -1,15 +1,12 @@
-use Rattle.std.proofs.Common.{arith}
-use Rattle.ocactl_cli.proofs.HandLemmas.{sets-next, sets-then}
+use Rattle.ocactl_cli.proofs.HandLemmas.{sets-next, sets-refused}
 use Rattle.ocactl_cli.proofs.setting.set_next.Goals as goal
 
-pub returns-in-Ok : goal.returns-in-Ok
-returns-in-Ok g c =
-    sets-next _ _ c.args.wish.now c.begin-command.result _ _ _ _ c.await_until.new.waiting.items _ _ _ _ _ c.in_ok-so_far.ensures.waits c.in_ok-so_far.ensures.few
-    (omega (arith, c.get.ensures.value, c.get.ensures.least, c.from-left.ensures)) c.begin-command.ensures.wish c.begin-command.ensures.begins c.push.ensures.items
+pub returns-in-Ok-clause-sets : goal.returns-in-Ok-clause-sets
+returns-in-Ok-clause-sets g c =
+    sets-next _ c.args.wish.now c.begin-command.result _ _ _ _ c.args.waiting.now.items c.make_place.new.waiting.items _ _ _ _ _
+    c.in_ok-so_far.ensures.makes c.begin-command.ensures.wish c.begin-command.ensures.begins c.push.ensures.items c.in-Ok.is
 
-pub returns-in-Err : goal.returns-in-Err
-returns-in-Err g c =
-    sets-then _ _ _ _ _ _ _ _ _ _ _ _ _ _
-    (sets-next _ _ c.args.wish.now c.begin-command.result _ _ _ _ c.await_until.new.waiting.items c.push.new.self.items _ _ _ _ c.in_ok-so_far.ensures.waits c.in_ok-so_far.ensures.few
-    (omega (arith, c.get.ensures.value, c.get.ensures.least, c.from-left.ensures)) c.begin-command.ensures.wish c.begin-command.ensures.begins c.push.ensures.items)
-    c.await_until-in-Err.ensures.waits
+pub returns-in-Err-clause-sets : goal.returns-in-Err-clause-sets
+returns-in-Err-clause-sets g c =
+    sets-refused _ c.args.wish.now c.begin-command.result _ _ _ _ _ c.args.waiting.now.items c.make_place.new.waiting.items c.push.new.self.items c.await_all.new.waiting.items _ _ c.await_all.result _ _ _
+    c.in_ok-so_far.ensures.makes c.begin-command.ensures.wish c.begin-command.ensures.begins c.push.ensures.items c.in-Err.is c.await_all.ensures.waits c.await_all.ensures.empty

@@ -1,0 +1,87 @@
+-- The objects of a device, printed as a tree (AES70-2, OcaBlock; the lines are the profile's).
+use Rattle.std.specs.Prelude.{◌≡◌, ◌⊎◌, ◌≤◌, ℕ, List, [], ◌∷◌, ◌++◌, length, codes, Result, Ok, Err}
+use Rattle.std.specs.List.{flat_map, fold}
+use Rattle.oca_script.specs.Ends.{Output}
+use Rattle.oca_script.specs.Printing.{WritesWhole}
+use Rattle.oca_panel.specs.declared.trouble.Trouble.{Trouble}
+use Rattle.oca_panel.specs.declared.walk.Description.{Description}
+use Rattle.oca_panel.specs.declared.walk.Found.{Found}
+use Rattle.oca_panel.specs.declared.walk.Found.TheVariants as found
+use Rattle.oca_panel.specs.declared.walk.Place.{Place}
+use Rattle.oca_panel.specs.declared.walk.Visit.{Visit}
+use Rattle.oca_panel.specs.Panels.{PanelState}
+use Rattle.oca_panel.specs.Walks.{WalkState, VisitsPlace, begun_walk, most_places}
+use Rattle.ocactl_cli.specs.declared.told.Told.TheVariants.{Hindered}
+use Rattle.ocactl_cli.specs.Hands.{graver_of, line_of, place_text, trouble_status}
+
+-- ---- a place
+
+-- the line of an object that says what it is
+abbrev pub described_text : Place → Description → List ℕ
+described_text place d = place_text place.ono.0 d.fields.items place.container.0 d.role
+
+-- why a block does not say its members, behind its line
+abbrev pub unlisted_text : ℕ → Result Unit Trouble → List ℕ
+unlisted_text ono (Ok u) = []
+unlisted_text ono (Err why) = line_of ono (Hindered why)
+
+-- the lines of a place: that of its object, or why that does not say what it is
+abbrev pub found_text : Place → Found → List ℕ
+found_text place (found.Object d) = described_text place d
+found_text place (found.Block d listed) = described_text place d ++ unlisted_text place.ono.0 listed
+found_text place (found.Undescribed why) = line_of place.ono.0 (Hindered why)
+found_text place found.Again = []
+
+abbrev pub visit_text : Visit → List ℕ
+visit_text visit = found_text visit.place visit.found
+
+-- the exit status
+abbrev pub listed_status : Result Unit Trouble → ℕ
+listed_status (Ok u) = 0
+listed_status (Err why) = trouble_status why
+
+abbrev pub found_status : Found → ℕ
+found_status (found.Object d) = 0
+found_status (found.Block d listed) = listed_status listed
+found_status (found.Undescribed why) = trouble_status why
+found_status found.Again = 0
+
+abbrev pub visit_status : Visit → ℕ
+visit_status visit = found_status visit.found
+
+-- ---- all places
+
+abbrev pub visits_text : List Visit → List ℕ
+visits_text visits = flat_map visit_text visits
+
+abbrev pub gravest_visit : List Visit → ℕ
+gravest_visit visits = fold (λ worst visit. graver_of worst (visit_status visit)) 0 visits
+
+-- Places were visited, one after another, each the next one.
+pub data Walks : WalkState → PanelState → List Visit → WalkState → PanelState → Type 0 where
+  NoneVisited : {w : WalkState} {s : PanelState} → Walks w s [] w s
+  OneVisited : {v w x : WalkState} {r s t : PanelState} {visits : List Visit} (visit : Visit)
+      → Walks v r visits w s → VisitsPlace w s t visit x → Walks v r (visits ++ visit ∷ []) x t
+
+-- no place is left, or as many were visited as are at most
+abbrev pub IsOver : WalkState → Type 0
+IsOver walk = (walk.waiting ≡ []) ⊎ (most_places ≤ length walk.visited)
+
+-- that places are left, where some are
+abbrev pub left_text : List Place → List ℕ
+left_text [] = []
+left_text (place ∷ places) = codes "more than 4096 objects\n"
+
+abbrev pub status_with : List Place → ℕ → ℕ
+status_with [] status = status
+status_with (place ∷ places) status = graver_of status 4
+
+-- THE TREE OF A DEVICE WAS PRINTED: all its places were visited from the root block on, each block's members behind it in their order, or
+-- as many as are at most; the lines of each were written in this order, and the exit status is the gravest.
+pub record PrintsTree (old new : PanelState) (status : ℕ) (was is : Output) : Type 0 where
+  pub visits : List Visit
+  pub walk : WalkState
+  pub walks : Walks begun_walk old visits walk new
+  pub over : IsOver walk
+  pub worst : status ≡ status_with walk.waiting (gravest_visit visits)
+  pub writes : WritesWhole was is (visits_text visits ++ left_text walk.waiting)
