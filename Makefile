@@ -7,6 +7,7 @@
 # make world   schedules for both ends, held against the laws and the second implementation: SCHEDULES=8000 SEED=1
 # make law     histories of events, held against the law by events, and wrong devices: HISTORIES=2000 SEED=1
 # make bench   instructions, memory by size, requests a second beside bare loops, with the goals
+# make panel-trial   the panel in a real browser, headless Chromium: clicks, drags, locks, loss, a restart, 4,096 objects
 # make install puts the programs, their manual pages and the library for C below PREFIX (of DESTDIR); what is not built yet is
 #              proved and built first (make build, make library), and built anew where a source is newer
 # make library proves and builds the library for C: TARGET=aarch64-unknown-linux-gnu for another kind of processor, which
@@ -20,9 +21,9 @@ SEED = 1
 PREFIX = /usr/local
 TARGET = x86_64-unknown-linux-gnu
 LIBRARY = crates/oca_c/out/$(TARGET)/liboca_c.a
-PROGRAMS = ocadev ocactl
+PROGRAMS = ocadev ocactl ocapanel
 BUILD = python3 gate/build.py bin
-.PHONY: build demo test lossy fuzz world law bench library install install-library uninstall clean
+.PHONY: build demo test lossy fuzz world law bench panel-trial library install install-library uninstall clean
 
 demo:
 	@echo "Building by 'rt try' and running the examples; nothing is proved yet by that. This takes about a minute."
@@ -54,6 +55,10 @@ law:
 	@test -x bin/trials || $(BUILD) trials
 	@python3 tools/law.py bin $(HISTORIES) $(SEED)
 
+panel-trial:
+	@test -x bin/ocapanel || $(MAKE) build
+	@python3 tools/panel_trial.py bin
+
 bench: build
 	@$(BUILD) trials
 	python3 bench/run.py bin
@@ -64,7 +69,7 @@ bench: build
 export PREFIX DESTDIR LIBRARY
 
 install: install-library
-	@test -x bin/ocactl || $(MAKE) build
+	@test -x bin/ocapanel || $(MAKE) build
 	@sh gate/install.sh install programs
 
 install-library: $(LIBRARY)

@@ -31,7 +31,7 @@ put_text() { # put_text FILE FOLDER NAME, with what stands for the folders
 }
 
 install_programs() {
-    for name in ocadev ocactl; do
+    for name in ocadev ocactl ocapanel; do
         put 755 "bin/$name" bin
         put 644 "man/$name.1" share/man/man1
     done
@@ -62,7 +62,7 @@ install_library() {
 }
 
 uninstall_programs() {
-    for name in ocadev ocactl; do rm -f "$ROOT/bin/$name" "$ROOT/share/man/man1/$name.1"; done
+    for name in ocadev ocactl ocapanel; do rm -f "$ROOT/bin/$name" "$ROOT/share/man/man1/$name.1"; done
 }
 
 uninstall_library() {

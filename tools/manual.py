@@ -1,8 +1,9 @@
 #!/usr/bin/env python3
-"""Holds man/ocadev.1 and man/ocactl.1 against `--help`: the same commands, and of each the same options with the same
-values and the same defaults, those that stand before `unless given`.
+"""Holds man/ocadev.1, man/ocactl.1 and man/ocapanel.1 against `--help`: the same commands, and of each the same options with
+the same values and the same defaults, those that stand before `unless given`. A program without commands has one of its own
+name.
 
-Usage: manual.py BIN     BIN is the folder with the two programs
+Usage: manual.py BIN     BIN is the folder with the programs
 
 In a page a command is a `.SS`, and an option of it a `.BI \\-\\-NAME " VALUE"` or, without a value, a `.B \\-\\-NAME`.
 Where groff is installed, it must find nothing to warn of. The last line is 'N passed, M failed'."""
@@ -26,14 +27,17 @@ def section(text, name):
 
 
 def options_in_help(text):
-    """Each option with its value or none; but `--help`, which every command has."""
+    """Each option with its value or none; but `--help`, which every command has, and `--version`, which every program has."""
     pattern = r"\s+(?:-\w, )?--([a-z-]+)(?:[ =]<([^>]+)>)?"
     found = [re.match(pattern, line) for line in section(text, "Options")]
-    return {m[1]: m[2] for m in found if m and m[1] != "help"}
+    return {m[1]: m[2] for m in found if m and m[1] not in ("help", "version")}
 
 
 def commands_in_help(program):
-    return {line.split()[0] for line in section(help_of(program), "Commands")} - {"help"}
+    """The words that ask for each command: none where the program has no commands."""
+    found = {line.split()[0]: [line.split()[0]] for line in section(help_of(program), "Commands")}
+    found.pop("help", None)
+    return found or {Path(program).name: []}
 
 
 def commands_in_page(text):
@@ -72,13 +76,13 @@ def faults_of(page, program):
     """What differs, a line each, and how much was compared."""
     text = page.read_text()
     documented, there = commands_in_page(text), commands_in_help(program)
-    faults = [f"command {name} is in one of both alone" for name in documented.keys() ^ there]
+    faults = [f"command {name} is in one of both alone" for name in documented.keys() ^ there.keys()]
     count = len(there)
-    for name in sorted(documented.keys() & there):
-        said = options_in_help(help_of(program, name))
+    for name in sorted(documented.keys() & there.keys()):
+        said = options_in_help(help_of(program, *there[name]))
         count += len(said)
         defaults, others = defaults_in_page(text, name)
-        wanted = {option: value for option, value in defaults_in_help(help_of(program, name)).items() if option not in others}
+        wanted = {option: value for option, value in defaults_in_help(help_of(program, *there[name])).items() if option not in others}
         count += len(wanted)
         if defaults != wanted:
             faults.append(f"{name}: the defaults are {defaults} in the page, {wanted} in the help")
@@ -94,7 +98,7 @@ def faults_of(page, program):
 
 def main():
     passed = failed = 0
-    for name in ("ocadev", "ocactl"):
+    for name in ("ocadev", "ocactl", "ocapanel"):
         faults, count = faults_of(PAGES / f"{name}.1", f"{sys.argv[1]}/{name}")
         for fault in faults:
             print(f"{name}.1: {fault}")

@@ -1,0 +1,27 @@
+//! A panel in the browser as a program: `ocapanel --device A.B.C.D:PORT`, and a page at http://127.0.0.1:8080/.
+#![tactic(auto)]
+
+use oca_net::{CountsSleep, fill_standard_descriptors};
+use oca_program::{report as report_failure, words_of};
+use oca_script::{Printer, ToWriter};
+use ocapanel_cli::run::run;
+use std::io;
+use std::process::ExitCode;
+
+/// Runs the program on its command line and the standard streams.
+fn main(rt: HostRuntime) -> ExitCode {
+    let _ = fill_standard_descriptors(&rt);
+    let mut faults = Printer::new(ToWriter::new(rt.stderr()));
+    let status = match words_of(&rt) {
+        Ok(words) => run(
+            rt.alloc(),
+            &rt,
+            &CountsSleep(&rt),
+            words.as_slice(),
+            &mut Printer::new(ToWriter::new(io::writer(&rt))),
+            &mut faults,
+        ),
+        Err(failure) => report_failure(&failure, &mut faults),
+    };
+    ExitCode::from(status)
+}

@@ -1,0 +1,55 @@
+-- What the options of the panel's program say (*profile*).
+use Rattle.std.specs.Prelude.{ℕ, ◌/◌, ◌==◌, nat_lt, List, Bool, codes, if◌then◌else◌, Option, Some, None}
+use Rattle.clap.specs.declared.parser.matches.ArgMatches.{ArgMatches}
+use Rattle.oca_types.specs.declared.words.Peer.{Peer}
+use Rattle.oca_types.specs.Sizes.{span_size}
+use Rattle.oca_script.specs.Fields.{number_of, peer_of, then_in}
+use Rattle.oca_program.specs.Options.{given, read_as, read_or, sized, host_of}
+use Rattle.ocapanel_cli.specs.declared.words.Serving.{Serving}
+
+-- where the device is
+abbrev pub device_in : ArgMatches → Option Peer
+device_in words = read_as host_of (given words (codes "device"))
+
+-- an address of this machine alone, 127.0.0.0/8
+abbrev pub at_own_machine : Peer → Option Peer
+at_own_machine p = if p.ip / 16777216 == 127 then Some p else None
+
+abbrev pub is_own_machine : List ℕ → Option Peer
+is_own_machine text = then_in (peer_of text) at_own_machine
+
+-- where browsers are listened to: 127.0.0.1:8080 unless given
+abbrev pub listen_in : ArgMatches → Option Peer
+listen_in words = read_or (record { ip = 2130706433; port = 8080 }) is_own_machine (given words (codes "listen"))
+
+-- a span: 2 to 32 in at most 3 digits, 16 unless given
+abbrev pub at_least_two : ℕ → Option ℕ
+at_least_two n = if nat_lt n 2 then None else sized 32 n
+
+abbrev pub span_of : List ℕ → Option ℕ
+span_of text = then_in (number_of 3 255 text) at_least_two
+
+abbrev pub span_in : ArgMatches → Option ℕ
+span_in words = read_or 16 span_of (given words (codes "span"))
+
+-- the local port: one of the system's choice unless given
+abbrev pub port_in : ArgMatches → Option ℕ
+port_in words = read_or 0 (number_of 5 65535) (given words (codes "port"))
+
+pub record ServingFields : Type 0 where
+  pub device : Peer
+  pub listen : Peer
+  pub span : ℕ
+  pub port : ℕ
+
+abbrev pub serving_fields : Serving → ServingFields
+serving_fields s = record { device = s.device; listen = s.listen; span = span_size s.span; port = s.port }
+
+-- WHAT THE OPTIONS SAY, where each has its form
+unfoldable pub serving_in : ArgMatches → Option ServingFields
+serving_in words =
+    then_in (device_in words) (λ device.
+    then_in (listen_in words) (λ listen.
+    then_in (span_in words) (λ span.
+    then_in (port_in words) (λ port.
+    Some (record { device = device; listen = listen; span = span; port = port })))))

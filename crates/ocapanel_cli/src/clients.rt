@@ -1,0 +1,256 @@
+//! The connections of browsers: at most eight, none of which is waited for.
+use http_server::{Config, Connection};
+use mio::net::TcpStream;
+use mio::{Interest, Poll, Token};
+use oca_web::Site;
+use std::alloc::Global;
+use std::hash::RandomState;
+use std::io;
+
+/// The most connections at once.
+const MOST: usize = 8;
+
+/// The largest body of a request, in bytes.
+const MOST_BODY: usize = 4096;
+
+/// A connection on which nothing moved is closed after so many milliseconds.
+const IDLE_MS: u64 = 30_000;
+
+/// A connection with no request on it gives way to another one after so many milliseconds.
+const RESTING_MS: u64 = 1_000;
+
+/// A request that is not whole, or an answer that is not taken, after so many milliseconds closes its connection.
+const SLOW_MS: u64 = 5_000;
+
+/// How often a connection is read and written before the others have their turn.
+const ROUNDS: u32 = 8;
+
+/// The connection of a browser. Moments are in milliseconds.
+#[derive(Drop)]
+struct Client {
+    stream: TcpStream,
+    http: Connection,
+    token: Token,
+    /// Whether there may be something to read or to write.
+    ready: bool,
+    /// When something moved last.
+    moved: u64,
+    /// Since when something is begun: a request that is not whole, or an answer that is not taken.
+    begun: Option<u64>,
+}
+
+/// What became of a connection.
+#[derive(Clone, Copy, PartialEq, Eq, Debug)]
+enum Stands {
+    /// It waits for the browser.
+    Waits,
+    /// There may be more to do.
+    HasMore,
+    /// It is over.
+    Ended,
+}
+
+impl Client {
+    /// Reads once, where it wants to. Returns whether it is to go on: nothing failed.
+    fn read(&mut self, now: u64) -> Result<bool, ()> {
+        if !self.http.wants_read() {
+            return Ok(false);
+        }
+        match self.http.read_from(&mut self.stream) {
+            Ok(_) => {
+                self.begun = self.begun.or(Some(now));
+                Ok(true)
+            }
+            Err(error) if error.kind() == io::ErrorKind::WouldBlock => Ok(false),
+            Err(_) => Err(()),
+        }
+    }
+
+    /// Writes once, where it wants to. Returns whether something was written.
+    fn write(&mut self, now: u64) -> Result<bool, ()> {
+        if !self.http.wants_write() {
+            return Ok(false);
+        }
+        match self.http.write_to(&mut self.stream) {
+            Ok(0) => Err(()),
+            Ok(_) => {
+                if !self.http.wants_write() {
+                    self.begun = None;
+                }
+                Ok(true)
+            }
+            Err(error) if error.kind() == io::ErrorKind::WouldBlock => {
+                self.begun = self.begun.or(Some(now));
+                Ok(false)
+            }
+            Err(_) => Err(()),
+        }
+    }
+
+    /// Reads, answers and writes once.
+    fn step(&mut self, site: &mut Site, now: u64) -> Result<bool, ()> {
+        let read = self.read(now)?;
+        let calls = site.calls();
+        self.http.advance(site);
+        if site.calls() != calls {
+            self.begun = None;
+        }
+        let written = self.write(now)?;
+        Ok(read || written)
+    }
+
+    /// Reads, answers and writes what can be, with no wait.
+    fn serve(&mut self, site: &mut Site, now: u64) -> Stands {
+        for _ in 0..ROUNDS {
+            match self.step(site, now) {
+                Ok(moves) => {
+                    if self.http.is_done() {
+                        return Stands::Ended;
+                    }
+                    if !moves {
+                        return Stands::Waits;
+                    }
+                    self.moved = now;
+                }
+                Err(()) => return Stands::Ended,
+            }
+        }
+        Stands::HasMore
+    }
+
+    /// Whether it is too slow, or idle for too long.
+    fn is_late(&self, now: u64) -> bool {
+        if self.moved.saturating_add(IDLE_MS) < now {
+            return true;
+        }
+        match self.begun {
+            Some(moment) => moment.saturating_add(SLOW_MS) < now,
+            None => false,
+        }
+    }
+
+    /// Whether there is no request on it, and was none for a while.
+    fn rests(&self, now: u64) -> bool {
+        self.begun.is_none() && self.moved.saturating_add(RESTING_MS) < now
+    }
+}
+
+/// The connections of browsers.
+#[derive(Drop)]
+pub struct Clients {
+    alloc: Global,
+    clients: Vec<Client>,
+    tokens: usize,
+    more: bool,
+}
+
+impl Clients {
+    /// No connection. Their tokens are above this one.
+    pub fn new(alloc: Global, tokens: usize) -> Clients {
+        Clients {
+            alloc,
+            clients: Vec::new(alloc),
+            tokens,
+            more: false,
+        }
+    }
+
+    /// Lets a connection in, where there are fewer than eight or one of them rests; else it is closed. Where the system
+    /// or memory refuses something, it is closed too.
+    pub fn add(&mut self, mut stream: TcpStream, poll: &Poll, keys: RandomState, now: u64) {
+        if self.clients.len() >= MOST && !self.close_resting(now) {
+            return;
+        }
+        let _ = stream.set_nodelay(true);
+        let token = self.next_token();
+        let both = Interest::READABLE | Interest::WRITABLE;
+        if poll.registry().register(&mut stream, token, both).is_err() {
+            return;
+        }
+        let config = Config {
+            max_body_len: MOST_BODY,
+            ..Config::default()
+        };
+        let _ = self.clients.push(Client {
+            stream,
+            http: Connection::new(self.alloc, keys, config),
+            token,
+            ready: true,
+            moved: now,
+            begun: Some(now),
+        });
+        self.more = true;
+    }
+
+    /// A token that no source has.
+    fn next_token(&mut self) -> Token {
+        self.tokens = self.tokens.saturating_add(1);
+        Token(self.tokens)
+    }
+
+    /// Closes the first connection that rests. Returns whether there was one.
+    fn close_resting(&mut self, now: u64) -> bool {
+        let resting = self.clients.iter().position(|client| client.rests(now));
+        match resting {
+            Some(place) => {
+                self.close(place);
+                true
+            }
+            None => false,
+        }
+    }
+
+    /// Closes the connection at this place.
+    fn close(&mut self, place: usize) {
+        if place < self.clients.len() {
+            let _ = self.clients.remove(place);
+        }
+    }
+
+    /// Something can be read from or written to the connection of this token.
+    pub fn note_ready(&mut self, token: Token) {
+        for place in 0..self.clients.len() {
+            if let Some(client) = self.clients.get_mut(place) {
+                if client.token == token {
+                    client.ready = true;
+                }
+            }
+        }
+    }
+
+    /// Serves each connection that is ready, and closes those that ended or are late.
+    pub fn serve(&mut self, site: &mut Site, now: u64) {
+        self.more = false;
+        let mut place = 0usize;
+        for _ in 0..self.clients.len() {
+            let ends = self.serve_at(place, site, now);
+            if ends {
+                self.close(place);
+            } else {
+                place = place.saturating_add(1);
+            }
+        }
+    }
+
+    /// Serves the connection at this place, where it is ready. Returns whether it is over, or late.
+    fn serve_at(&mut self, place: usize, site: &mut Site, now: u64) -> bool {
+        let Some(client) = self.clients.get_mut(place) else {
+            return true;
+        };
+        if !client.ready {
+            return client.is_late(now);
+        }
+        let stands = client.serve(site, now);
+        client.ready = stands == Stands::HasMore;
+        let ends = stands == Stands::Ended || client.is_late(now);
+        if stands == Stands::HasMore {
+            self.more = true;
+        }
+        ends
+    }
+
+    /// Whether a connection may have more to do.
+    pub fn has_more(&self) -> bool {
+        self.more
+    }
+}

@@ -1,0 +1,102 @@
+//! An end that never waits, and counts what it sends.
+use oca_net::{End, Heard};
+use oca_types::{Packet, Peer};
+use std::marker::Model;
+
+/// An end that never waits, and counts what it sends: for a loop that waits for other things too.
+pub struct Ready<E: End> {
+    end: E,
+    sent: u64,
+    quiet: bool,
+}
+
+impl<E: End> Model for Ready<E> {
+    ghost use Rattle.oca_net.specs.EndStates.{EndState};
+
+    ghost Value = { EndState };
+
+    ghost view = { λ r. E.state r.end };
+}
+
+impl<E: End + Drop> Drop for Ready<E> {
+    /// Lets the end go.
+    fn drop(self) {
+        let Ready {
+            end: _,
+            sent: _,
+            quiet: _,
+        } = self;
+    }
+}
+
+impl<E: End> Ready<E> {
+    ghost use Rattle.std.specs.Prelude.{◌≡◌};
+
+    /// The end, which sent nothing so far.
+    pub fn new(end: E) -> Ready<E>
+        ensures { result ≡ E.state end }
+    {
+        Ready {
+            end,
+            sent: 0,
+            quiet: false,
+        }
+    }
+
+    /// The end.
+    pub fn end(&self) -> &E
+        ensures { E.state result.now ≡ self.now }
+    {
+        &self.end
+    }
+
+    /// How many datagrams were sent, failed sends included.
+    pub fn sent(&self) -> u64 {
+        self.sent
+    }
+
+    /// Whether the last receive found nothing.
+    pub fn is_quiet(&self) -> bool {
+        self.quiet
+    }
+}
+
+impl<E: End> End for Ready<E> {
+    ghost use Rattle.std.specs.Prelude.{◌≤◌, ◌<◌, IfSome, length};
+    ghost use Rattle.oca_net.specs.Ends.{largest_datagram};
+    ghost use Rattle.oca_net.specs.EndStates.{EndState, Receives, Sends};
+
+    ghost state = { λ (s : EndState). s };
+
+    /// Receives what is there.
+    fn receive(&mut self, packet: &mut Packet) -> Heard
+        ensures { Receives result packet.new.items self.old self.new }
+    {
+        let heard = self.end.receive_by(packet, 0);
+        self.quiet = !matches!(heard, Heard::Datagram { .. } | Heard::Oversize { .. });
+        heard
+    }
+
+    /// Receives what is there, whatever the moment.
+    fn receive_by(&mut self, packet: &mut Packet, _moment: u64) -> Heard
+        ensures { Receives result packet.new.items self.old self.new }
+    {
+        self.receive(packet)
+    }
+
+    /// The end's present moment.
+    fn now(&self) -> u64
+        ensures { 0 < result → IfSome self.now.moment (λ m. m ≤ result) }
+    {
+        self.end.now()
+    }
+
+    /// Sends a datagram, and counts it.
+    fn send(&mut self, to: Peer, bytes: &[u8]) -> bool
+        requires { length bytes.now ≤ largest_datagram }
+        ensures { Sends result to bytes.now self.old self.new }
+    {
+        self.sent = self.sent.saturating_add(1);
+        self.end.send(to, bytes)
+    }
+}

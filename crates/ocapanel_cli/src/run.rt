@@ -1,0 +1,46 @@
+//! A run of the program.
+use crate::serving::serve;
+use crate::words::{Asked, asked_for};
+use oca_program::{Failure, report};
+use oca_script::{Printer, Sink};
+use std::alloc::Global;
+use std::convert::AsStr;
+use std::net::Net;
+use std::random::RandomSource;
+use std::rt::Clock;
+
+/// Runs the program on the words of its command line, its name first, and returns its exit status: 0 for a help text, 2
+/// where the words are bad, 1 where something could not be done. A fault is printed on `faults` as one line, behind one
+/// that begins with `note: ` where more is known.
+pub fn run<R: Net + RandomSource, N: Net + Clock, S: AsStr, W: Sink, F: Sink>(
+    alloc: Global,
+    rt: &R,
+    system: &N,
+    words: &[S],
+    printer: &mut Printer<W>,
+    faults: &mut Printer<F>,
+) -> u8 {
+    match served(alloc, rt, system, words, printer, faults) {
+        Ok(()) => 0,
+        Err(failure) => report(&failure, faults),
+    }
+}
+
+/// Does what the words ask for.
+fn served<R: Net + RandomSource, N: Net + Clock, S: AsStr, W: Sink, F: Sink>(
+    alloc: Global,
+    rt: &R,
+    system: &N,
+    words: &[S],
+    printer: &mut Printer<W>,
+    faults: &mut Printer<F>,
+) -> Result<(), Failure> {
+    match asked_for(alloc, words)? {
+        Asked::Serve(serving) => serve(alloc, rt, system, serving, faults),
+        Asked::Help(text) => {
+            printer.print(text.as_str().as_bytes())?;
+            printer.flush()?;
+            Ok(())
+        }
+    }
+}

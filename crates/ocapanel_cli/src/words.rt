@@ -1,0 +1,208 @@
+//! The words of the command line.
+ghost use Rattle.std.specs.Prelude.{◌≡◌};
+ghost use Rattle.std.specs.Option.{option_map};
+ghost use Rattle.oca_types.specs.Sizes.{span_size};
+ghost use Rattle.ocapanel_cli.specs.Words.{device_in, is_own_machine, listen_in, port_in, serving_fields, serving_in, span_in, span_of as span_said};
+
+use clap::{Arg, ArgAction, ArgMatches, Command, Error};
+use oca_program::form::bad_option;
+use oca_program::options::{help_or_failure, host_in, number_or, option, text_of};
+use oca_program::{Failure, Form, Rule, VERSION};
+use oca_script::field::{number, peer};
+use oca_types::{LOOPBACK, Peer, Span};
+use std::alloc::{AllocError, Global};
+use std::convert::AsStr;
+
+/// Where browsers are listened to, unless it is said.
+const LISTEN: Peer = Peer {
+    ip: LOOPBACK,
+    port: 8080,
+};
+
+/// What the words ask for: a panel for a device.
+#[derive(Clone, Copy, Debug, PartialEq, Eq)]
+pub struct Serving {
+    /// Where the device is.
+    pub device: Peer,
+    /// Where browsers are listened to.
+    pub listen: Peer,
+    /// How far above the lowest untaken command the next handle may lie.
+    pub span: Span,
+    /// The local port of the socket for the device; 0 is one of the system's choice.
+    pub port: u16,
+    /// Whether each change of the link is told.
+    pub verbose: bool,
+}
+
+/// What the words ask for.
+#[derive(Drop)]
+pub enum Asked {
+    /// A panel.
+    Serve(Serving),
+    /// To print a help text.
+    Help(String),
+}
+
+const EXAMPLE: &str =
+    "The panel is one of this machine alone: only its own browsers reach it. One process serves at most 8 connections; it ends where it is stopped.
+
+Example: ocapanel --device 127.0.0.1:65000, and open http://127.0.0.1:8080/";
+
+/// That each change of the link is told.
+fn verbose_option<'a>(alloc: Global) -> Arg<'a> {
+    Arg::new(alloc, "verbose")
+        .long("verbose")
+        .help("Prints a line on standard error when the device is lost and when it is heard again")
+        .action(ArgAction::SetTrue)
+}
+
+/// The whole program.
+fn command<'a>(alloc: Global) -> Result<Command<'a>, AllocError> {
+    Command::new(alloc, "ocapanel")
+        .about("A panel in the browser for an OCA (AES70) device over UDP")
+        .version(VERSION)
+        .after_help(EXAMPLE)
+        .arg(option(alloc, "device", "A.B.C.D:PORT", "The device's address").required(true))?
+        .arg(option(
+            alloc,
+            "listen",
+            "A.B.C.D:PORT",
+            "Where browsers are listened to, an address of 127.0.0.0/8 [127.0.0.1:8080 unless given]; at port 0 the system chooses one",
+        ))?
+        .arg(option(
+            alloc,
+            "span",
+            "S",
+            "How far above the lowest untaken command the next handle may lie, 2 to 32 [16 unless given]; half of it is kept for orders",
+        ))?
+        .arg(option(
+            alloc,
+            "port",
+            "PORT",
+            "The local port of the socket for the device [one of the system's choice unless given]",
+        ))?
+        .arg(verbose_option(alloc))
+}
+
+/// The words, matched with what the program takes.
+fn matches_of<'a, S: AsStr>(alloc: Global, words: &'a [S]) -> Result<ArgMatches<'a>, Error> {
+    command(alloc)?.try_get_matches_from(words)
+}
+
+/// The options with a form.
+const RULES: [Rule; 4] = [
+    Rule {
+        name: "device",
+        form: Form::Host,
+    },
+    Rule {
+        name: "listen",
+        form: Form::AnyPeer,
+    },
+    Rule {
+        name: "span",
+        form: Form::Number {
+            digits: 3,
+            least: 2,
+            largest: 32,
+        },
+    },
+    Rule {
+        name: "port",
+        form: Form::Number {
+            digits: 5,
+            least: 0,
+            largest: 65_535,
+        },
+    },
+];
+
+/// What is said where each option has its form.
+const ELSEWHERE: &str =
+    "--listen is not of this machine alone: it is to be an address of 127.0.0.0/8, since the panel asks nobody who he is";
+
+/// What the words ask for, the program's name first, or why they ask for nothing.
+pub fn asked_for<S: AsStr>(alloc: Global, words: &[S]) -> Result<Asked, Failure> {
+    match matches_of(alloc, words) {
+        Ok(matches) => match serving_of(&matches) {
+            Some(serving) => Ok(Asked::Serve(serving)),
+            None => Err(bad_option(alloc, &matches, &RULES, ELSEWHERE)),
+        },
+        Err(error) => Ok(Asked::Help(help_or_failure(alloc, &error)?)),
+    }
+}
+
+/// The panel that the options ask for.
+#[tactic(auto, unfolding(crate::specs::Words::serving_in))]
+fn serving_of(words: &ArgMatches<'_>) -> Option<Serving>
+    ensures { option_map serving_fields result ≡ serving_in words.now }
+{
+    let device = device_of(words)?;
+    let listen = listen_of(words)?;
+    let span = span_of(words)?;
+    let port = port_of(words)?;
+    Some(Serving {
+        device,
+        listen,
+        span,
+        port,
+        verbose: words.get_flag("verbose"),
+    })
+}
+
+/// Where the device is.
+fn device_of(words: &ArgMatches<'_>) -> Option<Peer>
+    ensures { result ≡ device_in words.now }
+{
+    host_in(words, "device")
+}
+
+/// Where browsers are listened to: at an address of this machine alone, 127.0.0.1:8080 unless it is given.
+fn listen_of(words: &ArgMatches<'_>) -> Option<Peer>
+    ensures { result ≡ listen_in words.now }
+{
+    match text_of(words, "listen") {
+        Some(text) => own_machine(text.as_bytes()),
+        None => Some(LISTEN),
+    }
+}
+
+/// An address of this machine alone, with a port.
+fn own_machine(text: &[u8]) -> Option<Peer>
+    ensures { result ≡ is_own_machine text.now }
+{
+    let at = peer(text)?;
+    if at.ip / 16_777_216 == 127 { Some(at) } else { None }
+}
+
+/// The span that a text says: 1 to 3 digits, 2 to 32.
+#[tactic(auto, using(oca_program::proofs::OptionLemmas::size_rules))]
+fn span_said(text: &[u8]) -> Option<Span>
+    ensures { option_map span_size result ≡ span_said text.now }
+{
+    let size = number(text, 3, 255)? as u8;
+    if size < 2 {
+        return None;
+    }
+    Span::new(size)
+}
+
+/// The span: of 16 commands unless it is given.
+fn span_of(words: &ArgMatches<'_>) -> Option<Span>
+    ensures { option_map span_size result ≡ span_in words.now }
+{
+    match text_of(words, "span") {
+        Some(text) => span_said(text.as_bytes()),
+        None => Some(Span::default()),
+    }
+}
+
+/// The local port, one of the system's choice unless it is given.
+fn port_of(words: &ArgMatches<'_>) -> Option<u16>
+    ensures { result ≡ port_in words.now }
+{
+    match number_or(words, "port", 5, 65535, 0) {
+        Some(port) => Some(port as u16),
+        None => None,
+    }
+}

@@ -1,0 +1,501 @@
+#!/usr/bin/env python3
+"""The panel in the browser, without a browser: hostile requests, slow clients, a network that loses 20 % each way, a
+device that goes and comes back, 4,096 objects, and nine connections.
+
+Usage: panel.py BIN     BIN is the folder with `ocapanel`, `ocadev` and `ocactl`
+
+Times are printed, and none fails but by a wait of many times its length. The last line is 'N passed, M failed'."""
+import base64
+import contextlib
+import hashlib
+import http.client
+import json
+import os
+import random
+import re
+import select
+import socket
+import subprocess
+import sys
+import tempfile
+import threading
+import time
+from pathlib import Path
+
+from own_ports import free_port
+
+TOP = Path(__file__).resolve().parent.parent
+TREE = TOP / "examples" / "stagebox.tree"
+MUTE, POLARITY, TRIM, SOURCE = 4098, 4099, 4100, 4101
+COUNTS = [0, 0]
+OWN_PORTS = {}
+
+
+def check(is_so, what):
+    COUNTS[not is_so] += 1
+    if not is_so:
+        print(f"FAILED: {what}", flush=True)
+    return is_so
+
+
+
+class Device:
+    """`ocadev serve` at a port."""
+
+    def __init__(self, folder, port=0, words=("--tree", str(TREE))):
+        self.process = subprocess.Popen([f"{folder}/ocadev", "serve", "--port", str(port), "--peers", "64", *words], stdout=subprocess.DEVNULL, stderr=subprocess.PIPE, text=True)
+        line = self.process.stderr.readline()
+        self.port = int(line.rsplit(":", 1)[1]) if line.startswith("listening ") else sys.exit(f"panel: ocadev said {line!r}")
+
+    def __enter__(self):
+        return self
+
+    def __exit__(self, *_):
+        self.process.kill()
+        self.process.wait()
+
+
+class Panel:
+    """`ocapanel` at a port that the system chose."""
+
+    def __init__(self, folder, device_port, *words):
+        self.process = subprocess.Popen([f"{folder}/ocapanel", "--device", f"127.0.0.1:{device_port}", "--listen", "127.0.0.1:0", *words],
+                                        stdout=subprocess.DEVNULL, stderr=subprocess.PIPE, text=True)
+        line = self.process.stderr.readline()
+        found = re.fullmatch(r"listening http://127\.0\.0\.1:(\d+)/\n", line)
+        self.port = int(found[1]) if found else sys.exit(f"panel: ocapanel said {line!r}")
+        self.host = f"127.0.0.1:{self.port}"
+        self.since, self.epoch = 0, 0
+        self.shown, self.told = {}, {}
+
+    def __enter__(self):
+        return self
+
+    def __exit__(self, *_):
+        self.process.kill()
+        self.process.wait()
+
+    def ask(self, method, path, body=None, headers=None, timeout=20):
+        """The status, the headers and the body of an answer."""
+        c = http.client.HTTPConnection("127.0.0.1", self.port, timeout=timeout)
+        try:
+            sent = {"Host": self.host} if headers is None else headers
+            c.request(method, path, body=body, headers=sent)
+            r = c.getresponse()
+            return r.status, {k.lower(): v for k, v in r.getheaders()}, r.read()
+        finally:
+            c.close()
+
+    def get(self, path):
+        return json.loads(self.ask("GET", path)[2])
+
+    def order(self, path, ono, value=None):
+        """The status, and the ticket where it was taken."""
+        body = {"ono": ono} | ({} if value is None else {"value": value})
+        headers = {"Host": self.host, "Origin": f"http://{self.host}", "Content-Type": "application/json"}
+        status, _, text = self.ask("POST", path, json.dumps(body), headers)
+        return status, json.loads(text) if status == 202 else None
+
+    def look(self, extra=""):
+        """Asks for what changed, as a page does."""
+        values = self.get(f"/values?since={self.since}{extra}")
+        if values["epoch"] != self.epoch:
+            self.epoch, self.since, self.shown = values["epoch"], 0, {}
+            return self.look(extra)
+        self.since = values["change"]
+        self.shown |= {o["ono"]: o for o in values["objects"]}
+        self.told |= {t["ticket"]: t["trouble"] for t in values["told"]}
+        return values
+
+    def wait(self, holds, seconds=20.0):
+        """Looks until this holds of what was answered, and answers the seconds that it took, or None."""
+        begun = time.monotonic()
+        while time.monotonic() - begun < seconds:
+            if holds(self.look()):
+                return time.monotonic() - begun
+            time.sleep(0.01)
+        return None
+
+    def fare(self, path, ono, value=None, seconds=30.0):
+        """How an order fared: None where it was carried out, else the word."""
+        status, ticket = self.order(path, ono, value)
+        if status != 202:
+            return f"status {status}"
+        return self.told[ticket] if self.wait(lambda _: ticket in self.told, seconds) is not None else "not told"
+
+    def value(self, ono):
+        return self.shown.get(ono, {}).get("value")
+
+
+def ocactl(folder, device_port, *words):
+    """What `ocactl` prints, from a port of this tool's own: each port is a session at the device."""
+    port = OWN_PORTS.setdefault(device_port, free_port())
+    return subprocess.run([f"{folder}/ocactl", words[0], "--device", f"127.0.0.1:{device_port}", "--port", str(port), *words[1:]], capture_output=True, text=True, timeout=60).stdout
+
+
+def words(folder):
+    """The words of the command line."""
+    def run(*given):
+        r = subprocess.run([f"{folder}/ocapanel", *given], capture_output=True, text=True, timeout=30)
+        return r.returncode, r.stdout, r.stderr
+
+    device = ("--device", "127.0.0.1:65000")
+    status, out, err = run("--help")
+    check(status == 0 and "--listen" in out and not err, "--help")
+    status, out, err = run("--version")
+    check(status == 0 and out.startswith("ocapanel "), "--version")
+    for given, note in [((), "--device"), ((*device, "--listen", "0.0.0.0:8080"), "this machine alone"), ((*device, "--listen", "192.0.2.1:8080"), "this machine alone"),
+                        ((*device, "--span", "1"), "--span 1"), ((*device, "--span", "33"), "--span 33"), ((*device, "--port", "65536"), "--port"),
+                        (("--device", "0.0.0.0:1"), "--device"), ((*device, "--listen", "localhost:1"), "--listen"), ((*device, "more"), "more"), ((*device, *device), "--device")]:
+        status, out, err = run(*given)
+        check(status == 2 and not out and err.startswith("note: ") and note in err and err.endswith("bad words\n"), f"words {given}: {status} {err!r}")
+    with socket.socket() as s:
+        s.bind(("127.0.0.1", 0))
+        s.listen()
+        status, out, err = run(*device, "--listen", f"127.0.0.1:{s.getsockname()[1]}")
+    check(status == 1 and err.startswith("note: 127.0.0.1:") and err.endswith("socket failed\n"), f"a port in use: {status} {err!r}")
+
+
+def page(panel):
+    """The page: its policy, and that it loads nothing from elsewhere."""
+    status, headers, body = panel.ask("GET", "/")
+    text = body.decode()
+    policy = headers.get("content-security-policy", "")
+    check(status == 200 and headers.get("content-type") == "text/html; charset=utf-8", "GET /")
+    for tag in ("script", "style"):
+        inside = re.findall(rf"<{tag}>(.*?)</{tag}>", text, re.DOTALL)
+        digest = base64.b64encode(hashlib.sha256(inside[0].encode()).digest()).decode()
+        check(len(inside) == 1 and f"{tag}-src 'sha256-{digest}'" in policy, f"the hash of the {tag} is sha256-{digest}")
+    check("default-src 'none'" in policy and "unsafe" not in policy and "frame-ancestors 'none'" in policy, policy)
+    check(not re.search(r"src\s*=\s*[\"']|@import|https?://|innerHTML|outerHTML|insertAdjacentHTML|document\.write|eval\(", text), "nothing from elsewhere, no HTML from texts")
+    for name, value in [("cache-control", "no-store"), ("x-content-type-options", "nosniff"), ("x-frame-options", "DENY"), ("referrer-policy", "no-referrer")]:
+        check(headers.get(name) == value, name)
+
+
+def objects(folder, device, panel):
+    """What is shown is what the device says, and orders fare as it answers."""
+    took = panel.wait(lambda v: v["walked"] and len(panel.shown) >= 42)
+    check(took is not None, f"the objects are found: {len(panel.shown)}")
+    tree = panel.get("/tree")
+    by_ono = {o["ono"]: o for o in tree["objects"]}
+    check(by_ono[MUTE]["class"] == "mute" and by_ono[MUTE]["in"] == 4097 and by_ono[4097]["role"] == "channel 1", "the tree")
+    check(by_ono[SOURCE]["names"] == ["Mic", "Line", "Stage left", "Off"], "names of positions")
+    check(panel.wait(lambda _: panel.value(TRIM) == "0") is not None and panel.shown[TRIM]["limits"] == ["-600", "600"], "limits")
+    for ono, value in [(MUTE, "unmuted"), (POLARITY, "inverted"), (TRIM, "-60"), (SOURCE, "2"), (4096, "on"), (MUTE, "muted"), (MUTE, "unmuted")]:
+        check(panel.fare("/set", ono, value) is None, f"{ono} is set to {value}")
+        check(panel.wait(lambda _, o=ono, v=value: panel.value(o) == v) is not None, f"{ono} shows {value}")
+    said = ocactl(folder, device.port, "get", str(MUTE), str(TRIM), str(SOURCE))
+    check(said == f"{MUTE} unmuted\n{TRIM} -60\n{SOURCE} 2 Stage left\n", said)
+    check(panel.fare("/set", TRIM, "601") == "ParameterOutOfRange", "out of range")
+    check(panel.order("/set", TRIM, "loud")[0] == 422 and panel.order("/set", TRIM, "99999")[0] == 422, "no such value")
+    check(panel.order("/set", 4097, "on")[0] == 422 and panel.order("/set", 9, "on")[0] == 404 and panel.order("/lock", 9)[0] == 404, "no such object")
+    check(panel.fare("/lock", MUTE) is None and panel.wait(lambda _: panel.shown[MUTE]["lock"] == "own") is not None, "its own lock")
+    check("Locked" in ocactl(folder, device.port, "set", str(MUTE), "muted"), "a different controller is kept out")
+    check(panel.fare("/unlock", MUTE) is None and panel.wait(lambda _: panel.shown[MUTE]["lock"] == "free") is not None, "unlocked")
+    others(folder, device, panel)
+
+
+def others(folder, device, panel):
+    """What a different controller does is shown."""
+    holder = subprocess.Popen([f"{folder}/ocactl", "lock", "--hold", "--device", f"127.0.0.1:{device.port}", "--port", str(free_port()), str(POLARITY)],
+                              stdin=subprocess.PIPE, stdout=subprocess.PIPE, text=True)
+    check(holder.stdout.readline() == f"{POLARITY} locked\n", "a different controller locks")
+    check(panel.wait(lambda _: panel.shown[POLARITY]["lock"] == "other") is not None, "a lock of a different controller is shown")
+    check(panel.fare("/set", POLARITY, "non-inverted") == "Locked", "Locked")
+    holder.stdin.close()
+    holder.wait()
+    check(panel.wait(lambda _: panel.shown[POLARITY]["lock"] == "free") is not None, "it is free again")
+    times = []
+    for value in ("100", "200", "300"):
+        ocactl(folder, device.port, "set", str(TRIM), value)
+        took = panel.wait(lambda _, v=value: panel.value(TRIM) == v)
+        check(took is not None, "a change by a different controller is shown")
+        times.append(took or 0)
+    print(f"a change by a different controller is shown {max(times) * 1000:.0f} ms after it was answered, at most")
+
+
+def raw(panel, data, seconds=3.0):
+    """The status line's number that comes back for these bytes; 0 where none does."""
+    with socket.create_connection(("127.0.0.1", panel.port), timeout=seconds) as s:
+        with contextlib.suppress(OSError):
+            s.sendall(data)
+            answer = s.recv(65536)
+            found = re.match(rb"HTTP/1\.[01] (\d{3})", answer)
+            return int(found[1]) if found else 0
+    return 0
+
+
+def hostile(panel):
+    """Requests that are not let in, or are none, leave what is known and the orders as they are."""
+    own, body = panel.host, json.dumps({"ono": MUTE, "value": "muted"})
+
+    def post(path="/set", host=own, origin=f"http://{own}", kind="application/json", text=body, method="POST", more=()):
+        lines = [f"{method} {path} HTTP/1.1", f"Host: {host}", *([f"Origin: {origin}"] if origin is not None else []),
+                 *([f"Content-Type: {kind}"] if kind is not None else []), f"Content-Length: {len(text)}", "Connection: close", *more]
+        return ("\r\n".join(lines) + "\r\n\r\n" + text).encode()
+
+    panel.fare("/set", MUTE, "unmuted")
+    _, before = panel.order("/set", MUTE, "unmuted")
+    panel.wait(lambda _: before in panel.told)
+    port = panel.port
+    rows = [
+        (post(host="evil.example"), 421), (post(host=f"127.0.0.1:{port + 1}"), 421), (post(host="127.0.0.1"), 421), (post(host=f"127.0.0.1:{port}.evil.example"), 400),
+        (post(host=f"[::1]:{port}"), 421), (post(host=f"LOCALHOST:{port}"), 421),
+        (post(origin=None), 403), (post(origin="null"), 403), (post(origin="http://evil.example"), 403), (post(origin=f"https://{own}"), 403),
+        (post(origin=f"http://{own}/"), 403), (post(origin=f"http://{own}.evil.example"), 403), (post(origin=f"http://localhost:{port}"), 403),
+        (post(origin=f"HTTP://{own}"), 403), (post(kind=None), 415), (post(kind="text/plain"), 415), (post(kind="application/json; charset=utf-8"), 415),
+        (post(kind="application/x-www-form-urlencoded"), 415), (post(text="{"), 400), (post(text=""), 400), (post(text="[]"), 400), (post(text='{"ono":"4098","value":"muted"}'), 400),
+        (post(text='{"ono":-1,"value":"muted"}'), 400), (post(text='{"ono":4294967296,"value":"muted"}'), 400), (post(text='{"ono":4098.5,"value":"muted"}'), 400),
+        (post(text=f'{{"ono":{MUTE},"value":1}}'), 400), (post(text=f'{{"ono":{MUTE}}}'), 400), (post(text=f'{{"ono":{MUTE},"value":"Muted"}}'), 422),
+        (post(text="[" * 2000), 400), (post(text=" " * 4097), 413), (post(path="/nothing"), 404), (post(path="/values"), 405), (post(path="/tree"), 405), (post(path="/"), 405),
+        (post(path="/set/"), 404), (post(path="//set"), 404), (post(path="/SET"), 404), (post(path=f"http://{own}/set"), 400), (post(path=f"http://evil.example/set"), 400),
+        (post(method="PUT"), 405), (post(method="GET"), 405), (post(method="DELETE"), 405), (post(method="OPTIONS", more=("Access-Control-Request-Method: POST",)), 405),
+        (post(method="post"), 405), (b"GET / HTTP/1.1\r\n\r\n", 400), (b"GET / HTTP/1.0\r\n\r\n", 421), (b"GET /values HTTP/1.1\r\nHost: evil.example\r\n\r\n", 421),
+        (b"GET /tree HTTP/1.1\r\nHost: evil.example\r\n\r\n", 421), (f"GET /nothing HTTP/1.1\r\nHost: {own}\r\n\r\n".encode(), 404), (b"\x16\x03\x01\x02\x00\x01\x00\x01\xfc", 400), (b"\r\n" * 40 + b"x\r\n\r\n", 400),
+        (b"GET / HTTP/1.1\r\nHost: " + own.encode() + b"\r\nTransfer-Encoding: chunked\r\nContent-Length: 3\r\n\r\nabc", 400), (b"A" * 70000, 414),
+        (b"GET / HTTP/1.1\r\n" + b"X: y\r\n" * 200 + b"\r\n", 431), (b"GET / HTTP/9.9\r\nHost: " + own.encode() + b"\r\n\r\n", 400)]
+    for data, status in rows:
+        got = raw(panel, data)
+        check(got == status, f"{data[:120]!r} is answered {got}, not {status}")
+    for path in ("/set", "/lock", "/unlock"):
+        status, _, _ = panel.ask("GET", path)
+        check(status == 405, f"GET {path}")
+    generator = random.Random(1)
+    for _ in range(60):
+        raw(panel, generator.randbytes(generator.randrange(1, 3000)) + b"\r\n\r\n", 0.3)
+    status, ticket = panel.order("/set", MUTE, "unmuted")
+    check(status == 202 and ticket == before + 1, f"no order was added: {before}, then {ticket}")
+    check(panel.wait(lambda _: ticket in panel.told) is not None and panel.value(MUTE) == "unmuted", "the device was left alone")
+    values = panel.get("/values?since=x&first=99999999999999999999&count=-1&since=7&%00")
+    check(values["walked"], "a query that is none")
+
+
+def slow(panel):
+    """Clients that send half a request, or take no answer, delay nobody and are dropped."""
+    halves = [socket.create_connection(("127.0.0.1", panel.port), timeout=20) for _ in range(4)]
+    for s in halves:
+        s.sendall(f"POST /set HTTP/1.1\r\nHost: {panel.host}\r\nContent-Le".encode())
+    greedy = socket.socket()
+    greedy.setsockopt(socket.SOL_SOCKET, socket.SO_RCVBUF, 4096)
+    greedy.connect(("127.0.0.1", panel.port))
+    with contextlib.suppress(OSError):
+        greedy.settimeout(1)
+        for _ in range(200):
+            greedy.sendall(f"GET /tree HTTP/1.1\r\nHost: {panel.host}\r\n\r\n".encode())
+    begun = time.monotonic()
+    check(panel.fare("/set", TRIM, "-100") is None, "an order beside slow clients")
+    print(f"an order beside five slow clients: {(time.monotonic() - begun) * 1000:.0f} ms")
+    begun, dropped = time.monotonic(), 0
+    for s in halves:
+        with contextlib.suppress(OSError):
+            dropped += s.recv(100) == b"" or True
+    print(f"{dropped} half requests were dropped after {time.monotonic() - begun:.1f} s")
+    check(dropped == 4, "half requests are dropped")
+    for s in [*halves, greedy]:
+        s.close()
+    check(panel.ask("GET", "/values?since=0")[0] == 200, "and others are served")
+
+
+def nine(panel):
+    """Of nine connections with a request on each, the ninth is closed at once, and those that rest give way."""
+    time.sleep(0.2)
+    held = [socket.create_connection(("127.0.0.1", panel.port), timeout=10) for _ in range(8)]
+    for s in held:
+        s.sendall(b"GET / HT")
+    time.sleep(0.3)
+    ninth = socket.create_connection(("127.0.0.1", panel.port), timeout=3)
+    with contextlib.suppress(OSError):
+        ninth.sendall(f"GET / HTTP/1.1\r\nHost: {panel.host}\r\n\r\n".encode())
+    try:
+        check(ninth.recv(100) == b"", "the ninth is closed")
+    except ConnectionError:
+        check(True, "the ninth is closed")
+    except OSError:
+        check(False, "the ninth is closed: it waits")
+    for s in held:
+        s.sendall(f"TP/1.1\r\nHost: {panel.host}\r\n\r\n".encode())
+        check(s.recv(20).startswith(b"HTTP/1.1 200"), "the eight are answered")
+    time.sleep(1.3)
+    check(panel.ask("GET", "/values?since=0")[0] == 200, "a connection that rests gives way")
+    for s in [*held, ninth]:
+        s.close()
+
+
+class Relay(threading.Thread):
+    """Carries datagrams between the panel and a device, and loses one in five each way."""
+
+    def __init__(self, device_port, seed=1):
+        super().__init__(daemon=True)
+        self.random, self.device = random.Random(seed), ("127.0.0.1", device_port)
+        self.front, self.back = (socket.socket(socket.AF_INET, socket.SOCK_DGRAM) for _ in range(2))
+        for s in (self.front, self.back):
+            s.bind(("127.0.0.1", 0))
+        self.port, self.panel, self.ends = self.front.getsockname()[1], None, False
+        self.lost = self.carried = 0
+
+    def run(self):
+        while not self.ends:
+            for s in select.select([self.front, self.back], [], [], 0.05)[0]:
+                with contextlib.suppress(OSError):
+                    data, sender = s.recvfrom(65535)
+                    self.carried += 1
+                    if s is self.front:
+                        self.panel = sender
+                    if self.random.random() < 0.2:
+                        self.lost += 1
+                    elif s is self.front:
+                        self.back.sendto(data, self.device)
+                    elif self.panel:
+                        self.front.sendto(data, self.panel)
+
+
+def lossy(folder):
+    """Over a network that loses 20 % each way, each order is told as it was carried out."""
+    with Device(folder) as device:
+        relay = Relay(device.port)
+        relay.start()
+        with Panel(folder, relay.port) as panel:
+            took = panel.wait(lambda v: v["walked"], 90)
+            check(took is not None, "the objects are found at 20 % loss")
+            print(f"the walk at 20 % loss took {took or 0:.1f} s")
+            generator, wrong = random.Random(2), 0
+            for _ in range(30):
+                ono = generator.choice([TRIM, 4105, 4110, 4115])
+                value = str(generator.randrange(-600, 601))
+                told = panel.fare("/set", ono, value)
+                wrong += told is not None or f"{ono} {value}\n" != ocactl(folder, device.port, "get", str(ono))
+            check(wrong == 0, f"{wrong} of 30 orders were not as they were told")
+            link = panel.look()["link"]
+            check(link["again"] > 0 and link["lost"] == 0, f"retransmissions are counted: {link}")
+            many = [panel.order("/set", ono, str(n)) for n in range(8) for ono in (TRIM, 4105)]
+            check(all(status == 202 for status, _ in many), "sixteen orders at once are taken")
+            check(panel.wait(lambda _: all(t in panel.told for _, t in many), 60) is not None, "and told")
+            check(all(panel.told.get(t) is None for _, t in many), "and carried out")
+            check(ocactl(folder, device.port, "get", str(TRIM), "4105") == f"{TRIM} 7\n4105 7\n", "the last value of each object stands")
+        relay.ends = True
+        relay.join()
+        print(f"{relay.lost} of {relay.carried} datagrams were lost")
+
+
+def gone_and_back(folder):
+    """A device that goes is lost, with its orders; one that comes back is walked anew."""
+    first = Device(folder)
+    with Panel(folder, first.port, "--verbose") as panel:
+        check(panel.wait(lambda v: v["walked"]) is not None, "found")
+        epoch = panel.look()["epoch"]
+        first.__exit__()
+        status, ticket = panel.order("/set", MUTE, "unmuted")
+        begun = time.monotonic()
+        took = panel.wait(lambda _: ticket in panel.told, 30)
+        check(status == 202 and panel.told.get(ticket) == "lost", f"an order to a device that is gone is lost: {panel.told.get(ticket)}")
+        print(f"it was told after {took or 0:.1f} s")
+        values = panel.look()
+        check(values["link"]["lost_for"] is not None and values["link"]["lost"] >= 1 and not values["walked"], f"the device is lost: {values['link']}")
+        check(panel.order("/set", MUTE, "unmuted")[0] == 404, "an object that is not found yet takes no order")
+        with Device(folder, first.port, ()) as second:
+            took = panel.wait(lambda v: v["walked"] and v["epoch"] > epoch, 30)
+            check(took is not None, "a device that came back is walked anew")
+            check({o["role"] for o in panel.get("/tree")["objects"]} >= {"desk"}, "with the objects that it has now")
+            check(panel.look()["link"]["lost_for"] is None, "and is no longer lost")
+            print(f"a device that came back was walked after {took or 0:.1f} s; gone for {time.monotonic() - begun:.1f} s")
+            check(panel.fare("/set", 4097, "muted") is None, "and takes orders")
+            epoch = panel.look()["epoch"]
+            second.__exit__()
+            with Device(folder, first.port):  # at once, with other objects: the link does not notice, but its answers do
+                took = panel.wait(lambda v: v["walked"] and v["epoch"] > epoch and 4130 in {o["ono"] for o in panel.get("/tree")["objects"]}, 30)
+                check(took is not None, "a device that was away for a moment, and has other objects, is walked anew")
+        panel.process.terminate()
+        panel.process.wait()
+        notes = panel.process.stderr.read().splitlines()
+        check(all(note.startswith("note: ") for note in notes) and any("lost" in note for note in notes) and any("heard again" in note for note in notes), f"--verbose: {notes}")
+
+
+def many_tree(file):
+    """Writes a list of 4,095 objects, and answers the number of the last."""
+    lines, ono = [], 4096
+    for block in range(51):
+        container = ono
+        lines.append(f'{ono} 100 block no-lock "bank {block}"')
+        ono += 1
+        for _ in range(80):
+            if len(lines) < 4095:
+                lines.append(f"{ono} {container} int16 -600 600 0 lockable gain")
+                ono += 1
+    file.write_text("\n".join(lines) + "\n")
+    return ono - 1
+
+
+def many(folder):
+    """4,096 objects."""
+    with tempfile.TemporaryDirectory() as place:
+        file = Path(place) / "many.tree"
+        last = many_tree(file)
+        with Device(folder, 0, ("--tree", str(file))) as device, Panel(folder, device.port) as panel:
+            took = panel.wait(lambda v: v["walked"], 60)
+            check(took is not None, "4,096 objects are walked")
+            tree = panel.get("/tree")["objects"]
+            check(len(tree) == 4096, f"{len(tree)} objects of 4096")
+            print(f"{len(tree)} objects were walked in {took or 0:.1f} s")
+            check(panel.wait(lambda _: panel.value(last) == "0", 60) is not None, "the last object is read")
+            times = []
+            for value in ("5", "6", "7"):
+                ocactl(folder, device.port, "set", str(last), value)
+                times.append(panel.wait(lambda _, v=value: panel.value(last) == v, 60) or 60)
+            check(max(times) < 60, "a change of the last object is shown")
+            places = {o["ono"]: at for at, o in enumerate(tree)}
+            quick = []
+            for value in ("8", "9"):
+                ocactl(folder, device.port, "set", str(last), value)
+                begun = time.monotonic()
+                while panel.value(last) != value and time.monotonic() - begun < 60:
+                    panel.look(f"&first={places[last]}&count=1")
+                    time.sleep(0.01)
+                quick.append(time.monotonic() - begun)
+            print(f"a change of the last of them is shown after {max(times) * 1000:.0f} ms, where it is visible after {max(quick) * 1000:.0f} ms, at most")
+            begun = time.monotonic()
+            check(panel.fare("/set", last, "-5") is None, "an order among 4,096 objects")
+            print(f"an order among 4,096 objects was told after {(time.monotonic() - begun) * 1000:.0f} ms")
+
+
+def rest(folder):
+    """With no page open, next to no work is done."""
+    with Device(folder) as device, Panel(folder, device.port) as panel:
+        panel.wait(lambda v: v["walked"])
+        time.sleep(3.5)
+
+        def ticks():
+            fields = Path(f"/proc/{panel.process.pid}/stat").read_text().rsplit(")", 1)[1].split()
+            return int(fields[11]) + int(fields[12])
+
+        begun = ticks()
+        time.sleep(4)
+        used = (ticks() - begun) / os.sysconf("SC_CLK_TCK") / 4
+        print(f"idle: {100 * used:.2f} % of a processor")
+        check(used < 0.05, "an idle panel uses no processor")
+        times = []
+        for n in range(100):
+            begun = time.monotonic()
+            panel.fare("/set", TRIM, str(n))
+            times.append(time.monotonic() - begun)
+        print(f"from an order to its answer: {1000 * sorted(times)[50]:.1f} ms at the 50th, {1000 * sorted(times)[90]:.1f} ms at the 90th of 100")
+
+
+def main():
+    folder = sys.argv[1]
+    words(folder)
+    with Device(folder) as device, Panel(folder, device.port) as panel:
+        page(panel)
+        objects(folder, device, panel)
+        hostile(panel)
+        slow(panel)
+        nine(panel)
+    lossy(folder)
+    gone_and_back(folder)
+    many(folder)
+    rest(folder)
+    print(f"{COUNTS[0]} passed, {COUNTS[1]} failed")
+    return 1 if COUNTS[1] else 0
+
+
+if __name__ == "__main__":
+    sys.exit(main())
