@@ -5,3 +5,4 @@ pub mod PrivateRequests
 pub mod Words
 pub mod Totals
 pub mod Makings
+pub mod Keeping

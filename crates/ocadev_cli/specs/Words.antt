@@ -1,6 +1,6 @@
 -- What the options of the device's program say (*profile*).
 use Rattle.std.specs.Prelude.{ℕ, Bool, true, false, List, codes, Option, Some, None}
-use Rattle.std.specs.Option.{option_map}
+use Rattle.std.specs.Option.{option_map, option_copied}
 use Rattle.std.specs.Str.{bytes_eq}
 use Rattle.clap.specs.declared.parser.matches.ArgMatches.{ArgMatches}
 use Rattle.oca_types.specs.Sizes.{DeviceSizes, sizes_of}
@@ -78,16 +78,17 @@ is_true (Some text) = bytes_eq text (codes "true")
 abbrev pub says_so : ArgMatches → List ℕ → Bool
 says_so words flag = is_true (given words flag)
 
--- where to serve which device, for how many turns, and whether to tell of each datagram
+-- where to serve which device, for how many turns, whether to tell of each datagram, and in which file to keep the state
 pub record ServingFields : Type 0 where
   pub ip : ℕ
   pub port : ℕ
   pub turns : Option ℕ
   pub making : MakingFields
   pub verbose : Bool
+  pub keep : Option (List ℕ)
 
 abbrev pub serving_fields : Serving → ServingFields
-serving_fields s = record { ip = s.ip; port = s.port; turns = s.turns; making = making_fields s.making; verbose = s.verbose }
+serving_fields s = record { ip = s.ip; port = s.port; turns = s.turns; making = making_fields s.making; verbose = s.verbose; keep = option_copied s.keep }
 
 -- the address 127.0.0.1 unless given, and the port in at most 5 digits
 unfoldable pub serving_in : ArgMatches → Option ServingFields
@@ -96,4 +97,4 @@ serving_in words =
     then_in (read_as (number_of 5 65535) (given words (codes "port"))) (λ port.
     then_in (turns_in words) (λ turns.
     then_in (making_in words) (λ making.
-    Some (record { ip = ip; port = port; turns = turns; making = making; verbose = says_so words (codes "verbose") })))))
+    Some (record { ip = ip; port = port; turns = turns; making = making; verbose = says_so words (codes "verbose"); keep = given words (codes "keep") })))))

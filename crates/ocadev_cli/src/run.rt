@@ -1,4 +1,5 @@
 //! A run of the program.
+use super::keep::{Kept, serve_kept, started_with};
 use super::making::{make, objects};
 use super::replay::replay;
 use super::report::{print_listening, print_report};
@@ -71,10 +72,11 @@ fn serve_socket<N: Net + Clock + Files, W: Sink, F: Sink>(
     printer: &mut Printer<W>,
     faults: &mut Printer<F>,
 ) -> Result<(), Failure> {
-    let (mut device, mut outbox) = make(alloc, system, serving.making)?;
+    let (mut device, mut outbox) = make(alloc, system, started_with(system, &serving))?;
     serve_at(
         alloc,
         &CountsSleep(system),
+        system,
         serving,
         &mut device,
         &mut outbox,
@@ -84,9 +86,10 @@ fn serve_socket<N: Net + Clock + Files, W: Sink, F: Sink>(
 }
 
 /// Serves a device at a socket, and prints what was done.
-fn serve_at<N: Net + Clock, W: Sink, F: Sink>(
+fn serve_at<N: Net + Clock, L: Files, W: Sink, F: Sink>(
     alloc: Global,
     system: &N,
+    files: &L,
     serving: Serving<'_>,
     device: &mut Device,
     outbox: &mut Outbox,
@@ -98,8 +101,23 @@ fn serve_at<N: Net + Clock, W: Sink, F: Sink>(
         print_note(EVERY_ADDRESS, faults);
     }
     let _ = print_listening(end.local(), faults);
-    let (report, reason) = if serving.verbose {
-        let turns = serving.turns.map_or(u64::MAX, u64::from);
+    let turns = serving.turns.map_or(u64::MAX, u64::from);
+    let (report, reason) = if let Some(path) = serving.keep {
+        let mut kept = Kept::new(alloc, path)?;
+        let mut watched = Watched::new(end);
+        let report = serve_kept(
+            alloc,
+            files,
+            device,
+            &mut watched,
+            outbox,
+            turns,
+            serving.verbose,
+            &mut kept,
+            faults,
+        );
+        (report, watched.end.last_failed_send())
+    } else if serving.verbose {
         let mut watched = Watched::new(end);
         let report = serve_traced(device, &mut watched, outbox, turns, faults);
         (report, watched.end.last_failed_send())

@@ -57,7 +57,7 @@ pub fn serve_traced<E: End, F: Sink>(
 }
 
 /// What both did, where a number that would pass 64 bits stays at its last value.
-fn sum(a: Report, b: Report) -> Report
+pub(crate) fn sum(a: Report, b: Report) -> Report
     ensures { result ≡ capped (added a b) }
 {
     Report {
@@ -76,7 +76,7 @@ fn sum(a: Report, b: Report) -> Report
 }
 
 /// No turns.
-fn nothing() -> Report
+pub(crate) fn nothing() -> Report
     ensures { result ≡ no_turns }
 {
     Report {

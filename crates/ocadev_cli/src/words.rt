@@ -46,7 +46,8 @@ pub struct Making<'a> {
     pub sizes: Sizes,
 }
 
-/// Where to serve which device, for how many turns where that is said, and whether to tell of each datagram.
+/// Where to serve which device, for how many turns where that is said, whether to tell of each datagram, and in which
+/// file to keep the state, where one is named.
 #[derive(Clone, Copy, PartialEq, Eq, Debug)]
 pub struct Serving<'a> {
     pub ip: u32,
@@ -54,6 +55,7 @@ pub struct Serving<'a> {
     pub turns: Option<u32>,
     pub making: Making<'a>,
     pub verbose: bool,
+    pub keep: Option<&'a str>,
 }
 
 /// How many commands are kept with their replies.
@@ -123,6 +125,16 @@ A run that a signal ends (Ctrl-C, kill) prints no report.
 
 Example: ocadev serve --port 65000 --turns 1200";
 
+/// The file in which the state is kept.
+fn keep_option<'a>(alloc: Global) -> Arg<'a> {
+    option(
+        alloc,
+        "keep",
+        "FILE",
+        "A file in which the state is kept: read at the start in place of --tree where it is there, and written after each datagram that wrote something. Reply windows and sessions are not kept: a duplicate from before a restart is executed as new",
+    )
+}
+
 /// The command `serve`.
 fn serve_command<'a>(alloc: Global) -> Result<Command<'a>, AllocError> {
     let port = option(
@@ -157,7 +169,7 @@ fn serve_command<'a>(alloc: Global) -> Result<Command<'a>, AllocError> {
         .arg(port.required(true))?
         .arg(turns)?
         .arg(ip)?;
-    made(command, alloc)?.arg(verbose)
+    made(command, alloc)?.arg(verbose)?.arg(keep_option(alloc))
 }
 
 /// The command `show`.
@@ -390,11 +402,13 @@ fn serving_of<'a>(options: &ArgMatches<'a>) -> Option<Serving<'a>>
     let turns = turns_of(options)?;
     let making = making_of(options)?;
     let verbose = flag(options, "verbose");
+    let keep = text_of(options, "keep");
     Some(Serving {
         ip,
         port: port as u16,
         turns,
         making,
         verbose,
+        keep,
     })
 }

@@ -1,0 +1,230 @@
+#!/usr/bin/env python3
+"""A device that keeps its state in a file (`ocadev serve --keep FILE`) is stopped and started again: orderly, by `kill -9` at
+random moments while commands come, with no room for the file, and over files that are broken.
+
+Usage: keep.py BIN     BIN is the folder with `ocadev`
+
+What is expected is built here from docs/PROTOCOL.md, and not by the programs. The last line is 'N passed, M failed'."""
+import os
+import random
+import re
+import resource
+import signal
+import socket
+import struct
+import subprocess
+import sys
+import tempfile
+import time
+
+MUTE, INPUT, TRIM, LAMP = 4097, 4099, 4100, 4101
+KILLS = 20
+
+
+def command(handle, target, level, index, *params):
+    """A datagram with one command that wants a response."""
+    body = struct.pack(">IIHHB", handle, target, level, index, len(params)) + b"".join(params)
+    body = struct.pack(">I", len(body) + 4) + body
+    return b"\x3b" + struct.pack(">HIBH", 1, len(body) + 9, 1, 1) + body
+
+
+def text(said):
+    return struct.pack(">H", len(said)) + said.encode()
+
+
+class Peer:
+    def __init__(self, port):
+        self.socket = socket.socket(socket.AF_INET, socket.SOCK_DGRAM)
+        self.socket.connect(("127.0.0.1", port))
+        self.socket.settimeout(0.25)
+        self.handle = 0
+
+    def ask(self, target, level, index, *params):
+        """The status and the parameters of the response, as often as it takes; nothing where the device is gone."""
+        self.handle += 1
+        for _ in range(40):
+            try:
+                self.socket.send(command(self.handle, target, level, index, *params))
+                got = self.socket.recv(2000)
+            except TimeoutError:
+                continue
+            except ConnectionError:
+                return None
+            handle, status = struct.unpack(">IB", got[14:19])
+            if handle == self.handle:
+                return status, got[20:]
+        return None
+
+
+class Checks:
+    def __init__(self, folder):
+        self.folder, self.passed, self.failed = folder, 0, 0
+
+    def same(self, what, got, expected):
+        if got == expected:
+            self.passed += 1
+        else:
+            self.failed += 1
+            print(f"WRONG: {what}: {got!r:.300} in place of {expected!r:.300}")
+
+    def serve(self, keep, *words, most=None):
+        """A device at a port that the system chooses, what it says before it listens, and a peer of it."""
+        limit = (lambda: resource.setrlimit(resource.RLIMIT_FSIZE, (most, most))) if most is not None else None
+        run = subprocess.Popen([f"{self.folder}/ocadev", "serve", "--port", "0", "--keep", keep, *words],
+                               stdin=subprocess.DEVNULL, stdout=subprocess.PIPE, stderr=subprocess.PIPE, preexec_fn=limit)
+        said = run.stderr.readline().decode()
+        listening = re.match(r"listening [\d.]+:(\d+)\n", said)
+        return run, said, Peer(int(listening[1])) if listening else None
+
+    def shown(self, keep):
+        return subprocess.run([f"{self.folder}/ocadev", "show", "--text", "--tree", keep], capture_output=True, timeout=30, check=False).stdout
+
+
+def stop(run, number=signal.SIGKILL):
+    run.send_signal(number)
+    out, err = run.communicate(timeout=30)
+    return err.decode()
+
+
+def set_all(peer):
+    """One of each kind that peers may set; the statuses."""
+    return [peer.ask(MUTE, 4, 2, b"\x02"), peer.ask(TRIM, 5, 2, struct.pack(">h", -60)), peer.ask(LAMP, 5, 2, b"\x01"),
+            peer.ask(INPUT, 4, 8, struct.pack(">H", 2), b"\x00"), peer.ask(INPUT, 4, 2, struct.pack(">H", 1)),
+            peer.ask(INPUT, 4, 4, struct.pack(">H", 0), text("a\"b,\n")), peer.ask(MUTE, 2, 9, text("B\u00fchne \"1\"")),
+            peer.ask(MUTE, 2, 2, b"\x00"), peer.ask(100, 2, 9, text("the root"))]
+
+
+def read_all(peer):
+    """What is read of the same."""
+    return [peer.ask(MUTE, 4, 1), peer.ask(TRIM, 5, 1), peer.ask(LAMP, 5, 1), peer.ask(INPUT, 4, 9), peer.ask(INPUT, 4, 1),
+            peer.ask(INPUT, 4, 3, struct.pack(">H", 0)), peer.ask(MUTE, 2, 8), peer.ask(MUTE, 2, 1), peer.ask(100, 2, 8)]
+
+
+def restarts(checks, folder):
+    """What peers set is there after a restart, and nothing is written before they did."""
+    keep = f"{folder}/state"
+    run, said, peer = checks.serve(keep)
+    peer.ask(MUTE, 4, 1)
+    checks.same("a file before anything was set", os.path.exists(keep), False)
+    checks.same("statuses of what was set", [answer[0] for answer in set_all(peer)], [0] * 9)
+    before = read_all(peer)
+    checks.same("the name that was set", before[5], (0, text("a\"b,\n")))
+    checks.same("the label that was set", before[6], (0, text("B\u00fchne \"1\"")))
+    checks.same("what it says", stop(run), "")
+    run, said, peer = checks.serve(keep, "--verbose")
+    for at, (was, now) in enumerate(zip(before, read_all(peer))):
+        checks.same(f"what was set, {at}, after a restart", now, was)
+    size = os.stat(keep).st_mtime_ns
+    peer.ask(MUTE, 4, 1)
+    checks.same("a file after a command that only reads", os.stat(keep).st_mtime_ns, size)
+    stop(run)
+    checks.same("no new file is left", os.path.exists(f"{keep}.new"), False)
+    with open(keep, "rb") as file:
+        checks.same("the file as show --text prints it", checks.shown(keep), file.read())
+    # Another number of strips is left aside where the file is there.
+    run, said, peer = checks.serve(keep, "--channels", "2")
+    checks.same("an object of a strip", peer.ask(4104, 4, 1), (5, b""))
+    stop(run)
+    # A duplicate from before a restart is executed as new: its window is not kept.
+    run, said, peer = checks.serve(keep)
+    peer.handle = 0
+    checks.same("a handle of before a restart", peer.ask(MUTE, 4, 2, b"\x01"), (0, b""))
+    checks.same("what it set", peer.ask(MUTE, 4, 1), (0, b"\x01"))
+    stop(run)
+
+
+def kills(checks, folder):
+    """At whatever moment it is killed, the file is one of those that were written whole, and what was answered before the last
+    answer is in it."""
+    keep = f"{folder}/killed"
+    last = 0
+    for turn in range(KILLS):
+        run, said, peer = checks.serve(keep, "--channels", "200")
+        if peer is None:
+            checks.same(f"it starts after kill {turn}", said, "listening")
+            return
+        found = struct.unpack(">h", peer.ask(TRIM, 5, 1)[1][:2])[0]
+        checks.same(f"what was there after kill {turn}, {found} of {last}", found in (last, last + 1, 0) if turn == 0 else last <= found <= last + 1, True)
+        ends = time.monotonic() + random.uniform(0.02, 0.25)
+        value = found
+        os.set_blocking(run.stderr.fileno(), False)
+        killer = subprocess.Popen(["sh", "-c", f"sleep {ends - time.monotonic():.3f}; kill -9 {run.pid}"])
+        while value < 590:
+            answer = peer.ask(TRIM, 5, 2, struct.pack(">h", value + 1))
+            if answer is None:
+                break
+            value += 1
+        killer.wait()
+        run.wait()
+        # An answer leaves before what it tells is kept: the last one may be missing, and one unanswered may be there.
+        last = value - 1 if value > found else found
+        if value >= 560:
+            os.remove(keep)
+            last = 0
+        run.stdout.close()
+        run.stderr.close()
+
+
+def full(checks, folder):
+    """Where the file can't be written, it is told once, the old file stays, and serving goes on."""
+    keep = f"{folder}/full"
+    run, said, peer = checks.serve(keep)
+    peer.ask(TRIM, 5, 2, struct.pack(">h", 5))
+    stop(run)
+    with open(keep, "rb") as file:
+        old = file.read()
+    for what, words, most in [("no room for it", (), 100), ("room for a part of it", ("--channels", "1000"), 100)]:
+        run, said, peer = checks.serve(keep, *words, most=most)
+        for value in (7, 8, 9):
+            checks.same(f"{what}: a command", peer.ask(TRIM, 5, 2, struct.pack(">h", value)), (0, b""))
+        checks.same(f"{what}: what was set", peer.ask(TRIM, 5, 1)[1][:2], struct.pack(">h", 9))
+        told = stop(run)
+        checks.same(f"{what}: told once", (told.count("\n"), told.startswith("note: the state is not kept: ")), (1, True))
+        with open(keep, "rb") as file:
+            checks.same(f"{what}: the file", file.read(), old)
+    # No such folder.
+    run, said, peer = checks.serve(f"{folder}/none/state")
+    checks.same("without a folder: a command", peer.ask(TRIM, 5, 2, struct.pack(">h", 7)), (0, b""))
+    checks.same("without a folder: told", stop(run).startswith("note: the state is not kept: "), True)
+
+
+BROKEN = [
+    (b"root on\n", "line 1: form"),
+    (b"root on \"\"\nobject 4096 100 block lockable \"desk\" on \"\"\nobject 4097 4096 mute muted lockable \"mu", "line 3: form"),
+    (b"root on \"\"\n4097 100 mute muted lockable a\n4097 100 mute muted lockable a\n", "line 3: taken"),
+    (b"root on \"\"\nobject 4096 100 switch 10 \"a\" 0 lockable \"s\" on \"\"\n", "line 2: value"),
+    (b"\xff\n", "line 1: form"),
+]
+
+
+def broken(checks, folder):
+    """A broken file is refused with its line, nothing is served, and the file stays."""
+    for at, (contents, fault) in enumerate(BROKEN):
+        keep = f"{folder}/broken{at}"
+        with open(keep, "wb") as file:
+            file.write(contents)
+        run, said, peer = checks.serve(keep)
+        err = said + (run.communicate(timeout=30)[1].decode() if peer is None else stop(run))
+        checks.same(f"broken {at}: the fault", err.splitlines()[-1], fault)
+        checks.same(f"broken {at}: the status", run.returncode, 2)
+        with open(keep, "rb") as file:
+            checks.same(f"broken {at}: the file", file.read(), contents)
+    # A folder in place of the file.
+    os.mkdir(f"{folder}/folder")
+    run, said, peer = checks.serve(f"{folder}/folder")
+    checks.same("a folder", (peer, run.wait(timeout=30)), (None, 1))
+
+
+def main():
+    checks = Checks(sys.argv[1])
+    with tempfile.TemporaryDirectory() as folder:
+        restarts(checks, folder)
+        kills(checks, folder)
+        full(checks, folder)
+        broken(checks, folder)
+    print(f"{checks.passed} passed, {checks.failed} failed")
+    sys.exit(checks.failed != 0)
+
+
+if __name__ == "__main__":
+    main()
