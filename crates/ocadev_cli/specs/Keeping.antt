@@ -2,7 +2,6 @@
 use Rattle.std.specs.Prelude.{◌≡◌, ◌⊎◌, Option, Some, None}
 use denote.Ref.{Bor}
 use Rattle.std.specs.Prelude.{ℕ, List}
-use Rattle.ocadev_cli.specs.declared.words.Objects.{Objects}
 use Rattle.ocadev_cli.specs.declared.words.Objects.TheVariants.{Listed}
 use Rattle.ocadev_cli.specs.declared.words.Making.{Making}
 use Rattle.ocadev_cli.specs.declared.words.Serving.{Serving}

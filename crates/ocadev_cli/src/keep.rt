@@ -14,11 +14,10 @@ use oca_script::{Printer, Sink, ToWriter};
 use oca_textree::print_tree;
 use oca_tree::Tree;
 use std::alloc::Global;
-use std::fs;
 use std::fs::OpenFile;
-use std::io;
 use std::io::ErrorKind;
 use std::rt::Files;
+use std::{fs, io};
 
 /// The file in which a state is kept, the new one beside it that takes its place, and whether it was told that it can't
 /// be written.
