@@ -214,7 +214,7 @@ def others(folder, device, panel):
     print(f"a change by a different controller is shown {max(times) * 1000:.0f} ms after it was answered, at most")
 
 
-def raw(panel, data, seconds=3.0):
+def raw(panel, data, seconds=15.0):
     """The status line's number that comes back for these bytes; 0 where none does."""
     with socket.create_connection(("127.0.0.1", panel.port), timeout=seconds) as s:
         with contextlib.suppress(OSError):

@@ -23,9 +23,9 @@ stays_on a b c x y =
     record {
       rises = omega (arith, r, s);
       over = λ e w.
-        let f : b.epoch ≡ a.epoch = omega (arith, r, s, e) in
-        let g : c.epoch ≡ b.epoch = omega (arith, f, e) in
-        y.over g (x.over f w);
+          let f : b.epoch ≡ a.epoch = omega (arith, r, s, e) in
+          let g : c.epoch ≡ b.epoch = omega (arith, f, e) in
+          y.over g (x.over f w);
     }
 
 pub keeps_begins : (a b c : Inventory) → KeepsWalk a b → BeginsAnew b c → BeginsAnew a c

@@ -145,7 +145,11 @@ impl Inventory {
 
     /// When there is something to be asked, but for what waits.
     pub(crate) fn next_moment(&self, now: u64) -> Option<u64> {
-        if self.walked { self.poll.next_moment(now) } else { None }
+        if self.walked {
+            self.poll.next_moment(now)
+        } else {
+            None
+        }
     }
 
     /// The number and the class of the object at this place.
@@ -296,7 +300,11 @@ impl Inventory {
         ensures { KeepsWalk self.old self.new }
     {
         if let Some(shown) = self.objects.shown(place) {
-            let lock = if shown.lock == Lock::Other { Lock::Free } else { shown.lock };
+            let lock = if shown.lock == Lock::Other {
+                Lock::Free
+            } else {
+                shown.lock
+            };
             self.objects.show(
                 place,
                 Shown {
@@ -342,7 +350,8 @@ impl Inventory {
             self.is_stale = self.is_stale || !self.lists(container, members);
             return Ok(());
         }
-        self.walk.put_members(container, numbers_of(members).as_slice())?;
+        self.walk
+            .put_members(container, numbers_of(members).as_slice())?;
         for member in members.as_slice() {
             self.add_next(member.class)?;
         }
@@ -415,7 +424,13 @@ fn numbers_of(members: &Members) -> ArrayVec<u32, 181> {
 /// What is asked of an object of this class to know it.
 fn asks_of(class: Option<Class>) -> &'static [Ask] {
     match class {
-        Some(Class::Block) => &[Ask::Members, Ask::Role, Ask::Label, Ask::Lockable, Ask::Enabled],
+        Some(Class::Block) => &[
+            Ask::Members,
+            Ask::Role,
+            Ask::Label,
+            Ask::Lockable,
+            Ask::Enabled,
+        ],
         Some(Class::Switch) => &[
             Ask::Role,
             Ask::Label,
@@ -425,7 +440,13 @@ fn asks_of(class: Option<Class>) -> &'static [Ask] {
             Ask::Flags,
             Ask::Value,
         ],
-        Some(_) => &[Ask::Role, Ask::Label, Ask::Lockable, Ask::Enabled, Ask::Value],
+        Some(_) => &[
+            Ask::Role,
+            Ask::Label,
+            Ask::Lockable,
+            Ask::Enabled,
+            Ask::Value,
+        ],
         None => &[Ask::Role, Ask::Label, Ask::Lockable, Ask::Enabled],
     }
 }
@@ -433,7 +454,10 @@ fn asks_of(class: Option<Class>) -> &'static [Ask] {
 /// Whether an object that was known refuses so because the device has other objects by now: BadONo, BadMethod, or an
 /// answer of another class.
 fn is_of_another_device(trouble: Trouble) -> bool {
-    matches!(trouble, Trouble::Refused(5) | Trouble::Refused(11) | Trouble::Unreadable)
+    matches!(
+        trouble,
+        Trouble::Refused(5) | Trouble::Refused(11) | Trouble::Unreadable
+    )
 }
 
 /// Whose lock is on an object behind an order that fared so.

@@ -157,7 +157,10 @@ impl Objects {
 
     /// Where the object with this number stands.
     pub fn place_of(&self, ono: Ono) -> Option<usize> {
-        self.list.as_slice().iter().position(|object| object.ono.0 == ono.0)
+        self.list
+            .as_slice()
+            .iter()
+            .position(|object| object.ono.0 == ono.0)
     }
 }
 

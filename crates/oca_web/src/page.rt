@@ -2,7 +2,8 @@
 
 /// What the page may do: run its own script, wear its own style, and ask the panel that sent it, and nothing else. The
 /// hashes are those of the script and of the style below; `tools/panel.py` compares them.
-pub const POLICY: &str = "default-src 'none'; style-src 'sha256-Ov7GtGMcNFTmWBvwEUqHR9VtXltK12Nbkp2VOoP/zyA='; script-src 'sha256-ZyjkCXVYBIPizZ5pEb9lkZoiuaI5Ns6bJztCIeWy8YQ='; connect-src 'self'; frame-ancestors 'none'; base-uri 'none'; form-action 'none'";
+pub const POLICY: &str =
+    "default-src 'none'; style-src 'sha256-dn+mR2AxYnEAVhY4RTzaQrYAB6Ah7zky01dU8/UU6w8='; script-src 'sha256-ZyjkCXVYBIPizZ5pEb9lkZoiuaI5Ns6bJztCIeWy8YQ='; connect-src 'self'; frame-ancestors 'none'; base-uri 'none'; form-action 'none'";
 
 /// The page. It asks for `/tree` and `/values`, and sends orders to `/set`, `/lock` and `/unlock`. What comes from the device
 /// goes into it by `textContent` and by properties alone, never as HTML.
@@ -21,13 +22,13 @@ main{display:grid;grid-template-columns:repeat(auto-fill,minmax(290px,1fr));gap:
 section{background:var(--card);border:1px solid var(--edge);border-radius:8px;padding:8px 10px;min-width:0;content-visibility:auto;contain-intrinsic-size:auto 150px}
 section section{background:var(--inner);margin:6px 0}
 h2{font-size:14px;margin:0 0 4px;display:flex;gap:8px;align-items:center;justify-content:space-between;overflow-wrap:anywhere}
-.row{display:grid;grid-template-columns:minmax(70px,1fr) minmax(120px,1.6fr) auto;gap:4px 8px;align-items:center;padding:3px 0}
+.row{display:grid;grid-template-columns:minmax(60px,1fr) minmax(165px,2fr) auto;gap:4px 8px;align-items:center;padding:3px 0}
 .row>.name{color:var(--soft);overflow-wrap:anywhere}
 .control{display:flex;gap:6px;align-items:center;min-width:0}
-input[type=range]{flex:1 1 60px;min-width:50px}input[type=number],input.wide{width:7em}input.wide{width:100%}
 button,select,input{font:inherit;color:inherit;background:var(--inner);border:1px solid var(--edge);border-radius:5px;padding:3px 8px;max-width:100%}
+input[type=range]{flex:1 1 70px;min-width:60px;padding:0;border:0;background:none}input[type=number]{width:5.6em}input.wide{width:100%}
 button[aria-pressed=true]{color:#fff}button.mute[aria-pressed=true]{background:var(--on)}button.polarity[aria-pressed=true]{background:var(--turn)}button.boolean[aria-pressed=true],button.lock[aria-pressed=true]{background:var(--yes)}
-button.lock{font-size:12px;padding:2px 6px}
+button.lock{font-size:12px;padding:2px 6px;min-width:4.8em}
 :focus-visible{outline:2px solid var(--focus);outline-offset:2px}
 .held .control,.off .control,.off>.name{opacity:.45}.sent .control{outline:1px dashed var(--turn);outline-offset:2px}
 .said{grid-column:1/-1;color:var(--bad);font-size:13px;overflow-wrap:anywhere}.said:empty{display:none}

@@ -111,7 +111,11 @@ impl Poll {
     fn ask_of(&self, class: Option<Class>, seldom: bool) -> Option<Ask> {
         let class = class?;
         if !seldom {
-            return Some(if class == Class::Block { Ask::Members } else { Ask::Value });
+            return Some(if class == Class::Block {
+                Ask::Members
+            } else {
+                Ask::Value
+            });
         }
         match self.round % SELDOM {
             8 => Some(Ask::Enabled),

@@ -104,11 +104,7 @@ impl Site {
     }
 
     /// Answers a request that reads.
-    fn get(
-        &mut self,
-        request: &Request<Bytes>,
-        response: &mut Response,
-    ) -> Result<(), AllocError>
+    fn get(&mut self, request: &Request<Bytes>, response: &mut Response) -> Result<(), AllocError>
         requires { response.old.status ≡ 200 }
         ensures { KeepsOrders result self.old response.new self.new }
     {
@@ -155,12 +151,7 @@ impl Site {
     }
 
     /// Answers a request that orders something.
-    fn post(
-        &mut self,
-        path: &str,
-        body: &[u8],
-        response: &mut Response,
-    ) -> Result<(), AllocError>
+    fn post(&mut self, path: &str, body: &[u8], response: &mut Response) -> Result<(), AllocError>
         requires { response.old.body.items ≡ [] }
         ensures { PostsOrder path.now result self.old response.new self.new }
     {
@@ -195,7 +186,11 @@ impl Site {
         ensures { IfErr result (λ status. status ≢ 202) }
     {
         let ono = ono_in(wanted)?;
-        if self.view.knows(ono) { Ok(ono) } else { Err(StatusCode::NOT_FOUND) }
+        if self.view.knows(ono) {
+            Ok(ono)
+        } else {
+            Err(StatusCode::NOT_FOUND)
+        }
     }
 
     /// The object that a body names, and what it is to be set to.
@@ -215,7 +210,12 @@ impl Site {
     }
 
     /// Takes an order, and answers with its ticket. Where memory is refused the order is not taken.
-    fn take_order(&mut self, ono: Ono, deed: Deed, response: &mut Response) -> Result<(), AllocError>
+    fn take_order(
+        &mut self,
+        ono: Ono,
+        deed: Deed,
+        response: &mut Response,
+    ) -> Result<(), AllocError>
         requires { response.old.body.items ≡ [] }
         ensures { TakesOrder result ono deed self.old response.new self.new }
     {

@@ -73,10 +73,7 @@ impl Default for Settled {
 /// Looks at each order in flight, and tells the tickets of those that were answered, or are lost with the link. Returns
 /// them.
 #[tactic(auto, using(crate::proofs::StepLemmas::one_settled))]
-pub fn settle_orders<E: End>(
-    orders: &mut Orders,
-    panel: &mut Panel<E>,
-) -> ArrayVec<Settled, 32>
+pub fn settle_orders<E: End>(orders: &mut Orders, panel: &mut Panel<E>) -> ArrayVec<Settled, 32>
     ensures { SettlesOrders orders.old panel.old orders.new panel.new }
 {
     let mut all = ArrayVec::new();

@@ -26,7 +26,11 @@ const TRUE: Answer = (0, 1, &[1]);
 const DONE: Answer = (0, 0, &[]);
 
 /// A block's members: 4097, a mute.
-const MEMBERS: Answer = (0, 1, &[0, 1, 0, 0, 0x10, 1, 0, 4, 0, 1, 0, 1, 0, 1, 0, 2, 0, 2]);
+const MEMBERS: Answer = (
+    0,
+    1,
+    &[0, 1, 0, 0, 0x10, 1, 0, 4, 0, 1, 0, 1, 0, 1, 0, 2, 0, 2],
+);
 
 /// A mute's state: Muted is 1, Unmuted 2.
 const MUTED: Answer = (0, 1, &[1]);
@@ -173,12 +177,7 @@ const ROWS: &[Row] = &[
 ];
 
 /// Whether a request is answered so.
-fn is_answered<R: RandomSource>(
-    alloc: Global,
-    rt: &R,
-    site: &mut Site,
-    row: &Row,
-) -> Option<bool> {
+fn is_answered<R: RandomSource>(alloc: Global, rt: &R, site: &mut Site, row: &Row) -> Option<bool> {
     let (request, begins, ends) = *row;
     let keys = RandomState::new(rt).ok()?;
     let mut http = Connection::new(alloc, keys, Config::default());

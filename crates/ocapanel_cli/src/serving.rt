@@ -10,7 +10,7 @@ use oca_panel::{OwnPort, Panel};
 use oca_program::socket::bind;
 use oca_program::{Failure, RunFault, print_note};
 use oca_script::{Printer, Sink};
-use oca_types::{LOOPBACK, NoMemory, Peer};
+use oca_types::{Handle, LOOPBACK, NoMemory, Peer};
 use oca_web::{Name, Site, View};
 use std::alloc::{AllocError, Global};
 use std::hash::RandomState;
@@ -44,26 +44,57 @@ pub fn serve<R: Net + RandomSource, N: Net + Clock, F: Sink>(
     serving: Serving,
     faults: &mut Printer<F>,
 ) -> Result<(), Failure> {
-    let mut listener = listen(alloc, rt, serving.listen)?;
-    let local = local_of(&listener, serving.listen);
     let end = bind(alloc, system, address_for(serving.device), serving.port)?;
-    let descriptor = end.as_raw_fd();
-    let first = OwnPort::now(system).first_handle;
-    let made = end.now();
-    let mut panel = Panel::open(serving.device, Ready::new(end), first, serving.span, 0);
-    let view = View::new(alloc, serving.device, serving.span, first, made).map_err(no_memory)?;
-    let names = names_of(alloc, local).map_err(refused)?;
-    let mut site = Site::new(alloc, view, names);
-    let poll = poll_of(alloc, rt, &mut listener, descriptor)?;
+    let own = Own {
+        descriptor: end.as_raw_fd(),
+        first: OwnPort::now(system).first_handle,
+        made: end.now(),
+    };
+    let (mut rounds, local) = rounds_of(alloc, rt, serving, own)?;
+    let mut site = site_of(alloc, serving, own, local)?;
+    let mut panel = Panel::open(serving.device, Ready::new(end), own.first, serving.span, 0);
     print_listening(alloc, local, faults);
-    let mut rounds = Rounds {
+    go_round(alloc, rt, &mut rounds, &mut panel, &mut site, faults)
+}
+
+/// What is known of the socket for the device.
+#[derive(Clone, Copy)]
+struct Own {
+    /// Its descriptor.
+    descriptor: i32,
+    /// The first handle.
+    first: Handle,
+    /// The present moment.
+    made: u64,
+}
+
+/// What the loop waits for, and where browsers are listened to.
+fn rounds_of<R: Net>(
+    alloc: Global,
+    rt: &R,
+    serving: Serving,
+    own: Own,
+) -> Result<(Rounds, Peer), Failure> {
+    let mut listener = listen(alloc, rt, serving.listen)?;
+    let poll = poll_of(alloc, rt, &mut listener, own.descriptor)?;
+    let local = local_of(&listener, serving.listen);
+    let rounds = Rounds {
         listener,
         poll,
         clients: Clients::new(alloc, 1),
         verbose: serving.verbose,
         was_lost: false,
     };
-    go_round(alloc, rt, &mut rounds, &mut panel, &mut site, faults)
+    Ok((rounds, local))
+}
+
+/// The service at this address.
+fn site_of(alloc: Global, serving: Serving, own: Own, local: Peer) -> Result<Site, Failure> {
+    let names = names_of(alloc, local).map_err(refused)?;
+    match View::new(alloc, serving.device, serving.span, own.first, own.made) {
+        Ok(view) => Ok(Site::new(alloc, view, names)),
+        Err(NoMemory) => Err(Failure::from(RunFault::NoMemory)),
+    }
 }
 
 /// What the loop waits for, and what it has told.
@@ -78,7 +109,11 @@ struct Rounds {
 
 /// The local address of a socket for this device.
 fn address_for(device: Peer) -> u32 {
-    if device.ip / 16_777_216 == 127 { LOOPBACK } else { 0 }
+    if device.ip / 16_777_216 == 127 {
+        LOOPBACK
+    } else {
+        0
+    }
 }
 
 /// A listener for browsers. A refusal says the address.
@@ -192,7 +227,9 @@ fn go_round<'a, R: Net + RandomSource, C: Clock, F: Sink>(
         } else {
             0
         };
-        let waited = rounds.poll.poll(&mut events, Some(Duration::from_millis(wait)));
+        let waited = rounds
+            .poll
+            .poll(&mut events, Some(Duration::from_millis(wait)));
         waited.map_err(|reason| failed(alloc, reason))?;
         for event in events.iter() {
             rounds.clients.note_ready(event.token());

@@ -172,7 +172,11 @@ fn own_machine(text: &[u8]) -> Option<Peer>
     ensures { result ≡ is_own_machine text.now }
 {
     let at = peer(text)?;
-    if at.ip / 16_777_216 == 127 { Some(at) } else { None }
+    if at.ip / 16_777_216 == 127 {
+        Some(at)
+    } else {
+        None
+    }
 }
 
 /// The span that a text says: 1 to 3 digits, 2 to 32.
