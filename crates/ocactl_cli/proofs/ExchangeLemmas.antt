@@ -1,6 +1,6 @@
 -- How commands fare, and are printed.
-use Rattle.std.proofs.Common.{◌≡◌, ℕ, ◌+◌, ◌-◌, ◌<◌, ◌≤◌, true, false, List, [], ◌∷◌, ◌++◌, length, Result, Ok, Err, refl, sym, ap, ◌∙◌, subst, arith, append-nil, append_assoc}
-use Rattle.std.specs.Prelude.{OnOk, slice_index_or, ◌==◌, ◌||◌}
+use Rattle.std.proofs.Common.{◌≡◌, Bool, ℕ, ◌+◌, ◌-◌, ◌<◌, ◌≤◌, true, false, List, [], ◌∷◌, ◌++◌, length, Result, Ok, Err, refl, sym, ap, ◌∙◌, subst, arith, append-nil, append_assoc}
+use Rattle.std.specs.Prelude.{OnOk, slice_index_or, ◌==◌, ◌||◌, if◌then◌else◌}
 use Rattle.std.specs.List.{remove}
 use Rattle.oca_types.specs.declared.words.Handle.{Handle}
 use Rattle.oca_types.specs.Peers.{RequestFields}
@@ -13,6 +13,12 @@ use Rattle.oca_script.specs.Printing.{Prints, PrintsAll, PrintsPart, WritesOut}
 use Rattle.oca_script.proofs.PrintLemmas.{PrintsAll-nil, PrintsPart-then, prints-then, prints-less, written-out, front}
 use Rattle.oca_control.specs.declared.fault.ControlFault.{ControlFault}
 use Rattle.oca_control.specs.declared.outcome.Outcome.{Outcome}
+use Rattle.oca_control.specs.declared.outcome.Outcome.TheVariants as outcomes
+use Rattle.oca_panel.specs.declared.trouble.Trouble.{Trouble}
+use Rattle.oca_panel.specs.declared.trouble.Trouble.TheVariants as trouble
+use Rattle.oca_panel.specs.Outcomes.{carried_out, done_answered}
+use Rattle.ocactl_cli.specs.Hands.{trouble_status}
+use Rattle.ocactl_cli.specs.Trees.{listed_status}
 use Rattle.oca_control.specs.Links.{LinkState}
 use Rattle.oca_net.specs.Ends.{last_u64}
 use Rattle.oca_control.specs.Asking.{refused_by, Begins, Waits, ReceivesSoOften}
@@ -234,3 +240,22 @@ concludes ended result old new v z a b c h k none is = record {
   writes = written-last v z a b c h.text h.prints k none;
   ends = is;
 }
+
+-- ---- the exit status of a command
+
+by-status : (b : Bool) (params : List ℕ) (s : ℕ) (d : Result Unit Trouble) → d ≡ carried_out (if b then Ok params else Err (trouble.Refused s))
+    → (if b then 0 else 4) ≡ listed_status d
+by-status true params s d is = sym (ap listed_status is)
+by-status false params s d is = sym (ap listed_status is)
+
+status-done : (o : Outcome) (d : Result Unit Trouble) → d ≡ done_answered o → outcome_status o ≡ listed_status d
+status-done (outcomes.Answered a) d is = by-status (a.status == 0) a.params.items a.status d is
+status-done (outcomes.Refused fault) d is = sym (ap listed_status is)
+status-done outcomes.Lost d is = sym (ap listed_status is)
+status-done outcomes.Unanswered d is = sym (ap listed_status is)
+
+pub carried-out : (o : Outcome) (u : Unit {0}) → Ok u ≡ done_answered o → 0 ≡ outcome_status o
+carried-out o u is = sym (status-done o (Ok u) is)
+
+pub not-carried-out : (o : Outcome) (why : Trouble) → Err why ≡ done_answered o → trouble_status why ≡ outcome_status o
+not-carried-out o why is = sym (status-done o (Err why) is)

@@ -5,18 +5,20 @@ ghost use Rattle.oca_script.specs.Printing.{Prints};
 ghost use Rattle.ocactl_cli.specs.Exchanges.{AsksOnce, outcome_text, outcome_status};
 
 use super::line::{Line, print_line};
+use super::told::status_of;
 use oca_control::{Link, Outcome, ask};
 use oca_net::End;
+use oca_panel::done_in;
 use oca_script::{Printer, Sink, WriteFailed};
 use oca_types::Request;
 
-/// The exit status: 0 for an answer with the status 0, 4 for another, 3 where there is none.
-pub fn status_of(outcome: &Outcome) -> u8
+/// The exit status for a command: 0 where it was carried out, else that of why it was not.
+pub fn outcome_status(outcome: &Outcome) -> u8
     ensures { result ≡ outcome_status outcome.now }
 {
-    match outcome {
-        Outcome::Answered(answer) => { if answer.status == 0 { 0 } else { 4 } }
-        Outcome::Refused(_) | Outcome::Lost | Outcome::Unanswered => 3,
+    match done_in(outcome) {
+        Ok(()) => 0,
+        Err(trouble) => status_of(trouble),
     }
 }
 
@@ -48,5 +50,5 @@ pub fn ask_once<E: End, W: Sink>(
     let outcome = ask(link, end, request, turns);
     print_outcome(&outcome, printer)?;
     printer.flush()?;
-    Ok(status_of(&outcome))
+    Ok(outcome_status(&outcome))
 }

@@ -8,15 +8,11 @@ ghost use Rattle.ocactl_cli.specs.Reasons.{found_by};
 
 use super::watched::Watched;
 use oca_control::{Link, Outcome, give_out, wait_for};
+use oca_model::Request;
 use oca_net::End;
+use oca_panel::ROOT;
 use oca_pdu::{Form, write_keepalive};
-use oca_types::{Handle, MethodId, Ono, Packet, Peer, Span};
-
-/// The root block (AES70-2).
-const ROOT: Ono = Ono(100);
-
-/// GetClassIdentification of every object.
-const GET_CLASS: MethodId = MethodId { level: 1, index: 1 };
+use oca_types::{Class, Handle, Packet, Params, Peer, Span};
 
 /// How often a keep-alive is sent.
 const ROUNDS: u32 = 4;
@@ -59,7 +55,7 @@ fn by_answer(answered: bool, heard: Option<u64>) -> Found
 
 /// Asks for the class of the root, and beside it for keep-alives: whether the command was answered.
 fn asks<E: End>(link: &mut Link, end: &mut Watched<E>, device: Peer) -> bool {
-    let Ok(handle) = link.submit(ROOT, GET_CLASS, 0, &[], 0) else {
+    let Some(handle) = submit(link) else {
         return false;
     };
     give_out(link, end, 0);
@@ -70,6 +66,17 @@ fn asks<E: End>(link: &mut Link, end: &mut Watched<E>, device: Peer) -> bool {
         }
     }
     false
+}
+
+/// Submits the command that asks for the class of the root.
+fn submit(link: &mut Link) -> Option<Handle> {
+    let mut params = Params::new();
+    let asked = Request::GetClassIdentification.call(Class::Block, &mut params);
+    let Ok(call) = asked else {
+        return None;
+    };
+    link.submit(ROOT, call.method, call.count, params.as_slice(), 0)
+        .ok()
 }
 
 /// Sends a device a keep-alive, which it echoes. It is one of five seconds, as those of a link.

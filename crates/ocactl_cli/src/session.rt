@@ -4,7 +4,7 @@ ghost use Rattle.oca_types.specs.Peers.{request_of};
 ghost use Rattle.ocactl_cli.specs.Exchanges.{AwaitsFirst, NoneUnderWay, TakesOne, outcome_status};
 ghost use Rattle.ocactl_cli.specs.PrivateExchanges.{Submitted, TakesFirst};
 
-use super::exchange::status_of;
+use super::exchange::outcome_status;
 use arrayvec::ArrayVec;
 use oca_control::{ControlFault, Link, Outcome, begin, is_late, turn, wait_for};
 use oca_net::End;
@@ -228,5 +228,5 @@ fn time_until(moment: Option<u64>, now: u64) -> u64
 fn gets_none(unanswered: bool, outcome: &Outcome) -> bool
     ensures { result ≡ (unanswered || outcome_status outcome.now == 3) }
 {
-    unanswered || status_of(outcome) == 3
+    unanswered || outcome_status(outcome) == 3
 }

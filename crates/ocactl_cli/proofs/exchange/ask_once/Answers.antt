@@ -23,5 +23,5 @@ pub returns : goal.returns
 returns g c = record {
   outcome = c.ask-outcome.result;
   asks = c.ask-outcome.ensures.asks;
-  writes = (c.status_of.ensures, written _ _ _ _ c.in_ok-print_outcome.ensures c.in_ok-flush.ensures.prints c.in_ok-flush.ensures.empty);
+  writes = (c.outcome_status.ensures, written _ _ _ _ c.in_ok-print_outcome.ensures c.in_ok-flush.ensures.prints c.in_ok-flush.ensures.empty);
 }
