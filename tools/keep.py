@@ -32,6 +32,12 @@ def text(said):
     return struct.pack(">H", len(said)) + said.encode()
 
 
+def limit_files(most):
+    """No file grows beyond so many bytes: a write fails then, and no signal ends the program."""
+    signal.signal(signal.SIGXFSZ, signal.SIG_IGN)
+    resource.setrlimit(resource.RLIMIT_FSIZE, (most, most))
+
+
 class Peer:
     def __init__(self, port):
         self.socket = socket.socket(socket.AF_INET, socket.SOCK_DGRAM)
@@ -69,7 +75,7 @@ class Checks:
 
     def serve(self, keep, *words, most=None):
         """A device at a port that the system chooses, what it says before it listens, and a peer of it."""
-        limit = (lambda: resource.setrlimit(resource.RLIMIT_FSIZE, (most, most))) if most is not None else None
+        limit = (lambda: limit_files(most)) if most is not None else None
         run = subprocess.Popen([f"{self.folder}/ocadev", "serve", "--port", "0", "--keep", keep, *words],
                                stdin=subprocess.DEVNULL, stdout=subprocess.PIPE, stderr=subprocess.PIPE, preexec_fn=limit)
         said = run.stderr.readline().decode()
@@ -170,11 +176,12 @@ def full(checks, folder):
     keep = f"{folder}/full"
     run, said, peer = checks.serve(keep)
     peer.ask(TRIM, 5, 2, struct.pack(">h", 5))
+    peer.ask(TRIM, 5, 1)  # its answer comes once the file is written
     stop(run)
     with open(keep, "rb") as file:
         old = file.read()
-    for what, words, most in [("no room for it", (), 100), ("room for a part of it", ("--channels", "1000"), 100)]:
-        run, said, peer = checks.serve(keep, *words, most=most)
+    for what, most in [("no room for it", 0), ("room for a part of it", 300)]:
+        run, said, peer = checks.serve(keep, most=most)
         for value in (7, 8, 9):
             checks.same(f"{what}: a command", peer.ask(TRIM, 5, 2, struct.pack(">h", value)), (0, b""))
         checks.same(f"{what}: what was set", peer.ask(TRIM, 5, 1)[1][:2], struct.pack(">h", 9))
@@ -193,7 +200,7 @@ BROKEN = [
     (b"root on \"\"\nobject 4096 100 block lockable \"desk\" on \"\"\nobject 4097 4096 mute muted lockable \"mu", "line 3: form"),
     (b"root on \"\"\n4097 100 mute muted lockable a\n4097 100 mute muted lockable a\n", "line 3: taken"),
     (b"root on \"\"\nobject 4096 100 switch 10 \"a\" 0 lockable \"s\" on \"\"\n", "line 2: value"),
-    (b"\xff\n", "line 1: form"),
+    (b"\xff\n", "line 1: number"),
 ]
 
 
