@@ -3,5 +3,7 @@ pub mod Printing
 pub mod Replaying
 pub mod PrivateRequests
 pub mod Words
+pub mod Commands
 pub mod Totals
 pub mod Makings
+pub mod Runs

@@ -1,5 +1,5 @@
 -- What the options of the device's program say (*profile*).
-use Rattle.std.specs.Prelude.{ℕ, Bool, true, false, List, codes, Option, Some, None}
+use Rattle.std.specs.Prelude.{ℕ, Bool, true, false, if◌then◌else◌, List, codes, Option, Some, None}
 use Rattle.std.specs.Option.{option_map}
 use Rattle.std.specs.Str.{bytes_eq}
 use Rattle.clap.specs.declared.parser.matches.ArgMatches.{ArgMatches}
@@ -10,6 +10,8 @@ use Rattle.ocadev_cli.specs.declared.words.Objects.{Objects}
 use Rattle.ocadev_cli.specs.declared.words.Objects.TheVariants as said
 use Rattle.ocadev_cli.specs.declared.words.Making.{Making}
 use Rattle.ocadev_cli.specs.declared.words.Serving.{Serving}
+use Rattle.ocadev_cli.specs.declared.words.Asked.{Asked}
+use Rattle.ocadev_cli.specs.declared.words.Asked.TheVariants as asked
 
 -- ---- how large the device is made
 
@@ -97,3 +99,24 @@ serving_in words =
     then_in (turns_in words) (λ turns.
     then_in (making_in words) (λ making.
     Some (record { ip = ip; port = port; turns = turns; making = making; verbose = says_so words (codes "verbose") })))))
+
+-- ---- what is asked for
+
+-- A device replays the script, or is served, or its objects are shown.
+pub data AskedFields : Type 0 where
+  Replays : MakingFields → AskedFields
+  Serves : ServingFields → AskedFields
+  Shows : SaidObjects → AskedFields
+
+abbrev pub asked_fields : Asked → AskedFields
+asked_fields (asked.Replay making) = Replays (making_fields making)
+asked_fields (asked.Serve serving) = Serves (serving_fields serving)
+asked_fields (asked.Show objects) = Shows (said_objects objects)
+
+-- WHAT A COMMAND WITH THESE OPTIONS ASKS FOR; none where there is no such command, or where a value is not of its form.
+abbrev pub asked_by : List ℕ → ArgMatches → Option AskedFields
+asked_by name options =
+    if bytes_eq name (codes "replay") then option_map Replays (making_in options)
+    else if bytes_eq name (codes "serve") then option_map Serves (serving_in options)
+    else if bytes_eq name (codes "show") then option_map Shows (objects_in options)
+    else None

@@ -5,7 +5,7 @@ ghost use Rattle.oca_device.specs.Reports.{added, no_turns};
 ghost use Rattle.ocadev_cli.specs.Totals.{ServesOn, capped};
 
 use super::trace::{Watched, print_turn};
-use oca_device::{Device, NoElectronics, Outbox, Report, serve_with};
+use oca_device::{Device, NoElectronics, Outbox, Report, serve, serve_with};
 use oca_net::End;
 use oca_script::{Printer, Sink};
 
@@ -28,6 +28,22 @@ pub fn serve_on<E: End>(device: &mut Device, end: &mut E, outbox: &mut Outbox) -
         }
     }
     report
+}
+
+/// Serves an end for so many turns, or until it is closed.
+pub fn serve_turns<E: End>(
+    device: &mut Device,
+    end: &mut E,
+    outbox: &mut Outbox,
+    turns: u32,
+) -> Report
+    ensures served { ServesOn device.old device.new (E.state end.old) (E.state end.new) result }
+    ensures turns { result.turns ≤ turns }
+    ensures closed { result.turns < turns → IsTrue (E.state end.new).closed }
+{
+    let none = nothing();
+    let round = serve(device, end, outbox, turns);
+    sum(none, round)
 }
 
 /// Serves an end for so many turns, or until it is closed, and prints a line for each datagram. That this can't be
