@@ -80,8 +80,17 @@ datagrams_text r =
 abbrev pub calls_text : Report → List ℕ
 calls_text r = codes " failed-receives " ++ decimal r.failed_receives ++ codes " failed-sends " ++ decimal r.failed_sends
 
-abbrev pub counts_text : Report → List ℕ
+unfoldable pub counts_text : Report → List ℕ
 counts_text r = commands_text r ++ datagrams_text r ++ calls_text r
+
+-- how many sessions there are, and how many locks are held
+unfoldable pub held_text : ℕ → ℕ → List ℕ
+held_text sessions locks = codes " sessions " ++ decimal sessions ++ codes " locks " ++ decimal locks
+
+-- the line of a report so far, with how many sessions there are and how many locks are held
+abbrev pub stats_text : Report → ℕ → ℕ → List ℕ
+stats_text r sessions locks =
+    codes "note: " ++ counts_text r ++ held_text sessions locks ++ codes "\n"
 
 -- the line of a report
 abbrev pub report_text : Report → List ℕ

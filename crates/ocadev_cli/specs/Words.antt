@@ -80,16 +80,24 @@ is_true (Some text) = bytes_eq text (codes "true")
 abbrev pub says_so : ArgMatches → List ℕ → Bool
 says_so words flag = is_true (given words flag)
 
--- where to serve which device, for how many turns, and whether to tell of each datagram
+-- each so many seconds the report so far is told, where that is said: 1 to 86,400 in at most 5 digits
+abbrev pub seconds_of : List ℕ → Option ℕ
+seconds_of text = then_in (number_of 5 86400 text) (sized 86400)
+
+abbrev pub stats_in : ArgMatches → Option (Option ℕ)
+stats_in words = read_if seconds_of (given words (codes "stats"))
+
+-- where to serve which device, for how many turns, whether to tell of each datagram, and how often of all of them
 pub record ServingFields : Type 0 where
   pub ip : ℕ
   pub port : ℕ
   pub turns : Option ℕ
   pub making : MakingFields
   pub verbose : Bool
+  pub stats : Option ℕ
 
 abbrev pub serving_fields : Serving → ServingFields
-serving_fields s = record { ip = s.ip; port = s.port; turns = s.turns; making = making_fields s.making; verbose = s.verbose }
+serving_fields s = record { ip = s.ip; port = s.port; turns = s.turns; making = making_fields s.making; verbose = s.verbose; stats = s.stats }
 
 -- the address 127.0.0.1 unless given, and the port in at most 5 digits
 unfoldable pub serving_in : ArgMatches → Option ServingFields
@@ -98,7 +106,8 @@ serving_in words =
     then_in (read_as (number_of 5 65535) (given words (codes "port"))) (λ port.
     then_in (turns_in words) (λ turns.
     then_in (making_in words) (λ making.
-    Some (record { ip = ip; port = port; turns = turns; making = making; verbose = says_so words (codes "verbose") })))))
+    then_in (stats_in words) (λ stats.
+    Some (record { ip = ip; port = port; turns = turns; making = making; verbose = says_so words (codes "verbose"); stats = stats }))))))
 
 -- ---- what is asked for
 

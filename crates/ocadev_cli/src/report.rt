@@ -2,7 +2,7 @@
 ghost use Rattle.std.specs.Prelude.{◌≡◌, ◌+◌, ◌++◌, ◌≤◌, decimal, length};
 ghost use Rattle.oca_script.specs.Ends.{output};
 ghost use Rattle.oca_script.specs.Printing.{Prints, WritesOut};
-ghost use Rattle.ocadev_cli.specs.Printing.{commands_text, datagrams_text, calls_text, counts_text, report_text};
+ghost use Rattle.ocadev_cli.specs.Printing.{commands_text, datagrams_text, calls_text, counts_text, report_text, stats_text, held_text};
 
 use oca_device::Report;
 use oca_script::{Printer, Sink, WriteFailed};
@@ -29,7 +29,44 @@ fn put_report<W: Sink>(report: &Report, printer: &mut Printer<W>)
     printer.put(b"\n");
 }
 
+/// Prints the line of a report so far, with how many sessions there are and how many locks are held, and hands it on.
+pub fn print_stats<F: Sink>(
+    report: &Report,
+    sessions: u64,
+    locks: u64,
+    faults: &mut Printer<F>,
+) -> Result<(), WriteFailed>
+    ensures { WritesOut result faults.old faults.new (stats_text report.now sessions locks) }
+{
+    faults.make_room(REPORT_ROOM)?;
+    put_stats(report, sessions, locks, faults);
+    faults.flush()
+}
+
+/// Holds the line of a report so far.
+fn put_stats<F: Sink>(report: &Report, sessions: u64, locks: u64, faults: &mut Printer<F>)
+    requires { length faults.old.held + 600 ≤ 8192 }
+    ensures { faults.new ≡ output faults.old.contents (faults.old.held ++ stats_text report.now sessions locks) faults.old.failed }
+{
+    faults.put(b"note: ");
+    put_counts(report, faults);
+    put_held(sessions, locks, faults);
+    faults.put(b"\n");
+}
+
+/// Holds how many sessions there are, and how many locks are held.
+#[tactic(auto, unfolding(crate::specs::Printing::held_text))]
+fn put_held<F: Sink>(sessions: u64, locks: u64, faults: &mut Printer<F>)
+    requires { length faults.old.held + 60 ≤ 8192 }
+    ensures value { faults.new ≡ output faults.old.contents (faults.old.held ++ held_text sessions locks) faults.old.failed }
+    ensures len { length faults.new.held ≤ length faults.old.held + 60 }
+{
+    put_count(b" sessions ", sessions, faults);
+    put_count(b" locks ", locks, faults);
+}
+
 /// Holds the counts of a report.
+#[tactic(auto, unfolding(crate::specs::Printing::counts_text))]
 fn put_counts<W: Sink>(report: &Report, printer: &mut Printer<W>)
     requires { length printer.old.held + 500 ≤ 8192 }
     ensures value { printer.new ≡ output printer.old.contents (printer.old.held ++ counts_text report.now) printer.old.failed }

@@ -17,7 +17,7 @@ ghost use Rattle.ocadev_cli.specs.Totals.{ServesOn};
 use super::making::{made, objects};
 use super::replay::replay;
 use super::report::{print_listening, print_report};
-use super::serving::{serve_on, serve_traced, serve_turns};
+use super::serving::{Telling, serve_on, serve_traced, serve_turns};
 use super::show::show;
 use super::trace::Watched;
 use super::words::{Asked, Making, Objects, Serving, asked_for, matches_of};
@@ -38,6 +38,9 @@ use std::rt::{Clock, Files};
 /// What is told where a device is bound to every address of the machine.
 const EVERY_ADDRESS: &str =
     "0.0.0.0 is every address of this machine: answers may leave from another one than was asked, and links drop those";
+
+/// Of how many bytes for datagrams that have not left a host that does not answer holds less than half.
+const ENOUGH_GRANTED: u32 = 500_000;
 
 /// Runs the program on the words of its command line, its name first, and returns its exit status: 0, 2 where the words
 /// or a line are bad, and 1 where something could not be done. A fault is printed on `faults` as one line, behind one
@@ -315,26 +318,43 @@ fn served_over<N: Clock, F: Sink>(
     ensures served { (after : EndState) × ServesOn device.old device.new (state_of_socket end.entry) after result }
     ensures turns { result.turns ≡ turns_until serving.entry.turns }
 {
-    tell_bound(&end, faults);
-    if serving.verbose {
-        return traced_over(alloc, end, serving.turns, device, outbox, faults);
+    tell_bound(alloc, &end, faults);
+    let telling = Telling::new(serving.verbose, serving.stats);
+    if telling.tells() {
+        return traced_over(alloc, end, serving.turns, telling, device, outbox, faults);
     }
     untraced_over(alloc, end, serving.turns, device, outbox, faults)
 }
 
-/// Tells where the device listens, and that this is every address where it is.
-fn tell_bound<N: Clock, F: Sink>(end: &UdpEnd<'_, N>, faults: &mut Printer<F>) {
+/// Tells where the device listens, and that this is every address where it is, and that the system grants little room
+/// for datagrams that have not left where it does.
+fn tell_bound<N: Clock, F: Sink>(alloc: Global, end: &UdpEnd<'_, N>, faults: &mut Printer<F>) {
     let _ = print_listening(end.local(), faults);
     if end.local().ip == 0 {
         print_note(EVERY_ADDRESS, faults);
     }
+    let granted = end.send_buffer();
+    if 0 < granted && granted < ENOUGH_GRANTED {
+        note_granted(alloc, granted, faults);
+    }
 }
 
-/// Serves a device over this end, and tells of each datagram.
+/// Prints that the system grants so few bytes for datagrams that have not left, where there is memory for the line.
+fn note_granted<F: Sink>(alloc: Global, granted: u32, faults: &mut Printer<F>) {
+    let note = format!(in alloc;
+        "the system grants {granted} bytes for datagrams that have not left: a host that does not answer may fill them, and answers to others are lost then"
+    );
+    if let Ok(note) = note {
+        print_note(note.as_str(), faults);
+    }
+}
+
+/// Serves a device over this end, and tells of it.
 fn traced_over<N: Clock, F: Sink>(
     alloc: Global,
     end: UdpEnd<'_, N>,
     turns: Option<u32>,
+    telling: Telling,
     device: &mut Device,
     outbox: &mut Outbox,
     faults: &mut Printer<F>,
@@ -347,7 +367,7 @@ fn traced_over<N: Clock, F: Sink>(
         None => u64::MAX,
     };
     let mut watched = Watched::new(end);
-    let report = serve_traced(device, &mut watched, outbox, most, faults);
+    let report = serve_traced(device, &mut watched, outbox, most, telling, faults);
     note_failed_sends(
         alloc,
         report.failed_sends,

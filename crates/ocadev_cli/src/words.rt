@@ -2,7 +2,7 @@
 ghost use Rattle.std.specs.Prelude.{◌≡◌, IfErr, IfOk, map};
 ghost use Rattle.std.specs.Option.{option_map};
 ghost use Rattle.oca_types.specs.Sizes.{window_size, peer_count};
-ghost use Rattle.ocadev_cli.specs.Words.{window_of as window_said, window_in, peers_of as peers_said, peers_in, channels_in, said_objects, objects_in, making_fields, making_in, turns_in, says_so, serving_fields, serving_in, asked_fields, asked_by};
+ghost use Rattle.ocadev_cli.specs.Words.{window_of as window_said, window_in, peers_of as peers_said, peers_in, channels_in, said_objects, objects_in, making_fields, making_in, turns_in, says_so, seconds_of as seconds_said, stats_in, serving_fields, serving_in, asked_fields, asked_by};
 ghost use Rattle.oca_program.specs.declared.fault.RunFault.TheVariants.{BadWords};
 ghost use Rattle.ocadev_cli.specs.Commands.{AreMatchesOf};
 
@@ -42,7 +42,8 @@ pub struct Making<'a> {
     pub sizes: Sizes,
 }
 
-/// Where to serve which device, for how many turns where that is said, and whether to tell of each datagram.
+/// Where to serve which device, for how many turns where that is said, whether to tell of each datagram, and each how
+/// many seconds of all of them, where that is said.
 #[derive(Clone, Copy, PartialEq, Eq, Debug)]
 pub struct Serving<'a> {
     pub ip: u32,
@@ -50,6 +51,7 @@ pub struct Serving<'a> {
     pub turns: Option<u32>,
     pub making: Making<'a>,
     pub verbose: bool,
+    pub stats: Option<u32>,
 }
 
 /// With the option of how many commands are kept with their replies.
@@ -165,6 +167,16 @@ fn with_verbose<'a>(command: Command<'a>, alloc: Global) -> Result<Command<'a>, 
     command.arg(verbose)
 }
 
+/// With the option of how often the report so far is told.
+fn with_stats<'a>(command: Command<'a>, alloc: Global) -> Result<Command<'a>, AllocError> {
+    command.arg(option(
+        alloc,
+        "stats",
+        "SECONDS",
+        "Prints the report so far on standard error each so many seconds, 1 to 86400, with how many sessions there are and how many locks are held",
+    ))
+}
+
 /// The command `serve`.
 fn serve_command<'a>(alloc: Global) -> Result<Command<'a>, AllocError> {
     let command = Command::new(alloc, "serve")
@@ -172,7 +184,8 @@ fn serve_command<'a>(alloc: Global) -> Result<Command<'a>, AllocError> {
             "Serves a device, the bench device unless --tree is given, at a UDP socket, and prints what was done",
         )
         .after_help(SERVE_EXAMPLE);
-    with_verbose(made(bound(command, alloc)?, alloc)?, alloc)
+    let serving = with_verbose(made(bound(command, alloc)?, alloc)?, alloc)?;
+    with_stats(serving, alloc)
 }
 
 /// The command `show`.
@@ -231,7 +244,7 @@ pub fn asked_for<'a>(
 }
 
 /// The options that have a form.
-const RULES: [Rule; 6] = [
+const RULES: [Rule; 7] = [
     Rule {
         name: "ip",
         form: Form::Own,
@@ -250,6 +263,14 @@ const RULES: [Rule; 6] = [
             digits: 10,
             least: 0,
             largest: 4_294_967_295,
+        },
+    },
+    Rule {
+        name: "stats",
+        form: Form::Number {
+            digits: 5,
+            least: 1,
+            largest: 86_400,
         },
     },
     Rule {
@@ -395,6 +416,31 @@ fn flag(options: &ArgMatches<'_>, name: &str) -> bool
     }
 }
 
+/// How many seconds a text says: 1 to 5 digits, 1 to 86,400.
+#[tactic(auto, using(oca_program::proofs::OptionLemmas::size_rules))]
+fn seconds_of(text: &[u8]) -> Option<u32>
+    ensures { result ≡ seconds_said text.now }
+{
+    let seconds = number(text, 5, 86_400)?;
+    if seconds < 1 {
+        return None;
+    }
+    Some(seconds as u32)
+}
+
+/// How often to tell the report so far, where that is said.
+fn stats_of(options: &ArgMatches<'_>) -> Option<Option<u32>>
+    ensures { result ≡ stats_in options.now }
+{
+    match text_of(options, "stats") {
+        Some(text) => match seconds_of(text.as_bytes()) {
+            Some(seconds) => Some(Some(seconds)),
+            None => None,
+        },
+        None => Some(None),
+    }
+}
+
 /// Where to serve which device: 1 to 5 digits of a port, 1 to 10 of turns, and an address `a.b.c.d`.
 #[tactic(auto, unfolding(crate::specs::Words::serving_in))]
 fn serving_of<'a>(options: &ArgMatches<'a>) -> Option<Serving<'a>>
@@ -404,6 +450,7 @@ fn serving_of<'a>(options: &ArgMatches<'a>) -> Option<Serving<'a>>
     let port = number_in(options, "port", 5, 65535)?;
     let turns = turns_of(options)?;
     let making = making_of(options)?;
+    let stats = stats_of(options)?;
     let verbose = flag(options, "verbose");
     Some(Serving {
         ip,
@@ -411,5 +458,6 @@ fn serving_of<'a>(options: &ArgMatches<'a>) -> Option<Serving<'a>>
         turns,
         making,
         verbose,
+        stats,
     })
 }
