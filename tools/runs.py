@@ -54,6 +54,17 @@ OBJECTS = b"""\
 4101 1.1.1.1.1 4096 lamp
 4102 1.1.1.1.6 4096 dim
 """
+# The same as a text.
+TEXT = b"""\
+root on ""
+object 4096 100 block lockable "desk" on ""
+object 4097 4096 mute muted lockable "mute" on ""
+object 4098 4096 polarity non-inverted lockable "polarity" on ""
+object 4099 4096 switch 111 "Line,Mic,Off" 0 lockable "input" on ""
+object 4100 4096 int16 -600 600 0 lockable "trim" on ""
+object 4101 4096 boolean off lockable "lamp" on ""
+object 4102 4096 uint8 0 100 10 no-lock "dim" on ""
+"""
 STRIPS = b"""\
 100 1.1.3 0 root
 4096 1.1.3 100 desk
@@ -138,6 +149,7 @@ served 0 0 0
 """),
     # Behind the bench's own objects stand the strips, and a command for the mute of the second is answered.
     ("ocadev show --channels 0000", b"", OBJECTS),
+    ("ocadev show --text", b"", TEXT),
     ("ocadev show --channels 2", b"", STRIPS),
     ("ocadev replay --channels 2", GET_STRIP, b"served 1 0 0\n> 3b0001000000140300010000000b00000001000101\n"),
     ("ocadev replay", GET_STRIP, b"served 1 0 0\n> 3b0001000000130300010000000a000000010500\n"),

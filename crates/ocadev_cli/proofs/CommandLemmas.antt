@@ -5,7 +5,7 @@ use denote.Ref.{Bor}
 use Rattle.clap.specs.declared.parser.matches.ArgMatches.{ArgMatches}
 use Rattle.clap.specs.Matches.{found_of, subcommand_name_of}
 use Rattle.clap.specs.Simple.{subcommand_rows_of}
-use Rattle.clap.specs.Walk.{Row, rows_of}
+use Rattle.clap.specs.Walk.{rows_of}
 use Rattle.ocadev_cli.specs.Commands.{IsCommand}
 
 pub command-named : (words : ArgMatches) (r : Option (Bor (List ℕ) × Bor ArgMatches)) (name : Bor (List ℕ)) (options : Bor ArgMatches) → r ≡ Some (name, options)

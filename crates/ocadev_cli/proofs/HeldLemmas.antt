@@ -1,5 +1,5 @@
 -- Two texts that are held one behind the other.
-use Rattle.std.proofs.Common.{◌≡◌, ℕ, List, ◌++◌, sym, ap, ◌∙◌, append_assoc}
+use Rattle.std.proofs.Common.{◌≡◌, ℕ, List, ◌++◌, ap, ◌∙◌, append_assoc}
 use Rattle.oca_script.specs.Ends.{Output, output}
 
 pub held-both : (a b c : Output) (v w x y : List ℕ) → b ≡ output a.contents (a.held ++ v ++ w) a.failed → c ≡ output b.contents (b.held ++ x ++ y) b.failed

@@ -1,5 +1,5 @@
 -- What the lines of the device's scripts ask for (profile).
-use Rattle.std.specs.Prelude.{ℕ, Bool, if◌then◌else◌, List, [], ◌∷◌, codes, Option, Some, None, Result, Ok, Err}
+use Rattle.std.specs.Prelude.{ℕ, Bool, if◌then◌else◌, List, [], ◌∷◌, codes, Result, Ok, Err}
 use Rattle.std.specs.Str.{bytes_eq}
 use Rattle.oca_script.specs.Fields.{moment_of, peer_of, hex_of}
 use Rattle.oca_script.specs.declared.fault.LineFault.{LineFault}

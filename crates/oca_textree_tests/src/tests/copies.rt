@@ -127,7 +127,10 @@ type Refused = (&'static [u8], ObjectFault);
 
 const REFUSED: &[Refused] = &[
     (b"object 4096 100 block lockable \"a\"", ObjectFault::Form),
-    (b"object 4096 100 block lockable \"a\" on", ObjectFault::Form),
+    (
+        b"object 4096 100 block lockable \"a\" on",
+        ObjectFault::Form,
+    ),
     (
         b"object 4096 100 block lockable \"a\" on \"\" ",
         ObjectFault::Form,
