@@ -111,9 +111,13 @@ ShowsMade words (Ok tree) ended was is = Tells (words tree) ended was is
 abbrev pub DoesReplay : MakingFields → Result Unit RunFault → Input → Input → Output → Output → Type 0
 DoesReplay making ended had has was is = (made : Result (List Object) RunFault) × Makes making.objects made × ReplaysMade making.sizes made ended had has was is
 
--- whether a kept file is there no contract can say
+-- on those at the start, where the kept file is there or is not
+abbrev pub ServesFrom : Bool → ServingFields → Result Unit RunFault → Output → Output → Type 0
+ServesFrom there serving ended was is = (made : Result (List Object) RunFault) × Makes (starting_objects serving.keep there serving.making.objects) made × ServesMade serving made ended was is
+
+-- whether it is there no contract can say
 abbrev pub DoesServe : ServingFields → Result Unit RunFault → Output → Output → Type 0
-DoesServe serving ended was is = (there : Bool) × (made : Result (List Object) RunFault) × Makes (starting_objects serving.keep there serving.making.objects) made × ServesMade serving made ended was is
+DoesServe serving ended was is = (there : Bool) × ServesFrom there serving ended was is
 
 abbrev pub DoesShow : (List Object → List ℕ) → SaidObjects → Result Unit RunFault → Output → Output → Type 0
 DoesShow words objects ended was is = (made : Result (List Object) RunFault) × Makes objects made × ShowsMade words made ended was is

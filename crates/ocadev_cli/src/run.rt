@@ -12,7 +12,7 @@ ghost use Rattle.ocadev_cli.specs.Words.{asked_by, asked_fields, making_fields, 
 ghost use Rattle.oca_textree.specs.Written.{text_of};
 ghost use Rattle.ocadev_cli.specs.Makings.{fault_in};
 ghost use Rattle.ocadev_cli.specs.Printing.{report_text, tree_text};
-ghost use Rattle.ocadev_cli.specs.Runs.{exit_status, RunsOn, Obeys, DoesAsked, Does, DoesReplay, DoesServe, DoesShow, Helps, ReplaysMade, ReplaysOn, ServesMade, Served, Tells, turns_until};
+ghost use Rattle.ocadev_cli.specs.Runs.{exit_status, RunsOn, Obeys, DoesAsked, Does, DoesReplay, DoesServe, DoesShow, Helps, ReplaysMade, ReplaysOn, ServesFrom, ServesMade, Served, Tells, turns_until};
 ghost use Rattle.ocadev_cli.specs.Totals.{ServesOn};
 
 use super::keep::{Keeping, is_there, starting};
@@ -267,6 +267,20 @@ fn serve_socket<N: Net + Clock + Files, W: Sink, F: Sink>(
     ensures { DoesServe (serving_fields serving.entry) (fault_in result) printer.old printer.new }
 {
     let there = is_there(system, serving.keep);
+    serve_from(alloc, system, serving, there, printer, faults)
+}
+
+/// Serves a device at a socket, where the file in which its state is kept is there or is not, and prints what was done.
+fn serve_from<N: Net + Clock + Files, W: Sink, F: Sink>(
+    alloc: Global,
+    system: &N,
+    serving: Serving<'_>,
+    there: bool,
+    printer: &mut Printer<W>,
+    faults: &mut Printer<F>,
+) -> Result<(), Failure>
+    ensures { ServesFrom there (serving_fields serving.entry) (fault_in result) printer.old printer.new }
+{
     let listed = starting(serving.keep, there, serving.making.objects);
     match objects(alloc, system, listed) {
         Ok(tree) => serve_tree(alloc, system, serving, tree, printer, faults),
