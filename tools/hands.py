@@ -248,6 +248,10 @@ def sets(checks):
         checks.prints("get of a name of which 192 bytes are printed", device, ["get", 5008], "5008 2 " + "\\u{9b}" * 32 + "\n", 0)
 
 
+# What is told of a span that a device's window of 32 does not bear.
+OF_SPAN_32 = "note: --span 32: the device needs a window of 63 commands or more; its 32, unless it is told another, bear a span of 16\n"
+
+
 def sets_at_once(checks):
     """`set --ahead N`: so many set commands are there before any of them is answered; one that is refused has its line in its place."""
     values = list({ono: (ono, text, state) for ono, text, state in VALUES}.values())
@@ -259,7 +263,7 @@ def sets_at_once(checks):
         at[4097].lock = ("read-only", OTHER)
         said = [f"{ono} {PRINTED.get(text, {}).get(ono, text)}\n" if ono != 4097 else "4097 Locked\n" for ono, text, _ in values]
         with Holding(tree, count) as device:
-            checks.prints(f"set {options}", device, ["set", *options, *words], "".join(said), 4)
+            checks.prints(f"set {options}", device, ["set", *options, *words], "".join(said), 4, OF_SPAN_32 if "--span" in options else "")
             checks.same(f"set {options}: how many at once", device.kept, [count] * (len(values) // count))
             checks.same(f"set {options}: the device", [at[ono].state for ono, _, _ in values],
                         [before if ono == 4097 else state for ono, _, state in values])

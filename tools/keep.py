@@ -127,6 +127,15 @@ def restarts(checks, folder):
     checks.same("no new file is left", os.path.exists(f"{keep}.new"), False)
     with open(keep, "rb") as file:
         checks.same("the file as show --text prints it", checks.shown(keep), file.read())
+    # What is kept is kept, and what is told is told, whatever else is asked for.
+    both = f"{keep}.both"
+    run, said, peer = checks.serve(both, "--verbose", "--stats", "1")
+    checks.same("a command of a run that tells", peer.ask(MUTE, 4, 2, b"\x01"), (0, b""))
+    time.sleep(1.5)
+    told = stop(run)
+    checks.same("the line of the datagram", re.search(r" served 1 0 0 wrote 4097\n", told) is not None, True)
+    checks.same("the report so far", re.search(r"note: turns \d+ executed 1 .* sessions 1 locks 0\n", told) is not None, True)
+    checks.same("the file of a run that tells", b"object 4097 4096 mute muted" in checks.shown(both) and os.path.exists(both), True)
     # Another number of strips is left aside where the file is there.
     run, said, peer = checks.serve(keep, "--channels", "2")
     checks.same("an object of a strip", peer.ask(4104, 4, 1), (5, b""))

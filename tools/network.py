@@ -17,6 +17,7 @@ import threading
 import time
 from pathlib import Path
 
+import grants
 import oca_profile as oca
 from own_ports import free_port
 
@@ -104,6 +105,7 @@ class Checks:
         """A device, and its port."""
         run = self.start("ocadev", "serve", "--port", 0, "--turns", turns, *words, **settings)
         listening = re.match(r"listening [\d.]+:(\d+)\n", run.stderr.readline())
+        grants.read_note(run)
         return run, int(listening[1]) if listening else 0
 
     def send(self, device, handle, *words, **settings):

@@ -18,6 +18,7 @@ import tempfile
 import time
 from pathlib import Path
 
+import grants
 import oca_profile as oca
 import own_ports
 from own_ports import free_port
@@ -294,6 +295,22 @@ def serves(checks):
     checks.same("serve: its answers", answered, 10)
 
 
+def wide_spans(checks):
+    """`send` and `run` with a span of 17, and `send` with one of 16: which window the device needs, where it is not the one that it has."""
+    said = "note: --span 17: the device needs a window of 33 commands or more; its 32, unless it is told another, bear a span of 16\n"
+    for command, span, told in ((["send", "--target", 1, "--level", 1, "--index", 1, "--count", 0], 17, said),
+                                (["send", "--target", 1, "--level", 1, "--index", 1, "--count", 0], 16, ""), (["run"], 17, said)):
+        with bound() as device:
+            run = checks.start("ocactl", *command, "--device", f"127.0.0.1:{device.getsockname()[1]}", "--first-handle", 1, "--span", span, "--port", free_port())
+            if command == ["run"]:
+                run.stdin.write("1 1 1 0 -\n")
+                run.stdin.close()
+                run.stdin = None
+            sender = device.recvfrom(2000)[1]
+            device.sendto(response(1, 0, 0, b""), sender)
+            checks.same(f"{command[0]} --span {span}", (*run.communicate(timeout=30), run.returncode), ("answer 0 0 -\n", told, 0))
+
+
 def typed(checks):
     """`run` gives the answer of a line before the next line comes, while its standard input stays open."""
     with bound() as device:
@@ -378,9 +395,10 @@ def serves_until_stopped(checks):
     """`serve` without `--turns`, of one peer and two channel strips: what it tells of each datagram, and that a signal ends it without a
     report."""
     run = checks.start("ocadev", "serve", "--port", 0, "--ip", "0.0.0.0", "--peers", 1, "--channels", 2, "--verbose")
-    checks.same("serve at 0.0.0.0: a note", run.stderr.readline()[:14], "note: 0.0.0.0 ")
     said = re.fullmatch(r"listening 0\.0\.0\.0:(\d+)\n", run.stderr.readline())
     checks.same("serve at 0.0.0.0: where it listens", said is not None, True)
+    checks.same("serve at 0.0.0.0: a note", run.stderr.readline()[:14], "note: 0.0.0.0 ")
+    checks.same("serve: a note where little is granted", grants.read_note(run), True)
     device = ("127.0.0.1", int(said[1]))
     with bound() as first, bound() as second:
         told = []
@@ -399,6 +417,7 @@ def serves_until_stopped(checks):
     checks.same("serve: stopped by a signal", (out, fault, run.returncode), ("", "", -15))
     run = checks.start("ocadev", "serve", "--port", 0, "--window", 1, "--verbose")
     port = int(run.stderr.readline().split(":")[1])
+    grants.read_note(run)
     with bound() as peer:
         told = []
         for handle in (1, 2, 1):
@@ -408,6 +427,7 @@ def serves_until_stopped(checks):
     run.kill()
     run = checks.start("ocadev", "serve", "--port", 0)
     port = int(run.stderr.readline().split(":")[1])
+    grants.read_note(run)
     with bound() as peer:
         for handle in range(1, 3001):
             peer.sendto(oca.pdu(1, [oca.Command(handle, 4097, 4, 1, 0, b"").body()]), ("127.0.0.1", port))
@@ -417,8 +437,31 @@ def serves_until_stopped(checks):
     checks.same("serve: stopped by a signal", (*run.communicate(timeout=30), run.returncode), ("", "", -15))
     for turns in (0, 3):
         out, fault = checks.start("ocadev", "serve", "--port", 0, "--turns", turns, "--verbose").communicate(timeout=30)
-        checks.same(f"serve --verbose --turns {turns}", (out.split()[:2], out.split()[16:18], len(fault.splitlines())),
+        told = grants.without_note(fault).splitlines()
+        checks.same(f"serve --verbose --turns {turns}", (out.split()[:2], out.split()[16:18], len(told)),
                     (["turns", str(turns)], ["quiet", str(turns)], 1))
+    tells_stats(checks)
+
+
+def tells_stats(checks):
+    """`serve --stats 1`: the report so far, with sessions and locks; a bad number of seconds."""
+    run = checks.start("ocadev", "serve", "--port", 0, "--stats", 1)
+    port = int(run.stderr.readline().split(":")[1])
+    grants.read_note(run)
+    with bound() as first, bound() as second:
+        for peer, handle, target in ((first, 1, 4097), (first, 2, 4098), (second, 1, 4099)):
+            peer.sendto(oca.pdu(1, [oca.Command(handle, target, 1, 3, 0, b"").body()]), ("127.0.0.1", port))
+            peer.recv(2000)
+        told = run.stderr.readline().split()
+    said = dict(zip(told[1::2], told[2::2]))
+    checks.same("serve --stats: what it tells", (told[:2], *map(said.get, ("executed", "kept", "sessions", "locks"))),
+                (["note:", "turns"], "3", "0", "2", "3"))
+    checks.same("serve --stats: it tells again", run.stderr.readline().startswith("note: turns "), True)
+    run.kill()
+    run.communicate(timeout=30)
+    for seconds in ("0", "86401", "1s"):
+        out, fault = checks.start("ocadev", "serve", "--port", 0, "--stats", seconds).communicate(timeout=30)
+        checks.same(f"serve --stats {seconds}", (out, fault), ("", f"note: --stats {seconds} is not of its form: 1 to 5 digits, 1 to 86400\nbad words\n"))
 
 
 def listed_line(r, onos):
@@ -474,14 +517,15 @@ def trees(checks):
             Path(path).write_bytes(text)
             done = subprocess.run([f"{checks.folder}/ocadev", "show", "--tree", path], capture_output=True, text=True, timeout=60)
             checks.same(f"show --tree of {len(text)} bytes", (done.stdout, done.stderr, done.returncode), ("" if fault else "100 1.1.3 0 root\n", fault, code))
-        for words, fault, code in ((["--tree", path, "--channels", "1"], "bad words", 2), (["--tree", f"{folder}/none"], "read failed", 1)):
+        for words, fault, code in ((["--tree", path, "--channels", "1"], "bad words", 2), (["--tree", f"{folder}/none"], "read failed", 1),
+                                   (["--tree", folder], "read failed", 1)):
             done = subprocess.run([f"{checks.folder}/ocadev", "show", *words], capture_output=True, text=True, timeout=30)
             checks.same(f"show {words}", (done.stdout, done.stderr.splitlines()[-1:], done.stderr[:6], done.returncode), ("", [fault], "note: ", code))
 
 
 def main():
     checks = Checks(sys.argv[1])
-    for part in (sends, runs, runs_ahead, drives_while_it_waits, typed, at_own_ports, limits, defaults, faults, bad_options, versions, unwritten, serves, serves_until_stopped, trees):
+    for part in (sends, runs, runs_ahead, drives_while_it_waits, typed, wide_spans, at_own_ports, limits, defaults, faults, bad_options, versions, unwritten, serves, serves_until_stopped, trees):
         try:
             with own_ports.alone() if part in (at_own_ports, unwritten) else contextlib.nullcontext():
                 part(checks)

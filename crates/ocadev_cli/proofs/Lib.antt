@@ -2,3 +2,8 @@ pub mod RequestLemmas
 pub mod PacketLemmas
 pub mod ServeLemmas
 pub mod TotalLemmas
+pub mod HeldLemmas
+pub mod ReadingLemmas
+pub mod TreeLemmas
+pub mod RunLemmas
+pub mod CommandLemmas

@@ -10,19 +10,19 @@ use Rattle.oca_script.specs.Ends.{Output}
 use Rattle.oca_script.specs.Printing.{Prints, PrintsAll, PrintsPart}
 use Rattle.oca_script.proofs.PrintLemmas.{PrintsAll-then, PrintsPart-then, prints-less}
 
-flat_map-more : (f : List ℕ → List ℕ) (xs : List (List ℕ)) (i : ℕ) (x : List ℕ) → slice_get xs i ≡ Some x
+flat_map-more : {X : Type 0} (f : X → List ℕ) (xs : List X) (i : ℕ) (x : X) → slice_get xs i ≡ Some x
     → flat_map f (take (i + 1) xs) ≡ flat_map f (take i xs) ++ f x
-flat_map-more f xs i x e =
-    ap (flat_map f) (take_more xs i x (slice_get_within xs i x e) ∙ ap (λ (y : List ℕ). take i xs ++ y ∷ []) (get_or_from_slice_get xs i x x e))
+flat_map-more {X} f xs i x e =
+    ap (flat_map f) (take_more xs i x (slice_get_within xs i x e) ∙ ap (λ (y : X). take i xs ++ y ∷ []) (get_or_from_slice_get xs i x x e))
     ∙ flat_map-append f (take i xs) (x ∷ []) ∙ ap (λ (l : List ℕ). flat_map f (take i xs) ++ l) (append-nil (f x))
 
 -- one packet more was printed
-pub packets-more : (a b c : Output) (f : List ℕ → List ℕ) (xs : List (List ℕ)) (i : ℕ) (x : List ℕ)
+pub packets-more : {X : Type 0} (a b c : Output) (f : X → List ℕ) (xs : List X) (i : ℕ) (x : X)
     → slice_get xs i ≡ Some x → PrintsAll a b (flat_map f (take i xs)) → PrintsAll b c (f x) → PrintsAll a c (flat_map f (take (i + 1) xs))
 packets-more a b c f xs i x e h k = rw (flat_map-more f xs i x e) (PrintsAll-then a b c (flat_map f (take i xs)) (f x) h k)
 
 -- a front of it
-pub packets-less : (r : Result Unit WriteFailed) (e : WriteFailed) (a b c : Output) (f : List ℕ → List ℕ) (xs : List (List ℕ)) (i : ℕ) (x : List ℕ)
+pub packets-less : {X : Type 0} (r : Result Unit WriteFailed) (e : WriteFailed) (a b c : Output) (f : X → List ℕ) (xs : List X) (i : ℕ) (x : X)
     → slice_get xs i ≡ Some x → r ≡ Err e → PrintsAll a b (flat_map f (take i xs)) → PrintsPart b c (f x) → Prints r a c (flat_map f xs)
 packets-less r e a b c f xs i x found is h k =
     let all : flat_map f xs ≡ (flat_map f (take i xs) ++ f x) ++ flat_map f (drop (i + 1) xs) =

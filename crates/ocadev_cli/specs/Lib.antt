@@ -3,6 +3,8 @@ pub mod Printing
 pub mod Replaying
 pub mod PrivateRequests
 pub mod Words
+pub mod Commands
 pub mod Totals
 pub mod Makings
 pub mod Keeping
+pub mod Runs

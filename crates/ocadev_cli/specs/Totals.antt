@@ -1,5 +1,5 @@
 -- What is printed of a report, whatever its numbers are (*profile*).
-use Rattle.std.specs.Prelude.{◌≡◌, ℕ, ◌-◌, ◌^◌, min}
+use Rattle.std.specs.Prelude.{◌≡◌, ℕ, ◌-◌, ◌*◌, ◌^◌, min, Option, None, Some}
 use Rattle.oca_net.specs.EndStates.{EndState}
 use Rattle.oca_device.specs.declared.report.Report.{Report}
 use Rattle.oca_device.specs.Devices.{DeviceState}
@@ -30,3 +30,15 @@ pub record ServesOn (old new : DeviceState) (before after : EndState) (printed :
   pub report : Report
   pub serves : ServesEnd old new before after report
   pub prints : printed ≡ capped report
+
+-- ---- how often the report so far is told
+
+-- each so many milliseconds; 0 where it is not
+abbrev pub milliseconds_of : Option ℕ → ℕ
+milliseconds_of None = 0
+milliseconds_of (Some seconds) = seconds * 1000
+
+-- the first moment at which it is told: the last of 64 bits where it is not
+abbrev pub first_told : Option ℕ → ℕ
+first_told None = 2 ^ 64 - 1
+first_told (Some seconds) = seconds * 1000

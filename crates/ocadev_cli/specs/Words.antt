@@ -1,5 +1,5 @@
 -- What the options of the device's program say (*profile*).
-use Rattle.std.specs.Prelude.{ℕ, Bool, false, List, codes, Option, Some, None}
+use Rattle.std.specs.Prelude.{ℕ, Bool, false, if◌then◌else◌, List, codes, Option, Some, None}
 use Rattle.std.specs.Option.{option_map, option_copied}
 use Rattle.std.specs.Str.{bytes_eq}
 use Rattle.clap.specs.declared.parser.matches.ArgMatches.{ArgMatches}
@@ -10,6 +10,8 @@ use Rattle.ocadev_cli.specs.declared.words.Objects.{Objects}
 use Rattle.ocadev_cli.specs.declared.words.Objects.TheVariants as said
 use Rattle.ocadev_cli.specs.declared.words.Making.{Making}
 use Rattle.ocadev_cli.specs.declared.words.Serving.{Serving}
+use Rattle.ocadev_cli.specs.declared.words.Asked.{Asked}
+use Rattle.ocadev_cli.specs.declared.words.Asked.TheVariants as asked
 
 -- ---- how large the device is made
 
@@ -78,17 +80,26 @@ is_true (Some text) = bytes_eq text (codes "true")
 abbrev pub says_so : ArgMatches → List ℕ → Bool
 says_so words flag = is_true (given words flag)
 
--- where to serve which device, for how many turns, whether to tell of each datagram, and in which file to keep the state
+-- each so many seconds the report so far is told, where that is said: 1 to 86,400 in at most 5 digits
+abbrev pub seconds_of : List ℕ → Option ℕ
+seconds_of text = then_in (number_of 5 86400 text) (sized 86400)
+
+abbrev pub stats_in : ArgMatches → Option (Option ℕ)
+stats_in words = read_if seconds_of (given words (codes "stats"))
+
+-- where to serve which device, for how many turns, whether to tell of each datagram, how often of all of them, and in which
+-- file to keep the state
 pub record ServingFields : Type 0 where
   pub ip : ℕ
   pub port : ℕ
   pub turns : Option ℕ
   pub making : MakingFields
   pub verbose : Bool
+  pub stats : Option ℕ
   pub keep : Option (List ℕ)
 
 abbrev pub serving_fields : Serving → ServingFields
-serving_fields s = record { ip = s.ip; port = s.port; turns = s.turns; making = making_fields s.making; verbose = s.verbose; keep = option_copied s.keep }
+serving_fields s = record { ip = s.ip; port = s.port; turns = s.turns; making = making_fields s.making; verbose = s.verbose; stats = s.stats; keep = option_copied s.keep }
 
 -- the address 127.0.0.1 unless given, and the port in at most 5 digits
 unfoldable pub serving_in : ArgMatches → Option ServingFields
@@ -97,4 +108,32 @@ serving_in words =
     then_in (read_as (number_of 5 65535) (given words (codes "port"))) (λ port.
     then_in (turns_in words) (λ turns.
     then_in (making_in words) (λ making.
-    Some (record { ip = ip; port = port; turns = turns; making = making; verbose = says_so words (codes "verbose"); keep = given words (codes "keep") })))))
+    then_in (stats_in words) (λ stats.
+    Some (record { ip = ip; port = port; turns = turns; making = making; verbose = says_so words (codes "verbose"); stats = stats; keep = given words (codes "keep") }))))))
+
+-- ---- what is asked for
+
+-- A device replays the script, or is served, or its objects are shown, as lines or as a text.
+pub data AskedFields : Type 0 where
+  Replays : MakingFields → AskedFields
+  Serves : ServingFields → AskedFields
+  Shows : SaidObjects → AskedFields
+  ShowsText : SaidObjects → AskedFields
+
+abbrev pub asked_fields : Asked → AskedFields
+asked_fields (asked.Replay making) = Replays (making_fields making)
+asked_fields (asked.Serve serving) = Serves (serving_fields serving)
+asked_fields (asked.Show objects) = Shows (said_objects objects)
+asked_fields (asked.ShowText objects) = ShowsText (said_objects objects)
+
+-- the objects as a text where that is said, else as lines
+abbrev pub shown_by : ArgMatches → SaidObjects → AskedFields
+shown_by words objects = if says_so words (codes "text") then ShowsText objects else Shows objects
+
+-- WHAT A COMMAND WITH THESE OPTIONS ASKS FOR; none where there is no such command, or where a value is not of its form.
+abbrev pub asked_by : List ℕ → ArgMatches → Option AskedFields
+asked_by name options =
+    if bytes_eq name (codes "replay") then option_map Replays (making_in options)
+    else if bytes_eq name (codes "serve") then option_map Serves (serving_in options)
+    else if bytes_eq name (codes "show") then option_map (shown_by options) (objects_in options)
+    else None

@@ -1,17 +1,16 @@
 //! The state of a device, kept in a file: it is read when the device starts, and written after each datagram that wrote
 //! something. Reply windows and sessions are not kept.
-ghost use Rattle.std.specs.Prelude.{◌≡◌, ◌≤◌, ◌<◌, IsTrue};
-ghost use Rattle.ocadev_cli.specs.Totals.{ServesOn};
-ghost use Rattle.ocadev_cli.specs.Keeping.{IsStartedWith};
+ghost use Rattle.std.specs.Prelude.{◌≡◌, IfErr, IfOk, is_some};
+ghost use Rattle.std.specs.Option.{option_copied};
+ghost use Rattle.oca_program.specs.declared.fault.RunFault.TheVariants.{NoMemory as no_memory};
+ghost use Rattle.ocadev_cli.specs.Words.{said_objects};
+ghost use Rattle.ocadev_cli.specs.Keeping.{starting_objects};
 
-use super::serving::{nothing, sum};
-use super::trace::{Watched, print_turn};
-use super::words::{Making, Objects, Serving};
-use oca_device::{Device, NoElectronics, Outbox, Report, serve_with};
-use oca_net::End;
+use super::show::show_text;
+use super::words::Objects;
+use oca_device::{Device, Report};
 use oca_program::{RunFault, print_note};
 use oca_script::{Printer, Sink, ToWriter};
-use oca_textree::print_tree;
 use oca_tree::Tree;
 use std::alloc::Global;
 use std::fs::OpenFile;
@@ -19,10 +18,33 @@ use std::io::ErrorKind;
 use std::rt::Files;
 use std::{fs, io};
 
+/// Whether a file in which the state is kept is there. It is unless the system says that it is not: a file of which that
+/// can't be known is read, so that its fault is told.
+pub fn is_there<F: Files>(files: &F, keep: Option<&str>) -> bool {
+    let Some(path) = keep else {
+        return false;
+    };
+    match fs::exists(files, path) {
+        Ok(there) => there,
+        Err(_) => true,
+    }
+}
+
+/// The objects that a device starts with: those of the file in which its state is kept, where it is there, else those that
+/// the words say.
+pub fn starting<'a>(keep: Option<&'a str>, there: bool, said: Objects<'a>) -> Objects<'a>
+    ensures { said_objects result ≡ starting_objects (option_copied keep.entry) there (said_objects said.entry) }
+{
+    match keep {
+        Some(path) if there => Objects::Listed(path),
+        _ => said,
+    }
+}
+
 /// The file in which a state is kept, the new one beside it that takes its place, and whether it was told that it can't
 /// be written.
 #[derive(Drop)]
-pub struct Kept<'a> {
+struct Kept<'a> {
     path: &'a str,
     fresh: String,
     told: bool,
@@ -30,7 +52,10 @@ pub struct Kept<'a> {
 
 impl<'a> Kept<'a> {
     /// The file at this path. Refusal: `NoMemory`.
-    pub fn new(alloc: Global, path: &'a str) -> Result<Kept<'a>, RunFault> {
+    fn new(alloc: Global, path: &'a str) -> Result<Kept<'a>, RunFault>
+        ensures path { IfOk result (λ kept. kept.path ≡ path.entry) }
+        ensures refused { IfErr result (λ why. why ≡ no_memory) }
+    {
         match format!(in alloc; "{path}.new") {
             Ok(fresh) => Ok(Kept {
                 path,
@@ -42,12 +67,12 @@ impl<'a> Kept<'a> {
     }
 
     /// Writes the objects. Where that fails, the file is as it was, and it is told the first time.
-    fn keep<F: Files, W: Sink>(
+    fn keep<L: Files, F: Sink>(
         &mut self,
         alloc: Global,
-        files: &F,
+        files: &L,
         tree: &Tree,
-        faults: &mut Printer<W>,
+        faults: &mut Printer<F>,
     ) {
         let Err(reason) = write_over(files, tree, self.fresh.as_str(), self.path) else {
             return;
@@ -63,20 +88,56 @@ impl<'a> Kept<'a> {
     }
 }
 
-/// The device to be made: with the objects of the file in which the state is kept, where it is there, else with those that
-/// the words say.
-pub fn started_with<'a, F: Files>(files: &F, serving: &Serving<'a>) -> Making<'a>
-    ensures { IsStartedWith serving.now result }
-{
-    let Some(path) = serving.keep else {
-        return serving.making;
-    };
-    match fs::exists(files, path) {
-        Ok(false) => serving.making,
-        _ => Making {
-            objects: Objects::Listed(path),
-            sizes: serving.making.sizes,
-        },
+/// In which file of these a state is kept, where it is kept.
+#[derive(Drop)]
+pub struct Keeping<'a, L> {
+    alloc: Global,
+    files: &'a L,
+    kept: Option<Kept<'a>>,
+}
+
+impl<'a, L: Files> Keeping<'a, L> {
+    /// In the file at this path, where one is named. Refusal: `NoMemory`.
+    pub fn new(
+        alloc: Global,
+        files: &'a L,
+        keep: Option<&'a str>,
+    ) -> Result<Keeping<'a, L>, RunFault>
+        ensures kept { IfOk result (λ keeping. is_some keeping.kept ≡ is_some keep.entry) }
+        ensures refused { IfErr result (λ why. why ≡ no_memory) }
+    {
+        let Some(path) = keep else {
+            return Ok(Keeping {
+                alloc,
+                files,
+                kept: None,
+            });
+        };
+        match Kept::new(alloc, path) {
+            Ok(kept) => Ok(Keeping {
+                alloc,
+                files,
+                kept: Some(kept),
+            }),
+            Err(fault) => Err(fault),
+        }
+    }
+
+    /// Whether it is kept.
+    pub fn keeps(&self) -> bool
+        ensures { result ≡ is_some self.now.kept }
+    {
+        self.kept.is_some()
+    }
+
+    /// Writes the objects of a device behind a turn that wrote to one of them.
+    pub fn keep_turn<F: Sink>(&mut self, turn: &Report, device: &Device, faults: &mut Printer<F>) {
+        if turn.executed == 0 || device.written().is_empty() {
+            return;
+        }
+        if let Some(kept) = &mut self.kept {
+            kept.keep(self.alloc, self.files, device.tree(), faults);
+        }
     }
 }
 
@@ -90,48 +151,13 @@ fn write_over<F: Files>(files: &F, tree: &Tree, fresh: &str, path: &str) -> io::
 /// Writes the objects to a new file.
 fn write_new<F: Files>(files: &F, tree: &Tree, path: &str) -> io::Result<()> {
     let mut printer = Printer::new(ToWriter::new(fs::create(files, path)?));
-    if print_tree(tree, &mut printer).is_err() || printer.flush().is_err() {
-        return Err(io::Error::new(ErrorKind::Other, "a write failed"));
+    match show_text(tree, &mut printer) {
+        Ok(()) => Ok(()),
+        Err(_) => Err(io::Error::new(ErrorKind::Other, "a write failed")),
     }
-    Ok(())
 }
 
 /// Waits until a file is on the disk.
 fn sync<F: Files>(files: &F, path: &str) -> io::Result<()> {
     fs::open(files, path)?.sync_all()
-}
-
-/// Serves an end for so many turns, or until it is closed, and keeps the state after each datagram that wrote something.
-/// Where it is to be told of each datagram, a line is printed for it. That these can't be written is no fault.
-pub fn serve_kept<E: End, F: Files, W: Sink>(
-    alloc: Global,
-    files: &F,
-    device: &mut Device,
-    end: &mut Watched<E>,
-    outbox: &mut Outbox,
-    turns: u64,
-    verbose: bool,
-    kept: &mut Kept<'_>,
-    faults: &mut Printer<W>,
-) -> Report
-    ensures served { ServesOn device.old device.new (E.state end.old.end) (E.state end.new.end) result }
-    ensures turns { result.turns ≤ turns }
-    ensures closed { result.turns < turns → IsTrue (E.state end.new.end).closed }
-{
-    let mut report = nothing();
-    for _turn in 0..turns {
-        let mut none = NoElectronics;
-        let turn = serve_with(device, end, outbox, &mut none, 1);
-        report = sum(report, turn);
-        if turn.turns < 1 {
-            return report;
-        }
-        if verbose {
-            let _ = print_turn(end, &turn, device.written(), faults);
-        }
-        if turn.executed != 0 && !device.written().is_empty() {
-            kept.keep(alloc, files, device.tree(), faults);
-        }
-    }
-    report
 }

@@ -6,6 +6,7 @@
 #![tactic(auto)]
 
 mod answer;
+mod file;
 mod keep;
 mod making;
 pub mod replay;

@@ -1,109 +1,179 @@
 //! The device that is replayed or served.
-ghost use Rattle.std.specs.Prelude.{◌≡◌, [], ℕ, List, IfOk, Ok as ok};
+ghost use Rattle.std.specs.Prelude.{◌≡◌, ◌⊎◌, ◌+◌, ◌++◌, ◌<◌, ◌≤◌, [], IfErr, IfOk, Ok as ok, length, nat_lt, vec_len};
 ghost use Rattle.oca_types.specs.Sizes.{sizes_of};
-ghost use Rattle.oca_tree.specs.declared.object.Object.{Object};
-ghost use Rattle.oca_tree.specs.Bench.{bench_with};
-ghost use Rattle.oca_textree.specs.Texts.{objects_of_text};
 ghost use Rattle.oca_device.specs.Devices.{Represents};
-ghost use Rattle.ocadev_cli.specs.Makings.{AreObjects};
+ghost use Rattle.oca_script.specs.Ends.{input};
+ghost use Rattle.oca_textree.specs.Texts.{objects_of_text};
+ghost use Rattle.oca_program.specs.declared.fault.RunFault.TheVariants.{NoMemory as no_memory, TooMuch as too_much};
+ghost use Rattle.ocadev_cli.specs.Words.{said_objects};
+ghost use Rattle.ocadev_cli.specs.Makings.{HasFault, ReadsMore, ReadsWhole, StopsReading, ListsFrom, Makes, fault_in};
 
-use super::words::{Making, Objects};
+use super::file::TextFile;
+use super::words::Objects;
 use oca_device::{Device, Outbox};
 use oca_program::{Failure, RunFault};
-use oca_script::{FromReader, Source};
+use oca_script::Source;
 use oca_textree::tree_from_text;
 use oca_tree::{Tree, bench_with_channels};
 use oca_types::Sizes;
 use std::alloc::Global;
 use std::fs;
+use std::io::{self, Read};
 use std::rt::Files;
 
 /// The most bytes of a file that lists objects.
 const LARGEST_TEXT: usize = 16_777_216;
 
-/// The device of these objects and sizes, before any event, and an outbox. Refusals: those of the objects, and
-/// `NoMemory`.
-pub fn make<F: Files>(
-    alloc: Global,
-    files: &F,
-    making: Making<'_>,
-) -> Result<(Device, Outbox), Failure>
-    ensures device { IfOk result (λ made. (tree : List Object) × AreObjects making.entry.objects tree × Represents (sizes_of making.entry.sizes) made.0 tree []) }
-    ensures outbox { IfOk result (λ made. made.1 ≡ []) }
-{
-    let tree = objects(alloc, files, making.objects)?;
-    Ok(made(alloc, tree, making.sizes)?)
-}
-
-/// The device of a tree, and an outbox. Refusal: `NoMemory`.
-fn made(alloc: Global, tree: Tree, sizes: Sizes) -> Result<(Device, Outbox), RunFault>
+/// The device of a tree, before any event, and an outbox. Refusal: `NoMemory`.
+pub fn made(alloc: Global, tree: Tree, sizes: Sizes) -> Result<(Device, Outbox), RunFault>
     ensures device { IfOk result (λ made. Represents (sizes_of sizes) made.0 tree []) }
     ensures outbox { IfOk result (λ made. made.1 ≡ []) }
+    ensures refused { IfErr result (λ why. why ≡ no_memory) }
 {
-    let Ok(device) = Device::with_sizes(alloc, tree, sizes) else {
-        return Err(RunFault::NoMemory);
-    };
-    let Ok(outbox) = Outbox::new(alloc) else {
-        return Err(RunFault::NoMemory);
-    };
-    Ok((device, outbox))
+    match Device::with_sizes(alloc, tree, sizes) {
+        Ok(device) => beside_outbox(alloc, device),
+        Err(_) => Err(RunFault::NoMemory),
+    }
+}
+
+/// A device and an outbox. Refusal: `NoMemory`.
+fn beside_outbox(alloc: Global, device: Device) -> Result<(Device, Outbox), RunFault>
+    ensures device { IfOk result (λ made. made.0 ≡ device) }
+    ensures outbox { IfOk result (λ made. made.1 ≡ []) }
+    ensures refused { IfErr result (λ why. why ≡ no_memory) }
+{
+    match Outbox::new(alloc) {
+        Ok(outbox) => Ok((device, outbox)),
+        Err(_) => Err(RunFault::NoMemory),
+    }
 }
 
 /// The objects of a device. Refusals: `NoMemory`; of a file `Read` where it can't be read, `TooMuch` above 16,777,216
 /// bytes, and `Object` with its first line that has a fault.
 pub fn objects<F: Files>(alloc: Global, files: &F, objects: Objects<'_>) -> Result<Tree, Failure>
-    ensures { IfOk result (AreObjects objects.entry) }
+    ensures { Makes (said_objects objects.entry) (fault_in result) }
 {
     match objects {
-        Objects::Bench(channels) => Ok(bench_of(alloc, channels)?),
+        Objects::Bench(channels) => bench_of(alloc, channels),
         Objects::Listed(path) => listed(alloc, files, path),
     }
 }
 
 /// The objects of the bench device with so many channel strips, at most 1,022. Refusal: `NoMemory`.
-fn bench_of(alloc: Global, channels: u16) -> Result<Tree, RunFault>
-    ensures { IfOk result (λ tree. tree ≡ bench_with channels) }
+fn bench_of(alloc: Global, channels: u16) -> Result<Tree, Failure>
+    ensures { Makes (said_objects (Objects.Bench channels)) (fault_in result) }
 {
     match bench_with_channels(alloc, channels) {
         Ok(tree) => Ok(tree),
-        Err(_) => Err(RunFault::NoMemory),
+        Err(_) => Err(Failure::from(RunFault::NoMemory)),
     }
 }
 
 /// The objects that the file at a path lists.
 fn listed<F: Files>(alloc: Global, files: &F, path: &str) -> Result<Tree, Failure>
-    ensures { IfOk result (λ tree. (text : List ℕ) × (objects_of_text text ≡ ok tree)) }
+    ensures { Makes (said_objects (Objects.Listed path.entry)) (fault_in result) }
 {
-    let file = match fs::open(files, path) {
-        Ok(file) => file,
-        Err(reason) => {
-            return Err(match format!(in alloc; "{path}: {reason}") {
-                Ok(note) => Failure::noted(RunFault::Read, note),
-                Err(_) => Failure::from(RunFault::Read),
-            });
-        }
-    };
-    let text = whole(alloc, &mut FromReader::new(file))?;
-    match tree_from_text(alloc, text.as_slice()) {
-        Ok(tree) => Ok(tree),
-        Err(fault) => Err(Failure::from(RunFault::from(fault))),
+    match fs::open(files, path) {
+        Ok(file) => listed_in_file(alloc, path, &mut TextFile::new(file)),
+        Err(reason) => Err(noted(alloc, RunFault::Read, path, reason)),
     }
 }
 
-/// All that a source has to give.
-fn whole<R: Source>(alloc: Global, reader: &mut R) -> Result<Vec<u8>, RunFault> {
+/// The objects that a file at this path lists.
+fn listed_in_file<R: Read>(
+    alloc: Global,
+    path: &str,
+    file: &mut TextFile<R>,
+) -> Result<Tree, Failure>
+    ensures { Makes (said_objects (Objects.Listed path.entry)) (fault_in result) }
+{
+    match listed_in(alloc, file) {
+        Ok(tree) => Ok(tree),
+        Err(fault) => Err(explained(alloc, fault, path, file.reason())),
+    }
+}
+
+/// Why a file lists no objects: with the system's reason, where it has one.
+fn explained(alloc: Global, fault: RunFault, path: &str, reason: Option<io::Error>) -> Failure
+    ensures { result.fault ≡ fault }
+{
+    match reason {
+        Some(reason) => noted(alloc, fault, path, reason),
+        None => Failure::from(fault),
+    }
+}
+
+/// The fault, and the system's reason for it where there is memory for that.
+fn noted(alloc: Global, fault: RunFault, path: &str, reason: io::Error) -> Failure
+    ensures { result.fault ≡ fault }
+{
+    match format!(in alloc; "{path}: {reason}") {
+        Ok(note) => Failure::noted(fault, note),
+        Err(_) => Failure::from(fault),
+    }
+}
+
+/// The objects that a source lists. Refusals: as of `objects`.
+pub fn listed_in<R: Source>(alloc: Global, source: &mut R) -> Result<Tree, RunFault>
+    ensures { ListsFrom result (input (R.remaining source.old) (R.failed source.old)) (input (R.remaining source.new) (R.failed source.new)) }
+{
+    match whole(alloc, source) {
+        Ok(text) => listed_by(alloc, text.as_slice()),
+        Err(fault) => Err(fault),
+    }
+}
+
+/// The objects that a text lists. Refusals: `NoMemory`, and `Object` with its first line that has a fault.
+fn listed_by(alloc: Global, text: &[u8]) -> Result<Tree, RunFault>
+    ensures ok { IfOk result (λ tree. objects_of_text text.now ≡ ok tree) }
+    ensures err { IfErr result (HasFault text.now) }
+{
+    match tree_from_text(alloc, text) {
+        Ok(tree) => Ok(tree),
+        Err(fault) => Err(RunFault::from(fault)),
+    }
+}
+
+/// All that a source has to give. Refusals: `Read` where a read fails, `TooMuch` above 16,777,216 bytes, and `NoMemory`.
+fn whole<R: Source>(alloc: Global, source: &mut R) -> Result<Vec<u8>, RunFault>
+    ensures ok { IfOk result (λ text. ReadsWhole text.items (input (R.remaining source.old) (R.failed source.old)) (input (R.remaining source.new) (R.failed source.new))) }
+    ensures err { IfErr result (λ why. StopsReading [] why (input (R.remaining source.old) (R.failed source.old)) (input (R.remaining source.new) (R.failed source.new))) }
+{
     let mut text = Vec::new(alloc);
-    let mut piece = [0u8; 4096];
-    for _ in 0..=LARGEST_TEXT {
-        let count = reader.read(&mut piece).map_err(|_| RunFault::Read)?;
-        if count == 0 {
-            return Ok(text);
+    for _read in 0..LARGEST_TEXT + 1 {
+        match read_more(source, &mut text) {
+            Ok(true) => {}
+            Ok(false) => return Ok(text),
+            Err(fault) => return Err(fault),
         }
-        if count > LARGEST_TEXT - text.len().min(LARGEST_TEXT) {
-            return Err(RunFault::TooMuch);
-        }
-        text.extend_from_slice(&piece[..count])
-            .map_err(|_| RunFault::NoMemory)?;
     }
     Err(RunFault::TooMuch)
+}
+
+/// Reads once, and puts what that gives behind the text. Returns whether there may be more.
+fn read_more<R: Source>(source: &mut R, text: &mut Vec<u8>) -> Result<bool, RunFault>
+    requires { vec_len text.old ≤ 16777216 }
+    ensures ok { IfOk result (λ more. ReadsMore more text.old.items text.new.items (input (R.remaining source.old) (R.failed source.old)) (input (R.remaining source.new) (R.failed source.new))) }
+    ensures err { IfErr result (λ why. StopsReading text.old.items why (input (R.remaining source.old) (R.failed source.old)) (input (R.remaining source.new) (R.failed source.new))) }
+{
+    let mut piece = [0u8; 4096];
+    match source.read(&mut piece) {
+        Ok(count) => add(text, &piece[..count]),
+        Err(_) => Err(RunFault::Read),
+    }
+}
+
+/// Puts a piece behind the text. Returns whether there may be more: whether the piece has bytes.
+fn add(text: &mut Vec<u8>, piece: &[u8]) -> Result<bool, RunFault>
+    requires { vec_len text.old ≤ 16777216 }
+    ensures ok { IfOk result (λ more. (more ≡ nat_lt 0 (length piece.now)) × (text.new.items ≡ text.old.items ++ piece.now) × (vec_len text.new ≤ 16777216)) }
+    ensures err { IfErr result (λ why. (why ≡ no_memory) ⊎ ((why ≡ too_much) × (16777216 < vec_len text.old + length piece.now))) }
+{
+    if piece.len() > LARGEST_TEXT - text.len() {
+        return Err(RunFault::TooMuch);
+    }
+    match text.extend_from_slice(piece) {
+        Ok(()) => Ok(!piece.is_empty()),
+        Err(_) => Err(RunFault::NoMemory),
+    }
 }

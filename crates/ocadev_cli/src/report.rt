@@ -1,27 +1,125 @@
 //! What is printed of a run of `serve`.
+ghost use Rattle.std.specs.Prelude.{◌≡◌, ◌+◌, ◌++◌, ◌≤◌, decimal, length};
+ghost use Rattle.oca_script.specs.Ends.{output};
+ghost use Rattle.oca_script.specs.Printing.{Prints, WritesOut};
+ghost use Rattle.ocadev_cli.specs.Printing.{commands_text, datagrams_text, calls_text, counts_text, report_text, stats_text, held_text};
+
 use oca_device::Report;
 use oca_script::{Printer, Sink, WriteFailed};
 use oca_types::Peer;
 
-/// Prints the counts of a report as one line.
-pub fn print_report<W: Sink>(report: &Report, printer: &mut Printer<W>) -> Result<(), WriteFailed> {
-    for (name, count) in [
-        (b"turns ".as_slice(), report.turns),
-        (b" executed ", report.executed),
-        (b" kept ", report.kept),
-        (b" old ", report.old),
-        (b" reused ", report.reused),
-        (b" malformed ", report.malformed),
-        (b" no-room ", report.no_room),
-        (b" oversize ", report.oversize),
-        (b" quiet ", report.quiet),
-        (b" failed-receives ", report.failed_receives),
-        (b" failed-sends ", report.failed_sends),
-    ] {
-        print_count(name, count, printer)?;
-    }
-    printer.print(b"\n")?;
+/// Room for the line of a report.
+const REPORT_ROOM: usize = 600;
+
+/// Prints the counts of a report as one line, and hands it on.
+pub fn print_report<W: Sink>(report: &Report, printer: &mut Printer<W>) -> Result<(), WriteFailed>
+    ensures { WritesOut result printer.old printer.new (report_text report.now) }
+{
+    printer.make_room(REPORT_ROOM)?;
+    put_report(report, printer);
     printer.flush()
+}
+
+/// Holds the line of a report.
+fn put_report<W: Sink>(report: &Report, printer: &mut Printer<W>)
+    requires { length printer.old.held + 600 ≤ 8192 }
+    ensures { printer.new ≡ output printer.old.contents (printer.old.held ++ report_text report.now) printer.old.failed }
+{
+    put_counts(report, printer);
+    printer.put(b"\n");
+}
+
+/// Prints the line of a report so far, with how many sessions there are and how many locks are held, and hands it on.
+pub fn print_stats<F: Sink>(
+    report: &Report,
+    sessions: u64,
+    locks: u64,
+    faults: &mut Printer<F>,
+) -> Result<(), WriteFailed>
+    ensures { WritesOut result faults.old faults.new (stats_text report.now sessions locks) }
+{
+    faults.make_room(REPORT_ROOM)?;
+    put_stats(report, sessions, locks, faults);
+    faults.flush()
+}
+
+/// Holds the line of a report so far.
+fn put_stats<F: Sink>(report: &Report, sessions: u64, locks: u64, faults: &mut Printer<F>)
+    requires { length faults.old.held + 600 ≤ 8192 }
+    ensures { faults.new ≡ output faults.old.contents (faults.old.held ++ stats_text report.now sessions locks) faults.old.failed }
+{
+    faults.put(b"note: ");
+    put_counts(report, faults);
+    put_held(sessions, locks, faults);
+    faults.put(b"\n");
+}
+
+/// Holds how many sessions there are, and how many locks are held.
+#[tactic(auto, unfolding(crate::specs::Printing::held_text))]
+fn put_held<F: Sink>(sessions: u64, locks: u64, faults: &mut Printer<F>)
+    requires { length faults.old.held + 60 ≤ 8192 }
+    ensures value { faults.new ≡ output faults.old.contents (faults.old.held ++ held_text sessions locks) faults.old.failed }
+    ensures len { length faults.new.held ≤ length faults.old.held + 60 }
+{
+    put_count(b" sessions ", sessions, faults);
+    put_count(b" locks ", locks, faults);
+}
+
+/// Holds the counts of a report.
+#[tactic(auto, unfolding(crate::specs::Printing::counts_text))]
+fn put_counts<W: Sink>(report: &Report, printer: &mut Printer<W>)
+    requires { length printer.old.held + 500 ≤ 8192 }
+    ensures value { printer.new ≡ output printer.old.contents (printer.old.held ++ counts_text report.now) printer.old.failed }
+    ensures len { length printer.new.held ≤ length printer.old.held + 500 }
+{
+    put_commands(report, printer);
+    put_datagrams(report, printer);
+    put_calls(report, printer);
+}
+
+/// Holds how many turns there were, and what became of commands.
+fn put_commands<W: Sink>(report: &Report, printer: &mut Printer<W>)
+    requires { length printer.old.held + 200 ≤ 8192 }
+    ensures value { printer.new ≡ output printer.old.contents (printer.old.held ++ commands_text report.now) printer.old.failed }
+    ensures len { length printer.new.held ≤ length printer.old.held + 200 }
+{
+    put_count(b"turns ", report.turns, printer);
+    put_count(b" executed ", report.executed, printer);
+    put_count(b" kept ", report.kept, printer);
+    put_count(b" old ", report.old, printer);
+    put_count(b" reused ", report.reused, printer);
+}
+
+/// Holds what became of datagrams that were not served, and how often none came.
+fn put_datagrams<W: Sink>(report: &Report, printer: &mut Printer<W>)
+    requires { length printer.old.held + 180 ≤ 8192 }
+    ensures value { printer.new ≡ output printer.old.contents (printer.old.held ++ datagrams_text report.now) printer.old.failed }
+    ensures len { length printer.new.held ≤ length printer.old.held + 180 }
+{
+    put_count(b" malformed ", report.malformed, printer);
+    put_count(b" no-room ", report.no_room, printer);
+    put_count(b" oversize ", report.oversize, printer);
+    put_count(b" quiet ", report.quiet, printer);
+}
+
+/// Holds how many calls of the end failed.
+fn put_calls<W: Sink>(report: &Report, printer: &mut Printer<W>)
+    requires { length printer.old.held + 100 ≤ 8192 }
+    ensures value { printer.new ≡ output printer.old.contents (printer.old.held ++ calls_text report.now) printer.old.failed }
+    ensures len { length printer.new.held ≤ length printer.old.held + 100 }
+{
+    put_count(b" failed-receives ", report.failed_receives, printer);
+    put_count(b" failed-sends ", report.failed_sends, printer);
+}
+
+/// Holds a word and a number.
+pub fn put_count<W: Sink>(word: &[u8], count: u64, printer: &mut Printer<W>)
+    requires { length printer.old.held + length word.now + 20 ≤ 8192 }
+    ensures value { printer.new ≡ output printer.old.contents (printer.old.held ++ word.now ++ decimal count) printer.old.failed }
+    ensures len { length printer.new.held ≤ length printer.old.held + length word.now + 20 }
+{
+    printer.put(word);
+    printer.put_number(count);
 }
 
 /// Prints where the device listens as one line.

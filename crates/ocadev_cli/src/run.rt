@@ -1,17 +1,37 @@
 //! A run of the program.
-use super::keep::{Kept, serve_kept, started_with};
-use super::making::{make, objects};
+ghost use Rattle.std.specs.Prelude.{◌≡◌, ◌<◌, ◌≤◌, List, [], IsTrue, Ok as ok, map};
+ghost use Rattle.clap.specs.Words.{kind_of};
+ghost use Rattle.oca_types.specs.Sizes.{DeviceSizes, sizes_of};
+ghost use Rattle.oca_tree.specs.declared.object.Object.{Object};
+ghost use Rattle.oca_net.specs.EndStates.{EndState};
+ghost use Rattle.oca_net.specs.Sockets.{state_of_socket};
+ghost use Rattle.oca_device.specs.Devices.{Represents};
+ghost use Rattle.oca_script.specs.Ends.{input};
+ghost use Rattle.oca_script.specs.Printing.{WritesOut};
+ghost use Rattle.ocadev_cli.specs.Words.{asked_by, asked_fields, making_fields, serving_fields, said_objects};
+ghost use Rattle.oca_textree.specs.Written.{text_of};
+ghost use Rattle.ocadev_cli.specs.Makings.{fault_in};
+ghost use Rattle.ocadev_cli.specs.Printing.{report_text, tree_text};
+ghost use Rattle.ocadev_cli.specs.Runs.{exit_status, RunsOn, Obeys, DoesAsked, Does, DoesReplay, DoesServe, DoesShow, Helps, ReplaysMade, ReplaysOn, ServesFrom, ServesMade, Served, Tells, turns_until};
+ghost use Rattle.ocadev_cli.specs.Totals.{ServesOn};
+
+use super::keep::{Keeping, is_there, starting};
+use super::making::{made, objects};
 use super::replay::replay;
 use super::report::{print_listening, print_report};
-use super::serving::{serve_on, serve_traced};
+use super::serving::{Telling, serve_on, serve_traced, serve_turns};
 use super::show::{show, show_text};
 use super::trace::Watched;
-use super::words::{Asked, Serving, asked_for};
-use oca_device::{Device, Outbox, serve};
-use oca_net::CountsSleep;
+use super::words::{Asked, Making, Objects, Serving, asked_for, matches_of};
+use clap::{ArgMatches, Error};
+use oca_device::{Device, Outbox, Report};
+use oca_net::{CountsSleep, End, UdpEnd};
+use oca_program::options::help_or_failure;
 use oca_program::socket::{bind, note_failed_sends};
-use oca_program::{Failure, print_note, report};
-use oca_script::{Printer, Sink, Source};
+use oca_program::{Failure, RunFault, print_note, report};
+use oca_script::{Printer, Sink, Source, WriteFailed};
+use oca_tree::Tree;
+use oca_types::Sizes;
 use std::alloc::Global;
 use std::convert::AsStr;
 use std::net::Net;
@@ -20,6 +40,9 @@ use std::rt::{Clock, Files};
 /// What is told where a device is bound to every address of the machine.
 const EVERY_ADDRESS: &str =
     "0.0.0.0 is every address of this machine: answers may leave from another one than was asked, and links drop those";
+
+/// Of how many bytes for datagrams that have not left a host that does not answer holds less than half.
+const ENOUGH_GRANTED: u32 = 500_000;
 
 /// Runs the program on the words of its command line, its name first, and returns its exit status: 0, 2 where the words
 /// or a line are bad, and 1 where something could not be done. A fault is printed on `faults` as one line, behind one
@@ -31,39 +54,208 @@ pub fn run<N: Net + Clock + Files, S: AsStr, R: Source, W: Sink, F: Sink>(
     reader: &mut R,
     printer: &mut Printer<W>,
     faults: &mut Printer<F>,
-) -> u8 {
-    match served(alloc, system, words, reader, printer, faults) {
+) -> u8
+    ensures { RunsOn (map S.text words.now) result (input (R.remaining reader.old) (R.failed reader.old)) (input (R.remaining reader.new) (R.failed reader.new)) printer.old printer.new }
+{
+    match matches_of(alloc, words) {
+        Ok(matches) => status_of(
+            obeyed(alloc, system, &matches, reader, printer, faults),
+            faults,
+        ),
+        Err(error) => status_of(helped(alloc, &error, printer), faults),
+    }
+}
+
+/// The exit status of a run that ended so. Why it failed, where it did, is printed.
+fn status_of<F: Sink>(ended: Result<(), Failure>, faults: &mut Printer<F>) -> u8
+    ensures { result ≡ exit_status (fault_in ended) }
+{
+    match ended {
         Ok(()) => 0,
         Err(failure) => report(&failure, faults),
     }
 }
 
-/// Does what the words ask for.
-fn served<N: Net + Clock + Files, S: AsStr, R: Source, W: Sink, F: Sink>(
+/// Prints the text of `--help` or `--version`, where the words ask for that.
+fn helped<W: Sink>(alloc: Global, error: &Error, printer: &mut Printer<W>) -> Result<(), Failure>
+    ensures { Helps (kind_of error.now) (fault_in result) printer.old printer.new }
+{
+    match help_or_failure(alloc, error) {
+        Ok(text) => told(text.as_bytes(), printer),
+        Err(failure) => Err(failure),
+    }
+}
+
+/// Does what the command asks for that the matched words name.
+fn obeyed<N: Net + Clock + Files, R: Source, W: Sink, F: Sink>(
     alloc: Global,
     system: &N,
-    words: &[S],
+    words: &ArgMatches<'_>,
     reader: &mut R,
     printer: &mut Printer<W>,
     faults: &mut Printer<F>,
-) -> Result<(), Failure> {
-    match asked_for(alloc, words)? {
-        Asked::Replay(making) => {
-            let (mut device, mut outbox) = make(alloc, system, making)?;
-            replay(&mut device, &mut outbox, reader, printer)?;
-        }
-        Asked::Serve(serving) => serve_socket(alloc, system, serving, printer, faults)?,
-        Asked::Show(listed) => show(&objects(alloc, system, listed)?, printer)?,
-        Asked::ShowText(listed) => show_text(&objects(alloc, system, listed)?, printer)?,
-        Asked::Help(text) => {
-            printer.print(text.as_bytes())?;
-            printer.flush()?;
-        }
+) -> Result<(), Failure>
+    ensures { Obeys words.now (fault_in result) (input (R.remaining reader.old) (R.failed reader.old)) (input (R.remaining reader.new) (R.failed reader.new)) printer.old printer.new }
+{
+    match words.subcommand() {
+        Some((name, options)) => commanded(alloc, system, name, options, reader, printer, faults),
+        None => Err(Failure::from(RunFault::BadWords)),
     }
-    Ok(())
 }
 
-/// Serves the bench device at a socket, and prints what was done. Where it listens is printed on `faults` at first;
+/// Does what a command with these options asks for.
+fn commanded<N: Net + Clock + Files, R: Source, W: Sink, F: Sink>(
+    alloc: Global,
+    system: &N,
+    name: &str,
+    options: &ArgMatches<'_>,
+    reader: &mut R,
+    printer: &mut Printer<W>,
+    faults: &mut Printer<F>,
+) -> Result<(), Failure>
+    ensures { DoesAsked (asked_by name.now options.now) (fault_in result) (input (R.remaining reader.old) (R.failed reader.old)) (input (R.remaining reader.new) (R.failed reader.new)) printer.old printer.new }
+{
+    match asked_for(alloc, name, options) {
+        Ok(asked) => served(alloc, system, asked, reader, printer, faults),
+        Err(failure) => Err(failure),
+    }
+}
+
+/// Does what is asked for.
+fn served<N: Net + Clock + Files, R: Source, W: Sink, F: Sink>(
+    alloc: Global,
+    system: &N,
+    asked: Asked<'_>,
+    reader: &mut R,
+    printer: &mut Printer<W>,
+    faults: &mut Printer<F>,
+) -> Result<(), Failure>
+    ensures { Does (asked_fields asked.entry) (fault_in result) (input (R.remaining reader.old) (R.failed reader.old)) (input (R.remaining reader.new) (R.failed reader.new)) printer.old printer.new }
+{
+    match asked {
+        Asked::Replay(making) => replayed(alloc, system, making, reader, printer),
+        Asked::Serve(serving) => serve_socket(alloc, system, serving, printer, faults),
+        Asked::Show(listed) => shown(alloc, system, listed, printer),
+        Asked::ShowText(listed) => texted(alloc, system, listed, printer),
+    }
+}
+
+/// Replays a script on a device that is made so.
+fn replayed<N: Files, R: Source, W: Sink>(
+    alloc: Global,
+    system: &N,
+    making: Making<'_>,
+    reader: &mut R,
+    printer: &mut Printer<W>,
+) -> Result<(), Failure>
+    ensures { DoesReplay (making_fields making.entry) (fault_in result) (input (R.remaining reader.old) (R.failed reader.old)) (input (R.remaining reader.new) (R.failed reader.new)) printer.old printer.new }
+{
+    match objects(alloc, system, making.objects) {
+        Ok(tree) => replay_tree(alloc, tree, making.sizes, reader, printer),
+        Err(failure) => Err(failure),
+    }
+}
+
+/// Replays a script on a device of these objects and sizes.
+fn replay_tree<R: Source, W: Sink>(
+    alloc: Global,
+    tree: Tree,
+    sizes: Sizes,
+    reader: &mut R,
+    printer: &mut Printer<W>,
+) -> Result<(), Failure>
+    ensures { ReplaysMade (sizes_of sizes) (ok tree) (fault_in result) (input (R.remaining reader.old) (R.failed reader.old)) (input (R.remaining reader.new) (R.failed reader.new)) printer.old printer.new }
+{
+    match made(alloc, tree, sizes) {
+        Ok((mut device, mut outbox)) => { replay_on(&mut device, &mut outbox, reader, printer) }
+        Err(fault) => Err(Failure::from(fault)),
+    }
+}
+
+/// Replays a script on a device.
+fn replay_on<R: Source, W: Sink>(
+    device: &mut Device,
+    outbox: &mut Outbox,
+    reader: &mut R,
+    printer: &mut Printer<W>,
+) -> Result<(), Failure>
+    ensures { (sizes : DeviceSizes) (tree : List Object) → Represents sizes device.old tree [] → ReplaysOn sizes tree (fault_in result) (input (R.remaining reader.old) (R.failed reader.old)) (input (R.remaining reader.new) (R.failed reader.new)) printer.old printer.new }
+{
+    match replay(device, outbox, reader, printer) {
+        Ok(()) => Ok(()),
+        Err(fault) => Err(Failure::from(fault)),
+    }
+}
+
+/// Prints the objects of a device, a line each.
+fn shown<N: Files, W: Sink>(
+    alloc: Global,
+    system: &N,
+    listed: Objects<'_>,
+    printer: &mut Printer<W>,
+) -> Result<(), Failure>
+    ensures { DoesShow tree_text (said_objects listed.entry) (fault_in result) printer.old printer.new }
+{
+    match objects(alloc, system, listed) {
+        Ok(tree) => show_tree(&tree, printer),
+        Err(failure) => Err(failure),
+    }
+}
+
+/// Prints objects.
+fn show_tree<W: Sink>(tree: &Tree, printer: &mut Printer<W>) -> Result<(), Failure>
+    ensures { Tells (tree_text tree.now) (fault_in result) printer.old printer.new }
+{
+    match show(tree, printer) {
+        Ok(()) => Ok(()),
+        Err(failed) => Err(Failure::from(failed)),
+    }
+}
+
+/// Prints the objects of a device as a text that `--tree` reads.
+fn texted<N: Files, W: Sink>(
+    alloc: Global,
+    system: &N,
+    listed: Objects<'_>,
+    printer: &mut Printer<W>,
+) -> Result<(), Failure>
+    ensures { DoesShow text_of (said_objects listed.entry) (fault_in result) printer.old printer.new }
+{
+    match objects(alloc, system, listed) {
+        Ok(tree) => text_tree(&tree, printer),
+        Err(failure) => Err(failure),
+    }
+}
+
+/// Prints objects as a text.
+fn text_tree<W: Sink>(tree: &Tree, printer: &mut Printer<W>) -> Result<(), Failure>
+    ensures { Tells (text_of tree.now) (fault_in result) printer.old printer.new }
+{
+    match show_text(tree, printer) {
+        Ok(()) => Ok(()),
+        Err(failed) => Err(Failure::from(failed)),
+    }
+}
+
+/// Prints a text, and hands it on.
+fn told<W: Sink>(text: &[u8], printer: &mut Printer<W>) -> Result<(), Failure>
+    ensures { Tells text.now (fault_in result) printer.old printer.new }
+{
+    match print_all(text, printer) {
+        Ok(()) => Ok(()),
+        Err(failed) => Err(Failure::from(failed)),
+    }
+}
+
+/// The same, where only a write fails.
+fn print_all<W: Sink>(text: &[u8], printer: &mut Printer<W>) -> Result<(), WriteFailed>
+    ensures { WritesOut result printer.old printer.new text.now }
+{
+    printer.print(text)?;
+    printer.flush()
+}
+
+/// Serves a device at a socket, and prints what was done. Where it listens is printed on `faults` at first;
 /// that this can't be written is no fault.
 fn serve_socket<N: Net + Clock + Files, W: Sink, F: Sink>(
     alloc: Global,
@@ -71,64 +263,233 @@ fn serve_socket<N: Net + Clock + Files, W: Sink, F: Sink>(
     serving: Serving<'_>,
     printer: &mut Printer<W>,
     faults: &mut Printer<F>,
-) -> Result<(), Failure> {
-    let (mut device, mut outbox) = make(alloc, system, started_with(system, &serving))?;
-    serve_at(
-        alloc,
-        &CountsSleep(system),
-        system,
-        serving,
-        &mut device,
-        &mut outbox,
-        printer,
-        faults,
-    )
+) -> Result<(), Failure>
+    ensures { DoesServe (serving_fields serving.entry) (fault_in result) printer.old printer.new }
+{
+    let there = is_there(system, serving.keep);
+    serve_from(alloc, system, serving, there, printer, faults)
 }
 
-/// Serves a device at a socket, and prints what was done.
-fn serve_at<N: Net + Clock, L: Files, W: Sink, F: Sink>(
+/// Serves a device at a socket, where the file in which its state is kept is there or is not, and prints what was done.
+fn serve_from<N: Net + Clock + Files, W: Sink, F: Sink>(
     alloc: Global,
     system: &N,
-    files: &L,
+    serving: Serving<'_>,
+    there: bool,
+    printer: &mut Printer<W>,
+    faults: &mut Printer<F>,
+) -> Result<(), Failure>
+    ensures { ServesFrom there (serving_fields serving.entry) (fault_in result) printer.old printer.new }
+{
+    let listed = starting(serving.keep, there, serving.making.objects);
+    match objects(alloc, system, listed) {
+        Ok(tree) => serve_tree(alloc, system, serving, tree, printer, faults),
+        Err(failure) => Err(failure),
+    }
+}
+
+/// Serves a device of these objects at a socket, and prints what was done.
+fn serve_tree<N: Net + Clock + Files, W: Sink, F: Sink>(
+    alloc: Global,
+    system: &N,
+    serving: Serving<'_>,
+    tree: Tree,
+    printer: &mut Printer<W>,
+    faults: &mut Printer<F>,
+) -> Result<(), Failure>
+    ensures { ServesMade (serving_fields serving.entry) (ok tree) (fault_in result) printer.old printer.new }
+{
+    match served_tree(alloc, system, serving, tree, faults) {
+        Ok(report) => report_all(&report, printer),
+        Err(failure) => Err(failure),
+    }
+}
+
+/// Prints the report.
+fn report_all<W: Sink>(report: &Report, printer: &mut Printer<W>) -> Result<(), Failure>
+    ensures { Tells (report_text report.now) (fault_in result) printer.old printer.new }
+{
+    match print_report(report, printer) {
+        Ok(()) => Ok(()),
+        Err(failed) => Err(Failure::from(failed)),
+    }
+}
+
+/// Serves a device of these objects at a socket.
+fn served_tree<N: Net + Clock + Files, F: Sink>(
+    alloc: Global,
+    system: &N,
+    serving: Serving<'_>,
+    tree: Tree,
+    faults: &mut Printer<F>,
+) -> Result<Report, Failure>
+    ensures { Served (serving_fields serving.entry) tree (fault_in result) }
+{
+    match made(alloc, tree, serving.making.sizes) {
+        Ok((mut device, mut outbox)) => {
+            served_at(alloc, system, serving, &mut device, &mut outbox, faults)
+        }
+        Err(fault) => Err(Failure::from(fault)),
+    }
+}
+
+/// Serves a device at a socket, and keeps its state where that is said.
+fn served_at<N: Net + Clock + Files, F: Sink>(
+    alloc: Global,
+    system: &N,
     serving: Serving<'_>,
     device: &mut Device,
     outbox: &mut Outbox,
-    printer: &mut Printer<W>,
     faults: &mut Printer<F>,
-) -> Result<(), Failure> {
-    let mut end = bind(alloc, system, serving.ip, serving.port)?;
-    if serving.ip == 0 {
-        print_note(EVERY_ADDRESS, faults);
+) -> Result<Report, Failure>
+    ensures { (tree : List Object) → Represents (sizes_of serving.entry.making.sizes) device.old tree [] → Served (serving_fields serving.entry) tree (fault_in result) }
+{
+    match Keeping::new(alloc, system, serving.keep) {
+        Ok(mut keeping) => {
+            served_keeping(
+                alloc,
+                &CountsSleep(system),
+                serving,
+                device,
+                outbox,
+                &mut keeping,
+                faults,
+            )
+        }
+        Err(fault) => Err(Failure::from(fault)),
     }
-    let _ = print_listening(end.local(), faults);
-    let turns = serving.turns.map_or(u64::MAX, u64::from);
-    let (report, reason) = if let Some(path) = serving.keep {
-        let mut kept = Kept::new(alloc, path)?;
-        let mut watched = Watched::new(end);
-        let report = serve_kept(
+}
+
+/// Serves a device at a socket, and keeps its state so.
+fn served_keeping<N: Net + Clock, L: Files, F: Sink>(
+    alloc: Global,
+    system: &N,
+    serving: Serving<'_>,
+    device: &mut Device,
+    outbox: &mut Outbox,
+    keeping: &mut Keeping<'_, L>,
+    faults: &mut Printer<F>,
+) -> Result<Report, Failure>
+    ensures { (tree : List Object) → Represents (sizes_of serving.entry.making.sizes) device.old tree [] → Served (serving_fields serving.entry) tree (fault_in result) }
+{
+    match bind(alloc, system, serving.ip, serving.port) {
+        Ok(end) => Ok(served_over(alloc, end, serving, device, outbox, keeping, faults)),
+        Err(failure) => Err(failure),
+    }
+}
+
+/// Serves a device over this end. Where it listens is told first, and at last how many sends failed.
+fn served_over<N: Clock, L: Files, F: Sink>(
+    alloc: Global,
+    end: UdpEnd<'_, N>,
+    serving: Serving<'_>,
+    device: &mut Device,
+    outbox: &mut Outbox,
+    keeping: &mut Keeping<'_, L>,
+    faults: &mut Printer<F>,
+) -> Report
+    ensures served { (after : EndState) × ServesOn device.old device.new (state_of_socket end.entry) after result }
+    ensures turns { result.turns ≡ turns_until serving.entry.turns }
+{
+    tell_bound(alloc, &end, faults);
+    let telling = Telling::new(serving.verbose, serving.stats);
+    if telling.tells() || keeping.keeps() {
+        return traced_over(
             alloc,
-            files,
+            end,
+            serving.turns,
+            telling,
             device,
-            &mut watched,
             outbox,
-            turns,
-            serving.verbose,
-            &mut kept,
+            keeping,
             faults,
         );
-        (report, watched.end.last_failed_send())
-    } else if serving.verbose {
-        let mut watched = Watched::new(end);
-        let report = serve_traced(device, &mut watched, outbox, turns, faults);
-        (report, watched.end.last_failed_send())
-    } else {
-        let report = match serving.turns {
-            Some(turns) => serve(device, &mut end, outbox, turns),
-            None => serve_on(device, &mut end, outbox),
-        };
-        (report, end.last_failed_send())
+    }
+    untraced_over(alloc, end, serving.turns, device, outbox, faults)
+}
+
+/// Tells where the device listens, and that this is every address where it is, and that the system grants little room
+/// for datagrams that have not left where it does.
+fn tell_bound<N: Clock, F: Sink>(alloc: Global, end: &UdpEnd<'_, N>, faults: &mut Printer<F>) {
+    let _ = print_listening(end.local(), faults);
+    if end.local().ip == 0 {
+        print_note(EVERY_ADDRESS, faults);
+    }
+    let granted = end.send_buffer();
+    if 0 < granted && granted < ENOUGH_GRANTED {
+        note_granted(alloc, granted, faults);
+    }
+}
+
+/// Prints that the system grants so few bytes for datagrams that have not left, where there is memory for the line.
+fn note_granted<F: Sink>(alloc: Global, granted: u32, faults: &mut Printer<F>) {
+    let note = format!(in alloc;
+        "the system grants {granted} bytes for datagrams that have not left: a host that does not answer may fill them, and answers to others are lost then"
+    );
+    if let Ok(note) = note {
+        print_note(note.as_str(), faults);
+    }
+}
+
+/// Serves a device over this end, tells of it and keeps its state.
+fn traced_over<N: Clock, L: Files, F: Sink>(
+    alloc: Global,
+    end: UdpEnd<'_, N>,
+    turns: Option<u32>,
+    telling: Telling,
+    device: &mut Device,
+    outbox: &mut Outbox,
+    keeping: &mut Keeping<'_, L>,
+    faults: &mut Printer<F>,
+) -> Report
+    ensures served { (after : EndState) × ServesOn device.old device.new (state_of_socket end.entry) after result }
+    ensures turns { result.turns ≡ turns_until turns }
+{
+    let most = match turns {
+        Some(turns) => u64::from(turns),
+        None => u64::MAX,
     };
-    note_failed_sends(alloc, report.failed_sends, reason, faults);
-    print_report(&report, printer)?;
-    Ok(())
+    let mut watched = Watched::new(end);
+    let report = serve_traced(device, &mut watched, outbox, most, telling, keeping, faults);
+    note_failed_sends(
+        alloc,
+        report.failed_sends,
+        watched.end.last_failed_send(),
+        faults,
+    );
+    report
+}
+
+/// Serves a device over this end.
+fn untraced_over<N: Clock, F: Sink>(
+    alloc: Global,
+    mut end: UdpEnd<'_, N>,
+    turns: Option<u32>,
+    device: &mut Device,
+    outbox: &mut Outbox,
+    faults: &mut Printer<F>,
+) -> Report
+    ensures served { (after : EndState) × ServesOn device.old device.new (state_of_socket end.entry) after result }
+    ensures turns { result.turns ≡ turns_until turns }
+{
+    let report = served_for(device, &mut end, outbox, turns);
+    note_failed_sends(alloc, report.failed_sends, end.last_failed_send(), faults);
+    report
+}
+
+/// Serves an end for so many turns, or until it is closed.
+fn served_for<E: End>(
+    device: &mut Device,
+    end: &mut E,
+    outbox: &mut Outbox,
+    turns: Option<u32>,
+) -> Report
+    ensures served { ServesOn device.old device.new (E.state end.old) (E.state end.new) result }
+    ensures turns { result.turns ≤ turns_until turns }
+    ensures closed { result.turns < turns_until turns → IsTrue (E.state end.new).closed }
+{
+    match turns {
+        Some(turns) => serve_turns(device, end, outbox, turns),
+        None => serve_on(device, end, outbox),
+    }
 }

@@ -1,13 +1,16 @@
-//! Serving an end until it is stopped, and turn by turn with a line for each datagram.
-ghost use Rattle.std.specs.Prelude.{◌≡◌, ◌≤◌, ◌<◌, IsTrue};
+//! Serving an end until it is stopped, and turn by turn with a line for each datagram and the state kept.
+ghost use Rattle.std.specs.Prelude.{◌≡◌, ◌≤◌, ◌<◌, ◌==◌, ◌||◌, not, IsTrue};
 ghost use Rattle.oca_net.specs.Ends.{last_u64};
 ghost use Rattle.oca_device.specs.Reports.{added, no_turns};
-ghost use Rattle.ocadev_cli.specs.Totals.{ServesOn, capped};
+ghost use Rattle.ocadev_cli.specs.Totals.{ServesOn, capped, milliseconds_of, first_told};
 
+use super::keep::Keeping;
+use super::report::print_stats;
 use super::trace::{Watched, print_turn};
-use oca_device::{Device, NoElectronics, Outbox, Report, serve_with};
+use oca_device::{Device, NoElectronics, Outbox, Report, serve, serve_with};
 use oca_net::End;
 use oca_script::{Printer, Sink};
+use std::rt::Files;
 
 /// How many rounds of 2^32 - 1 turns are 2^64 - 1 turns.
 const ROUNDS: u64 = 4_294_967_297;
@@ -30,13 +33,75 @@ pub fn serve_on<E: End>(device: &mut Device, end: &mut E, outbox: &mut Outbox) -
     report
 }
 
-/// Serves an end for so many turns, or until it is closed, and prints a line for each datagram. That this can't be
-/// written is no fault.
-pub fn serve_traced<E: End, F: Sink>(
+/// Serves an end for so many turns, or until it is closed.
+pub fn serve_turns<E: End>(
+    device: &mut Device,
+    end: &mut E,
+    outbox: &mut Outbox,
+    turns: u32,
+) -> Report
+    ensures served { ServesOn device.old device.new (E.state end.old) (E.state end.new) result }
+    ensures turns { result.turns ≤ turns }
+    ensures closed { result.turns < turns → IsTrue (E.state end.new).closed }
+{
+    let none = nothing();
+    let round = serve(device, end, outbox, turns);
+    sum(none, round)
+}
+
+/// What is told while an end is served.
+#[derive(Clone, Copy, Debug)]
+pub struct Telling {
+    /// Whether a line is printed for each datagram.
+    pub verbose: bool,
+    /// Each how many milliseconds the report so far is printed.
+    pub every: u64,
+    /// The moment at which it is printed next; never before the last moment of all where it is not.
+    pub next: u64,
+}
+
+impl Telling {
+    /// A line for each datagram, or none, and the report so far each so many seconds, where that is said.
+    pub fn new(verbose: bool, stats: Option<u32>) -> Telling
+        ensures verbose { result.verbose ≡ verbose }
+        ensures every { result.every ≡ milliseconds_of stats }
+        ensures next { result.next ≡ first_told stats }
+    {
+        match stats {
+            Some(seconds) => {
+                let every = u64::from(seconds) * 1000;
+                Telling {
+                    verbose,
+                    every,
+                    next: every,
+                }
+            }
+            None => Telling {
+                verbose,
+                every: 0,
+                next: u64::MAX,
+            },
+        }
+    }
+
+    /// Whether anything is told.
+    pub fn tells(&self) -> bool
+        ensures { result ≡ (self.now.verbose || not (self.now.every == 0)) }
+    {
+        self.verbose || self.every != 0
+    }
+}
+
+/// Serves an end for so many turns, or until it is closed, and prints a line for each datagram and the report so far, as
+/// far as they are to be told. The state is kept after each datagram that wrote something, where it is to be kept. That
+/// these can't be written is no fault.
+pub fn serve_traced<E: End, L: Files, F: Sink>(
     device: &mut Device,
     end: &mut Watched<E>,
     outbox: &mut Outbox,
     turns: u64,
+    telling: Telling,
+    keeping: &mut Keeping<'_, L>,
     faults: &mut Printer<F>,
 ) -> Report
     ensures served { ServesOn device.old device.new (E.state end.old.end) (E.state end.new.end) result }
@@ -44,6 +109,7 @@ pub fn serve_traced<E: End, F: Sink>(
     ensures closed { result.turns < turns → IsTrue (E.state end.new.end).closed }
 {
     let mut report = nothing();
+    let mut telling = telling;
     for _turn in 0..turns {
         let mut none = NoElectronics;
         let turn = serve_with(device, end, outbox, &mut none, 1);
@@ -51,13 +117,40 @@ pub fn serve_traced<E: End, F: Sink>(
         if turn.turns < 1 {
             return report;
         }
-        let _ = print_turn(end, &turn, device.written(), faults);
+        tell_turn(end, &turn, &report, device, &mut telling, faults);
+        keeping.keep_turn(&turn, device, faults);
     }
     report
 }
 
+/// Prints what is to be told behind a turn.
+fn tell_turn<E: End, F: Sink>(
+    end: &Watched<E>,
+    turn: &Report,
+    report: &Report,
+    device: &Device,
+    telling: &mut Telling,
+    faults: &mut Printer<F>,
+) {
+    if telling.verbose {
+        let _ = print_turn(end, turn, device.written(), faults);
+    }
+    let now = end.now();
+    if telling.next <= now {
+        telling.next = now.saturating_add(telling.every);
+        tell_stats(report, device, faults);
+    }
+}
+
+/// Prints the report so far, with how many sessions there are and how many locks are held.
+fn tell_stats<F: Sink>(report: &Report, device: &Device, faults: &mut Printer<F>) {
+    let sessions = device.sessions() as u64;
+    let locks = device.tree().lock_count() as u64;
+    let _ = print_stats(report, sessions, locks, faults);
+}
+
 /// What both did, where a number that would pass 64 bits stays at its last value.
-pub(crate) fn sum(a: Report, b: Report) -> Report
+fn sum(a: Report, b: Report) -> Report
     ensures { result ≡ capped (added a b) }
 {
     Report {
@@ -76,7 +169,7 @@ pub(crate) fn sum(a: Report, b: Report) -> Report
 }
 
 /// No turns.
-pub(crate) fn nothing() -> Report
+fn nothing() -> Report
     ensures { result ≡ no_turns }
 {
     Report {

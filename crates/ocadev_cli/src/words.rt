@@ -1,22 +1,22 @@
 //! The words of the command line.
-ghost use Rattle.std.specs.Prelude.{◌≡◌, codes, if◌then◌else◌};
+ghost use Rattle.std.specs.Prelude.{◌≡◌, IfErr, IfOk, codes, if◌then◌else◌, map};
 ghost use Rattle.std.specs.Option.{option_map};
 ghost use Rattle.oca_types.specs.Sizes.{window_size, peer_count};
-ghost use Rattle.ocadev_cli.specs.Words.{window_of as window_said, window_in, peers_of as peers_said, peers_in, channels_in, said_objects, objects_in, making_fields, making_in, turns_in, says_so, serving_fields, serving_in};
+ghost use Rattle.ocadev_cli.specs.Words.{window_of as window_said, window_in, peers_of as peers_said, peers_in, channels_in, said_objects, objects_in, making_fields, making_in, turns_in, says_so, seconds_of as seconds_said, stats_in, serving_fields, serving_in, asked_fields, asked_by, shown_by as said_shown};
+ghost use Rattle.oca_program.specs.declared.fault.RunFault.TheVariants.{BadWords};
+ghost use Rattle.ocadev_cli.specs.Commands.{AreMatchesOf};
 
 use clap::{Arg, ArgAction, ArgMatches, Command, Error};
 use oca_program::form::bad_option;
-use oca_program::options::{
-    help_or_failure, number_if, number_in, number_or, option, own_or, text_of,
-};
-use oca_program::{Failure, Form, Rule, RunFault, VERSION};
+use oca_program::options::{number_if, number_in, number_or, option, own_or, text_of};
+use oca_program::{Failure, Form, Rule, VERSION};
 use oca_script::field::number;
 use oca_types::{LOOPBACK, Peers, Sizes, Window};
 use std::alloc::{AllocError, Global};
 use std::convert::AsStr;
 
 /// What the words ask for.
-#[derive(Drop)]
+#[derive(Clone, Copy)]
 pub enum Asked<'a> {
     /// A replay of the script on standard input on such a device.
     Replay(Making<'a>),
@@ -26,8 +26,6 @@ pub enum Asked<'a> {
     Show(Objects<'a>),
     /// The same as a text that `--tree` reads.
     ShowText(Objects<'a>),
-    /// This text.
-    Help(String),
 }
 
 /// The objects of a device.
@@ -46,8 +44,8 @@ pub struct Making<'a> {
     pub sizes: Sizes,
 }
 
-/// Where to serve which device, for how many turns where that is said, whether to tell of each datagram, and in which
-/// file to keep the state, where one is named.
+/// Where to serve which device, for how many turns where that is said, whether to tell of each datagram, each how many
+/// seconds of all of them, where that is said, and in which file to keep the state, where one is named.
 #[derive(Clone, Copy, PartialEq, Eq, Debug)]
 pub struct Serving<'a> {
     pub ip: u32,
@@ -55,58 +53,58 @@ pub struct Serving<'a> {
     pub turns: Option<u32>,
     pub making: Making<'a>,
     pub verbose: bool,
+    pub stats: Option<u32>,
     pub keep: Option<&'a str>,
 }
 
-/// How many commands are kept with their replies.
-fn window_option<'a>(alloc: Global) -> Arg<'a> {
-    option(
+/// With the option of how many commands are kept with their replies.
+fn with_window<'a>(command: Command<'a>, alloc: Global) -> Result<Command<'a>, AllocError> {
+    command.arg(option(
         alloc,
         "window",
         "W",
         "How many commands of each peer are kept with their replies, 1 to 64; 32 unless given",
-    )
+    ))
 }
 
-/// Of how many peers sessions are kept.
-fn peers_option<'a>(alloc: Global) -> Arg<'a> {
-    option(
+/// With the option of how many peers sessions are kept of.
+fn with_peers<'a>(command: Command<'a>, alloc: Global) -> Result<Command<'a>, AllocError> {
+    command.arg(option(
         alloc,
         "peers",
         "N",
         "Of how many peers sessions are kept at once, 1 to 64; 16 unless given",
-    )
+    ))
 }
 
-/// How many channel strips there are.
-fn channels_option<'a>(alloc: Global) -> Arg<'a> {
-    option(
+/// With the option of how many channel strips there are.
+fn with_channels<'a>(command: Command<'a>, alloc: Global) -> Result<Command<'a>, AllocError> {
+    command.arg(option(
         alloc,
         "channels",
         "N",
         "How many channel strips of four objects stand behind the bench's own, 0 to 1022; 0 unless given",
-    )
+    ))
 }
 
-/// The file that lists the objects.
-fn tree_option<'a>(alloc: Global) -> Arg<'a> {
-    option(
+/// With the option of the file that lists the objects.
+fn with_tree<'a>(command: Command<'a>, alloc: Global) -> Result<Command<'a>, AllocError> {
+    command.arg(option(
         alloc,
         "tree",
         "FILE",
         "A file that lists the objects, one a line, in place of the bench's; see examples/stagebox.tree",
-    )
+    ))
 }
 
-/// The options of the objects.
+/// With the options of the objects.
 fn listed<'a>(command: Command<'a>, alloc: Global) -> Result<Command<'a>, AllocError> {
-    command.arg(channels_option(alloc))?.arg(tree_option(alloc))
+    with_tree(with_channels(command, alloc)?, alloc)
 }
 
-/// The options of a device.
+/// With the options of a device.
 fn made<'a>(command: Command<'a>, alloc: Global) -> Result<Command<'a>, AllocError> {
-    let sized = command.arg(window_option(alloc))?.arg(peers_option(alloc))?;
-    listed(sized, alloc)
+    listed(with_peers(with_window(command, alloc)?, alloc)?, alloc)
 }
 
 /// The command `replay`.
@@ -125,97 +123,152 @@ A run that a signal ends (Ctrl-C, kill) prints no report.
 
 Example: ocadev serve --port 65000 --turns 1200";
 
-/// The file in which the state is kept.
-fn keep_option<'a>(alloc: Global) -> Arg<'a> {
-    option(
-        alloc,
-        "keep",
-        "FILE",
-        "A file in which the state is kept: read at the start in place of --tree where it is there, and written after each datagram that wrote something. Reply windows and sessions are not kept: a duplicate from before a restart is executed as new",
-    )
-}
-
-/// The command `serve`.
-fn serve_command<'a>(alloc: Global) -> Result<Command<'a>, AllocError> {
+/// With the option of the port.
+fn with_port<'a>(command: Command<'a>, alloc: Global) -> Result<Command<'a>, AllocError> {
     let port = option(
         alloc,
         "port",
         "PORT",
         "The UDP port, 0 to 65535; at 0 the system chooses one",
     );
-    let turns = option(
+    command.arg(port.required(true))
+}
+
+/// With the option of how many turns are served.
+fn with_turns<'a>(command: Command<'a>, alloc: Global) -> Result<Command<'a>, AllocError> {
+    command.arg(option(
         alloc,
         "turns",
         "T",
         "How many turns are served, 0 to 4294967295; until it is stopped unless given",
-    );
-    let ip = option(
+    ))
+}
+
+/// With the option of the address.
+fn with_ip<'a>(command: Command<'a>, alloc: Global) -> Result<Command<'a>, AllocError> {
+    command.arg(option(
         alloc,
         "ip",
         "A.B.C.D",
         "The address; 127.0.0.1 unless given. At 0.0.0.0, every address of the machine, answers may leave from another one than was asked, and links drop those",
-    );
+    ))
+}
+
+/// With the options of a socket.
+fn bound<'a>(command: Command<'a>, alloc: Global) -> Result<Command<'a>, AllocError> {
+    with_ip(with_turns(with_port(command, alloc)?, alloc)?, alloc)
+}
+
+/// With the flag for a line for each datagram.
+fn with_verbose<'a>(command: Command<'a>, alloc: Global) -> Result<Command<'a>, AllocError> {
     let verbose = Arg::new(alloc, "verbose")
         .long("verbose")
         .help(
             "Prints a line for each datagram on standard error: its sender, what became of it, and the objects it wrote to",
         )
         .action(ArgAction::SetTrue);
+    command.arg(verbose)
+}
+
+/// With the option of how often the report so far is told.
+fn with_stats<'a>(command: Command<'a>, alloc: Global) -> Result<Command<'a>, AllocError> {
+    command.arg(option(
+        alloc,
+        "stats",
+        "SECONDS",
+        "Prints the report so far on standard error each so many seconds, 1 to 86400, with how many sessions there are and how many locks are held",
+    ))
+}
+
+/// With the option of the file in which the state is kept.
+fn with_keep<'a>(command: Command<'a>, alloc: Global) -> Result<Command<'a>, AllocError> {
+    command.arg(option(
+        alloc,
+        "keep",
+        "FILE",
+        "A file in which the state is kept: read at the start in place of --tree where it is there, and written after each datagram that wrote something. Reply windows and sessions are not kept: a duplicate from before a restart is executed as new",
+    ))
+}
+
+/// The command `serve`.
+fn serve_command<'a>(alloc: Global) -> Result<Command<'a>, AllocError> {
     let command = Command::new(alloc, "serve")
         .about(
             "Serves a device, the bench device unless --tree is given, at a UDP socket, and prints what was done",
         )
-        .after_help(SERVE_EXAMPLE)
-        .arg(port.required(true))?
-        .arg(turns)?
-        .arg(ip)?;
-    made(command, alloc)?.arg(verbose)?.arg(keep_option(alloc))
+        .after_help(SERVE_EXAMPLE);
+    let serving = with_verbose(made(bound(command, alloc)?, alloc)?, alloc)?;
+    with_keep(with_stats(serving, alloc)?, alloc)
 }
 
-/// The command `show`.
-fn show_command<'a>(alloc: Global) -> Result<Command<'a>, AllocError> {
+/// With the flag for a text.
+fn with_text<'a>(command: Command<'a>, alloc: Global) -> Result<Command<'a>, AllocError> {
     let text = Arg::new(alloc, "text")
         .long("text")
         .help(
             "Prints them as a text that --tree reads, with labels and all else that a device stores",
         )
         .action(ArgAction::SetTrue);
+    command.arg(text)
+}
+
+/// The command `show`.
+fn show_command<'a>(alloc: Global) -> Result<Command<'a>, AllocError> {
     let command = Command::new(alloc, "show")
         .about("Prints the objects of the device: ONo, class identifier, container and role")
         .after_help("Example: ocadev show --tree examples/stagebox.tree");
-    listed(command, alloc)?.arg(text)
+    with_text(listed(command, alloc)?, alloc)
 }
 
-/// The whole program.
-fn command<'a>(alloc: Global) -> Result<Command<'a>, AllocError> {
+/// The program without its commands.
+fn program<'a>(alloc: Global) -> Command<'a> {
     Command::new(alloc, "ocadev")
         .about("The bench device of OCA (AES70) over UDP")
         .version(VERSION)
         .after_help("Example: ocadev replay < examples/getstate.script")
         .subcommand_required(true)
-        .subcommand(replay_command(alloc)?)?
-        .subcommand(serve_command(alloc)?)?
-        .subcommand(show_command(alloc)?)
 }
 
-/// The words, matched with what the program takes.
-fn matches_of<'a, S: AsStr>(alloc: Global, words: &'a [S]) -> Result<ArgMatches<'a>, Error> {
+/// With a command, where there is memory for it.
+fn with<'a>(
+    program: Command<'a>,
+    added: Result<Command<'a>, AllocError>,
+) -> Result<Command<'a>, AllocError> {
+    program.subcommand(added?)
+}
+
+/// The whole program.
+fn command<'a>(alloc: Global) -> Result<Command<'a>, AllocError> {
+    let replaying = with(program(alloc), replay_command(alloc))?;
+    let serving = with(replaying, serve_command(alloc))?;
+    with(serving, show_command(alloc))
+}
+
+/// The words, the program's name first, matched with what the program takes.
+pub fn matches_of<'a, S: AsStr>(alloc: Global, words: &'a [S]) -> Result<ArgMatches<'a>, Error>
+    ensures { IfOk result (AreMatchesOf (map S.text words.entry.now)) }
+{
     command(alloc)?.try_get_matches_from(words)
 }
 
-/// What the words ask for, the program's name first, or why they ask for nothing.
-pub fn asked_for<'a, S: AsStr>(alloc: Global, words: &'a [S]) -> Result<Asked<'a>, Failure> {
-    match matches_of(alloc, words) {
-        Ok(matches) => match asked_by_matches(&matches) {
-            Some(asked) => Ok(asked),
-            None => Err(unread(alloc, &matches)),
-        },
-        Err(error) => Ok(Asked::Help(help_or_failure(alloc, &error)?)),
+/// What a command with these options asks for. Refusal: `BadWords` where it is none, or where an option's value is not
+/// of its form, which a note then names.
+pub fn asked_for<'a>(
+    alloc: Global,
+    name: &str,
+    options: &ArgMatches<'a>,
+) -> Result<Asked<'a>, Failure>
+    ensures ok { IfOk result (λ asked. asked_by name.now options.now ≡ Some (asked_fields asked)) }
+    ensures err { IfErr result (λ failure. (failure.fault ≡ BadWords) × (asked_by name.now options.now ≡ None)) }
+{
+    match asked_in(name, options) {
+        Some(asked) => Ok(asked),
+        None => Err(bad_option(alloc, options, &RULES, TREE_AND_CHANNELS)),
     }
 }
 
 /// The options that have a form.
-const RULES: [Rule; 6] = [
+const RULES: [Rule; 7] = [
     Rule {
         name: "ip",
         form: Form::Own,
@@ -234,6 +287,14 @@ const RULES: [Rule; 6] = [
             digits: 10,
             least: 0,
             largest: 4_294_967_295,
+        },
+    },
+    Rule {
+        name: "stats",
+        form: Form::Number {
+            digits: 5,
+            least: 1,
+            largest: 86_400,
         },
     },
     Rule {
@@ -266,27 +327,26 @@ const RULES: [Rule; 6] = [
 const TREE_AND_CHANNELS: &str =
     "--tree and --channels each say what the objects are: give one of the two";
 
-/// Why the options of a command were not read.
-fn unread(alloc: Global, matches: &ArgMatches<'_>) -> Failure {
-    match matches.subcommand() {
-        Some((_, options)) => bad_option(alloc, options, &RULES, TREE_AND_CHANNELS),
-        None => Failure::from(RunFault::BadWords),
+/// The same, where the options' values are of their forms.
+fn asked_in<'a>(name: &str, options: &ArgMatches<'a>) -> Option<Asked<'a>>
+    ensures { option_map asked_fields result ≡ asked_by name.now options.now }
+{
+    if name == "replay" {
+        return Some(Asked::Replay(making_of(options)?));
     }
-}
-
-/// What the matched words ask for, where their values are of their forms.
-fn asked_by_matches<'a>(matches: &ArgMatches<'a>) -> Option<Asked<'a>> {
-    match matches.subcommand() {
-        Some(("replay", options)) => Some(Asked::Replay(making_of(options)?)),
-        Some(("serve", options)) => Some(Asked::Serve(serving_of(options)?)),
-        Some(("show", options)) => Some(shown_by(options, objects_of(options)?)),
-        _ => None,
+    if name == "serve" {
+        return Some(Asked::Serve(serving_of(options)?));
     }
+    if name == "show" {
+        return Some(shown_by(options, objects_of(options)?));
+    }
+    None
 }
 
 /// The objects as lines for a person, or as a text where the words say so.
 fn shown_by<'a>(options: &ArgMatches<'a>, objects: Objects<'a>) -> Asked<'a>
-    ensures { result ≡ (if says_so options.now (codes "text") then Asked.ShowText objects.entry else Asked.Show objects.entry) }
+    ensures value { result ≡ (if says_so options.now (codes "text") then Asked.ShowText objects.entry else Asked.Show objects.entry) }
+    ensures fields { asked_fields result ≡ said_shown options.now (said_objects objects.entry) }
 {
     if flag(options, "text") {
         Asked::ShowText(objects)
@@ -392,6 +452,31 @@ fn flag(options: &ArgMatches<'_>, name: &str) -> bool
     }
 }
 
+/// How many seconds a text says: 1 to 5 digits, 1 to 86,400.
+#[tactic(auto, using(oca_program::proofs::OptionLemmas::size_rules))]
+fn seconds_of(text: &[u8]) -> Option<u32>
+    ensures { result ≡ seconds_said text.now }
+{
+    let seconds = number(text, 5, 86_400)?;
+    if seconds < 1 {
+        return None;
+    }
+    Some(seconds as u32)
+}
+
+/// How often to tell the report so far, where that is said.
+fn stats_of(options: &ArgMatches<'_>) -> Option<Option<u32>>
+    ensures { result ≡ stats_in options.now }
+{
+    match text_of(options, "stats") {
+        Some(text) => match seconds_of(text.as_bytes()) {
+            Some(seconds) => Some(Some(seconds)),
+            None => None,
+        },
+        None => Some(None),
+    }
+}
+
 /// Where to serve which device: 1 to 5 digits of a port, 1 to 10 of turns, and an address `a.b.c.d`.
 #[tactic(auto, unfolding(crate::specs::Words::serving_in))]
 fn serving_of<'a>(options: &ArgMatches<'a>) -> Option<Serving<'a>>
@@ -401,6 +486,7 @@ fn serving_of<'a>(options: &ArgMatches<'a>) -> Option<Serving<'a>>
     let port = number_in(options, "port", 5, 65535)?;
     let turns = turns_of(options)?;
     let making = making_of(options)?;
+    let stats = stats_of(options)?;
     let verbose = flag(options, "verbose");
     let keep = text_of(options, "keep");
     Some(Serving {
@@ -409,6 +495,7 @@ fn serving_of<'a>(options: &ArgMatches<'a>) -> Option<Serving<'a>>
         turns,
         making,
         verbose,
+        stats,
         keep,
     })
 }

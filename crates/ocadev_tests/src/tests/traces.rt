@@ -5,7 +5,7 @@ use oca_fakes::ShortWriter;
 use oca_net::{MemoryEnd, Scripted};
 use oca_script::Printer;
 use oca_types::Peer;
-use ocadev_cli::serving::{serve_on, serve_traced};
+use ocadev_cli::serving::{Telling, serve_on, serve_traced};
 use ocadev_cli::trace::Watched;
 use std::alloc::Global;
 
@@ -127,7 +127,15 @@ fn traced(alloc: Global, trace: &[u8]) -> Option<(Report, bool)> {
     let mut outbox = Outbox::new(alloc).ok()?;
     let mut end = Watched::new(end(alloc)?);
     let mut faults = Printer::new(ShortWriter::new(7, usize::MAX));
-    let report = serve_traced(&mut device, &mut end, &mut outbox, u64::MAX, &mut faults);
+    let telling = Telling::new(true, None);
+    let report = serve_traced(
+        &mut device,
+        &mut end,
+        &mut outbox,
+        u64::MAX,
+        telling,
+        &mut faults,
+    );
     Some((report, faults.sink().taken.as_slice() == trace))
 }
 

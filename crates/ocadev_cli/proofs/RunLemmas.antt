@@ -1,0 +1,31 @@
+-- How a run ends, by what its last call gave.
+use Rattle.std.proofs.Common.{◌≡◌, ℕ, List, [], Result, Ok, Err, refl, ap}
+use Rattle.oca_types.specs.Sizes.{DeviceSizes}
+use Rattle.oca_tree.specs.declared.object.Object.{Object}
+use Rattle.oca_device.specs.Devices.{DeviceState}
+use Rattle.oca_script.specs.declared.fault.ReplayFault.{ReplayFault}
+use Rattle.oca_script.specs.declared.fault.WriteFailed.{WriteFailed}
+use Rattle.oca_script.specs.Ends.{Input, Output}
+use Rattle.oca_script.specs.Printing.{WritesOut}
+use Rattle.oca_program.specs.Faults.{run_fault}
+use Rattle.oca_program.specs.declared.fault.RunFault.{RunFault}
+use Rattle.oca_program.specs.declared.fault.RunFault.TheVariants.{Write}
+use Rattle.ocadev_cli.specs.Replaying.{Outcome}
+use Rattle.ocadev_cli.specs.Runs.{Tells, ReplaysOn}
+
+abbrev failed : RunFault → Result Unit RunFault
+failed why = Err why
+
+pub tells-all : (u : Unit {0}) (text : List ℕ) (was is : Output) → WritesOut (Ok u) was is text → Tells text (Ok tt) was is
+tells-all u text was is h = record { written = Ok tt; ends = refl; writes = h }
+
+pub tells-part : (e : WriteFailed) (why : RunFault) (text : List ℕ) (was is : Output) → why ≡ Write → WritesOut (Err e) was is text → Tells text (Err why) was is
+tells-part e why text was is same h = record { written = Err e; ends = ap failed same; writes = h }
+
+pub replays-all : (w : DeviceSizes) (tree : List Object) (after : DeviceState) (u : Unit {0}) (had has : Input) (was is : Output)
+    → Outcome w tree [] after was is had has (Ok u) → ReplaysOn w tree (Ok tt) had has was is
+replays-all w tree after u had has was is h = record { after = after; replayed = Ok u; ends = refl; outcome = h }
+
+pub replays-part : (w : DeviceSizes) (tree : List Object) (after : DeviceState) (e : ReplayFault) (why : RunFault) (had has : Input) (was is : Output)
+    → why ≡ run_fault e → Outcome w tree [] after was is had has (Err e) → ReplaysOn w tree (Err why) had has was is
+replays-part w tree after e why had has was is same h = record { after = after; replayed = Err e; ends = ap failed same; outcome = h }
