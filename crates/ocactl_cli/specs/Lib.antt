@@ -10,3 +10,4 @@ pub mod PrivateLines
 pub mod PrivateExchanges
 pub mod PrivateHands
 pub mod Words
+pub mod Asked
