@@ -11,3 +11,4 @@ pub mod PrivateHands
 pub mod Words
 pub mod Trees
 pub mod PrivateTrees
+pub mod Asked

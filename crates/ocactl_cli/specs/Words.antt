@@ -1,5 +1,8 @@
 -- What the options of the controller's program say (*profile*).
-use Rattle.std.specs.Prelude.{ℕ, ◌/◌, ◌==◌, List, [], codes, length, nat_lt, if◌then◌else◌, Option, Some, None}
+use Rattle.std.specs.Prelude.{◌≡◌, ℕ, ◌/◌, ◌==◌, Bool, true, false, List, [], ◌∷◌, codes, length, map, nat_lt, if◌then◌else◌, Option, Some, None}
+use Rattle.std.specs.Option.{option_map}
+use Rattle.std.specs.Str.{bytes_eq}
+use Rattle.clap.specs.Words.{found_of, matched_of, raw_values}
 use Rattle.clap.specs.declared.parser.matches.ArgMatches.{ArgMatches}
 use Rattle.arrayvec.specs.ArrayVec.{ArrayVec}
 use Rattle.oca_types.specs.declared.words.Peer.{Peer}
@@ -10,6 +13,8 @@ use Rattle.oca_program.specs.Options.{given, read_as, read_or, read_if, sized, h
 use Rattle.ocactl_cli.specs.declared.words.Linking.{Linking}
 use Rattle.ocactl_cli.specs.declared.words.Reach.{Reach}
 use Rattle.ocactl_cli.specs.declared.words.Sending.{Sending}
+use Rattle.ocactl_cli.specs.declared.words.Handling.{Handling}
+use Rattle.ocactl_cli.specs.Hands.{ono_said}
 
 -- ---- the link
 
@@ -109,3 +114,45 @@ sending_in words =
     then_in (params_in words) (λ params.
     then_in (read_or 200 (number_of 10 4294967295) (given words (codes "turns"))) (λ turns.
     Some (record { command = record { target = target; level = level; index = index; count = count; params = params }; turns = turns })))))))
+
+-- ---- several commands, and objects
+
+-- how many set commands may be under way, how many turns a command waits for its answer, and how the device is reached
+pub record HandlingFields : Type 0 where
+  pub reach : ReachFields
+  pub turns : ℕ
+  pub ahead : ℕ
+
+abbrev pub handling_fields : Handling → HandlingFields
+handling_fields h = record { reach = reach_fields h.reach; turns = h.turns; ahead = span_size h.ahead }
+
+-- 200 turns unless given
+abbrev pub turns_in : ArgMatches → Option ℕ
+turns_in words = read_or 200 (number_of 10 4294967295) (given words (codes "turns"))
+
+unfoldable pub handling_in : ArgMatches → Option HandlingFields
+handling_in words =
+    then_in (reach_in words) (λ reach.
+    then_in (turns_in words) (λ turns.
+    then_in (ahead_in reach.span words) (λ ahead.
+    Some (record { reach = reach; turns = turns; ahead = ahead }))))
+
+-- the words behind the options, none where there are none
+abbrev pub or_none : Option (List (List ℕ)) → List (List ℕ)
+or_none None = []
+or_none (Some texts) = texts
+
+abbrev pub behind_options : ArgMatches → List (List ℕ)
+behind_options words = or_none (option_map raw_values (matched_of (found_of words) (codes "ONO")))
+
+-- whether locks are to be kept until the input ends
+abbrev pub is_true : Option (List ℕ) → Bool
+is_true None = false
+is_true (Some text) = bytes_eq text (codes "true")
+
+abbrev pub holds_said : ArgMatches → Bool
+holds_said words = is_true (given words (codes "hold"))
+
+-- One number a word, all of them, in their order.
+abbrev pub AreNumbers : List (List ℕ) → List ℕ → Type 0
+AreNumbers texts numbers = map ono_said texts ≡ map Some numbers

@@ -10,13 +10,15 @@ use super::session::Session;
 use super::tasks::Task;
 use super::walk::walk;
 use super::watched::Watched;
-use super::words::{Asked, Reach, Sending, asked_for};
+use super::words::{Asked, Linking, Reach, Sending, asked_for, matches_of};
+use clap::{ArgMatches, Error};
 use oca_net::{End, UdpEnd};
 use oca_panel::{OwnPort, Panel};
+use oca_program::options::help_or_failure;
 use oca_program::socket::bind;
-use oca_program::{Failure, print_note, report};
-use oca_script::{Printer, Sink, Source};
-use oca_types::Peer;
+use oca_program::{Failure, RunFault, print_note, report};
+use oca_script::{Printer, Sink, Source, WriteFailed};
+use oca_types::{Peer, Span};
 use std::alloc::Global;
 use std::convert::AsStr;
 use std::net::Net;
@@ -41,70 +43,252 @@ pub fn run<N: Net + Clock, S: AsStr, R: Source, W: Sink, F: Sink>(
     printer: &mut Printer<W>,
     faults: &mut Printer<F>,
 ) -> u8 {
-    match served(alloc, system, words, reader, printer, faults) {
+    match matches_of(alloc, words) {
+        Ok(matches) => status_of(
+            obeyed(alloc, system, &matches, reader, printer, faults),
+            faults,
+        ),
+        Err(error) => status_of(helped(alloc, &error, printer), faults),
+    }
+}
+
+/// The exit status of a run that ended so. Why it failed, where it did, is printed.
+fn status_of<F: Sink>(ended: Result<u8, Failure>, faults: &mut Printer<F>) -> u8 {
+    match ended {
         Ok(status) => status,
         Err(failure) => report(&failure, faults),
     }
 }
 
-/// Does what the words ask for, and returns the exit status.
-fn served<N: Net + Clock, S: AsStr, R: Source, W: Sink, F: Sink>(
+/// Prints the text of `--help` or `--version`, where the words ask for that.
+fn helped<W: Sink>(alloc: Global, error: &Error, printer: &mut Printer<W>) -> Result<u8, Failure> {
+    match help_or_failure(alloc, error) {
+        Ok(text) => told(text.as_bytes(), printer),
+        Err(failure) => Err(failure),
+    }
+}
+
+/// Prints a text, and hands it on.
+fn told<W: Sink>(text: &[u8], printer: &mut Printer<W>) -> Result<u8, Failure> {
+    match print_all(text, printer) {
+        Ok(()) => Ok(0),
+        Err(failed) => Err(Failure::from(failed)),
+    }
+}
+
+/// The same, where only a write fails.
+fn print_all<W: Sink>(text: &[u8], printer: &mut Printer<W>) -> Result<(), WriteFailed> {
+    printer.print(text)?;
+    printer.flush()
+}
+
+/// Does what the command asks for that the matched words name, and returns the exit status.
+fn obeyed<N: Net + Clock, R: Source, W: Sink, F: Sink>(
     alloc: Global,
     system: &N,
-    words: &[S],
+    words: &ArgMatches<'_>,
     reader: &mut R,
     printer: &mut Printer<W>,
     faults: &mut Printer<F>,
 ) -> Result<u8, Failure> {
-    match asked_for(alloc, words)? {
-        Asked::Replay(linking) => {
-            replay(&mut linking.link(), reader, printer)?;
-            Ok(0)
+    match words.subcommand() {
+        Some((name, options)) => commanded(alloc, system, name, options, reader, printer, faults),
+        None => Err(Failure::from(RunFault::BadWords)),
+    }
+}
+
+/// Does what a command with these options asks for.
+fn commanded<N: Net + Clock, R: Source, W: Sink, F: Sink>(
+    alloc: Global,
+    system: &N,
+    name: &str,
+    options: &ArgMatches<'_>,
+    reader: &mut R,
+    printer: &mut Printer<W>,
+    faults: &mut Printer<F>,
+) -> Result<u8, Failure> {
+    match asked_for(alloc, name, options) {
+        Ok(asked) => served(alloc, system, &asked, reader, printer, faults),
+        Err(failure) => Err(failure),
+    }
+}
+
+/// Does what is asked for, and returns the exit status.
+fn served<N: Net + Clock, R: Source, W: Sink, F: Sink>(
+    alloc: Global,
+    system: &N,
+    asked: &Asked,
+    reader: &mut R,
+    printer: &mut Printer<W>,
+    faults: &mut Printer<F>,
+) -> Result<u8, Failure> {
+    match asked {
+        Asked::Replay(linking) => replayed(*linking, reader, printer),
+        Asked::Send(reach, sending) => sent(alloc, system, *reach, sending, printer, faults),
+        Asked::Run(reach, ahead) => ran(alloc, system, *reach, *ahead, reader, printer, faults),
+        Asked::Do(reach, turns, task) => {
+            done(alloc, system, *reach, *turns, task, reader, printer, faults)
         }
-        Asked::Send(reach, sending) => {
-            let end = bind(alloc, system, reach.ip, reach.port.unwrap_or(0))?;
-            let mut end = Watched::new(end, reach.device);
-            let status = send_one(system, reach, &mut end, &sending, printer)?;
+    }
+}
+
+/// Replays a script on a link.
+fn replayed<R: Source, W: Sink>(
+    linking: Linking,
+    reader: &mut R,
+    printer: &mut Printer<W>,
+) -> Result<u8, Failure> {
+    let mut link = linking.link();
+    match replay(&mut link, reader, printer) {
+        Ok(()) => Ok(0),
+        Err(fault) => Err(Failure::from(fault)),
+    }
+}
+
+/// The largest span that a device's window of 32 commands bears, which it has unless it is told another.
+const SPAN_OF_A_DEFAULT: u8 = 16;
+
+/// Prints which window the device needs, where the span is above 16 and there is memory for the line.
+fn note_span<F: Sink>(alloc: Global, span: Span, faults: &mut Printer<F>) {
+    if span.get() <= SPAN_OF_A_DEFAULT {
+        return;
+    }
+    let size = span.get();
+    let window = 2 * u32::from(size) - 1;
+    let note = format!(in alloc;
+        "--span {size}: the device needs a window of {window} commands or more; its 32, unless it is told another, bear a span of 16"
+    );
+    if let Ok(note) = note {
+        print_note(note.as_str(), faults);
+    }
+}
+
+/// Sends a command over a socket, and prints how it fared.
+fn sent<N: Net + Clock, W: Sink, F: Sink>(
+    alloc: Global,
+    system: &N,
+    reach: Reach,
+    sending: &Sending,
+    printer: &mut Printer<W>,
+    faults: &mut Printer<F>,
+) -> Result<u8, Failure> {
+    note_span(alloc, reach.span, faults);
+    match bind(alloc, system, reach.ip, reach.port.unwrap_or(0)) {
+        Ok(end) => {
+            let end = Watched::new(end, reach.device);
+            sent_over(alloc, system, end, reach, sending, printer, faults)
+        }
+        Err(failure) => Err(failure),
+    }
+}
+
+/// The same over an end.
+fn sent_over<N: Net + Clock, W: Sink, F: Sink>(
+    alloc: Global,
+    system: &N,
+    mut end: Watched<UdpEnd<'_, N>>,
+    reach: Reach,
+    sending: &Sending,
+    printer: &mut Printer<W>,
+    faults: &mut Printer<F>,
+) -> Result<u8, Failure> {
+    match send_one(system, reach, &mut end, sending, printer) {
+        Ok(status) => {
             note_no_answer(alloc, &mut end, reach.device, status == 3, false, faults);
             Ok(status)
         }
-        Asked::Run(reach, ahead) => {
-            let (link, end) = reached(alloc, system, reach, false, faults)?;
+        Err(failed) => Err(Failure::from(failed)),
+    }
+}
+
+/// Sends the commands of the input over a socket, and prints how each fared.
+fn ran<N: Net + Clock, R: Source, W: Sink, F: Sink>(
+    alloc: Global,
+    system: &N,
+    reach: Reach,
+    ahead: Span,
+    reader: &mut R,
+    printer: &mut Printer<W>,
+    faults: &mut Printer<F>,
+) -> Result<u8, Failure> {
+    note_span(alloc, reach.span, faults);
+    match reached(alloc, system, reach, false, faults) {
+        Ok((link, end)) => {
             let socket = Some(end.end().as_raw_fd());
-            let mut session = Session::new(link, end, ahead, socket);
-            send_all(&mut session, reader, printer)?;
-            let status = if session.unanswered() { 3 } else { 0 };
-            let silent = session.is_lost();
-            note_no_answer(
-                alloc,
-                &mut session.into_end(),
-                reach.device,
-                silent,
-                true,
-                faults,
-            );
-            Ok(status)
+            let session = Session::new(link, end, ahead, socket);
+            ran_over(alloc, session, reach.device, reader, printer, faults)
         }
-        Asked::Do(reach, turns, task) => {
-            let (link, end) = reached(alloc, system, reach, task.locks(), faults)?;
-            let mut talk = Panel::new(link, end, turns);
-            let status = do_task(alloc, &mut talk, &task, reader, printer)?;
+        Err(failure) => Err(failure),
+    }
+}
+
+/// The same over a session.
+fn ran_over<N: Clock, R: Source, W: Sink, F: Sink>(
+    alloc: Global,
+    mut session: Session<Watched<UdpEnd<'_, N>>>,
+    device: Peer,
+    reader: &mut R,
+    printer: &mut Printer<W>,
+    faults: &mut Printer<F>,
+) -> Result<u8, Failure> {
+    match send_all(&mut session, reader, printer) {
+        Ok(()) => Ok(concluded(alloc, session, device, faults)),
+        Err(fault) => Err(Failure::from(fault)),
+    }
+}
+
+/// The exit status of a session that is over; why it is silent, where it is, is printed.
+fn concluded<N: Clock, F: Sink>(
+    alloc: Global,
+    session: Session<Watched<UdpEnd<'_, N>>>,
+    device: Peer,
+    faults: &mut Printer<F>,
+) -> u8 {
+    let status = if session.unanswered() { 3 } else { 0 };
+    let silent = session.is_lost();
+    let mut end = session.into_end();
+    note_no_answer(alloc, &mut end, device, silent, true, faults);
+    status
+}
+
+/// Does something with objects over a socket, and prints it.
+fn done<N: Net + Clock, R: Source, W: Sink, F: Sink>(
+    alloc: Global,
+    system: &N,
+    reach: Reach,
+    turns: u32,
+    task: &Task,
+    reader: &mut R,
+    printer: &mut Printer<W>,
+    faults: &mut Printer<F>,
+) -> Result<u8, Failure> {
+    note_span(alloc, reach.span, faults);
+    match reached(alloc, system, reach, task.locks(), faults) {
+        Ok((link, end)) => {
+            let talk = Panel::new(link, end, turns);
+            done_over(alloc, talk, reach.device, task, reader, printer, faults)
+        }
+        Err(failure) => Err(failure),
+    }
+}
+
+/// The same over a link.
+fn done_over<N: Clock, R: Source, W: Sink, F: Sink>(
+    alloc: Global,
+    mut talk: Panel<Watched<UdpEnd<'_, N>>>,
+    device: Peer,
+    task: &Task,
+    reader: &mut R,
+    printer: &mut Printer<W>,
+    faults: &mut Printer<F>,
+) -> Result<u8, Failure> {
+    match do_task(alloc, &mut talk, task, reader, printer) {
+        Ok(status) => {
             let silent = status == 3 && talk.unanswered();
-            note_no_answer(
-                alloc,
-                &mut talk.into_end(),
-                reach.device,
-                silent,
-                true,
-                faults,
-            );
+            note_no_answer(alloc, &mut talk.into_end(), device, silent, true, faults);
             Ok(status)
         }
-        Asked::Help(text) => {
-            printer.print(text.as_bytes())?;
-            printer.flush()?;
-            Ok(0)
-        }
+        Err(failure) => Err(failure),
     }
 }
 

@@ -1,12 +1,13 @@
 //! The commands for hands: what they take, and what their words say.
-ghost use Rattle.std.specs.Prelude.{◌≡◌, codes};
+ghost use Rattle.std.specs.Prelude.{◌≡◌, IfOk, map};
 ghost use Rattle.std.specs.Option.{option_map};
-ghost use Rattle.oca_script.specs.Fields.{number_of};
-ghost use Rattle.oca_program.specs.Options.{given, read_or};
+ghost use Rattle.oca_types.specs.Sizes.{span_size};
 ghost use Rattle.ocactl_cli.specs.Hands.{ono_said, is_locking};
+ghost use Rattle.ocactl_cli.specs.Words.{turns_in, holds_said, AreNumbers};
+ghost use Rattle.ocactl_cli.specs.Asked.{is_for_hands, AsksTask, IsTaskWith, IsSetTask, IsOnosTask, IsTaskOf};
 
 use super::hands::Pair;
-use super::words::{ahead_option, networked};
+use super::words::{networked, with, with_ahead};
 use clap::{Arg, ArgAction, ArgMatches, Command};
 use oca_program::options::{number_or, option, text_of};
 use oca_program::{Failure, RunFault};
@@ -72,24 +73,19 @@ a block that does not say its members, or of an object that does not say what it
 
 Example: ocactl tree --device 127.0.0.1:65000";
 
-/// The options of each command for hands.
-fn handed<'a>(
-    alloc: Global,
-    name: &'a str,
-    about: &'a str,
-    example: &'a str,
-) -> Result<Command<'a>, AllocError> {
-    networked(
-        Command::new(alloc, name).about(about).after_help(example),
-        alloc,
-    )?
-    .arg(option(
+/// With the option of how many turns a command waits.
+fn with_turns<'a>(command: Command<'a>, alloc: Global) -> Result<Command<'a>, AllocError> {
+    command.arg(option(
         alloc,
         "turns",
         "T",
         "How often to wait for an answer, 50 ms at most each [200 unless given]",
-    ))?
-    .arg(option(
+    ))
+}
+
+/// With the option of the local port.
+fn with_port<'a>(command: Command<'a>, alloc: Global) -> Result<Command<'a>, AllocError> {
+    command.arg(option(
         alloc,
         "port",
         "PORT",
@@ -97,80 +93,123 @@ fn handed<'a>(
     ))
 }
 
-/// The objects that a command is about.
-fn objects<'a>(alloc: Global) -> Arg<'a> {
-    Arg::new(alloc, "ONO")
+/// A command for hands, with the options of each.
+fn handed<'a>(
+    alloc: Global,
+    name: &'a str,
+    about: &'a str,
+    example: &'a str,
+) -> Result<Command<'a>, AllocError> {
+    let command = Command::new(alloc, name).about(about).after_help(example);
+    with_port(with_turns(networked(command, alloc)?, alloc)?, alloc)
+}
+
+/// With the objects that a command is about.
+fn with_objects<'a>(command: Command<'a>, alloc: Global) -> Result<Command<'a>, AllocError> {
+    let objects = Arg::new(alloc, "ONO")
         .value_name("ONO")
         .help("The numbers of objects")
         .action(ArgAction::Append)
         .num_args(1..)
-        .required(true)
+        .required(true);
+    command.arg(objects)
 }
 
-/// Whether locks are kept until the input ends.
-fn hold_option<'a>(alloc: Global) -> Arg<'a> {
-    Arg::new(alloc, "hold")
+/// With the flag by which locks are kept until the input ends.
+fn with_hold<'a>(command: Command<'a>, alloc: Global) -> Result<Command<'a>, AllocError> {
+    let hold = Arg::new(alloc, "hold")
         .long("hold")
         .help(
             "Keeps the locks until standard input ends, and takes them off then; where it is stopped, they lapse after 15 seconds",
         )
-        .action(ArgAction::SetTrue)
+        .action(ArgAction::SetTrue);
+    command.arg(hold)
 }
 
-/// The objects and the words for their values.
-fn pairs<'a>(alloc: Global) -> Arg<'a> {
-    Arg::new(alloc, "ONO")
+/// With the objects and the words for their values.
+fn with_pairs<'a>(command: Command<'a>, alloc: Global) -> Result<Command<'a>, AllocError> {
+    let pairs = Arg::new(alloc, "ONO")
         .value_name("ONO VALUE")
         .help("The numbers of objects, and behind each its value")
         .action(ArgAction::Append)
         .num_args(1..)
         .allow_negative_numbers(true)
-        .required(true)
+        .required(true);
+    command.arg(pairs)
+}
+
+/// The command `get`.
+fn get_command<'a>(alloc: Global) -> Result<Command<'a>, AllocError> {
+    let command = handed(
+        alloc,
+        "get",
+        "Prints how objects of a device are set",
+        GET_EXAMPLE,
+    )?;
+    with_objects(command, alloc)
+}
+
+/// The command `set`.
+fn set_command<'a>(alloc: Global) -> Result<Command<'a>, AllocError> {
+    let command = handed(alloc, "set", "Sets objects of a device", SET_EXAMPLE)?;
+    with_pairs(with_ahead(command, alloc)?, alloc)
+}
+
+/// The command `lock`.
+fn lock_command<'a>(alloc: Global) -> Result<Command<'a>, AllocError> {
+    let command = handed(alloc, "lock", "Locks objects of a device", LOCK_EXAMPLE)?;
+    with_objects(with_hold(command, alloc)?, alloc)
+}
+
+/// The command `unlock`.
+fn unlock_command<'a>(alloc: Global) -> Result<Command<'a>, AllocError> {
+    let command = handed(
+        alloc,
+        "unlock",
+        "Takes the locks off objects of a device",
+        UNLOCK_EXAMPLE,
+    )?;
+    with_objects(command, alloc)
+}
+
+/// The command `tree`.
+fn tree_command<'a>(alloc: Global) -> Result<Command<'a>, AllocError> {
+    handed(
+        alloc,
+        "tree",
+        "Prints the objects of a device",
+        TREE_EXAMPLE,
+    )
+}
+
+/// With the commands that read and set.
+fn with_values<'a>(program: Command<'a>, alloc: Global) -> Result<Command<'a>, AllocError> {
+    let getting = with(program, get_command(alloc))?;
+    with(getting, set_command(alloc))
+}
+
+/// With the commands that lock and unlock.
+fn with_locks<'a>(program: Command<'a>, alloc: Global) -> Result<Command<'a>, AllocError> {
+    let locking = with(program, lock_command(alloc))?;
+    with(locking, unlock_command(alloc))
 }
 
 /// The program with the commands for hands.
 pub fn with_tasks<'a>(program: Command<'a>, alloc: Global) -> Result<Command<'a>, AllocError> {
-    program
-        .subcommand(handed(
-            alloc,
-            "tree",
-            "Prints the objects of a device",
-            TREE_EXAMPLE,
-        )?)?
-        .subcommand(handed(
-            alloc,
-            "get",
-            "Prints how objects of a device are set",
-            GET_EXAMPLE,
-        )?
-        .arg(objects(alloc))?)?
-        .subcommand(
-            handed(alloc, "set", "Sets objects of a device", SET_EXAMPLE)?
-                .arg(ahead_option(alloc))?
-                .arg(pairs(alloc))?,
-        )?
-        .subcommand(
-            handed(alloc, "lock", "Locks objects of a device", LOCK_EXAMPLE)?
-                .arg(hold_option(alloc))?
-                .arg(objects(alloc))?,
-        )?
-        .subcommand(handed(
-            alloc,
-            "unlock",
-            "Takes the locks off objects of a device",
-            UNLOCK_EXAMPLE,
-        )?
-        .arg(objects(alloc))?)
+    let begun = with(program, tree_command(alloc))?;
+    with_locks(with_values(begun, alloc)?, alloc)
 }
 
 /// Whether a command is one for hands.
-pub fn is_task(name: &str) -> bool {
-    matches!(name, "tree" | "get" | "set" | "lock" | "unlock")
+pub fn is_task(name: &str) -> bool
+    ensures { result ≡ is_for_hands name.now }
+{
+    name == "tree" || name == "get" || name == "set" || name == "lock" || name == "unlock"
 }
 
 /// How many turns a command waits for its answer: 200 unless said.
 pub fn turns_of(words: &ArgMatches<'_>) -> Option<u32>
-    ensures { result ≡ read_or 200 (number_of 10 4294967295) (given words.now (codes "turns")) }
+    ensures { result ≡ turns_in words.now }
 {
     match number_or(words, "turns", 10, 4294967295, 200) {
         Some(turns) => Some(turns as u32),
@@ -178,32 +217,84 @@ pub fn turns_of(words: &ArgMatches<'_>) -> Option<u32>
     }
 }
 
-/// What the words of a command for hands ask for; what sets, so many at once.
+/// What the words of a command for hands ask for; what sets, so many at once. Refusals: `BadWords`, and `NoMemory`.
 pub fn task_of(
     alloc: Global,
     name: &str,
     words: &ArgMatches<'_>,
     ahead: Span,
-) -> Result<Task, Failure> {
-    let given = words.get_strs("ONO").unwrap_or(&[]);
-    Ok(match name {
-        "get" => Task::Get(onos_of(alloc, given)?),
-        "set" => Task::Set(ahead, pairs_of(alloc, given)?),
-        "lock" => {
-            let onos = onos_of(alloc, given)?;
-            if holds(words) {
-                Task::Hold(onos)
-            } else {
-                Task::Lock(onos)
-            }
-        }
-        "unlock" => Task::Unlock(onos_of(alloc, given)?),
-        _ => Task::Tree,
-    })
+) -> Result<Task, Failure>
+    ensures { IfOk result (AsksTask name.now words.now (span_size ahead)) }
+{
+    if name == "tree" {
+        return Ok(Task::Tree);
+    }
+    let holds = holds(words);
+    match words.get_strs("ONO") {
+        Some(given) => task_with(alloc, name, holds, given, ahead),
+        None => task_with(alloc, name, holds, &[], ahead),
+    }
+}
+
+/// What a command with these words behind its options asks for.
+fn task_with(
+    alloc: Global,
+    name: &str,
+    holds: bool,
+    given: &[&str],
+    ahead: Span,
+) -> Result<Task, Failure>
+    ensures { IfOk result (IsTaskWith name.now holds (map (λ w. w.now) given.now) (span_size ahead)) }
+{
+    if name == "set" {
+        return set_task(alloc, given, ahead);
+    }
+    onos_task(alloc, name, holds, given)
+}
+
+/// To set objects, so many at once.
+fn set_task(alloc: Global, given: &[&str], ahead: Span) -> Result<Task, Failure>
+    ensures { IfOk result (IsSetTask (map (λ w. w.now) given.now) (span_size ahead)) }
+{
+    match pairs_of(alloc, given) {
+        Ok(pairs) => Ok(Task::Set(ahead, pairs)),
+        Err(failure) => Err(failure),
+    }
+}
+
+/// To do something with each of some objects.
+fn onos_task(alloc: Global, name: &str, holds: bool, given: &[&str]) -> Result<Task, Failure>
+    ensures { IfOk result (IsOnosTask name.now holds (map (λ w. w.now) given.now)) }
+{
+    match onos_of(alloc, given) {
+        Ok(onos) => onos_task_of(name, holds, onos),
+        Err(failure) => Err(failure),
+    }
+}
+
+/// What a command with this name does with these objects. Refusal: `BadWords` where there is none.
+fn onos_task_of(name: &str, holds: bool, onos: Vec<Ono>) -> Result<Task, Failure>
+    ensures { IfOk result (IsTaskOf name.now holds (map (λ o. o.0) onos.items)) }
+{
+    if name == "get" {
+        return Ok(Task::Get(onos));
+    }
+    if name == "unlock" {
+        return Ok(Task::Unlock(onos));
+    }
+    if name != "lock" {
+        return Err(Failure::from(RunFault::BadWords));
+    }
+    if holds {
+        return Ok(Task::Hold(onos));
+    }
+    Ok(Task::Lock(onos))
 }
 
 /// Whether the words ask to keep locks.
-fn holds(words: &ArgMatches<'_>) -> bool {
+fn holds(words: &ArgMatches<'_>) -> bool
+    ensures { result ≡ holds_said words.now }
+{
     match text_of(words, "hold") {
         Some(text) => text.as_bytes() == b"true".as_slice(),
         None => false,
@@ -220,8 +311,10 @@ fn ono_of(word: &str) -> Option<Ono>
     }
 }
 
-/// The numbers of objects that words say.
-fn onos_of(alloc: Global, words: &[&str]) -> Result<Vec<Ono>, Failure> {
+/// The numbers of objects that words say: one a word, all of them. Refusals: `BadWords`, and `NoMemory`.
+fn onos_of(alloc: Global, words: &[&str]) -> Result<Vec<Ono>, Failure>
+    ensures { IfOk result (λ onos. AreNumbers (map (λ w. w.now) words.now) (map (λ o. o.0) onos.items)) }
+{
     let mut onos = Vec::new(alloc);
     for word in words {
         let Some(ono) = ono_of(word) else {

@@ -1,10 +1,12 @@
 //! The words of the command line.
-ghost use Rattle.std.specs.Prelude.{◌≡◌, ◌≤◌, IfSome};
+ghost use Rattle.std.specs.Prelude.{◌≡◌, ◌≤◌, IfOk, IfSome};
 ghost use Rattle.std.specs.Option.{option_map};
 ghost use Rattle.oca_types.specs.Sizes.{span_size};
 ghost use Rattle.oca_control.specs.Links.{new_link};
 ghost use Rattle.oca_types.specs.Peers.{request_of};
-ghost use Rattle.ocactl_cli.specs.Words.{array_items, span_of as span_said, span_in as span_given, linking_fields, first_handle_in, linking_in, host_in, own_address, port_in, handle_in, reach_fields, reach_in, ahead_in, sending_fields, sending_in, params_of as params_said, params_in as params_given};
+ghost use Rattle.ocactl_cli.specs.Reasons.{first_of};
+ghost use Rattle.ocactl_cli.specs.Asked.{AsksFor, AsksSend, AsksRun};
+ghost use Rattle.ocactl_cli.specs.Words.{array_items, span_of as span_said, span_in as span_given, linking_fields, first_handle_in, linking_in, host_in, own_address, port_in, handle_in, reach_fields, reach_in, ahead_in, handling_fields, handling_in, sending_fields, sending_in, params_of as params_said, params_in as params_given};
 
 use super::tasks::{Task, is_task, task_of, turns_of, with_tasks};
 use arrayvec::ArrayVec;
@@ -12,9 +14,9 @@ use clap::{Arg, ArgMatches, Command, Error};
 use oca_control::Link;
 use oca_program::form::bad_option;
 use oca_program::options::{
-    help_or_failure, host_in, number_if, number_in, number_or, option, own_or, peer_in, text_of,
+    host_in, number_if, number_in, number_or, option, own_or, peer_in, text_of,
 };
-use oca_program::{Failure, Form, Rule, RunFault, VERSION};
+use oca_program::{Failure, Form, Rule, VERSION};
 use oca_script::field::{hex_bytes, number};
 use oca_types::{
     Handle, LOOPBACK, MOST_COMMAND_PARAMETER_BYTES, MethodId, Ono, Peer, Request, Span,
@@ -54,7 +56,9 @@ pub struct Reach {
 
 impl Reach {
     /// A new link, made at moment 0, with this first handle unless the words give one.
-    pub fn link(&self, first_handle: u32) -> Link {
+    pub fn link(&self, first_handle: u32) -> Link
+        ensures { result ≡ new_link self.now.device (first_of self.now.first_handle first_handle) 0 (span_size self.now.span) }
+    {
         let first = match self.first_handle {
             Some(handle) => handle,
             None => first_handle,
@@ -98,47 +102,61 @@ pub enum Asked {
     Run(Reach, Span),
     /// To do something with objects of a device, where each command waits so many turns for its answer.
     Do(Reach, u32, Task),
-    /// To print a help text.
-    Help(String),
 }
 
-/// The options of each link: the device and the span.
+/// With the option of the device's address.
+fn with_device<'a>(command: Command<'a>, alloc: Global) -> Result<Command<'a>, AllocError> {
+    command.arg(option(alloc, "device", "A.B.C.D:PORT", "The device's address").required(true))
+}
+
+/// With the option of the span.
+fn with_span<'a>(command: Command<'a>, alloc: Global) -> Result<Command<'a>, AllocError> {
+    command.arg(option(
+        alloc,
+        "span",
+        "S",
+        "How far above the lowest untaken command the next handle may lie, 1 to 32 [16 unless given]; above 16 the device needs a window of twice as many less one: its default of 32 bears 16",
+    ))
+}
+
+/// With the options of each link: the device and the span.
 fn linked<'a>(command: Command<'a>, alloc: Global) -> Result<Command<'a>, AllocError> {
-    command
-        .arg(option(alloc, "device", "A.B.C.D:PORT", "The device's address").required(true))?
-        .arg(option(
-            alloc,
-            "span",
-            "S",
-            "How far above the lowest untaken command the next handle may lie, 1 to 32 [16 unless given]; above 16 the device needs a window of twice as many less one: its default of 32 bears 16",
-        ))
+    with_span(with_device(command, alloc)?, alloc)
 }
 
-/// The options of a link over a network: the first handle and the local address.
+/// With the option of the first handle.
+fn with_first_handle<'a>(command: Command<'a>, alloc: Global) -> Result<Command<'a>, AllocError> {
+    command.arg(option(
+        alloc,
+        "first-handle",
+        "H",
+        "The handle of the first command, 0 to 4294967295 [by the clock unless given: it rises by 100000 a second, and begins anew at 2147483648]",
+    ))
+}
+
+/// With the option of the local address.
+fn with_ip<'a>(command: Command<'a>, alloc: Global) -> Result<Command<'a>, AllocError> {
+    command.arg(option(
+        alloc,
+        "ip",
+        "A.B.C.D",
+        "The local address [127.0.0.1 for a device of this machine, any address else, unless given]",
+    ))
+}
+
+/// With the options of a link over a network.
 pub fn networked<'a>(command: Command<'a>, alloc: Global) -> Result<Command<'a>, AllocError> {
-    linked(command, alloc)?
-        .arg(option(
-            alloc,
-            "first-handle",
-            "H",
-            "The handle of the first command, 0 to 4294967295 [by the clock unless given: it rises by 100000 a second, and begins anew at 2147483648]",
-        ))?
-        .arg(option(
-            alloc,
-            "ip",
-            "A.B.C.D",
-            "The local address [127.0.0.1 for a device of this machine, any address else, unless given]",
-        ))
+    with_ip(with_first_handle(linked(command, alloc)?, alloc)?, alloc)
 }
 
-/// How many commands may be under way at once.
-pub fn ahead_option<'a>(alloc: Global) -> Arg<'a> {
-    option(
+/// With the option of how many commands may be under way at once.
+pub fn with_ahead<'a>(command: Command<'a>, alloc: Global) -> Result<Command<'a>, AllocError> {
+    command.arg(option(
         alloc,
         "ahead",
         "N",
         "How many commands may be under way at once, 1 to the span; those may be executed in any order [1 unless given]",
-    )
+    ))
 }
 
 const REPLAY_EXAMPLE: &str =
@@ -165,13 +183,93 @@ fn replay_command<'a>(alloc: Global) -> Result<Command<'a>, AllocError> {
     let command = Command::new(alloc, "replay")
         .about("Runs a controller's link over a script on standard input, with no network")
         .after_help(REPLAY_EXAMPLE);
-    linked(command, alloc)?.arg(option(
+    with_own_handle(linked(command, alloc)?, alloc)
+}
+
+/// With the option of the first handle, which `replay` wants.
+fn with_own_handle<'a>(command: Command<'a>, alloc: Global) -> Result<Command<'a>, AllocError> {
+    let first_handle = option(
         alloc,
         "first-handle",
         "H",
         "The handle of the first command, 0 to 4294967295",
+    );
+    command.arg(first_handle.required(true))
+}
+
+/// With an option that is to be given.
+fn with_required<'a>(
+    command: Command<'a>,
+    alloc: Global,
+    name: &'a str,
+    value: &'a str,
+    help: &'a str,
+) -> Result<Command<'a>, AllocError> {
+    command.arg(option(alloc, name, value, help).required(true))
+}
+
+/// With the option of the target.
+fn with_target<'a>(command: Command<'a>, alloc: Global) -> Result<Command<'a>, AllocError> {
+    with_required(
+        command,
+        alloc,
+        "target",
+        "ONO",
+        "The target's object number",
     )
-    .required(true))
+}
+
+/// With the options of the method.
+fn with_method<'a>(command: Command<'a>, alloc: Global) -> Result<Command<'a>, AllocError> {
+    let levelled = with_required(command, alloc, "level", "L", "The method's DefLevel")?;
+    with_required(levelled, alloc, "index", "I", "The method's MethodIndex")
+}
+
+/// With the option of how many parameters there are.
+fn with_count<'a>(command: Command<'a>, alloc: Global) -> Result<Command<'a>, AllocError> {
+    with_required(
+        command,
+        alloc,
+        "count",
+        "C",
+        "ParamCount: how many parameters there are",
+    )
+}
+
+/// With the option of the parameters.
+fn with_params<'a>(command: Command<'a>, alloc: Global) -> Result<Command<'a>, AllocError> {
+    command.arg(option(
+        alloc,
+        "params",
+        "HEX",
+        "The parameters in hexadecimal, - for none [none unless given]",
+    ))
+}
+
+/// With the option of how often `send` waits.
+fn with_turns<'a>(command: Command<'a>, alloc: Global) -> Result<Command<'a>, AllocError> {
+    command.arg(option(
+        alloc,
+        "turns",
+        "T",
+        "How often to wait, 50 ms at most each; at 0 the command is sent once and no answer waited for [200 unless given]",
+    ))
+}
+
+/// With the option of `send`'s port.
+fn with_any_port<'a>(command: Command<'a>, alloc: Global) -> Result<Command<'a>, AllocError> {
+    command.arg(option(
+        alloc,
+        "port",
+        "PORT",
+        "The local port [one of the system's choice unless given: a session of its own at the device for each call, of which there are 16 unless its maker chose otherwise, so give a port for many calls in a row]",
+    ))
+}
+
+/// With the options of a command with its parameters.
+fn commanding<'a>(command: Command<'a>, alloc: Global) -> Result<Command<'a>, AllocError> {
+    let aimed = with_method(with_target(command, alloc)?, alloc)?;
+    with_params(with_count(aimed, alloc)?, alloc)
 }
 
 /// The command `send`.
@@ -179,35 +277,18 @@ fn send_command<'a>(alloc: Global) -> Result<Command<'a>, AllocError> {
     let command = Command::new(alloc, "send")
         .about("Sends a command to a device and prints its answer: status, ParamCount, parameters")
         .after_help(SEND_EXAMPLE);
-    networked(command, alloc)?
-        .arg(option(alloc, "target", "ONO", "The target's object number").required(true))?
-        .arg(option(alloc, "level", "L", "The method's DefLevel").required(true))?
-        .arg(option(alloc, "index", "I", "The method's MethodIndex").required(true))?
-        .arg(option(
-            alloc,
-            "count",
-            "C",
-            "ParamCount: how many parameters there are",
-        )
-        .required(true))?
-        .arg(option(
-            alloc,
-            "params",
-            "HEX",
-            "The parameters in hexadecimal, - for none [none unless given]",
-        ))?
-        .arg(option(
-            alloc,
-            "turns",
-            "T",
-            "How often to wait, 50 ms at most each; at 0 the command is sent once and no answer waited for [200 unless given]",
-        ))?
-        .arg(option(
-            alloc,
-            "port",
-            "PORT",
-            "The local port [one of the system's choice unless given: a session of its own at the device for each call, of which there are 16 unless its maker chose otherwise, so give a port for many calls in a row]",
-        ))
+    let sending = commanding(networked(command, alloc)?, alloc)?;
+    with_any_port(with_turns(sending, alloc)?, alloc)
+}
+
+/// With the option of `run`'s port.
+fn with_run_port<'a>(command: Command<'a>, alloc: Global) -> Result<Command<'a>, AllocError> {
+    command.arg(option(
+        alloc,
+        "port",
+        "PORT",
+        "The local port [65001 or 65002 unless given, by turns of six hours, or one of the system's choice where that is in use]",
+    ))
 }
 
 /// The command `run`.
@@ -217,57 +298,88 @@ fn run_command<'a>(alloc: Global) -> Result<Command<'a>, AllocError> {
             "Sends the commands on standard input and prints the answer of each, in the order of their lines",
         )
         .after_help(RUN_EXAMPLE);
-    networked(command, alloc)?
-        .arg(ahead_option(alloc))?
-        .arg(option(
-            alloc,
-            "port",
-            "PORT",
-            "The local port [65001 or 65002 unless given, by turns of six hours, or one of the system's choice where that is in use]",
-        ))
+    with_run_port(with_ahead(networked(command, alloc)?, alloc)?, alloc)
+}
+
+/// The program without its commands.
+fn program<'a>(alloc: Global) -> Command<'a> {
+    Command::new(alloc, "ocactl")
+        .about("A controller of OCA (AES70) devices over UDP")
+        .version(VERSION)
+        .after_help(PROGRAM_EXAMPLE)
+        .subcommand_required(true)
+}
+
+/// With a command, where there is memory for it.
+pub fn with<'a>(
+    program: Command<'a>,
+    added: Result<Command<'a>, AllocError>,
+) -> Result<Command<'a>, AllocError> {
+    program.subcommand(added?)
 }
 
 /// The whole program.
 fn command<'a>(alloc: Global) -> Result<Command<'a>, AllocError> {
-    let program = Command::new(alloc, "ocactl")
-        .about("A controller of OCA (AES70) devices over UDP")
-        .version(VERSION)
-        .after_help(PROGRAM_EXAMPLE)
-        .subcommand_required(true);
-    with_tasks(program, alloc)?
-        .subcommand(replay_command(alloc)?)?
-        .subcommand(send_command(alloc)?)?
-        .subcommand(run_command(alloc)?)
+    let replaying = with(with_tasks(program(alloc), alloc)?, replay_command(alloc))?;
+    let sending = with(replaying, send_command(alloc))?;
+    with(sending, run_command(alloc))
 }
 
-/// The words, matched with what the program takes.
-fn matches_of<'a, S: AsStr>(alloc: Global, words: &'a [S]) -> Result<ArgMatches<'a>, Error> {
+/// The words, the program's name first, matched with what the program takes.
+pub fn matches_of<'a, S: AsStr>(alloc: Global, words: &'a [S]) -> Result<ArgMatches<'a>, Error> {
     command(alloc)?.try_get_matches_from(words)
 }
 
-/// What the words ask for, the program's name first, or why they ask for nothing.
-pub fn asked_for<S: AsStr>(alloc: Global, words: &[S]) -> Result<Asked, Failure> {
-    match matches_of(alloc, words) {
-        Ok(matches) => match asked_in(&matches) {
-            Some(asked) => Ok(asked),
-            None => task_asked(alloc, &matches),
-        },
-        Err(error) => Ok(Asked::Help(help_or_failure(alloc, &error)?)),
+/// What a command with these options asks for. Refusals: `BadWords` where it is none, or where a value is not of its
+/// form, which a note then names; `NoMemory`.
+pub fn asked_for(alloc: Global, name: &str, options: &ArgMatches<'_>) -> Result<Asked, Failure>
+    ensures { IfOk result (AsksFor name.now options.now) }
+{
+    if is_task(name) {
+        return task_asked(alloc, name, options);
+    }
+    match asked_in(name, options) {
+        Some(asked) => Ok(asked),
+        None => Err(unread(alloc, name, options)),
     }
 }
 
-/// What the options say, where each has its form.
-fn asked_in(matches: &ArgMatches<'_>) -> Option<Asked> {
-    match matches.subcommand()? {
-        ("replay", words) => Some(Asked::Replay(linking_of(words)?)),
-        ("send", words) => Some(Asked::Send(reach_of(words)?, sending_of(words)?)),
-        ("run", words) => {
-            let reach = reach_of(words)?;
-            let ahead = ahead_of(words, reach.span)?;
-            Some(Asked::Run(reach, ahead))
-        }
-        _ => None,
+/// What the options of a command say that is not one for hands, where each has its form.
+fn asked_in(name: &str, options: &ArgMatches<'_>) -> Option<Asked>
+    ensures { IfSome result (AsksFor name.now options.now) }
+{
+    if name == "replay" {
+        return Some(Asked::Replay(linking_of(options)?));
     }
+    if name == "send" {
+        let (reach, sending) = send_of(options)?;
+        return Some(Asked::Send(reach, sending));
+    }
+    if name == "run" {
+        let (reach, ahead) = run_of(options)?;
+        return Some(Asked::Run(reach, ahead));
+    }
+    None
+}
+
+/// What the options of `send` say.
+fn send_of(options: &ArgMatches<'_>) -> Option<(Reach, Sending)>
+    ensures { IfSome result (λ asked. AsksSend options.now asked.0 asked.1) }
+{
+    let reach = reach_of(options)?;
+    match sending_of(options) {
+        Some(sending) => Some((reach, sending)),
+        None => None,
+    }
+}
+
+/// What the options of `run` say.
+fn run_of(options: &ArgMatches<'_>) -> Option<(Reach, Span)>
+    ensures { IfSome result (λ asked. AsksRun options.now asked.0 (span_size asked.1)) }
+{
+    let reach = reach_of(options)?;
+    let ahead = ahead_of(options, reach.span)?;
+    Some((reach, ahead))
 }
 
 /// The options of `replay`.
@@ -396,20 +508,53 @@ fn unread(alloc: Global, name: &str, words: &ArgMatches<'_>) -> Failure {
 }
 
 /// What the options and the words of a command for hands say.
-fn task_asked(alloc: Global, matches: &ArgMatches<'_>) -> Result<Asked, Failure> {
-    let Some((name, words)) = matches.subcommand() else {
-        return Err(Failure::from(RunFault::BadWords));
-    };
-    if !is_task(name) {
-        return Err(unread(alloc, name, words));
+fn task_asked(alloc: Global, name: &str, options: &ArgMatches<'_>) -> Result<Asked, Failure>
+    ensures { IfOk result (AsksFor name.now options.now) }
+{
+    match handling_of(options) {
+        Some(handling) => task_by(alloc, name, options, handling),
+        None => Err(unread(alloc, name, options)),
     }
-    let (Some(reach), Some(turns)) = (reach_of(words), turns_of(words)) else {
-        return Err(unread(alloc, name, words));
-    };
-    let Some(ahead) = ahead_of(words, reach.span) else {
-        return Err(unread(alloc, name, words));
-    };
-    Ok(Asked::Do(reach, turns, task_of(alloc, name, words, ahead)?))
+}
+
+/// What is to be done with objects, by a device that is reached so.
+fn task_by(
+    alloc: Global,
+    name: &str,
+    options: &ArgMatches<'_>,
+    handling: Handling,
+) -> Result<Asked, Failure>
+    requires { handling_in options.now ≡ Some (handling_fields handling) }
+    ensures { IfOk result (AsksFor name.now options.now) }
+{
+    match task_of(alloc, name, options, handling.ahead) {
+        Ok(task) => Ok(Asked::Do(handling.reach, handling.turns, task)),
+        Err(failure) => Err(failure),
+    }
+}
+
+/// How objects are handled: where the device is, how many turns a command waits, and how many set commands are under
+/// way at once.
+#[derive(Clone, Copy)]
+pub struct Handling {
+    pub reach: Reach,
+    pub turns: u32,
+    pub ahead: Span,
+}
+
+/// How objects are handled, by the options.
+#[tactic(auto, unfolding(crate::specs::Words::handling_in))]
+fn handling_of(options: &ArgMatches<'_>) -> Option<Handling>
+    ensures { option_map handling_fields result ≡ handling_in options.now }
+{
+    let reach = reach_of(options)?;
+    let turns = turns_of(options)?;
+    let ahead = ahead_of(options, reach.span)?;
+    Some(Handling {
+        reach,
+        turns,
+        ahead,
+    })
 }
 
 /// The span that a text says: 1 to 3 digits, 1 to 32.
