@@ -56,6 +56,12 @@ class Peer:
         return None
 
 
+def limit_files(most):
+    """Files have so many bytes at most from now on: a further write is refused, and does not end the program."""
+    signal.signal(signal.SIGXFSZ, signal.SIG_IGN)
+    resource.setrlimit(resource.RLIMIT_FSIZE, (most, most))
+
+
 class Checks:
     def __init__(self, folder):
         self.folder, self.passed, self.failed = folder, 0, 0
@@ -69,7 +75,7 @@ class Checks:
 
     def serve(self, keep, *words, most=None):
         """A device at a port that the system chooses, what it says before it listens, and a peer of it."""
-        limit = (lambda: resource.setrlimit(resource.RLIMIT_FSIZE, (most, most))) if most is not None else None
+        limit = (lambda: limit_files(most)) if most is not None else None
         run = subprocess.Popen([f"{self.folder}/ocadev", "serve", "--port", "0", "--keep", keep, *words],
                                stdin=subprocess.DEVNULL, stdout=subprocess.PIPE, stderr=subprocess.PIPE, preexec_fn=limit)
         said = run.stderr.readline().decode()
@@ -179,6 +185,7 @@ def full(checks, folder):
     keep = f"{folder}/full"
     run, said, peer = checks.serve(keep)
     peer.ask(TRIM, 5, 2, struct.pack(">h", 5))
+    peer.ask(TRIM, 5, 1)  # answered behind what was kept
     stop(run)
     with open(keep, "rb") as file:
         old = file.read()
@@ -194,6 +201,7 @@ def full(checks, folder):
     # No such folder.
     run, said, peer = checks.serve(f"{folder}/none/state")
     checks.same("without a folder: a command", peer.ask(TRIM, 5, 2, struct.pack(">h", 7)), (0, b""))
+    peer.ask(TRIM, 5, 1)
     checks.same("without a folder: told", stop(run).startswith("note: the state is not kept: "), True)
 
 
@@ -202,7 +210,7 @@ BROKEN = [
     (b"root on \"\"\nobject 4096 100 block lockable \"desk\" on \"\"\nobject 4097 4096 mute muted lockable \"mu", "line 3: form"),
     (b"root on \"\"\n4097 100 mute muted lockable a\n4097 100 mute muted lockable a\n", "line 3: taken"),
     (b"root on \"\"\nobject 4096 100 switch 10 \"a\" 0 lockable \"s\" on \"\"\n", "line 2: value"),
-    (b"\xff\n", "line 1: form"),
+    (b"\xff\n", "line 1: number"),
 ]
 
 
