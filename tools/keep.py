@@ -62,6 +62,12 @@ class Peer:
         return None
 
 
+def limit_files(most):
+    """Files have so many bytes at most from now on: a further write is refused, and does not end the program."""
+    signal.signal(signal.SIGXFSZ, signal.SIG_IGN)
+    resource.setrlimit(resource.RLIMIT_FSIZE, (most, most))
+
+
 class Checks:
     def __init__(self, folder):
         self.folder, self.passed, self.failed = folder, 0, 0
@@ -201,6 +207,7 @@ def full(checks, folder):
     # No such folder.
     run, said, peer = checks.serve(f"{folder}/none/state")
     checks.same("without a folder: a command", peer.ask(TRIM, 5, 2, struct.pack(">h", 7)), (0, b""))
+    peer.ask(TRIM, 5, 1)
     checks.same("without a folder: told", stop(run).startswith("note: the state is not kept: "), True)
 
 

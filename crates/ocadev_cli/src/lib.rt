@@ -7,7 +7,7 @@
 
 mod answer;
 mod file;
-mod keep;
+pub mod keep;
 mod making;
 pub mod replay;
 pub mod report;

@@ -5,9 +5,11 @@ use oca_fakes::ShortWriter;
 use oca_net::{MemoryEnd, Scripted};
 use oca_script::Printer;
 use oca_types::Peer;
+use ocadev_cli::keep::Keeping;
 use ocadev_cli::serving::{Telling, serve_on, serve_traced};
 use ocadev_cli::trace::Watched;
 use std::alloc::Global;
+use std::rt::Files;
 
 /// SetState of 4097 to Unmuted under handle 1.
 const SET: &[u8] =
@@ -122,18 +124,20 @@ oversize
 ";
 
 /// What a bench device reports of the script, and whether it is traced by that.
-fn traced(alloc: Global, trace: &[u8]) -> Option<(Report, bool)> {
+fn traced<L: Files>(alloc: Global, files: &L, trace: &[u8]) -> Option<(Report, bool)> {
     let mut device = bench_device(alloc)?;
     let mut outbox = Outbox::new(alloc).ok()?;
     let mut end = Watched::new(end(alloc)?);
     let mut faults = Printer::new(ShortWriter::new(7, usize::MAX));
     let telling = Telling::new(true, None);
+    let mut keeping = Keeping::new(alloc, files, None).ok()?;
     let report = serve_traced(
         &mut device,
         &mut end,
         &mut outbox,
         u64::MAX,
         telling,
+        &mut keeping,
         &mut faults,
     );
     Some((report, faults.sink().taken.as_slice() == trace))
@@ -141,7 +145,7 @@ fn traced(alloc: Global, trace: &[u8]) -> Option<(Report, bool)> {
 
 #[test]
 fn tells_of_each_datagram(rt: HostRuntime) {
-    let traced = traced(rt.alloc(), TRACE);
+    let traced = traced(rt.alloc(), &rt, TRACE);
     passes(
         &rt,
         if traced == Some((REPORT, true)) {
