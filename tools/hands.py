@@ -333,7 +333,7 @@ def locks(checks):
     """`lock` and `unlock`: who holds the lock, and what is refused."""
     tree = stagebox()
     with Served(tree) as device:
-        port = free_port()
+        port = own_ports.free_port()
         checks.prints("lock", device, ["lock", "--port", port, 4097, 4098], "4097 locked\n4098 locked\n", 0)
         checks.same("lock: the holder", [o.lock for o in tree[2:4]], [("total", (127, 0, 0, 1, port))] * 2)
         checks.same("lock: what it asks", asked(device), [(4097, LOCK, b""), (4098, LOCK, b"")])
@@ -390,7 +390,10 @@ def strange_answers(checks):
 
 
 def silence(checks):
-    """Nobody answers: each object has its line, and a note says what was heard."""
+    """Nobody answers: each object has its line, and a note says what was heard, and that no program has the port where none has."""
+    port = own_ports.free_port()
+    note = f"note: nothing was heard from 127.0.0.1:{port}: its host says that no program has this port\n"
+    checks.prints("get: nobody has the port", port, ["get", "--turns", 2, 4097], "4097 no answer\n", 3, note)
     with socket.socket(socket.AF_INET, socket.SOCK_DGRAM) as s:
         s.bind(("127.0.0.1", 0))  # hears, and never answers
         port = s.getsockname()[1]

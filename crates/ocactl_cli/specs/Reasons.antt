@@ -33,11 +33,16 @@ found_by true heard = found.Answering
 found_by false (Some moment) = found.Deaf
 found_by false None = found.Unheard
 
--- why no answer came, by when the device was heard before and whether it is heard when it is asked now
-abbrev pub reason_by : (now : ℕ) → Option ℕ → Bool → Reason
-reason_by now (Some moment) is_there = reasons.HeardBefore (now - moment)
-reason_by now None true = reasons.AnswersNone
-reason_by now None false = reasons.NeverHeard
+-- why a device that was not heard gave no answer, by whether it is heard when it is asked now and whether its host refuses its port
+abbrev pub reason_unheard : (is_there is_refused : Bool) → Reason
+reason_unheard true is_refused = reasons.AnswersNone
+reason_unheard false true = reasons.Refused
+reason_unheard false false = reasons.NeverHeard
+
+-- why no answer came, by when the device was heard before besides
+abbrev pub reason_by : (now : ℕ) → Option ℕ → (is_there is_refused : Bool) → Reason
+reason_by now (Some moment) is_there is_refused = reasons.HeardBefore (now - moment)
+reason_by now None is_there is_refused = reason_unheard is_there is_refused
 
 -- the first handle: that of the words, where they give one
 abbrev pub first_of : Option ℕ → ℕ → ℕ

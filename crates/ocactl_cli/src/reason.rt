@@ -1,14 +1,16 @@
 //! Why no answer came, as far as it is known.
 ghost use Rattle.std.specs.Prelude.{◌≡◌};
-ghost use Rattle.ocactl_cli.specs.Reasons.{reason_by};
+ghost use Rattle.ocactl_cli.specs.Reasons.{reason_by, reason_unheard};
 
 use super::probe::is_there;
 use super::watched::Watched;
-use oca_net::UdpEnd;
+use super::words::Reach;
+use oca_net::{UdpEnd, is_refused};
 use oca_program::print_note;
 use oca_script::{Printer, Sink};
 use oca_types::Peer;
 use std::alloc::{AllocError, Global};
+use std::net::Net;
 use std::rt::Clock;
 
 /// What is known of a device that gave no answer.
@@ -16,41 +18,51 @@ use std::rt::Clock;
 pub enum Reason {
     /// Nothing was heard from it.
     NeverHeard,
+    /// Nothing was heard from it, and its host says that no program has its port.
+    Refused,
     /// It was last heard so many milliseconds ago.
     HeardBefore(u64),
     /// It is there, and answered no command.
     AnswersNone,
 }
 
-/// Why no answer came: by the present moment, when the device was heard, and whether it was heard when it was asked
-/// again.
-fn why(now: u64, heard: Option<u64>, is_there: bool) -> Reason
-    ensures { result ≡ reason_by now heard is_there }
+/// Why no answer came: by the present moment, when the device was heard, whether it was heard when it was asked again,
+/// and whether its host refuses its port.
+fn why(now: u64, heard: Option<u64>, is_there: bool, is_refused: bool) -> Reason
+    ensures { result ≡ reason_by now heard is_there is_refused }
 {
     match heard {
         Some(moment) => Reason::HeardBefore(now.saturating_sub(moment)),
-        None => {
-            if is_there {
-                Reason::AnswersNone
-            } else {
-                Reason::NeverHeard
-            }
-        }
+        None => unheard(is_there, is_refused),
+    }
+}
+
+/// Why a device that was not heard gave no answer.
+fn unheard(is_there: bool, is_refused: bool) -> Reason
+    ensures { result ≡ reason_unheard is_there is_refused }
+{
+    match (is_there, is_refused) {
+        (true, _) => Reason::AnswersNone,
+        (false, true) => Reason::Refused,
+        (false, false) => Reason::NeverHeard,
     }
 }
 
 /// Prints when the device was heard, where a command got no answer. A device that was not heard is asked once more
-/// whether it is there.
-pub fn note_silence<C: Clock, F: Sink>(
+/// whether it is there, and its host whether a program has its port.
+pub fn note_silence<N: Net + Clock, F: Sink>(
     alloc: Global,
-    end: &mut Watched<UdpEnd<'_, C>>,
-    device: Peer,
+    system: &N,
+    end: &mut Watched<UdpEnd<'_, N>>,
+    reach: Reach,
     asks: bool,
     faults: &mut Printer<F>,
 ) {
+    let device = reach.device;
     let heard = end.heard();
     let is_there = asks && heard.is_none() && is_there(end, device);
-    let reason = why(end.end().now(), heard, is_there);
+    let is_refused = asks && heard.is_none() && !is_there && is_refused(system, reach.ip, device);
+    let reason = why(end.end().now(), heard, is_there, is_refused);
     if let Ok(text) = reason_text(alloc, device, end.end().local().port, reason) {
         print_note(text.as_str(), faults);
     }
@@ -65,6 +77,11 @@ fn reason_text(
 ) -> Result<String, AllocError> {
     match reason {
         Reason::NeverHeard => format!(in alloc; "nothing was heard from {device}"),
+        Reason::Refused => {
+            format!(in alloc;
+                "nothing was heard from {device}: its host says that no program has this port"
+            )
+        }
         Reason::HeardBefore(ms) => format!(in alloc; "{device} was last heard {ms} ms ago"),
         Reason::AnswersNone => {
             format!(in alloc;

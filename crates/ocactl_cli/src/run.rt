@@ -18,7 +18,7 @@ use oca_program::options::help_or_failure;
 use oca_program::socket::bind;
 use oca_program::{Failure, RunFault, print_note, report};
 use oca_script::{Printer, Sink, Source, WriteFailed};
-use oca_types::{Peer, Span};
+use oca_types::Span;
 use std::alloc::Global;
 use std::convert::AsStr;
 use std::net::Net;
@@ -194,7 +194,7 @@ fn sent_over<N: Net + Clock, W: Sink, F: Sink>(
 ) -> Result<u8, Failure> {
     match send_one(system, reach, &mut end, sending, printer) {
         Ok(status) => {
-            note_no_answer(alloc, &mut end, reach.device, status == 3, false, faults);
+            note_no_answer(alloc, system, &mut end, reach, status == 3, false, faults);
             Ok(status)
         }
         Err(failed) => Err(Failure::from(failed)),
@@ -216,38 +216,40 @@ fn ran<N: Net + Clock, R: Source, W: Sink, F: Sink>(
         Ok((link, end)) => {
             let socket = Some(end.end().as_raw_fd());
             let session = Session::new(link, end, ahead, socket);
-            ran_over(alloc, session, reach.device, reader, printer, faults)
+            ran_over(alloc, system, session, reach, reader, printer, faults)
         }
         Err(failure) => Err(failure),
     }
 }
 
 /// The same over a session.
-fn ran_over<N: Clock, R: Source, W: Sink, F: Sink>(
+fn ran_over<N: Net + Clock, R: Source, W: Sink, F: Sink>(
     alloc: Global,
+    system: &N,
     mut session: Session<Watched<UdpEnd<'_, N>>>,
-    device: Peer,
+    reach: Reach,
     reader: &mut R,
     printer: &mut Printer<W>,
     faults: &mut Printer<F>,
 ) -> Result<u8, Failure> {
     match send_all(&mut session, reader, printer) {
-        Ok(()) => Ok(concluded(alloc, session, device, faults)),
+        Ok(()) => Ok(concluded(alloc, system, session, reach, faults)),
         Err(fault) => Err(Failure::from(fault)),
     }
 }
 
 /// The exit status of a session that is over; why it is silent, where it is, is printed.
-fn concluded<N: Clock, F: Sink>(
+fn concluded<N: Net + Clock, F: Sink>(
     alloc: Global,
+    system: &N,
     session: Session<Watched<UdpEnd<'_, N>>>,
-    device: Peer,
+    reach: Reach,
     faults: &mut Printer<F>,
 ) -> u8 {
     let status = if session.unanswered() { 3 } else { 0 };
     let silent = session.is_lost();
     let mut end = session.into_end();
-    note_no_answer(alloc, &mut end, device, silent, true, faults);
+    note_no_answer(alloc, system, &mut end, reach, silent, true, faults);
     status
 }
 
@@ -265,27 +267,29 @@ fn done<N: Net + Clock, R: Source, W: Sink, F: Sink>(
     note_span(alloc, reach.span, faults);
     match reached(alloc, system, reach, task.locks(), faults) {
         Ok((link, end)) => {
-            let talk = Panel::new(link, end, turns);
-            done_over(alloc, talk, reach.device, task, reader, printer, faults)
+            let panel = Panel::new(link, end, turns);
+            done_over(alloc, system, panel, reach, task, reader, printer, faults)
         }
         Err(failure) => Err(failure),
     }
 }
 
 /// The same over a link.
-fn done_over<N: Clock, R: Source, W: Sink, F: Sink>(
+fn done_over<N: Net + Clock, R: Source, W: Sink, F: Sink>(
     alloc: Global,
-    mut talk: Panel<Watched<UdpEnd<'_, N>>>,
-    device: Peer,
+    system: &N,
+    mut panel: Panel<Watched<UdpEnd<'_, N>>>,
+    reach: Reach,
     task: &Task,
     reader: &mut R,
     printer: &mut Printer<W>,
     faults: &mut Printer<F>,
 ) -> Result<u8, Failure> {
-    match do_task(alloc, &mut talk, task, reader, printer) {
+    match do_task(alloc, &mut panel, task, reader, printer) {
         Ok(status) => {
-            let silent = status == 3 && talk.unanswered();
-            note_no_answer(alloc, &mut talk.into_end(), device, silent, true, faults);
+            let silent = status == 3 && panel.unanswered();
+            let mut end = panel.into_end();
+            note_no_answer(alloc, system, &mut end, reach, silent, true, faults);
             Ok(status)
         }
         Err(failure) => Err(failure),
@@ -295,18 +299,18 @@ fn done_over<N: Clock, R: Source, W: Sink, F: Sink>(
 /// Does something with the objects of a device, and prints it. Returns the exit status.
 fn do_task<E: End, R: Source, W: Sink>(
     alloc: Global,
-    talk: &mut Panel<E>,
+    panel: &mut Panel<E>,
     task: &Task,
     reader: &mut R,
     printer: &mut Printer<W>,
 ) -> Result<u8, Failure> {
     match task {
-        Task::Get(onos) => Ok(get_all(talk, onos.as_slice(), printer)?),
-        Task::Set(ahead, pairs) => set_all(alloc, talk, pairs.as_slice(), *ahead, printer),
-        Task::Lock(onos) => Ok(lock_all(talk, onos.as_slice(), true, printer)?),
-        Task::Hold(onos) => hold(alloc, talk, onos.as_slice(), reader, printer),
-        Task::Unlock(onos) => Ok(lock_all(talk, onos.as_slice(), false, printer)?),
-        Task::Tree => walk(alloc, talk, printer),
+        Task::Get(onos) => Ok(get_all(panel, onos.as_slice(), printer)?),
+        Task::Set(ahead, pairs) => set_all(alloc, panel, pairs.as_slice(), *ahead, printer),
+        Task::Lock(onos) => Ok(lock_all(panel, onos.as_slice(), true, printer)?),
+        Task::Hold(onos) => hold(alloc, panel, onos.as_slice(), reader, printer),
+        Task::Unlock(onos) => Ok(lock_all(panel, onos.as_slice(), false, printer)?),
+        Task::Tree => walk(alloc, panel, printer),
     }
 }
 
@@ -324,10 +328,11 @@ fn send_one<C: Clock, E: End, W: Sink>(
 
 /// Prints what is known of why a command got no answer, where one got none: why a send failed, where one has, and when the device was
 /// heard. `asks` is whether one that was not heard is asked once more whether it is there.
-fn note_no_answer<C: Clock, F: Sink>(
+fn note_no_answer<N: Net + Clock, F: Sink>(
     alloc: Global,
-    end: &mut Watched<UdpEnd<'_, C>>,
-    device: Peer,
+    system: &N,
+    end: &mut Watched<UdpEnd<'_, N>>,
+    reach: Reach,
     silent: bool,
     asks: bool,
     faults: &mut Printer<F>,
@@ -340,5 +345,5 @@ fn note_no_answer<C: Clock, F: Sink>(
             print_note(note.as_str(), faults);
         }
     }
-    note_silence(alloc, end, device, asks, faults);
+    note_silence(alloc, system, end, reach, asks, faults);
 }
