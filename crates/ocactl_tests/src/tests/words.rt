@@ -3,7 +3,7 @@ use super::{NO_LIMIT, Run, all_run, is_so, joined, none_wrong};
 use oca_fakes::{PieceReader, ShortWriter};
 use oca_script::Printer;
 use ocactl_cli::run::run;
-use ocactl_cli::words::{Asked, asked_for};
+use ocactl_cli::words::{Asked, asked_for, matches_of};
 use std::alloc::Global;
 use std::net::Net;
 use std::process::Abort;
@@ -182,7 +182,9 @@ fn too_many_parameters_of_send(rt: HostRuntime) {
 /// How many commands `run` lets be under way; nothing where the words are bad.
 fn asked_ahead(alloc: Global, device: &str, more: &[&str]) -> Option<usize> {
     let words = joined(alloc, &["ocactl", "run", "--device", device], more)?;
-    match asked_for(alloc, words.as_slice()) {
+    let matches = matches_of(alloc, words.as_slice()).ok()?;
+    let (name, options) = matches.subcommand()?;
+    match asked_for(alloc, name, options) {
         Ok(Asked::Run(_, ahead)) => Some(usize::from(ahead.get())),
         _ => None,
     }
