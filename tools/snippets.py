@@ -9,7 +9,7 @@ order in a folder of their own with the repository's files; the lines behind a c
 ends in ` &` goes on beside the others: as many lines as stand behind it are waited for. `$ kill %1` ends the first of
 these, and the others are waited for at the end of the block, where the rest of what they print must stand. In an
 expected line `...` stands for any text, alone for any lines; a number behind `quiet`, which is of time, is not
-compared. A session with a command of `make` is not run.
+compared, nor is the note of a system that grants a socket little room. A session with a command of `make` is not run.
 
 A fenced block whose info string has a path behind its first word, as `rust crates/panel/src/main.rt`, must stand in
 that file line by line, but for its indentation; `...` alone on a line, or in a comment, stands for any lines.
@@ -22,6 +22,8 @@ import subprocess
 import sys
 import tempfile
 from pathlib import Path
+
+from grants import NOTE
 
 TOP = Path(__file__).resolve().parent.parent
 DOCUMENTS = ["README.md", "docs/EMBEDDING.md"]
@@ -116,6 +118,7 @@ def fault_of_session(lines, programs):
                 session.run(command, behind)
         finally:
             session.end_all()
+    session.printed = [line for line in session.printed if not line.startswith(NOTE)]
     if is_like(expected, session.printed):
         return None
     return "printed\n" + "\n".join(session.printed) + "\nin place of\n" + "\n".join(expected)
