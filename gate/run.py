@@ -168,8 +168,8 @@ def main(words):
     for line in wrong:
         print(f"gate: FAILED: {line}", flush=True)
     if not words:
-        print(f"gate: every proof from nothing, then {len(steps)} steps: some 100 minutes on four processors, "
-              "130 on two. Each crate and each step is shown as it ends.", flush=True)
+        print(f"gate: every proof from nothing, then {len(steps)} steps: some two hours on four processors. "
+              "Each crate and each step is shown as it ends.", flush=True)
         counts.append(watched("rt ci", least_of_ci()))
         print(f"gate: {processor_minutes():.1f} processor minutes for rt ci", flush=True)
     counts += [(0, len(wrong))] + run_steps([[step for step in part if step.is_read] for part in parts])
