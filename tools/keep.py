@@ -137,7 +137,7 @@ def restarts(checks, folder):
     both = f"{keep}.both"
     run, said, peer = checks.serve(both, "--verbose", "--stats", "1")
     checks.same("a command of a run that tells", peer.ask(MUTE, 4, 2, b"\x01"), (0, b""))
-    time.sleep(1.5)
+    time.sleep(3.5)
     told = stop(run)
     checks.same("the line of the datagram", re.search(r" served 1 0 0 wrote 4097\n", told) is not None, True)
     checks.same("the report so far", re.search(r"note: turns \d+ executed 1 .* sessions 1 locks 0\n", told) is not None, True)

@@ -315,7 +315,7 @@ def nine(panel):
     for s in held:
         s.sendall(f"TP/1.1\r\nHost: {panel.host}\r\n\r\n".encode())
         check(s.recv(20).startswith(b"HTTP/1.1 200"), "the eight are answered")
-    time.sleep(1.3)
+    time.sleep(3)
     check(panel.ask("GET", "/values?since=0")[0] == 200, "a connection that rests gives way")
     for s in [*held, ninth]:
         s.close()
