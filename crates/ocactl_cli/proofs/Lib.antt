@@ -1,5 +1,4 @@
-pub mod FieldLemmas
-pub mod ServeLemmas
+pub mod WaitLemmas
 pub mod ExchangeLemmas
 mod TurnLemmas
 mod HandLemmas
