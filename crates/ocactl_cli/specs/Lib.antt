@@ -8,3 +8,5 @@ pub mod Words
 pub mod Trees
 pub mod PrivateTrees
 pub mod Asked
+pub mod Sockets
+pub mod Runs

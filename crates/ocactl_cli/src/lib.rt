@@ -6,6 +6,7 @@
 //! `replay` is the library `ocactl_replay`.
 #![tactic(auto)]
 
+mod command_line;
 pub mod commands;
 pub mod exchange;
 pub mod hands;
