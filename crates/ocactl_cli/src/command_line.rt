@@ -287,11 +287,20 @@ const PROGRAM_EXAMPLE: &str = "Example: ocactl set --device 127.0.0.1:65000 4097
 
 /// The program with all its commands.
 pub fn program<'a>(alloc: Global) -> Result<Command<'a>, AllocError> {
-    let mut program = without_commands(alloc);
-    for row in &COMMANDS {
-        program = with(program, command(row, alloc))?;
+    with_commands(without_commands(alloc), &COMMANDS, alloc)
+}
+
+/// With these commands.
+fn with_commands<'a>(
+    program: Command<'a>,
+    rows: &[CommandRow],
+    alloc: Global,
+) -> Result<Command<'a>, AllocError> {
+    let mut so_far = program;
+    for row in rows {
+        so_far = with(so_far, command(row, alloc))?;
     }
-    Ok(program)
+    Ok(so_far)
 }
 
 /// The program without its commands.
@@ -350,9 +359,14 @@ fn with_further<'a>(
     match further {
         Further::Nothing => Ok(command),
         Further::Objects => command.arg(objects(alloc)),
-        Further::ObjectsToHold => command.arg(hold(alloc))?.arg(objects(alloc)),
+        Further::ObjectsToHold => with_held_objects(command, alloc),
         Further::Values => command.arg(values(alloc)),
     }
+}
+
+/// With the objects that are locked, and the flag by which their locks are kept.
+fn with_held_objects<'a>(command: Command<'a>, alloc: Global) -> Result<Command<'a>, AllocError> {
+    command.arg(hold(alloc))?.arg(objects(alloc))
 }
 
 /// The objects that a command is about.
