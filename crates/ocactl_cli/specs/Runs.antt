@@ -1,5 +1,6 @@
 -- What a run of the program does, by its words (*profile*).
-use Rattle.std.specs.Prelude.{◌≡◌, ◌⊎◌, ℕ, Bool, true, false, if◌then◌else◌, List, [], map, Option, None, Some, Result, Ok, Err, OnErr}
+use Rattle.std.specs.Prelude.{◌≡◌, ◌⊎◌, ℕ, Bool, true, false, if◌then◌else◌, List, [], map}
+use Rattle.std.specs.Prelude.{Option, None, Some, Result, Ok, Err, OnErr}
 use Rattle.clap.specs.declared.error.kind.ErrorKind.{ErrorKind}
 use Rattle.clap.specs.declared.parser.matches.ArgMatches.{ArgMatches}
 use Rattle.oca_types.specs.Sizes.{span_size}
@@ -103,13 +104,15 @@ pub record SendsOne (reach : Reach) (sending : Sending) (ended : Result ℕ RunF
 
 -- ONE COMMAND was sent, or the device was not reached.
 abbrev pub SendsAt : Reach → Sending → Result ℕ RunFault → Output → Output → Type 0
-SendsAt reach sending ended was is = SendsOne reach sending ended was is ⊎ ((why : RunFault) × IsUnreached why × FailsWith why ended was is)
+SendsAt reach sending ended was is =
+    SendsOne reach sending ended was is ⊎ ((why : RunFault) × IsUnreached why × FailsWith why ended was is)
 
 -- ---- commands of lines
 
 -- a session over a new link, in which as many commands may be under way
 abbrev pub new_session : LinkState → EndState → ℕ → SessionState
-new_session link end_state ahead = record { link = link; end_state = end_state; under_way = []; ahead = ahead; unanswered = false }
+new_session link end_state ahead =
+    record { link = link; end_state = end_state; under_way = []; ahead = ahead; unanswered = false }
 
 -- The commands on standard input were sent over this session; the status is 3 where one of them got no answer.
 pub record RunsFrom (session : SessionState) (ended : Result ℕ RunFault) (had has : Input) (was is : Output) : Type 0 where
@@ -163,11 +166,15 @@ PrintsObjects old new ended was is = IsDone (λ status. PrintsTree old new statu
 
 -- A TASK was done over a panel. All but the keeping of locks leaves standard input as it is.
 abbrev pub DoesTask : Task → PanelState → PanelState → Result ℕ RunFault → Input → Input → Output → Output → Type 0
-DoesTask (task.Get onos) old new ended had has was is = AsksEach Gets (map number_of onos.items) old new ended was is × (has ≡ had)
-DoesTask (task.Set ahead pairs) old new ended had has was is = SetsObjects (span_size ahead) (map pair_of pairs.items) old new ended was is × (has ≡ had)
-DoesTask (task.Lock onos) old new ended had has was is = AsksEach (Locks true) (map number_of onos.items) old new ended was is × (has ≡ had)
+DoesTask (task.Get onos) old new ended had has was is =
+    AsksEach Gets (map number_of onos.items) old new ended was is × (has ≡ had)
+DoesTask (task.Set ahead pairs) old new ended had has was is =
+    SetsObjects (span_size ahead) (map pair_of pairs.items) old new ended was is × (has ≡ had)
+DoesTask (task.Lock onos) old new ended had has was is =
+    AsksEach (Locks true) (map number_of onos.items) old new ended was is × (has ≡ had)
 DoesTask (task.Hold onos) old new ended had has was is = HoldsObjects (map number_of onos.items) old new ended was is
-DoesTask (task.Unlock onos) old new ended had has was is = AsksEach (Locks false) (map number_of onos.items) old new ended was is × (has ≡ had)
+DoesTask (task.Unlock onos) old new ended had has was is =
+    AsksEach (Locks false) (map number_of onos.items) old new ended was is × (has ≡ had)
 DoesTask task.Tree old new ended had has was is = PrintsObjects old new ended was is × (has ≡ had)
 
 -- a panel over a new link, each of whose commands waits so many turns
@@ -184,7 +191,8 @@ pub record DoesOver (reach : Reach) (turns : ℕ) (what : Task) (ended : Result 
 
 -- THE TASK was done, or the device was not reached.
 abbrev pub DoesAt : Reach → ℕ → Task → Result ℕ RunFault → Input → Input → Output → Output → Type 0
-DoesAt reach turns what ended had has was is = DoesOver reach turns what ended had has was is ⊎ Unreached ended had has was is
+DoesAt reach turns what ended had has was is =
+    DoesOver reach turns what ended had has was is ⊎ Unreached ended had has was is
 
 -- ---- the whole run
 
@@ -222,8 +230,8 @@ pub record Obeys (words : ArgMatches) (ended : Result ℕ RunFault) (had has : I
 abbrev pub Helps : ErrorKind → Result ℕ RunFault → Output → Output → Type 0
 Helps kind ended was is = ((text : List ℕ) × Tells text ended was is) ⊎ FailsWith (words_fault kind) ended was is
 
--- THE PROGRAM'S RUN on these words: they were matched, and the command that they name was done; or they were not. The exit status is that
--- of how it ended.
+-- THE PROGRAM'S RUN on these words: they were matched, and the command that they name was done; or they were not. The
+-- exit status is that of how it ended.
 pub record RunsOn (words : List (List ℕ)) (status : ℕ) (had has : Input) (was is : Output) : Type 0 where
   pub ended : Result ℕ RunFault
   pub ends : status ≡ exit_status ended

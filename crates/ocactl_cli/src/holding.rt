@@ -32,7 +32,8 @@ pub fn hold<E: End, R: Source, W: Sink>(
     reader: &mut R,
     printer: &mut Printer<W>,
 ) -> Result<u8, Failure>
-    ensures holds { IfOk result (λ status. HoldsAll (map number_of onos.now) panel.old panel.new status printer.old printer.new) }
+    ensures holds { IfOk result (λ status. HoldsAll (map number_of onos.now)
+        panel.old panel.new status printer.old printer.new) }
     ensures fails { IfErr result (λ failure. GivesUp failure printer.new) }
 {
     let mut held = Vec::new(alloc);
@@ -50,7 +51,8 @@ fn lock_each<E: End, W: Sink>(
     printer: &mut Printer<W>,
 ) -> Result<u8, Failure>
     requires { held.old.items ≡ [] }
-    ensures locks { IfOk result (λ status. LocksEach (map number_of onos.now) panel.old panel.new status held.new.items printer.old printer.new) }
+    ensures locks { IfOk result (λ status. LocksEach (map number_of onos.now)
+        panel.old panel.new status held.new.items printer.old printer.new) }
     ensures fails { IfErr result (λ failure. GivesUp failure printer.new) }
 {
     printer.flush()?;
@@ -69,7 +71,8 @@ fn lock_next<E: End, W: Sink>(
     status: u8,
     printer: &mut Printer<W>,
 ) -> Result<u8, Failure>
-    ensures locks { IfOk result (λ now. LocksNext ono.0 panel.old panel.new status now held.old.items held.new.items printer.old printer.new) }
+    ensures locks { IfOk result (λ now. LocksNext ono.0
+        panel.old panel.new status now held.old.items held.new.items printer.old printer.new) }
     ensures fails { IfErr result (λ failure. GivesUp failure printer.new) }
 {
     match lock_one(panel, ono, true, printer) {

@@ -43,7 +43,8 @@ pub fn reached<'a, N: Net + Clock, F: Sink>(
     }
 }
 
-/// A socket at the port that the words give, else at the program's own or another one; and whether it is the program's own.
+/// A socket at the port that the words give, else at the program's own or another one; and whether it is the program's
+/// own.
 fn bound<'a, N: Net + Clock>(
     alloc: Global,
     system: &'a N,
@@ -77,7 +78,8 @@ fn at<'a, N: Net + Clock>(
     }
 }
 
-/// A socket at the program's own port. Where that is in use, at one of the system's choice, unless no other may be taken.
+/// A socket at the program's own port. Where that is in use, at one of the system's choice, unless no other may be
+/// taken.
 fn by_choice<'a, N: Net + Clock>(
     alloc: Global,
     system: &'a N,
@@ -113,8 +115,8 @@ fn at_own_alone<'a, N: Net + Clock>(
     }
 }
 
-/// A link over this socket. At the program's own port it is over the other one, where the device does not answer commands from the
-/// first.
+/// A link over this socket. At the program's own port it is over the other one, where the device does not answer
+/// commands from the first.
 fn linked<'a, N: Net + Clock, F: Sink>(
     alloc: Global,
     system: &'a N,

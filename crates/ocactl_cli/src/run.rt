@@ -8,7 +8,8 @@ ghost use Rattle.oca_program.specs.Faults.{fault_in};
 ghost use Rattle.oca_panel.specs.Panels.{PanelState};
 ghost use Rattle.ocactl_cli.specs.Hands.{Gets, Locks};
 ghost use Rattle.ocactl_cli.specs.PrivateHands.{number_of, pair_of};
-ghost use Rattle.ocactl_cli.specs.Runs.{exit_status, RunsOn, Obeys, DoesAsked, Does, ReplaysOn, SendsAt, SendsOne, AsksOver, RunsAt, RunsFrom, DoesAt, DoesTask, AsksEach, Helps, Tells};
+ghost use Rattle.ocactl_cli.specs.Runs.{exit_status, RunsOn, Obeys, DoesAsked, Does, Helps, Tells};
+ghost use Rattle.ocactl_cli.specs.Runs.{ReplaysOn, SendsAt, SendsOne, AsksOver, RunsAt, RunsFrom, DoesAt, DoesTask, AsksEach};
 
 use super::commands::send_all;
 use super::exchange::ask_once;
@@ -54,7 +55,9 @@ pub fn run<N: Net + Clock, S: AsStr, R: Source, W: Sink, F: Sink>(
     printer: &mut Printer<W>,
     faults: &mut Printer<F>,
 ) -> u8
-    ensures { RunsOn (map S.text words.now) result (input (R.remaining reader.old) (R.failed reader.old)) (input (R.remaining reader.new) (R.failed reader.new)) printer.old printer.new }
+    ensures { RunsOn (map S.text words.now) result
+        (input (R.remaining reader.old) (R.failed reader.old))
+        (input (R.remaining reader.new) (R.failed reader.new)) printer.old printer.new }
 {
     match matches_of(alloc, words) {
         Ok(matches) => status_of(
@@ -112,7 +115,9 @@ fn obeyed<N: Net + Clock, R: Source, W: Sink, F: Sink>(
     printer: &mut Printer<W>,
     faults: &mut Printer<F>,
 ) -> Result<u8, Failure>
-    ensures { Obeys words.now (fault_in result) (input (R.remaining reader.old) (R.failed reader.old)) (input (R.remaining reader.new) (R.failed reader.new)) printer.old printer.new }
+    ensures { Obeys words.now (fault_in result)
+        (input (R.remaining reader.old) (R.failed reader.old))
+        (input (R.remaining reader.new) (R.failed reader.new)) printer.old printer.new }
 {
     match words.subcommand() {
         Some((name, options)) => commanded(alloc, system, name, options, reader, printer, faults),
@@ -130,7 +135,9 @@ fn commanded<N: Net + Clock, R: Source, W: Sink, F: Sink>(
     printer: &mut Printer<W>,
     faults: &mut Printer<F>,
 ) -> Result<u8, Failure>
-    ensures { DoesAsked name.now options.now (fault_in result) (input (R.remaining reader.old) (R.failed reader.old)) (input (R.remaining reader.new) (R.failed reader.new)) printer.old printer.new }
+    ensures { DoesAsked name.now options.now (fault_in result)
+        (input (R.remaining reader.old) (R.failed reader.old))
+        (input (R.remaining reader.new) (R.failed reader.new)) printer.old printer.new }
 {
     match asked_for(alloc, name, options) {
         Ok(asked) => served(alloc, system, &asked, reader, printer, faults),
@@ -147,7 +154,9 @@ fn served<N: Net + Clock, R: Source, W: Sink, F: Sink>(
     printer: &mut Printer<W>,
     faults: &mut Printer<F>,
 ) -> Result<u8, Failure>
-    ensures { Does asked.now (fault_in result) (input (R.remaining reader.old) (R.failed reader.old)) (input (R.remaining reader.new) (R.failed reader.new)) printer.old printer.new }
+    ensures { Does asked.now (fault_in result)
+        (input (R.remaining reader.old) (R.failed reader.old))
+        (input (R.remaining reader.new) (R.failed reader.new)) printer.old printer.new }
 {
     match asked {
         Asked::Replay(linking) => replayed(*linking, reader, printer),
@@ -165,7 +174,9 @@ fn replayed<R: Source, W: Sink>(
     reader: &mut R,
     printer: &mut Printer<W>,
 ) -> Result<u8, Failure>
-    ensures { ReplaysOn linking (fault_in result) (input (R.remaining reader.old) (R.failed reader.old)) (input (R.remaining reader.new) (R.failed reader.new)) printer.old printer.new }
+    ensures { ReplaysOn linking (fault_in result)
+        (input (R.remaining reader.old) (R.failed reader.old))
+        (input (R.remaining reader.new) (R.failed reader.new)) printer.old printer.new }
 {
     let mut link = linking.link();
     match replay(&mut link, reader, printer) {
@@ -244,7 +255,9 @@ fn ran<N: Net + Clock, R: Source, W: Sink, F: Sink>(
     printer: &mut Printer<W>,
     faults: &mut Printer<F>,
 ) -> Result<u8, Failure>
-    ensures { RunsAt reach (span_size ahead) (fault_in result) (input (R.remaining reader.old) (R.failed reader.old)) (input (R.remaining reader.new) (R.failed reader.new)) printer.old printer.new }
+    ensures { RunsAt reach (span_size ahead) (fault_in result)
+        (input (R.remaining reader.old) (R.failed reader.old))
+        (input (R.remaining reader.new) (R.failed reader.new)) printer.old printer.new }
 {
     note_span(alloc, reach.span, faults);
     match reached(alloc, system, reach, false, faults) {
@@ -267,7 +280,9 @@ fn ran_over<N: Net + Clock, R: Source, W: Sink, F: Sink>(
     printer: &mut Printer<W>,
     faults: &mut Printer<F>,
 ) -> Result<u8, Failure>
-    ensures { RunsFrom session.entry (fault_in result) (input (R.remaining reader.old) (R.failed reader.old)) (input (R.remaining reader.new) (R.failed reader.new)) printer.old printer.new }
+    ensures { RunsFrom session.entry (fault_in result)
+        (input (R.remaining reader.old) (R.failed reader.old))
+        (input (R.remaining reader.new) (R.failed reader.new)) printer.old printer.new }
 {
     match send_all(&mut session, reader, printer) {
         Ok(()) => Ok(concluded(alloc, system, session, reach, faults)),
@@ -303,7 +318,9 @@ fn done<N: Net + Clock, R: Source, W: Sink, F: Sink>(
     printer: &mut Printer<W>,
     faults: &mut Printer<F>,
 ) -> Result<u8, Failure>
-    ensures { DoesAt reach turns task.now (fault_in result) (input (R.remaining reader.old) (R.failed reader.old)) (input (R.remaining reader.new) (R.failed reader.new)) printer.old printer.new }
+    ensures { DoesAt reach turns task.now (fault_in result)
+        (input (R.remaining reader.old) (R.failed reader.old))
+        (input (R.remaining reader.new) (R.failed reader.new)) printer.old printer.new }
 {
     note_span(alloc, reach.span, faults);
     match reached(alloc, system, reach, task.locks(), faults) {
@@ -326,7 +343,9 @@ fn done_over<N: Net + Clock, R: Source, W: Sink, F: Sink>(
     printer: &mut Printer<W>,
     faults: &mut Printer<F>,
 ) -> Result<u8, Failure>
-    ensures { (after : PanelState) × DoesTask task.now panel.entry after (fault_in result) (input (R.remaining reader.old) (R.failed reader.old)) (input (R.remaining reader.new) (R.failed reader.new)) printer.old printer.new }
+    ensures { (after : PanelState) × DoesTask task.now panel.entry after (fault_in result)
+        (input (R.remaining reader.old) (R.failed reader.old))
+        (input (R.remaining reader.new) (R.failed reader.new)) printer.old printer.new }
 {
     match do_task(alloc, &mut panel, task, reader, printer) {
         Ok(status) => {
@@ -347,7 +366,9 @@ fn do_task<E: End, R: Source, W: Sink>(
     reader: &mut R,
     printer: &mut Printer<W>,
 ) -> Result<u8, Failure>
-    ensures { DoesTask task.now panel.old panel.new (fault_in result) (input (R.remaining reader.old) (R.failed reader.old)) (input (R.remaining reader.new) (R.failed reader.new)) printer.old printer.new }
+    ensures { DoesTask task.now panel.old panel.new (fault_in result)
+        (input (R.remaining reader.old) (R.failed reader.old))
+        (input (R.remaining reader.new) (R.failed reader.new)) printer.old printer.new }
 {
     match task {
         Task::Get(onos) => get_each(panel, onos.as_slice(), printer),
@@ -380,7 +401,8 @@ fn lock_each<E: End, W: Sink>(
     locks: bool,
     printer: &mut Printer<W>,
 ) -> Result<u8, Failure>
-    ensures { AsksEach (Locks locks) (map number_of onos.now) panel.old panel.new (fault_in result) printer.old printer.new }
+    ensures { AsksEach (Locks locks) (map number_of onos.now) panel.old panel.new
+        (fault_in result) printer.old printer.new }
 {
     match lock_all(panel, onos, locks, printer) {
         Ok(status) => Ok(status),

@@ -183,7 +183,7 @@ const BAD_PAIRS: &str = "behind each ONo stands a value, of at most 64 bytes";
 
 /// The objects and words for values that words say: behind each object its value. Refusals: `BadWords`, and `NoMemory`.
 fn pairs_of(alloc: Global, words: &[&str]) -> Result<Vec<Pair>, Failure>
-    ensures pairs { IfOk result (λ pairs. pairs_said (map (λ w. w.now) words.now) ≡ Some (map pair_fields pairs.items)) }
+    ensures pairs { IfOk result (λ ps. pairs_said (map (λ w. w.now) words.now) ≡ Some (map pair_fields ps.items)) }
     ensures refused { IfErr result (λ failure. IsRefusal failure.fault) }
 {
     if words.len() % 2 != 0 {

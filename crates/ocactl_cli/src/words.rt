@@ -58,7 +58,8 @@ pub struct Reach {
 impl Reach {
     /// A new link, made at this moment, with this first handle unless the words give one.
     pub fn link(&self, first_handle: u32, now: u64) -> Link
-        ensures { result ≡ new_link self.now.device (first_of self.now.first_handle first_handle) now (span_size self.now.span) }
+        ensures { result ≡ new_link
+            self.now.device (first_of self.now.first_handle first_handle) now (span_size self.now.span) }
     {
         let first = match self.first_handle {
             Some(handle) => handle,
@@ -81,7 +82,14 @@ pub struct Sending {
 impl Sending {
     /// The command.
     pub fn command(&self) -> Request<'_>
-        ensures { request_of result ≡ record { target = self.now.target.0; level = self.now.method.level; index = self.now.method.index; count = self.now.count; params = self.now.params.items } }
+        ensures { request_of result ≡ record {
+          target =
+              self.now.target.0;
+          level = self.now.method.level;
+          index = self.now.method.index;
+          count = self.now.count;
+          params = self.now.params.items;
+        } }
     {
         Request {
             target: self.target,
