@@ -4,7 +4,7 @@ use oca_control::Link;
 use oca_fakes::{PatternReader, PieceReader, ShortWriter};
 use oca_script::{LineFault, Printer, ReplayFault};
 use oca_types::{Handle, MethodId, Ono, Peer, Span};
-use ocactl_cli::replay::replay;
+use ocactl_replay::replay::replay;
 use std::alloc::Global;
 use std::net::Net;
 use std::process::Abort;
