@@ -2,9 +2,9 @@ use Rattle.std.proofs.Common.{◌≡◌, Some, ap, sym, ◌∙◌}
 use Rattle.std.specs.Prelude.{slice_get}
 use Rattle.std.specs.Option.{option_map}
 use Rattle.std.proofs.lemmas.Result.{err_from_is_err_and}
-use Rattle.ocadev_cli.specs.Printing.{packet_text}
-use Rattle.ocadev_cli.proofs.PacketLemmas.{packets-more, packets-less}
-use Rattle.ocadev_cli.proofs.answer.print_packets.Goals as goal
+use Rattle.ocadev_replay.specs.Printing.{packet_text}
+use Rattle.ocadev_replay.proofs.PacketLemmas.{packets-more, packets-less}
+use Rattle.ocadev_replay.proofs.answer.print_packets.Goals as goal
 
 pub returns-in_err-print_packet : goal.returns-in_err-print_packet
 returns-in_err-print_packet g c =

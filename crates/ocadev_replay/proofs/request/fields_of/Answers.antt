@@ -1,7 +1,7 @@
 use Rattle.std.proofs.Common.{ap}
 use Rattle.std.specs.Option.{option_copied}
-use Rattle.ocadev_cli.proofs.RequestLemmas.{request-of_four}
-use Rattle.ocadev_cli.proofs.request.fields_of.Goals as goal
+use Rattle.ocadev_replay.proofs.RequestLemmas.{request-of_four}
+use Rattle.ocadev_replay.proofs.request.fields_of.Goals as goal
 
 pub returns-in-Some-rest-2-clause-value : goal.returns-in-Some-rest-2-clause-value
 returns-in-Some-rest-2-clause-value c =

@@ -6,9 +6,9 @@ ghost use Rattle.oca_device.specs.Devices.{Represents};
 ghost use Rattle.oca_device.specs.Events.{Event, Datagram as DatagramEvent};
 ghost use Rattle.oca_script.specs.Ends.{input};
 ghost use Rattle.oca_script.specs.Replaying.{Awaited, NeverIdles};
-ghost use Rattle.ocadev_cli.specs.Requests.{asked_event};
-ghost use Rattle.ocadev_cli.specs.Replaying.{Serves, ServesAndPrints, Outcome, Replays};
-ghost use Rattle.ocadev_cli.specs.PrivateRequests.{event_of};
+ghost use Rattle.ocadev_replay.specs.Requests.{asked_event};
+ghost use Rattle.ocadev_replay.specs.Replaying.{Serves, ServesAndPrints, Outcome, Replays};
+ghost use Rattle.ocadev_replay.specs.PrivateRequests.{event_of};
 
 use super::answer::{print_packets, print_verdict};
 use super::request::{DATAGRAM_ROOM, ScriptEvent, asked_by};

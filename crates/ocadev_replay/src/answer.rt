@@ -4,7 +4,7 @@ ghost use Rattle.std.specs.List.{flat_map};
 ghost use Rattle.oca_types.specs.Sizes.{largest_datagram};
 ghost use Rattle.oca_script.specs.Ends.{output};
 ghost use Rattle.oca_script.specs.Printing.{Prints};
-ghost use Rattle.ocadev_cli.specs.Printing.{verdict_text, reused_text, packet_text};
+ghost use Rattle.ocadev_replay.specs.Printing.{verdict_text, reused_text, packet_text};
 
 use oca_device::{Outbox, Verdict};
 use oca_script::{Printer, Sink, WriteFailed};

@@ -7,8 +7,8 @@ use Rattle.oca_script.specs.Fields.{fields, fields_after, onto_first, split_at, 
 use Rattle.oca_script.proofs.FieldLemmas.{fields-one, fields-more}
 use Rattle.oca_script.proofs.PartLemmas.{before-value}
 use Rattle.oca_script.specs.declared.fault.LineFault.TheVariants.{Form, Hex}
-use Rattle.ocadev_cli.specs.Requests.{asked_event, is_quiet, datagram_of}
-use Rattle.ocadev_cli.specs.PrivateRequests.{datagram_after}
+use Rattle.ocadev_replay.specs.Requests.{asked_event, is_quiet, datagram_of}
+use Rattle.ocadev_replay.specs.PrivateRequests.{datagram_after}
 
 -- there is at least one field
 pub record AtLeastOne (fs : List (List ℕ)) : Type 0 where

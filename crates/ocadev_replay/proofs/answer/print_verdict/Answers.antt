@@ -1,7 +1,7 @@
 use Rattle.std.proofs.lemmas.Result.{err_from_is_err_and}
 use Rattle.oca_script.proofs.PrintLemmas.{prints-err}
 use Rattle.oca_script.proofs.PrintLemmas.{printed-held}
-use Rattle.ocadev_cli.proofs.answer.print_verdict.Goals as goal
+use Rattle.ocadev_replay.proofs.answer.print_verdict.Goals as goal
 
 pub returns-in_err-make_room : goal.returns-in_err-make_room
 returns-in_err-make_room g c =

@@ -8,11 +8,11 @@ use denote.Ref.{Bor}
 use Rattle.oca_types.specs.declared.words.Peer.{Peer}
 use Rattle.oca_device.specs.Events.{Event, Datagram, Tick}
 use Rattle.oca_program.specs.Fields.{needs}
-use Rattle.ocadev_cli.specs.Requests.{asked_event}
-use Rattle.ocadev_cli.specs.declared.request.Fields.{Fields}
-use Rattle.ocadev_cli.specs.declared.request.Fields.TheVariants as fields
-use Rattle.ocadev_cli.specs.declared.request.ScriptEvent.{ScriptEvent}
-use Rattle.ocadev_cli.specs.declared.request.ScriptEvent.TheVariants as events
+use Rattle.ocadev_replay.specs.Requests.{asked_event}
+use Rattle.ocadev_replay.specs.declared.request.Fields.{Fields}
+use Rattle.ocadev_replay.specs.declared.request.Fields.TheVariants as fields
+use Rattle.ocadev_replay.specs.declared.request.ScriptEvent.{ScriptEvent}
+use Rattle.ocadev_replay.specs.declared.request.ScriptEvent.TheVariants as events
 
 abbrev pub event_of : ScriptEvent → Event
 event_of (events.Tick now) = Tick now

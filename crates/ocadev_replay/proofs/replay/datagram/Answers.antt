@@ -1,6 +1,6 @@
 use Rattle.std.proofs.lemmas.Result.{err_from_is_err_and}
-use Rattle.ocadev_cli.proofs.ServeLemmas.{datagram-served, datagram-cut}
-use Rattle.ocadev_cli.proofs.replay.datagram.Goals as goal
+use Rattle.ocadev_replay.proofs.ServeLemmas.{datagram-served, datagram-cut}
+use Rattle.ocadev_replay.proofs.replay.datagram.Goals as goal
 
 pub returns-in_err-print_verdict : goal.returns-in_err-print_verdict
 returns-in_err-print_verdict g c =

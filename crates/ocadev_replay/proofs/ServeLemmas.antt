@@ -18,13 +18,13 @@ use Rattle.oca_script.specs.Ends.{Input, Output}
 use Rattle.oca_script.specs.Printing.{Prints, PrintsAll, PrintsPart, WritesWhole}
 use Rattle.oca_script.specs.Script.{Script}
 use Rattle.oca_script.specs.Replaying.{Runs, NoneLeft, OneServed, OneIdled, NeverIdles, ServesLine, Writes, BeginsWith, known_bytes, Replays as ReplaysScript, Outcome as ScriptOutcome}
-use Rattle.ocadev_cli.specs.declared.request.ScriptEvent.{ScriptEvent}
-use Rattle.ocadev_cli.specs.declared.request.ScriptEvent.TheVariants as asks
+use Rattle.ocadev_replay.specs.declared.request.ScriptEvent.{ScriptEvent}
+use Rattle.ocadev_replay.specs.declared.request.ScriptEvent.TheVariants as asks
 use Rattle.oca_script.proofs.PrintLemmas.{prints-then, prints-less}
-use Rattle.ocadev_cli.specs.Requests.{asked_event}
-use Rattle.ocadev_cli.specs.PrivateRequests.{event_of}
-use Rattle.ocadev_cli.specs.Printing.{verdict_text, packet_text, event_text, events_text, events_then}
-use Rattle.ocadev_cli.specs.Replaying.{Serves, ServesAndPrints, Whole, Part, Replays, Outcome, device_script}
+use Rattle.ocadev_replay.specs.Requests.{asked_event}
+use Rattle.ocadev_replay.specs.PrivateRequests.{event_of}
+use Rattle.ocadev_replay.specs.Printing.{verdict_text, packet_text, event_text, events_text, events_then}
+use Rattle.ocadev_replay.specs.Replaying.{Serves, ServesAndPrints, Whole, Part, Replays, Outcome, device_script}
 
 -- ---- an event
 

@@ -1,5 +1,5 @@
-use Rattle.ocadev_cli.proofs.RequestLemmas.{line-datagram}
-use Rattle.ocadev_cli.proofs.request.moment_and_peer.Goals as goal
+use Rattle.ocadev_replay.proofs.RequestLemmas.{line-datagram}
+use Rattle.ocadev_replay.proofs.request.moment_and_peer.Goals as goal
 
 pub returns-clause-value : goal.returns-clause-value
 returns-clause-value c =

@@ -11,8 +11,8 @@ use Rattle.oca_script.specs.Ends.{Input, Output}
 use Rattle.oca_script.specs.Printing.{Prints, WritesWhole}
 use Rattle.oca_script.specs.Script.{Script, script}
 use Rattle.oca_script.specs.Replaying.{BeginsWith, Reads, Writes, known_bytes}
-use Rattle.ocadev_cli.specs.Requests.{asked_event}
-use Rattle.ocadev_cli.specs.Printing.{event_text, events_text, events_then}
+use Rattle.ocadev_replay.specs.Requests.{asked_event}
+use Rattle.ocadev_replay.specs.Printing.{event_text, events_text, events_then}
 
 -- From old, whatever it represents, the event leads to new, and prints the text.
 pub record Serves (old : DeviceState) (e : Event) (new : DeviceState) (text : List ℕ) : Type 0 where
