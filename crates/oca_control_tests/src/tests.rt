@@ -12,6 +12,7 @@ mod sending;
 mod standstill;
 
 use oca_types::Peer;
+use std::process::Abort;
 
 /// The address of the device.
 pub const DEVICE: Peer = Peer {
@@ -44,4 +45,43 @@ pub fn response(handle: u8) -> [u8; 21] {
     [
         0x3b, 0, 1, 0, 0, 0, 0x14, 3, 0, 1, 0, 0, 0, 0x0b, 0, 0, 0, handle, 0, 1, 1,
     ]
+}
+
+/// Nothing is wrong.
+fn none_wrong(rt: &impl Abort, wrong: Option<(&'static str, usize)>) {
+    if let Some((name, at)) = wrong {
+        panic!(rt; "{name}: step {at}");
+    }
+}
+
+/// The laws run nothing.
+#[test]
+fn scripts_over_a_link(rt: HostRuntime) {
+    sending::laws();
+    none_wrong(&rt, datagrams::wrong());
+    none_wrong(&rt, handles::wrong());
+    none_wrong(&rt, questions::wrong());
+    none_wrong(&rt, sending::wrong());
+}
+
+#[test]
+fn scripts_over_an_end(rt: HostRuntime) {
+    none_wrong(&rt, asking::wrong(rt.alloc()));
+    none_wrong(&rt, driving::wrong(rt.alloc()));
+    none_wrong(&rt, standstill::wrong(rt.alloc()));
+}
+
+/// The table of this name has no row that comes out otherwise.
+fn none_in(rt: &impl Abort, table: &'static str, wrong: Option<usize>) {
+    if let Some(at) = wrong {
+        panic!(rt; "{table}: row {at}");
+    }
+}
+
+#[test]
+fn tables_of_rows(rt: HostRuntime) {
+    none_in(&rt, "refusals", asking::first_wrong());
+    none_in(&rt, "standstills", standstill::first_wrong());
+    none_in(&rt, "sums", reports::first_wrong());
+    none_in(&rt, "texts", reports::first_other(rt.alloc()));
 }

@@ -1,6 +1,6 @@
 //! Commands that are asked over an end in memory.
 use super::ends::Step::*;
-use super::ends::{Delivery, Ending, Fared, QUIET, Step, is_outcome, plays};
+use super::ends::{Delivery, Ending, Fared, QUIET, Script, Step, is_outcome, wrong_script};
 use super::links::Step::{HearsResponse, IsLost, Submits, Takes};
 use super::{ANSWER, COMMAND};
 use oca_control::{ControlFault, DriveReport, Reception, refused};
@@ -37,6 +37,8 @@ const QUIET_TWICE: Ending = Ending {
     fail_send: None,
 };
 
+use std::alloc::Global;
+
 /// An end that is quiet each 50 ms.
 const EVERY_50_MS: Ending = Ending {
     quiet: 0,
@@ -69,11 +71,6 @@ const ANSWERED: &[Step] = &[
     At(Takes(1, None)),
 ];
 
-#[test]
-fn a_command_is_answered(rt: HostRuntime) {
-    plays(&rt, rt.alloc(), 16, ANSWERS, ANSWERED);
-}
-
 // It is begun at 0, and goes out again at 250, 500 and 750.
 const IN_TIME: &[Step] = &[
     Asks(5, Fared::Unanswered),
@@ -84,11 +81,6 @@ const IN_TIME: &[Step] = &[
     Taken(4),
 ];
 
-#[test]
-fn a_command_goes_out_again_in_time(rt: HostRuntime) {
-    plays(&rt, rt.alloc(), 16, EVERY_50_MS, IN_TIME);
-}
-
 const NO_TURN: &[Step] = &[
     Asks(0, Fared::Unanswered),
     Taken(1),
@@ -96,22 +88,12 @@ const NO_TURN: &[Step] = &[
     Waits(1, 1, Fared::Answered(ANSWER)),
 ];
 
-#[test]
-fn a_command_leaves_before_a_turn(rt: HostRuntime) {
-    plays(&rt, rt.alloc(), 16, ANSWERS, NO_TURN);
-}
-
 // The answer that comes is to the handle 1, and the command that is asked has 2.
 const ANOTHER: &[Step] = &[
     At(Submits(0, Ok(1))),
     Asks(1, Fared::Unanswered),
     At(Takes(1, Some(ANSWER))),
 ];
-
-#[test]
-fn another_answer_is_none(rt: HostRuntime) {
-    plays(&rt, rt.alloc(), 16, ANSWERS, ANOTHER);
-}
 
 // The link is lost after 20 sendings, and then the end is asked nothing.
 const LOST: &[Step] = &[
@@ -123,11 +105,6 @@ const LOST: &[Step] = &[
     Delivered(21),
 ];
 
-#[test]
-fn a_link_is_lost(rt: HostRuntime) {
-    plays(&rt, rt.alloc(), 16, QUIET, LOST);
-}
-
 // What the link refuses asks the end nothing.
 const REFUSED: &[Step] = &[
     At(Submits(0, Ok(1))),
@@ -136,11 +113,6 @@ const REFUSED: &[Step] = &[
     Delivered(0),
 ];
 
-#[test]
-fn a_command_is_refused(rt: HostRuntime) {
-    plays(&rt, rt.alloc(), 1, ANSWERS, REFUSED);
-}
-
 const THERE: &[Step] = &[
     At(Submits(0, Ok(1))),
     At(HearsResponse(1, 5, Reception::Answered(1))),
@@ -148,17 +120,7 @@ const THERE: &[Step] = &[
     Delivered(0),
 ];
 
-#[test]
-fn an_answer_that_is_there_takes_no_turn(rt: HostRuntime) {
-    plays(&rt, rt.alloc(), 16, QUIET_ONCE, THERE);
-}
-
 const NOTHING: &[Step] = &[Asks(3, Fared::Unanswered), Taken(1)];
-
-#[test]
-fn a_closed_end_answers_nothing(rt: HostRuntime) {
-    plays(&rt, rt.alloc(), 16, CLOSED, NOTHING);
-}
 
 // What is due is given out, and again after 250 ms.
 const ALL: &[Step] = &[
@@ -170,17 +132,7 @@ const ALL: &[Step] = &[
     Taken(4),
 ];
 
-#[test]
-fn all_that_is_due_is_given_out(rt: HostRuntime) {
-    plays(&rt, rt.alloc(), 16, CLOSED, ALL);
-}
-
 const KEEP_ALIVES: &[Step] = &[GivesOut(2_500, 0, 1)];
-
-#[test]
-fn a_keep_alive_is_given_out(rt: HostRuntime) {
-    plays(&rt, rt.alloc(), 16, CLOSED, KEEP_ALIVES);
-}
 
 const ONE_TURN: &[Step] = &[
     At(Submits(0, Ok(1))),
@@ -199,13 +151,8 @@ const ONE_TURN: &[Step] = &[
     Delivered(1),
 ];
 
-#[test]
-fn one_turn(rt: HostRuntime) {
-    plays(&rt, rt.alloc(), 16, QUIET_TWICE, ONE_TURN);
-}
-
 /// Why a link refuses a command, and how it fared.
-const REFUSALS: [(ControlFault, Fared); 4] = [
+const REFUSALS: &[(ControlFault, Fared)] = &[
     (ControlFault::Lost, Fared::Lost),
     (
         ControlFault::HandlesSpent,
@@ -219,8 +166,8 @@ const REFUSALS: [(ControlFault, Fared); 4] = [
 ];
 
 /// The first refusal after which a command fared otherwise.
-fn first_wrong(refusals: &[(ControlFault, Fared)]) -> Option<usize> {
-    for (at, (fault, want)) in refusals.iter().enumerate() {
+pub fn first_wrong() -> Option<usize> {
+    for (at, (fault, want)) in REFUSALS.iter().enumerate() {
         if !is_outcome(&refused(*fault), *want) {
             return Some(at);
         }
@@ -228,7 +175,77 @@ fn first_wrong(refusals: &[(ControlFault, Fared)]) -> Option<usize> {
     None
 }
 
-#[test]
-fn a_lost_link_is_no_refusal(rt: HostRuntime) {
-    assert_eq!(rt; first_wrong(&REFUSALS), None);
+/// The scripts.
+const SCRIPTS: &[Script] = &[
+    Script {
+        name: "a_command_is_answered",
+        span: 16,
+        ending: ANSWERS,
+        steps: ANSWERED,
+    },
+    Script {
+        name: "a_command_goes_out_again_in_time",
+        span: 16,
+        ending: EVERY_50_MS,
+        steps: IN_TIME,
+    },
+    Script {
+        name: "a_command_leaves_before_a_turn",
+        span: 16,
+        ending: ANSWERS,
+        steps: NO_TURN,
+    },
+    Script {
+        name: "another_answer_is_none",
+        span: 16,
+        ending: ANSWERS,
+        steps: ANOTHER,
+    },
+    Script {
+        name: "a_link_is_lost",
+        span: 16,
+        ending: QUIET,
+        steps: LOST,
+    },
+    Script {
+        name: "a_command_is_refused",
+        span: 1,
+        ending: ANSWERS,
+        steps: REFUSED,
+    },
+    Script {
+        name: "an_answer_that_is_there_takes_no_turn",
+        span: 16,
+        ending: QUIET_ONCE,
+        steps: THERE,
+    },
+    Script {
+        name: "a_closed_end_answers_nothing",
+        span: 16,
+        ending: CLOSED,
+        steps: NOTHING,
+    },
+    Script {
+        name: "all_that_is_due_is_given_out",
+        span: 16,
+        ending: CLOSED,
+        steps: ALL,
+    },
+    Script {
+        name: "a_keep_alive_is_given_out",
+        span: 16,
+        ending: CLOSED,
+        steps: KEEP_ALIVES,
+    },
+    Script {
+        name: "one_turn",
+        span: 16,
+        ending: QUIET_TWICE,
+        steps: ONE_TURN,
+    },
+];
+
+/// The first script that goes otherwise, and where.
+pub fn wrong(alloc: Global) -> Option<(&'static str, usize)> {
+    wrong_script(alloc, SCRIPTS)
 }

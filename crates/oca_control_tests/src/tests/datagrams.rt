@@ -1,6 +1,6 @@
 //! Datagrams of any bytes, from any address.
 use super::links::Step::*;
-use super::links::{Step, plays};
+use super::links::{Script, Step, wrong_script};
 use super::{ANSWER, COMMAND, DEVICE, STRANGER};
 use oca_control::Reception;
 
@@ -18,21 +18,11 @@ const BOTH: &[Step] = &[
     Hears(DEVICE, &TWO, 6, Reception::NothingNew),
 ];
 
-#[test]
-fn two_answers_in_one_datagram(rt: HostRuntime) {
-    plays(&rt, 1, 16, BOTH);
-}
-
 // A response that no command waits for does not count.
 const ONE_OF_TWO: &[Step] = &[
     Submits(0, Ok(1)),
     Hears(DEVICE, &TWO, 5, Reception::Answered(1)),
 ];
-
-#[test]
-fn one_of_two_is_known(rt: HostRuntime) {
-    plays(&rt, 1, 16, ONE_OF_TWO);
-}
 
 // An answer is there once it came, and until it is taken.
 const ONCE: &[Step] = &[
@@ -42,11 +32,6 @@ const ONCE: &[Step] = &[
     Takes(1, Some(ANSWER)),
     Takes(1, None),
 ];
-
-#[test]
-fn an_answer_is_taken_once(rt: HostRuntime) {
-    plays(&rt, 1, 16, ONCE);
-}
 
 // The address is looked at first, then the grammar; commands and answers to nothing are ignored.
 const OTHERS: &[Step] = &[
@@ -59,11 +44,6 @@ const OTHERS: &[Step] = &[
     HearsResponse(9, 1, Reception::NothingNew),
 ];
 
-#[test]
-fn other_senders_and_other_bytes(rt: HostRuntime) {
-    plays(&rt, 1, 16, OTHERS);
-}
-
 // The first of many responses to a command counts.
 const MOST: &[Step] = &[
     Submits(0, Ok(1)),
@@ -71,7 +51,41 @@ const MOST: &[Step] = &[
     Takes(1, Some((5, 0, &[]))),
 ];
 
-#[test]
-fn a_datagram_of_146_responses(rt: HostRuntime) {
-    plays(&rt, 1, 16, MOST);
+/// The scripts.
+const SCRIPTS: &[Script] = &[
+    Script {
+        name: "two_answers_in_one_datagram",
+        first: 1,
+        span: 16,
+        steps: BOTH,
+    },
+    Script {
+        name: "one_of_two_is_known",
+        first: 1,
+        span: 16,
+        steps: ONE_OF_TWO,
+    },
+    Script {
+        name: "an_answer_is_taken_once",
+        first: 1,
+        span: 16,
+        steps: ONCE,
+    },
+    Script {
+        name: "other_senders_and_other_bytes",
+        first: 1,
+        span: 16,
+        steps: OTHERS,
+    },
+    Script {
+        name: "a_datagram_of_146_responses",
+        first: 1,
+        span: 16,
+        steps: MOST,
+    },
+];
+
+/// The first script that goes otherwise, and where.
+pub fn wrong() -> Option<(&'static str, usize)> {
+    wrong_script(SCRIPTS)
 }

@@ -1,6 +1,6 @@
 //! The loop over an end in memory.
 use super::ends::Step::*;
-use super::ends::{Delivery, Ending, QUIET, Step, plays};
+use super::ends::{Delivery, Ending, QUIET, Script, Step, wrong_script};
 use super::links::Step::{IsLost, Submits, Takes};
 use super::{ANSWER, COMMAND, KEEP_ALIVE};
 use oca_control::DriveReport;
@@ -12,6 +12,8 @@ const ANSWERS: Ending = Ending {
     room: 4,
     fail_send: None,
 };
+
+use std::alloc::Global;
 
 // The loop ends behind the last entry of the end.
 const ANSWERED: &[Step] = &[
@@ -32,11 +34,6 @@ const ANSWERED: &[Step] = &[
     Sent(0, &COMMAND),
     At(Takes(1, Some(ANSWER))),
 ];
-
-#[test]
-fn a_command_is_sent_and_answered(rt: HostRuntime) {
-    plays(&rt, rt.alloc(), 16, ANSWERS, ANSWERED);
-}
 
 /// An end whose first send fails, and whose second receive.
 const FAILS: Ending = Ending {
@@ -63,11 +60,6 @@ const REPEATED: &[Step] = &[
     Taken(1),
 ];
 
-#[test]
-fn a_send_that_fails_is_repeated(rt: HostRuntime) {
-    plays(&rt, rt.alloc(), 16, FAILS, REPEATED);
-}
-
 const NO_TURNS: &[Step] = &[
     Drives(
         0,
@@ -83,11 +75,6 @@ const NO_TURNS: &[Step] = &[
     ),
     Delivered(0),
 ];
-
-#[test]
-fn no_turns(rt: HostRuntime) {
-    plays(&rt, rt.alloc(), 16, ANSWERS, NO_TURNS);
-}
 
 // A command is sent at 0 and then each 250 ms, 20 times; at 5,000 the link is lost, which ends the loop.
 const LOST: &[Step] = &[
@@ -109,11 +96,6 @@ const LOST: &[Step] = &[
     Taken(20),
 ];
 
-#[test]
-fn a_loop_ends_where_the_link_is_lost(rt: HostRuntime) {
-    plays(&rt, rt.alloc(), 16, QUIET, LOST);
-}
-
 // From 0 to 7,250 there are two times 2,500 ms of silence.
 const KEEP_ALIVES: &[Step] = &[
     Drives(
@@ -133,7 +115,41 @@ const KEEP_ALIVES: &[Step] = &[
     Sent(1, &KEEP_ALIVE),
 ];
 
-#[test]
-fn keep_alives_are_sent(rt: HostRuntime) {
-    plays(&rt, rt.alloc(), 16, QUIET, KEEP_ALIVES);
+/// The scripts.
+const SCRIPTS: &[Script] = &[
+    Script {
+        name: "a_command_is_sent_and_answered",
+        span: 16,
+        ending: ANSWERS,
+        steps: ANSWERED,
+    },
+    Script {
+        name: "a_send_that_fails_is_repeated",
+        span: 16,
+        ending: FAILS,
+        steps: REPEATED,
+    },
+    Script {
+        name: "no_turns",
+        span: 16,
+        ending: ANSWERS,
+        steps: NO_TURNS,
+    },
+    Script {
+        name: "a_loop_ends_where_the_link_is_lost",
+        span: 16,
+        ending: QUIET,
+        steps: LOST,
+    },
+    Script {
+        name: "keep_alives_are_sent",
+        span: 16,
+        ending: QUIET,
+        steps: KEEP_ALIVES,
+    },
+];
+
+/// The first script that goes otherwise, and where.
+pub fn wrong(alloc: Global) -> Option<(&'static str, usize)> {
+    wrong_script(alloc, SCRIPTS)
 }

@@ -7,7 +7,6 @@ use oca_control::{
 use oca_net::{MemoryEnd, Scripted};
 use oca_types::{Handle, MethodId, Ono, Packet, Request};
 use std::alloc::Global;
-use std::process::Abort;
 
 /// A GetState of the object 4097.
 const GET_STATE: Request = Request {
@@ -203,9 +202,17 @@ fn agrees(link: &mut Link, end: &mut MemoryEnd, step: Step) -> bool {
     }
 }
 
+/// A script by its name, over a link at the moment 0 of this span, and an end.
+pub struct Script {
+    pub name: &'static str,
+    pub span: u8,
+    pub ending: Ending,
+    pub steps: &'static [Step],
+}
+
 /// The first step that is answered otherwise.
-fn first_wrong(link: &mut Link, end: &mut MemoryEnd, script: &[Step]) -> Option<usize> {
-    for (at, step) in script.iter().enumerate() {
+fn first_wrong(link: &mut Link, end: &mut MemoryEnd, steps: &[Step]) -> Option<usize> {
+    for (at, step) in steps.iter().enumerate() {
         if !agrees(link, end, *step) {
             return Some(at);
         }
@@ -213,18 +220,28 @@ fn first_wrong(link: &mut Link, end: &mut MemoryEnd, script: &[Step]) -> Option<
     None
 }
 
-/// Plays the script over a link of this span at the moment 0 and the end, where there is room for them.
-fn played(alloc: Global, span: u8, ending: Ending, script: &[Step]) -> Option<usize> {
-    let Some(mut link) = link(1, span) else {
-        return Some(usize::MAX);
-    };
-    match end_of(alloc, ending) {
-        Some(mut end) => first_wrong(&mut link, &mut end, script),
+/// The first step over a link that is answered otherwise; the last number where there is no room for the end.
+fn wrong_over(alloc: Global, link: &mut Link, script: &Script) -> Option<usize> {
+    match end_of(alloc, script.ending) {
+        Some(mut end) => first_wrong(link, &mut end, script.steps),
         None => Some(usize::MAX),
     }
 }
 
-/// Plays a script over a link of this span at the moment 0 and an end.
-pub fn plays(rt: &impl Abort, alloc: Global, span: u8, ending: Ending, script: &[Step]) {
-    assert_eq!(rt; played(alloc, span, ending, script), None);
+/// The first step of a script that is answered otherwise; the last number where there is no such span.
+fn wrong_step(alloc: Global, script: &Script) -> Option<usize> {
+    match link(1, script.span) {
+        Some(mut link) => wrong_over(alloc, &mut link, script),
+        None => Some(usize::MAX),
+    }
+}
+
+/// The first script with a step that is answered otherwise, and that step.
+pub fn wrong_script(alloc: Global, scripts: &[Script]) -> Option<(&'static str, usize)> {
+    for script in scripts {
+        if let Some(at) = wrong_step(alloc, script) {
+            return Some((script.name, at));
+        }
+    }
+    None
 }

@@ -1,7 +1,7 @@
 //! Handles and spans.
 use super::ANSWER;
 use super::links::Step::*;
-use super::links::{Step, plays};
+use super::links::{Script, Step, wrong_script};
 use oca_control::{ControlFault, Reception};
 
 // No handle follows 4294967295.
@@ -13,11 +13,6 @@ const LAST: &[Step] = &[
     Next(None),
     Submits(0, Err(ControlFault::HandlesSpent)),
 ];
-
-#[test]
-fn the_last_handle_is_given_out(rt: HostRuntime) {
-    plays(&rt, 4_294_967_294, 16, LAST);
-}
 
 // The next handle stays below the lowest untaken one plus the span.
 const SIXTEEN: &[Step] = &[
@@ -33,21 +28,39 @@ const SIXTEEN: &[Step] = &[
     Submits(4, Err(ControlFault::SpanFull)),
 ];
 
-#[test]
-fn sixteen_are_in_flight(rt: HostRuntime) {
-    plays(&rt, 1, 16, SIXTEEN);
-}
-
 const ONE: &[Step] = &[Submits(0, Ok(1)), Submits(0, Err(ControlFault::SpanFull))];
-
-#[test]
-fn a_span_of_one(rt: HostRuntime) {
-    plays(&rt, 1, 1, ONE);
-}
 
 const THIRTY_TWO: &[Step] = &[SubmitsMany(7, 39), Submits(0, Err(ControlFault::SpanFull))];
 
-#[test]
-fn a_span_of_32(rt: HostRuntime) {
-    plays(&rt, 7, 32, THIRTY_TWO);
+/// The scripts.
+const SCRIPTS: &[Script] = &[
+    Script {
+        name: "the_last_handle_is_given_out",
+        first: 4_294_967_294,
+        span: 16,
+        steps: LAST,
+    },
+    Script {
+        name: "sixteen_are_in_flight",
+        first: 1,
+        span: 16,
+        steps: SIXTEEN,
+    },
+    Script {
+        name: "a_span_of_one",
+        first: 1,
+        span: 1,
+        steps: ONE,
+    },
+    Script {
+        name: "a_span_of_32",
+        first: 7,
+        span: 32,
+        steps: THIRTY_TWO,
+    },
+];
+
+/// The first script that goes otherwise, and where.
+pub fn wrong() -> Option<(&'static str, usize)> {
+    wrong_script(SCRIPTS)
 }

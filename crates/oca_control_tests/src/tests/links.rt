@@ -2,7 +2,6 @@
 use super::{COMMAND, DEVICE, Gave, response};
 use oca_control::{Answer, ControlFault, Due, Link, Reception};
 use oca_types::{Handle, MethodId, Ono, Packet, Peer, Span};
-use std::process::Abort;
 
 /// What happens to a link, and what it must answer. Moments are in milliseconds.
 #[derive(Clone, Copy)]
@@ -193,10 +192,18 @@ pub fn agrees(link: &mut Link, packet: &mut Packet, step: Step) -> bool {
     }
 }
 
+/// A script by its name, over a link at the moment 0 of this span, whose first command gets this handle.
+pub struct Script {
+    pub name: &'static str,
+    pub first: u32,
+    pub span: u8,
+    pub steps: &'static [Step],
+}
+
 /// The first step that is answered otherwise.
-fn first_wrong(link: &mut Link, script: &[Step]) -> Option<usize> {
+fn first_wrong(link: &mut Link, steps: &[Step]) -> Option<usize> {
     let mut packet = Packet::new();
-    for (at, step) in script.iter().enumerate() {
+    for (at, step) in steps.iter().enumerate() {
         if !agrees(link, &mut packet, *step) {
             return Some(at);
         }
@@ -204,11 +211,20 @@ fn first_wrong(link: &mut Link, script: &[Step]) -> Option<usize> {
     None
 }
 
-/// Plays a script over a link at the moment 0, whose first command gets this handle.
-pub fn plays(rt: &impl Abort, first: u32, span: u8, script: &[Step]) {
-    let wrong = match link(first, span) {
-        Some(mut link) => first_wrong(&mut link, script),
+/// The first step of a script that is answered otherwise; the last number where there is no such span.
+fn wrong_step(script: &Script) -> Option<usize> {
+    match link(script.first, script.span) {
+        Some(mut link) => first_wrong(&mut link, script.steps),
         None => Some(usize::MAX),
-    };
-    assert_eq!(rt; wrong, None);
+    }
+}
+
+/// The first script with a step that is answered otherwise, and that step.
+pub fn wrong_script(scripts: &[Script]) -> Option<(&'static str, usize)> {
+    for script in scripts {
+        if let Some(at) = wrong_step(script) {
+            return Some((script.name, at));
+        }
+    }
+    None
 }

@@ -1,6 +1,6 @@
 //! What a link tells of itself.
 use super::links::Step::*;
-use super::links::{Step, plays};
+use super::links::{Script, Step, wrong_script};
 use super::{ANSWER, DEVICE, KEEP_ALIVE, STRANGER};
 use oca_control::{Due, Reception};
 use oca_types::Handle;
@@ -12,11 +12,6 @@ const KEEP_ALIVE_NEXT: &[Step] = &[
     Gives(3_000, Due::KeepAlive),
     NextDue(Some(5_500)),
 ];
-
-#[test]
-fn a_keep_alive_is_due_next(rt: HostRuntime) {
-    plays(&rt, 1, 16, KEEP_ALIVE_NEXT);
-}
 
 // A command is due at once, and 250 ms after it was given out, while it is unanswered.
 const COMMAND_NEXT: &[Step] = &[
@@ -30,17 +25,7 @@ const COMMAND_NEXT: &[Step] = &[
     NextDue(Some(320)),
 ];
 
-#[test]
-fn a_command_is_due_next(rt: HostRuntime) {
-    plays(&rt, 1, 16, COMMAND_NEXT);
-}
-
 const NEVER: &[Step] = &[Gives(u64::MAX - 2_499, Due::KeepAlive), NextDue(None)];
-
-#[test]
-fn nothing_is_due_beyond_the_last_moment(rt: HostRuntime) {
-    plays(&rt, 1, 16, NEVER);
-}
 
 // After the 20th sending the link is lost when the command is due again, and then tells so at once.
 const LOST: &[Step] = &[
@@ -52,11 +37,6 @@ const LOST: &[Step] = &[
     IsLost(true),
     NextDue(Some(5_000)),
 ];
-
-#[test]
-fn a_lost_link_is_due_at_once(rt: HostRuntime) {
-    plays(&rt, 1, 16, LOST);
-}
 
 // Of the answers that came and were not taken, the one with the lowest handle is named.
 const LOWEST: &[Step] = &[
@@ -70,11 +50,6 @@ const LOWEST: &[Step] = &[
     Answered(Some(3)),
 ];
 
-#[test]
-fn the_lowest_answer_is_named(rt: HostRuntime) {
-    plays(&rt, 1, 16, LOWEST);
-}
-
 // A well-formed datagram of the device alone moves the moment at which it was heard last, and never backwards.
 const HEARD: &[Step] = &[
     LastHeard(0),
@@ -87,7 +62,47 @@ const HEARD: &[Step] = &[
     LastHeard(30),
 ];
 
-#[test]
-fn the_device_was_heard_last(rt: HostRuntime) {
-    plays(&rt, 1, 16, HEARD);
+/// The scripts.
+const SCRIPTS: &[Script] = &[
+    Script {
+        name: "a_keep_alive_is_due_next",
+        first: 1,
+        span: 16,
+        steps: KEEP_ALIVE_NEXT,
+    },
+    Script {
+        name: "a_command_is_due_next",
+        first: 1,
+        span: 16,
+        steps: COMMAND_NEXT,
+    },
+    Script {
+        name: "nothing_is_due_beyond_the_last_moment",
+        first: 1,
+        span: 16,
+        steps: NEVER,
+    },
+    Script {
+        name: "a_lost_link_is_due_at_once",
+        first: 1,
+        span: 16,
+        steps: LOST,
+    },
+    Script {
+        name: "the_lowest_answer_is_named",
+        first: 1,
+        span: 16,
+        steps: LOWEST,
+    },
+    Script {
+        name: "the_device_was_heard_last",
+        first: 1,
+        span: 16,
+        steps: HEARD,
+    },
+];
+
+/// The first script that goes otherwise, and where.
+pub fn wrong() -> Option<(&'static str, usize)> {
+    wrong_script(SCRIPTS)
 }

@@ -70,20 +70,22 @@ const SUMS: &[(DriveReport, DriveReport, DriveReport)] = &[
     (NONE, ONE, ONE),
 ];
 
-/// The first sum that is another.
-fn first_wrong(rows: &[(DriveReport, DriveReport, DriveReport)]) -> Option<usize> {
-    for (at, (one, other, both)) in rows.iter().enumerate() {
+/// Whether a report that nobody made is that of nothing.
+fn is_none_by_default() -> bool {
+    DriveReport::default() == NONE
+}
+
+/// The first sum that is another; the last number where a report that nobody made is not that of nothing.
+pub fn first_wrong() -> Option<usize> {
+    if !is_none_by_default() {
+        return Some(usize::MAX);
+    }
+    for (at, (one, other, both)) in SUMS.iter().enumerate() {
         if *one + *other != *both {
             return Some(at);
         }
     }
     None
-}
-
-#[test]
-fn reports_add_up(rt: HostRuntime) {
-    assert_eq!(rt; first_wrong(SUMS), None);
-    assert_eq!(rt; DriveReport::default(), NONE);
 }
 
 /// Why a link refuses a command, and how that reads.
@@ -104,19 +106,16 @@ fn reads(alloc: Global, outcome: &Outcome, wanted: &str) -> bool {
     }
 }
 
-/// The first fault that reads otherwise.
-fn first_other(alloc: Global, rows: &[(ControlFault, &str)]) -> Option<usize> {
-    for (at, (fault, wanted)) in rows.iter().enumerate() {
+/// The first fault that reads otherwise; the last number where a command without an answer does.
+pub fn first_other(alloc: Global) -> Option<usize> {
+    for (at, (fault, wanted)) in TEXTS.iter().enumerate() {
         if !reads(alloc, &refused(*fault), wanted) {
             return Some(at);
         }
     }
-    None
-}
-
-#[test]
-fn outcomes_read(rt: HostRuntime) {
-    assert_eq!(rt; first_other(rt.alloc(), TEXTS), None);
-    let unanswered = reads(rt.alloc(), &Outcome::Unanswered, "not answered yet");
-    assert!(rt; unanswered);
+    if reads(alloc, &Outcome::Unanswered, "not answered yet") {
+        None
+    } else {
+        Some(usize::MAX)
+    }
 }

@@ -1,6 +1,6 @@
 //! What is given out, and when.
 use super::links::Step::*;
-use super::links::{Step, plays};
+use super::links::{Script, Step, wrong_script};
 use super::{ANSWER, DEVICE, KEEP_ALIVE};
 use oca_control::{
     ControlFault, Due, Reception, law_of_answering, law_of_giving_out, law_of_histories,
@@ -8,7 +8,7 @@ use oca_control::{
 use oca_types::Handle;
 
 /// The laws of a link, whose functions run nothing.
-fn laws() {
+pub fn laws() {
     law_of_histories();
     law_of_answering();
     law_of_giving_out();
@@ -21,11 +21,6 @@ const SILENCE: &[Step] = &[
     Gives(2_500, Due::KeepAlive),
     Gave(&KEEP_ALIVE),
 ];
-
-#[test]
-fn a_keep_alive_after_2500_ms(rt: HostRuntime) {
-    plays(&rt, 1, 16, SILENCE);
-}
 
 // A command is given out 20 times, 250 ms apart. A lost link still hands answers on.
 const TWENTY: &[Step] = &[
@@ -40,22 +35,11 @@ const TWENTY: &[Step] = &[
     Takes(1, Some(ANSWER)),
 ];
 
-#[test]
-fn twenty_sendings_lose_the_link(rt: HostRuntime) {
-    laws();
-    plays(&rt, 1, 16, TWENTY);
-}
-
 // A moment that is earlier than the one already seen counts as that, 2,500.
 const BACKWARDS: &[Step] = &[
     Hears(DEVICE, &[], 2_500, Reception::Malformed),
     Gives(3, Due::KeepAlive),
 ];
-
-#[test]
-fn a_moment_that_runs_backwards(rt: HostRuntime) {
-    plays(&rt, 1, 16, BACKWARDS);
-}
 
 // A command has at most 1,445 bytes of parameters, and its datagram 1,472.
 const LONG: &[Step] = &[
@@ -65,7 +49,35 @@ const LONG: &[Step] = &[
     GaveLen(1_472),
 ];
 
-#[test]
-fn the_most_parameters(rt: HostRuntime) {
-    plays(&rt, 1, 16, LONG);
+/// The scripts.
+const SCRIPTS: &[Script] = &[
+    Script {
+        name: "a_keep_alive_after_2500_ms",
+        first: 1,
+        span: 16,
+        steps: SILENCE,
+    },
+    Script {
+        name: "twenty_sendings_lose_the_link",
+        first: 1,
+        span: 16,
+        steps: TWENTY,
+    },
+    Script {
+        name: "a_moment_that_runs_backwards",
+        first: 1,
+        span: 16,
+        steps: BACKWARDS,
+    },
+    Script {
+        name: "the_most_parameters",
+        first: 1,
+        span: 16,
+        steps: LONG,
+    },
+];
+
+/// The first script that goes otherwise, and where.
+pub fn wrong() -> Option<(&'static str, usize)> {
+    wrong_script(SCRIPTS)
 }

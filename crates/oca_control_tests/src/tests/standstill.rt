@@ -2,14 +2,13 @@
 ghost use Rattle.std.specs.Prelude.{[], false, None};
 
 use super::ends::Step::*;
-use super::ends::{Delivery, Ending, Fared, Step, is_outcome, plays};
+use super::ends::{Delivery, Ending, Fared, Script, Step, is_outcome, wrong_script};
 use super::links::link;
 use super::{ANSWER, KEEP_ALIVE};
 use arrayvec::ArrayVec;
 use oca_control::{Link, ask};
 use oca_net::{End, Heard};
 use oca_types::{MethodId, Ono, Packet, Peer, Request};
-use std::process::Abort;
 
 // A copy follows 99.9 and 100.0 seconds after the one before it, and none after 100.001.
 const PAUSES: Ending = Ending {
@@ -33,17 +32,14 @@ const LONGER_AND_LONGER: &[Step] = &[
     Delivered(3),
 ];
 
-#[test]
-fn a_copy_follows_within_100_seconds_alone(rt: HostRuntime) {
-    plays(&rt, rt.alloc(), 16, PAUSES, LONGER_AND_LONGER);
-}
-
 const LONG: Ending = Ending {
     quiet: 0,
     deliveries: &[Delivery::Quiet(200_000), Delivery::Response(1, 200_001)],
     room: 32,
     fail_send: None,
 };
+
+use std::alloc::Global;
 
 // After 200 seconds the command is lost. An answer that comes all the same is taken.
 const LOST: &[Step] = &[
@@ -54,11 +50,6 @@ const LOST: &[Step] = &[
     Taken(2),
     Sent(1, &KEEP_ALIVE),
 ];
-
-#[test]
-fn a_command_is_lost_in_a_standstill(rt: HostRuntime) {
-    plays(&rt, rt.alloc(), 16, LONG, LOST);
-}
 
 const WAITING: Ending = Ending {
     quiet: 0,
@@ -74,11 +65,6 @@ const ANSWERED: &[Step] = &[
     Sent(1, &KEEP_ALIVE),
 ];
 
-#[test]
-fn an_answer_that_came_in_a_standstill_is_taken(rt: HostRuntime) {
-    plays(&rt, rt.alloc(), 16, WAITING, ANSWERED);
-}
-
 const GIVEN: &[Step] = &[
     Asks(0, Fared::Unanswered),
     GivesInTime(249, 0, false),
@@ -88,11 +74,6 @@ const GIVEN: &[Step] = &[
     GivesInTime(300_000, 0, true),
     Taken(3),
 ];
-
-#[test]
-fn nothing_is_given_out_too_late(rt: HostRuntime) {
-    plays(&rt, rt.alloc(), 16, WAITING, GIVEN);
-}
 
 /// An end that keeps time: it is quiet until the moment of each receive, stands still once, and notes when it sends.
 #[derive(Drop)]
@@ -152,56 +133,127 @@ const GET_STATE: Request = Request {
     params: &[],
 };
 
-/// Asks for at most so many turns, at an end that begins at a moment and stands still so, and says how each fared and
-/// when the end sent.
-fn asked(begun: u64, still: (u64, u64), asks: &[(u32, Fared)]) -> Option<ArrayVec<u64, 32>> {
-    let mut link = link(1, 16)?;
-    let mut end = Timed {
-        now: begun,
-        still,
-        sends: ArrayVec::new(),
-        receives: 0,
-    };
-    for (turns, want) in asks {
-        if !fares(&mut link, &mut end, *turns, *want) {
-            return None;
-        }
-    }
-    Some(end.sends)
+/// How a command fares that is asked for at most so many turns.
+type Asked = (u32, Fared);
+
+/// Commands at an end that begins at a moment and stands still so, and when the end sends.
+struct Row {
+    begun: u64,
+    still: (u64, u64),
+    asks: &'static [Asked],
+    moments: &'static [u64],
 }
 
 /// Whether a command fares so.
-fn fares(link: &mut Link, end: &mut Timed, turns: u32, want: Fared) -> bool {
-    is_outcome(&ask(link, end, GET_STATE, turns), want)
+fn fares(link: &mut Link, end: &mut Timed, asked: Asked) -> bool {
+    is_outcome(&ask(link, end, GET_STATE, asked.0), asked.1)
 }
 
-/// Whether the end sends at these moments.
-fn sends(begun: u64, still: (u64, u64), asks: &[(u32, Fared)], moments: &[u64]) -> bool {
-    match asked(begun, still, asks) {
-        Some(sends) => sends.as_slice() == moments,
+/// Whether the commands fare so, and the end sends at these moments.
+fn sends(link: &mut Link, end: &mut Timed, row: &Row) -> bool {
+    for asked in row.asks {
+        if !fares(link, end, *asked) {
+            return false;
+        }
+    }
+    end.sends.as_slice() == row.moments
+}
+
+/// Whether the row is so over a new link and a new end.
+fn is_so(row: &Row) -> bool {
+    let mut end = Timed {
+        now: row.begun,
+        still: row.still,
+        sends: ArrayVec::new(),
+        receives: 0,
+    };
+    match link(1, 16) {
+        Some(mut link) => sends(&mut link, &mut end, row),
         None => false,
     }
 }
 
-// Five turns of 50 ms go by between two copies. After an hour without a command the first copy is no repeat.
-#[test]
-fn a_command_is_given_out_each_250_ms(rt: HostRuntime) {
-    assert!(rt; sends(0, (0, 0), &[(15, Fared::Unanswered)], &[0, 250, 500, 750]));
-    assert!(rt; sends(3_600_000, (0, 0), &[(4, Fared::Unanswered)], &[3_600_000]));
-    assert!(rt;
-        sends(
-            3_600_000,
-            (0, 0),
-            &[(5, Fared::Unanswered)],
-            &[3_600_000, 3_600_250]
-        )
-    );
+/// The first row that is otherwise.
+pub fn first_wrong() -> Option<usize> {
+    for (at, row) in ROWS.iter().enumerate() {
+        if !is_so(row) {
+            return Some(at);
+        }
+    }
+    None
 }
 
-// A command that comes behind a standstill is not begun while another is in flight.
-#[test]
-fn a_late_link_takes_no_command(rt: HostRuntime) {
-    assert!(rt; sends(0, (2, 99_900), &[(3, Fared::Unanswered)], &[0, 100_000]));
-    assert!(rt; sends(0, (2, 99_901), &[(9, Fared::Lost), (9, Fared::Lost)], &[0]));
-    assert!(rt; sends(0, (2, 200_000), &[(9, Fared::Lost), (9, Fared::Lost)], &[0]));
+const ROWS: &[Row] = &[
+    // five turns of 50 ms go by between two copies
+    Row {
+        begun: 0,
+        still: (0, 0),
+        asks: &[(15, Fared::Unanswered)],
+        moments: &[0, 250, 500, 750],
+    },
+    // after an hour without a command the first copy is no repeat
+    Row {
+        begun: 3_600_000,
+        still: (0, 0),
+        asks: &[(4, Fared::Unanswered)],
+        moments: &[3_600_000],
+    },
+    Row {
+        begun: 3_600_000,
+        still: (0, 0),
+        asks: &[(5, Fared::Unanswered)],
+        moments: &[3_600_000, 3_600_250],
+    },
+    // a command that comes behind a standstill is not begun while another is in flight
+    Row {
+        begun: 0,
+        still: (2, 99_900),
+        asks: &[(3, Fared::Unanswered)],
+        moments: &[0, 100_000],
+    },
+    Row {
+        begun: 0,
+        still: (2, 99_901),
+        asks: &[(9, Fared::Lost), (9, Fared::Lost)],
+        moments: &[0],
+    },
+    Row {
+        begun: 0,
+        still: (2, 200_000),
+        asks: &[(9, Fared::Lost), (9, Fared::Lost)],
+        moments: &[0],
+    },
+];
+
+/// The scripts.
+const SCRIPTS: &[Script] = &[
+    Script {
+        name: "a_copy_follows_within_100_seconds_alone",
+        span: 16,
+        ending: PAUSES,
+        steps: LONGER_AND_LONGER,
+    },
+    Script {
+        name: "a_command_is_lost_in_a_standstill",
+        span: 16,
+        ending: LONG,
+        steps: LOST,
+    },
+    Script {
+        name: "an_answer_that_came_in_a_standstill_is_taken",
+        span: 16,
+        ending: WAITING,
+        steps: ANSWERED,
+    },
+    Script {
+        name: "nothing_is_given_out_too_late",
+        span: 16,
+        ending: WAITING,
+        steps: GIVEN,
+    },
+];
+
+/// The first script that goes otherwise, and where.
+pub fn wrong(alloc: Global) -> Option<(&'static str, usize)> {
+    wrong_script(alloc, SCRIPTS)
 }

@@ -25,65 +25,105 @@ pub struct Bench {
 }
 
 /// Adds an object of this number to a block, with a role that does not matter.
-fn add(builder: &mut TreeBuilder, container: u32, ono: u32, kind: Kind<'_>) -> Option<()> {
+fn add(builder: &mut TreeBuilder, container: u32, ono: u32, kind: Kind<'_>) -> bool {
     let spec = Spec {
         role: "one",
         lockable: true,
         kind,
     };
-    builder.add(Ono(container), Ono(ono), &spec).ok()
+    builder.add(Ono(container), Ono(ono), &spec).is_ok()
 }
 
-/// The objects on two levels.
-fn two_levels(alloc: Global) -> Option<Tree> {
-    let mut builder = TreeBuilder::new(alloc).ok()?;
-    add(&mut builder, 100, 4096, Kind::Block)?;
-    add(&mut builder, 100, 4097, Kind::Mute(MuteState::Muted))?;
-    add(&mut builder, 4096, 4098, Kind::Mute(MuteState::Muted))?;
-    Some(builder.finish())
+/// Adds the objects on two levels.
+fn add_two_levels(builder: &mut TreeBuilder) -> bool {
+    add(builder, 100, 4096, Kind::Block)
+        && add(builder, 100, 4097, Kind::Mute(MuteState::Muted))
+        && add(builder, 4096, 4098, Kind::Mute(MuteState::Muted))
 }
 
-/// The actuators before this number.
-fn actuators(alloc: Global, after: u32) -> Option<Tree> {
-    let mut builder = TreeBuilder::new(alloc).ok()?;
+/// Adds the actuators before this number.
+fn add_actuators(builder: &mut TreeBuilder, after: u32) -> bool {
     for ono in 4096..after {
         let kind = Kind::Int16 {
             setting: 0,
             least: 0,
             greatest: 0,
         };
-        add(&mut builder, 100, ono, kind)?;
+        if !add(builder, 100, ono, kind) {
+            return false;
+        }
     }
-    Some(builder.finish())
+    true
 }
 
-/// A device of these objects, with windows of so many commands.
-fn over(alloc: Global, tree: Option<Tree>, window: u8) -> Option<Device> {
-    Device::new(alloc, tree?, Window::new(window)?).ok()
+/// Adds the objects of a setup behind the root.
+fn add_all(builder: &mut TreeBuilder, setup: Setup) -> bool {
+    match setup {
+        Setup::TwoLevels => add_two_levels(builder),
+        Setup::Actuators(after) => add_actuators(builder, after),
+        Setup::Window(_) | Setup::Peers(_) => false,
+    }
+}
+
+/// The objects of a setup other than the bench.
+fn built(alloc: Global, setup: Setup) -> Option<Tree> {
+    let mut builder = TreeBuilder::new(alloc).ok()?;
+    if add_all(&mut builder, setup) {
+        Some(builder.finish())
+    } else {
+        None
+    }
+}
+
+/// The objects of a setup.
+fn tree(alloc: Global, setup: Setup) -> Option<Tree> {
+    match setup {
+        Setup::TwoLevels | Setup::Actuators(_) => built(alloc, setup),
+        Setup::Window(_) | Setup::Peers(_) => bench(alloc).ok(),
+    }
+}
+
+/// Windows of one command, and sessions of at most so many peers.
+fn sizes(count: u8) -> Option<Sizes> {
+    Some(Sizes {
+        window: Window::new(1)?,
+        peers: Peers::new(count)?,
+    })
 }
 
 /// The bench device with windows of one command and sessions of at most so many peers.
 fn with_peers(alloc: Global, count: u8) -> Option<Device> {
-    let sizes = Sizes {
-        window: Window::new(1)?,
-        peers: Peers::new(count)?,
-    };
+    let sizes = sizes(count)?;
     Device::with_sizes(alloc, bench(alloc).ok()?, sizes).ok()
+}
+
+/// How many commands a window of the setup has.
+fn window(setup: Setup) -> Option<Window> {
+    match setup {
+        Setup::Window(size) => Window::new(size),
+        _ => Window::new(32),
+    }
+}
+
+/// A device of these objects, with windows of so many commands.
+fn with_window(alloc: Global, setup: Setup) -> Option<Device> {
+    let window = window(setup)?;
+    Device::new(alloc, tree(alloc, setup)?, window).ok()
 }
 
 /// The device of this setup.
 fn device_of(alloc: Global, setup: Setup) -> Option<Device> {
     match setup {
-        Setup::Window(size) => over(alloc, bench(alloc).ok(), size),
         Setup::Peers(count) => with_peers(alloc, count),
-        Setup::TwoLevels => over(alloc, two_levels(alloc), 32),
-        Setup::Actuators(after) => over(alloc, actuators(alloc, after), 32),
+        _ => with_window(alloc, setup),
     }
 }
 
 /// The device of this setup, with an outbox.
 pub fn bench_of(alloc: Global, setup: Setup) -> Option<Bench> {
-    let device = device_of(alloc, setup)?;
     let outbox = Outbox::new(alloc).ok()?;
-    Some(Bench { device, outbox })
+    match device_of(alloc, setup) {
+        Some(device) => Some(Bench { device, outbox }),
+        None => None,
+    }
 }

@@ -1,8 +1,9 @@
 //! The members of blocks, as whole datagrams.
-use super::play::plays;
+use super::play::{Script, wrong_script};
 use super::*;
 use Part::*;
 use Step::*;
+use std::alloc::Global;
 
 /// GetMembers of the root under handle 5.
 const MEMBERS: Part = Bytes(&[
@@ -17,11 +18,6 @@ const THE_DESK: Part = Bytes(&[
 
 /// The member of the root is told.
 const ROOT: &[Step] = &[Answers(A, 0, MEMBERS, EXECUTED, THE_DESK)];
-
-#[test]
-fn tells_the_members_of_a_block(rt: HostRuntime) {
-    plays(&rt, rt.alloc(), Setup::Window(32), ROOT);
-}
 
 /// GetMembersRecursive of the root under handle 1.
 const ALL_OF_ROOT: Part = Command(1, 1, 100, (3, 6), &[]);
@@ -40,11 +36,6 @@ const ALL_BELOW: Part = Bytes(&[
 
 /// All that is below the root is told.
 const ALL: &[Step] = &[Answers(A, 0, ALL_OF_ROOT, EXECUTED, ALL_BELOW)];
-
-#[test]
-fn tells_all_below_a_block(rt: HostRuntime) {
-    plays(&rt, rt.alloc(), Setup::Window(32), ALL);
-}
 
 /// The parameters of the response to GetMembers of the root: 32 bytes.
 const DIRECT: &[u8] = &[
@@ -89,11 +80,6 @@ const LEVELS: &[Step] = &[
     ),
 ];
 
-#[test]
-fn tells_members_level_by_level(rt: HostRuntime) {
-    plays(&rt, rt.alloc(), Setup::TwoLevels, LEVELS);
-}
-
 /// The response that tells 65 actuators, under handle 1.
 const SIXTY_FIVE: &[Part] = &[
     Bytes(&[
@@ -113,15 +99,39 @@ const MOST: &[Step] = &[
     Groups(A, 0, &[ALL_OF_ROOT], EXECUTED, &[SIXTY_FIVE]),
 ];
 
-#[test]
-fn tells_as_many_as_fit(rt: HostRuntime) {
-    plays(&rt, rt.alloc(), Setup::Actuators(4161), MOST);
-}
-
 /// 66 actuators are too many for a datagram.
 const TOO_MANY: &[Step] = &[Answers(A, 0, ALL_OF_ROOT, EXECUTED, Response(1, 14, 0, &[]))];
 
-#[test]
-fn tells_no_more_than_fit(rt: HostRuntime) {
-    plays(&rt, rt.alloc(), Setup::Actuators(4162), TOO_MANY);
+/// The scripts, by their names.
+const SCRIPTS: &[Script] = &[
+    Script {
+        name: "tells_the_members_of_a_block",
+        setup: Setup::Window(32),
+        steps: ROOT,
+    },
+    Script {
+        name: "tells_all_below_a_block",
+        setup: Setup::Window(32),
+        steps: ALL,
+    },
+    Script {
+        name: "tells_members_level_by_level",
+        setup: Setup::TwoLevels,
+        steps: LEVELS,
+    },
+    Script {
+        name: "tells_as_many_as_fit",
+        setup: Setup::Actuators(4161),
+        steps: MOST,
+    },
+    Script {
+        name: "tells_no_more_than_fit",
+        setup: Setup::Actuators(4162),
+        steps: TOO_MANY,
+    },
+];
+
+/// The first script that goes otherwise, and where.
+pub fn wrong(alloc: Global) -> Option<(&'static str, usize)> {
+    wrong_script(alloc, SCRIPTS)
 }

@@ -1,8 +1,9 @@
 //! Commands, keep-alives and datagrams that are no datagrams.
-use super::play::plays;
+use super::play::{Script, wrong_script};
 use super::*;
 use Part::*;
 use Step::*;
+use std::alloc::Global;
 
 /// SetState of 4097 to Muted under handle 2.
 const MUTE: Part = Bytes(&[
@@ -42,11 +43,6 @@ const REPEATED: &[Step] = &[
     Objects(8),
 ];
 
-#[test]
-fn answers_and_repeats(rt: HostRuntime) {
-    plays(&rt, rt.alloc(), Setup::Window(32), REPEATED);
-}
-
 /// Settings from -600 to 600 are taken, 601 is refused, and the setting stays.
 const RANGE: &[Step] = &[
     Answers(
@@ -73,11 +69,6 @@ const RANGE: &[Step] = &[
     Answers(A, 0, Command(1, 9, 4100, (5, 1), &[]), EXECUTED, SETTING),
 ];
 
-#[test]
-fn refuses_out_of_range(rt: HostRuntime) {
-    plays(&rt, rt.alloc(), Setup::Window(32), RANGE);
-}
-
 /// Of commands that overtake one another the one that came last counts.
 const OVERTAKEN: &[Step] = &[
     Answers(A, 0, SetState(1, 2), EXECUTED, Done(1)),
@@ -86,11 +77,6 @@ const OVERTAKEN: &[Step] = &[
     Answers(A, 0, SetState(3, 1), EXECUTED, Done(3)),
     Answers(A, 0, GetState(5), EXECUTED, State(5, 1)),
 ];
-
-#[test]
-fn executes_in_order_of_arrival(rt: HostRuntime) {
-    plays(&rt, rt.alloc(), Setup::Window(32), OVERTAKEN);
-}
 
 /// A keep-alive of 1 second whose last byte is missing.
 const CUT_KEEP_ALIVE: Part = Bytes(&[0x3b, 0, 1, 0, 0, 0, 0x0b, 4, 0, 1, 0]);
@@ -110,11 +96,6 @@ const MALFORMED: &[Step] = &[
     Answers(A, 100, GET, KEPT, MUTED),
 ];
 
-#[test]
-fn ignores_malformed_datagrams(rt: HostRuntime) {
-    plays(&rt, rt.alloc(), Setup::Window(32), MALFORMED);
-}
-
 /// A locks an object at 0. A malformed datagram of B at 3,001 raises the moment past three heartbeats of A, so that the
 /// lock is off for what B sends after it, though that is marked with an earlier moment.
 const CLOCK: &[Step] = &[
@@ -125,11 +106,6 @@ const CLOCK: &[Step] = &[
     Answers(B, 0, SetState(2, 2), EXECUTED, Done(2)),
 ];
 
-#[test]
-fn malformed_datagrams_move_the_clock(rt: HostRuntime) {
-    plays(&rt, rt.alloc(), Setup::Window(32), CLOCK);
-}
-
 /// Keep-alives come back as they were sent, and the last sets the heartbeat, here to the least of 250 ms.
 const KEEP_ALIVES: &[Step] = &[
     Answers(A, 0, ONE_SECOND, NOTHING, ONE_SECOND),
@@ -139,11 +115,6 @@ const KEEP_ALIVES: &[Step] = &[
     Answers(B, 750, SetState(1, 2), EXECUTED, LOCKED),
     Answers(B, 751, SetState(2, 2), EXECUTED, Done(2)),
 ];
-
-#[test]
-fn returns_keep_alives(rt: HostRuntime) {
-    plays(&rt, rt.alloc(), Setup::Window(32), KEEP_ALIVES);
-}
 
 /// GetState of 4097 under handle 1 but its ParamCount.
 const GET_CUT: Part = Bytes(&[
@@ -159,11 +130,6 @@ const WRONG_COUNT: &[Step] = &[Groups(
     &[&[Response(1, 6, 0, &[])]],
 )];
 
-#[test]
-fn a_wrong_count_of_parameters(rt: HostRuntime) {
-    plays(&rt, rt.alloc(), Setup::Window(32), WRONG_COUNT);
-}
-
 /// The verdict on a datagram whose first PDU, with its size at byte 3, is cut short.
 const CUT_AT_3: Verdict = Verdict::Malformed(PduFault {
     kind: PduFaultKind::Truncated,
@@ -177,7 +143,51 @@ const CUT_OF_A_STRANGER: &[Step] = &[
     Sessions(16),
 ];
 
-#[test]
-fn the_grammar_is_looked_at_before_the_sessions(rt: HostRuntime) {
-    plays(&rt, rt.alloc(), Setup::Window(32), CUT_OF_A_STRANGER);
+/// The scripts, by their names.
+const SCRIPTS: &[Script] = &[
+    Script {
+        name: "answers_and_repeats",
+        setup: Setup::Window(32),
+        steps: REPEATED,
+    },
+    Script {
+        name: "refuses_out_of_range",
+        setup: Setup::Window(32),
+        steps: RANGE,
+    },
+    Script {
+        name: "executes_in_order_of_arrival",
+        setup: Setup::Window(32),
+        steps: OVERTAKEN,
+    },
+    Script {
+        name: "ignores_malformed_datagrams",
+        setup: Setup::Window(32),
+        steps: MALFORMED,
+    },
+    Script {
+        name: "malformed_datagrams_move_the_clock",
+        setup: Setup::Window(32),
+        steps: CLOCK,
+    },
+    Script {
+        name: "returns_keep_alives",
+        setup: Setup::Window(32),
+        steps: KEEP_ALIVES,
+    },
+    Script {
+        name: "a_wrong_count_of_parameters",
+        setup: Setup::Window(32),
+        steps: WRONG_COUNT,
+    },
+    Script {
+        name: "the_grammar_is_looked_at_before_the_sessions",
+        setup: Setup::Window(32),
+        steps: CUT_OF_A_STRANGER,
+    },
+];
+
+/// The first script that goes otherwise, and where.
+pub fn wrong(alloc: Global) -> Option<(&'static str, usize)> {
+    wrong_script(alloc, SCRIPTS)
 }

@@ -1,5 +1,5 @@
 //! How answers are grouped into datagrams.
-use super::play::plays;
+use super::play::{Script, wrong_script};
 use super::*;
 use Part::*;
 use Step::*;
@@ -24,17 +24,14 @@ const EXECUTED_86: Verdict = Verdict::Served {
     reused: 0,
 };
 
+use std::alloc::Global;
+
 /// As many commands as fit are answered in one packet.
 const FULL_OF_COMMANDS: &[Step] = &[
     Length(&[GETS_HEADER, GETS], 1472),
     Length(STATES, 956),
     Groups(A, 0, &[GETS_HEADER, GETS], EXECUTED_86, &[STATES]),
 ];
-
-#[test]
-fn takes_a_datagram_full_of_commands(rt: HostRuntime) {
-    plays(&rt, rt.alloc(), Setup::Window(32), FULL_OF_COMMANDS);
-}
 
 /// The verdict on a datagram of more than 1,472 bytes.
 const TOO_LONG: Verdict = Verdict::Malformed(PduFault {
@@ -48,11 +45,6 @@ const A_BYTE_TOO_MANY: &[Step] = &[
     Groups(A, 0, &[GETS_HEADER, GETS, Bytes(&[0])], TOO_LONG, &[]),
 ];
 
-#[test]
-fn refuses_a_byte_too_many(rt: HostRuntime) {
-    plays(&rt, rt.alloc(), Setup::Window(32), A_BYTE_TOO_MANY);
-}
-
 /// 146 responses in one PDU, of 1,470 bytes.
 const RESPONSES: &[Part] = &[
     Bytes(&[0x3b, 0, 1, 0, 0, 5, 0xbd, 3, 0, 146]),
@@ -65,11 +57,6 @@ const FULL_OF_RESPONSES: &[Step] = &[
     Groups(A, 0, RESPONSES, NOTHING, &[]),
 ];
 
-#[test]
-fn ignores_a_datagram_full_of_responses(rt: HostRuntime) {
-    plays(&rt, rt.alloc(), Setup::Window(32), FULL_OF_RESPONSES);
-}
-
 /// 122 keep-alives of 1 second.
 const BEATS: Part = Times(122, &[0x3b, 0, 1, 0, 0, 0, 0x0b, 4, 0, 1, 0, 1]);
 
@@ -80,11 +67,6 @@ const FULL_OF_KEEP_ALIVES: &[Step] = &[
     PacketIs(0, &[ONE_SECOND]),
     PacketIs(121, &[ONE_SECOND]),
 ];
-
-#[test]
-fn returns_a_datagram_full_of_keep_alives(rt: HostRuntime) {
-    plays(&rt, rt.alloc(), Setup::Window(32), FULL_OF_KEEP_ALIVES);
-}
 
 /// GetState of 4097 and 4098 in one PDU.
 const TWO_GETS: Part = Bytes(&[
@@ -109,11 +91,6 @@ const EXECUTED_2: Verdict = Verdict::Served {
 /// Two responses leave in one PDU.
 const NEIGHBOURS: &[Step] = &[Answers(A, 0, TWO_GETS, EXECUTED_2, TWO_STATES)];
 
-#[test]
-fn neighbours_leave_in_one_pdu(rt: HostRuntime) {
-    plays(&rt, rt.alloc(), Setup::Window(32), NEIGHBOURS);
-}
-
 /// A keep-alive between two responses leaves in a packet of its own, and so do they.
 const ALONE: &[Step] = &[Groups(
     A,
@@ -122,11 +99,6 @@ const ALONE: &[Step] = &[Groups(
     EXECUTED_2,
     &[&[MUTED], &[ONE_SECOND], &[State(2, 1)]],
 )];
-
-#[test]
-fn a_keep_alive_leaves_alone(rt: HostRuntime) {
-    plays(&rt, rt.alloc(), Setup::Window(32), ALONE);
-}
 
 /// The response Muted under handle 1, twice in one PDU of 32 bytes.
 const TWICE: &[Part] = &[
@@ -154,11 +126,6 @@ const NO_END: &[Step] = &[
     ),
 ];
 
-#[test]
-fn other_commands_end_no_group(rt: HostRuntime) {
-    plays(&rt, rt.alloc(), Setup::Window(32), NO_END);
-}
-
 /// The verdict on one command that is executed and one duplicate.
 const EXECUTED_1_KEPT_1: Verdict = Verdict::Served {
     executed: 1,
@@ -172,11 +139,6 @@ const BESIDE: &[Step] = &[
     Length(TWICE, 32),
     Groups(A, 0, &[GET, GET], EXECUTED_1_KEPT_1, &[TWICE]),
 ];
-
-#[test]
-fn a_duplicate_beside_its_command(rt: HostRuntime) {
-    plays(&rt, rt.alloc(), Setup::Window(32), BESIDE);
-}
 
 /// Of one PDU: nine times the members of the root with all below (156 bytes of response each), under handles 1 to 9.
 const NINE_MEMBERS: Part = Each(1, 10, &[0, 0, 0, 17], &[0, 0, 0, 100, 0, 3, 0, 6, 0]);
@@ -224,11 +186,6 @@ const FULL_GROUP: &[Step] = &[
     PacketBytes(0, 1472),
 ];
 
-#[test]
-fn a_group_has_1472_bytes(rt: HostRuntime) {
-    plays(&rt, rt.alloc(), Setup::Window(32), FULL_GROUP);
-}
-
 /// One response more begins another packet.
 const NEXT_GROUP: &[Step] = &[
     Hears(
@@ -248,11 +205,6 @@ const NEXT_GROUP: &[Step] = &[
     PacketIs(1, &[State(14, 1)]),
 ];
 
-#[test]
-fn a_group_has_at_most_1472_bytes(rt: HostRuntime) {
-    plays(&rt, rt.alloc(), Setup::Window(32), NEXT_GROUP);
-}
-
 /// The laws can be called, and change nothing of a device.
 const LAWS: &[Step] = &[
     Answers(A, 0, GET, EXECUTED, MUTED),
@@ -262,7 +214,66 @@ const LAWS: &[Step] = &[
     Answers(A, 0, GET, KEPT, MUTED),
 ];
 
-#[test]
-fn the_laws_do_nothing(rt: HostRuntime) {
-    plays(&rt, rt.alloc(), Setup::Window(32), LAWS);
+/// The scripts, by their names.
+const SCRIPTS: &[Script] = &[
+    Script {
+        name: "takes_a_datagram_full_of_commands",
+        setup: Setup::Window(32),
+        steps: FULL_OF_COMMANDS,
+    },
+    Script {
+        name: "refuses_a_byte_too_many",
+        setup: Setup::Window(32),
+        steps: A_BYTE_TOO_MANY,
+    },
+    Script {
+        name: "ignores_a_datagram_full_of_responses",
+        setup: Setup::Window(32),
+        steps: FULL_OF_RESPONSES,
+    },
+    Script {
+        name: "returns_a_datagram_full_of_keep_alives",
+        setup: Setup::Window(32),
+        steps: FULL_OF_KEEP_ALIVES,
+    },
+    Script {
+        name: "neighbours_leave_in_one_pdu",
+        setup: Setup::Window(32),
+        steps: NEIGHBOURS,
+    },
+    Script {
+        name: "a_keep_alive_leaves_alone",
+        setup: Setup::Window(32),
+        steps: ALONE,
+    },
+    Script {
+        name: "other_commands_end_no_group",
+        setup: Setup::Window(32),
+        steps: NO_END,
+    },
+    Script {
+        name: "a_duplicate_beside_its_command",
+        setup: Setup::Window(32),
+        steps: BESIDE,
+    },
+    Script {
+        name: "a_group_has_1472_bytes",
+        setup: Setup::Window(32),
+        steps: FULL_GROUP,
+    },
+    Script {
+        name: "a_group_has_at_most_1472_bytes",
+        setup: Setup::Window(32),
+        steps: NEXT_GROUP,
+    },
+    Script {
+        name: "the_laws_do_nothing",
+        setup: Setup::Window(32),
+        steps: LAWS,
+    },
+];
+
+/// The first script that goes otherwise, and where.
+pub fn wrong(alloc: Global) -> Option<(&'static str, usize)> {
+    wrong_script(alloc, SCRIPTS)
 }

@@ -1,8 +1,9 @@
 //! When a clock reading next changes something.
-use super::play::plays;
+use super::play::{Script, wrong_script};
 use super::*;
 use Part::*;
 use Step::*;
+use std::alloc::Global;
 
 /// Nobody was heard, so nothing lapses.
 const NOBODY: &[Step] = &[
@@ -12,11 +13,6 @@ const NOBODY: &[Step] = &[
     Ignores(A, 0, Bytes(&[]), EMPTY),
     NextLapse(None),
 ];
-
-#[test]
-fn nothing_lapses_without_a_session(rt: HostRuntime) {
-    plays(&rt, rt.alloc(), Setup::Window(32), NOBODY);
-}
 
 /// A peer without a lock is forgotten after 120,000 ms, whatever its heartbeat.
 const FORGOTTEN: &[Step] = &[
@@ -29,11 +25,6 @@ const FORGOTTEN: &[Step] = &[
     Sessions(0),
     NextLapse(None),
 ];
-
-#[test]
-fn a_session_lapses_when_it_is_forgotten(rt: HostRuntime) {
-    plays(&rt, rt.alloc(), Setup::Window(32), FORGOTTEN);
-}
 
 /// The lock of a silent peer goes after three heartbeats, and its session later.
 const LOCK_FIRST: &[Step] = &[
@@ -48,11 +39,6 @@ const LOCK_FIRST: &[Step] = &[
     Locked(false),
     NextLapse(Some(120_001)),
 ];
-
-#[test]
-fn a_lock_lapses_before_its_session(rt: HostRuntime) {
-    plays(&rt, rt.alloc(), Setup::Window(32), LOCK_FIRST);
-}
 
 /// Of two peers with different heartbeats, he who holds the lock decides.
 const HOLDER: &[Step] = &[
@@ -69,11 +55,6 @@ const HOLDER: &[Step] = &[
     Locked(false),
     NextLapse(Some(120_001)),
 ];
-
-#[test]
-fn the_holder_of_a_lock_lapses_first(rt: HostRuntime) {
-    plays(&rt, rt.alloc(), Setup::Window(32), HOLDER);
-}
 
 /// 120,001 ms before the last moment of 64 bits.
 const BEFORE_LAST: u64 = u64::MAX - 120_001;
@@ -93,7 +74,36 @@ const LAST: &[Step] = &[
     NextLapse(None),
 ];
 
-#[test]
-fn nothing_lapses_beyond_the_last_moment(rt: HostRuntime) {
-    plays(&rt, rt.alloc(), Setup::Window(32), LAST);
+/// The scripts, by their names.
+const SCRIPTS: &[Script] = &[
+    Script {
+        name: "nothing_lapses_without_a_session",
+        setup: Setup::Window(32),
+        steps: NOBODY,
+    },
+    Script {
+        name: "a_session_lapses_when_it_is_forgotten",
+        setup: Setup::Window(32),
+        steps: FORGOTTEN,
+    },
+    Script {
+        name: "a_lock_lapses_before_its_session",
+        setup: Setup::Window(32),
+        steps: LOCK_FIRST,
+    },
+    Script {
+        name: "the_holder_of_a_lock_lapses_first",
+        setup: Setup::Window(32),
+        steps: HOLDER,
+    },
+    Script {
+        name: "nothing_lapses_beyond_the_last_moment",
+        setup: Setup::Window(32),
+        steps: LAST,
+    },
+];
+
+/// The first script that goes otherwise, and where.
+pub fn wrong(alloc: Global) -> Option<(&'static str, usize)> {
+    wrong_script(alloc, SCRIPTS)
 }

@@ -5,7 +5,6 @@ use super::{EXECUTED, peer};
 use oca_device::{Outbox, Verdict, law_by_events, law_of_groups};
 use oca_types::Ono;
 use std::alloc::Global;
-use std::process::Abort;
 
 /// An event, and what must come of it.
 #[derive(Clone, Copy)]
@@ -47,6 +46,13 @@ pub enum Step {
     Length(&'static [Part], usize),
 }
 
+/// A script by its name, and the device that it is played on.
+pub struct Script {
+    pub name: &'static str,
+    pub setup: Setup,
+    pub steps: &'static [Step],
+}
+
 /// Whether the packet of this number is of these parts.
 fn is_packet(outbox: &Outbox, at: usize, parts: &[Part]) -> bool {
     match outbox.get(at) {
@@ -73,13 +79,15 @@ fn holds(outbox: &Outbox, packets: &[&[Part]]) -> bool {
     outbox.len() == packets.len()
 }
 
+/// What the device makes of a datagram.
+fn heard(bench: &mut Bench, port: u16, now: u64, bytes: &[u8]) -> Verdict {
+    let outbox = &mut bench.outbox;
+    bench.device.datagram(peer(port), bytes, now, outbox)
+}
+
 /// Whether the device makes this of a datagram.
 fn hears(bench: &mut Bench, port: u16, now: u64, parts: &[Part], verdict: Verdict) -> bool {
-    let bytes = bytes_of(parts);
-    bench
-        .device
-        .datagram(peer(port), bytes.as_slice(), now, &mut bench.outbox)
-        == verdict
+    heard(bench, port, now, bytes_of(parts).as_slice()) == verdict
 }
 
 /// Whether the device makes this of a datagram, and answers with this packet alone.
@@ -181,9 +189,9 @@ fn stands(bench: &Bench, step: Step) -> bool {
     }
 }
 
-/// The first step of the script of which something else comes.
-fn first_wrong(bench: &mut Bench, script: &[Step]) -> Option<usize> {
-    for (at, step) in script.iter().enumerate() {
+/// The first step of which something else comes.
+fn first_wrong(bench: &mut Bench, steps: &[Step]) -> Option<usize> {
+    for (at, step) in steps.iter().enumerate() {
         if !agrees(bench, *step) {
             return Some(at);
         }
@@ -191,11 +199,20 @@ fn first_wrong(bench: &mut Bench, script: &[Step]) -> Option<usize> {
     None
 }
 
-/// Plays a script on a device of this setup: the index of the first step of which something else comes is none.
-pub fn plays(rt: &impl Abort, alloc: Global, setup: Setup, script: &[Step]) {
-    let wrong = match bench_of(alloc, setup) {
-        Some(mut bench) => first_wrong(&mut bench, script),
+/// The first step of the script of which something else comes; the last number where there is no device.
+fn wrong_step(alloc: Global, script: &Script) -> Option<usize> {
+    match bench_of(alloc, script.setup) {
+        Some(mut bench) => first_wrong(&mut bench, script.steps),
         None => Some(usize::MAX),
-    };
-    assert_eq!(rt; wrong, None);
+    }
+}
+
+/// The first script with a step of which something else comes, and that step.
+pub fn wrong_script(alloc: Global, scripts: &[Script]) -> Option<(&'static str, usize)> {
+    for script in scripts {
+        if let Some(at) = wrong_step(alloc, script) {
+            return Some((script.name, at));
+        }
+    }
+    None
 }

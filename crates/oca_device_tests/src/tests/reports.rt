@@ -94,8 +94,16 @@ const SUMS: &[(Report, Report, Report)] = &[
     (NONE, ONE, ONE),
 ];
 
-/// The first sum that is another.
+/// Whether a report that nobody made is that of nothing.
+fn is_none_by_default() -> bool {
+    Report::default() == NONE
+}
+
+/// The first sum that is another; the last number where a report that nobody made is not that of nothing.
 fn first_wrong(rows: &[(Report, Report, Report)]) -> Option<usize> {
+    if !is_none_by_default() {
+        return Some(usize::MAX);
+    }
     for (at, (one, other, both)) in rows.iter().enumerate() {
         if *one + *other != *both {
             return Some(at);
@@ -107,7 +115,6 @@ fn first_wrong(rows: &[(Report, Report, Report)]) -> Option<usize> {
 #[test]
 fn reports_add_up(rt: HostRuntime) {
     assert_eq!(rt; first_wrong(SUMS), None);
-    assert_eq!(rt; Report::default(), NONE);
 }
 
 /// Verdicts, and how they read.
@@ -124,16 +131,19 @@ const TEXTS: &[(Verdict, &str)] = &[
     (Verdict::NoRoom, "no room for a session"),
 ];
 
+/// Whether a verdict reads so.
+fn reads(alloc: Global, verdict: Verdict, wanted: &str) -> bool {
+    match format!(in alloc; "{verdict}") {
+        Ok(text) => text.as_str() == wanted,
+        Err(_) => false,
+    }
+}
+
 /// The first verdict that reads otherwise.
 fn first_other(alloc: Global, rows: &[(Verdict, &str)]) -> Option<usize> {
     for (at, (verdict, wanted)) in rows.iter().enumerate() {
-        match format!(in alloc; "{verdict}") {
-            Ok(text) => {
-                if text.as_str() != *wanted {
-                    return Some(at);
-                }
-            }
-            Err(_) => return Some(at),
+        if !reads(alloc, *verdict, wanted) {
+            return Some(at);
         }
     }
     None

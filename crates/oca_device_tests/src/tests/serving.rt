@@ -5,7 +5,6 @@ use super::*;
 use oca_device::{Report, serve};
 use oca_net::{MemoryEnd, Scripted};
 use std::alloc::Global;
-use std::process::Abort;
 
 /// What an end delivers.
 #[derive(Clone, Copy)]
@@ -40,6 +39,7 @@ use Turn::*;
 /// An end, and what is done with it.
 #[derive(Clone, Copy)]
 struct Play {
+    name: &'static str,
     /// The device.
     setup: Setup,
     /// What the end delivers.
@@ -137,16 +137,30 @@ fn first_wrong(bench: &mut benches::Bench, end: &mut MemoryEnd, turns: &[Turn]) 
     None
 }
 
-/// The first turn of a play that tells something else, where there is memory.
-fn wrong_turn(alloc: Global, play: &Play) -> Option<Option<usize>> {
-    let mut bench = bench_of(alloc, play.setup)?;
-    let mut end = end_of(alloc, play)?;
-    Some(first_wrong(&mut bench, &mut end, play.turns))
+/// The first turn of a play with this device that tells something else; the last number where there is no end.
+fn wrong_with(alloc: Global, bench: &mut benches::Bench, play: &Play) -> Option<usize> {
+    match end_of(alloc, play) {
+        Some(mut end) => first_wrong(bench, &mut end, play.turns),
+        None => Some(usize::MAX),
+    }
 }
 
-/// Plays with an end: the index of the first turn that tells something else is none.
-fn plays(rt: &impl Abort, alloc: Global, play: &Play) {
-    assert_eq!(rt; wrong_turn(alloc, play), Some(None));
+/// The first turn of a play that tells something else; the last number where there is no device.
+fn wrong_turn(alloc: Global, play: &Play) -> Option<usize> {
+    match bench_of(alloc, play.setup) {
+        Some(mut bench) => wrong_with(alloc, &mut bench, play),
+        None => Some(usize::MAX),
+    }
+}
+
+/// The first play with a turn that tells something else, and that turn.
+fn wrong_play(alloc: Global, plays: &[Play]) -> Option<(&'static str, usize)> {
+    for play in plays {
+        if let Some(at) = wrong_turn(alloc, play) {
+            return Some((play.name, at));
+        }
+    }
+    None
 }
 
 /// No turn.
@@ -182,17 +196,13 @@ const THREE_TURNS: Report = Report {
 
 /// Over an end with three entries, the fourth receive answers Closed, and there is no other.
 const CLOSED: Play = Play {
+    name: "ends_at_closed",
     setup: Setup::Window(32),
     deliveries: &[Datagram(A, 0, &[GET]), Failed, Quiet(10)],
     room: 4,
     fail_send: None,
     turns: &[Serves(9, THREE_TURNS), Taken(1)],
 };
-
-#[test]
-fn ends_at_closed(rt: HostRuntime) {
-    plays(&rt, rt.alloc(), &CLOSED);
-}
 
 /// GetState from A at 0, a failure, silence at 10, and GetState from A again.
 const DELIVERIES: &[Delivery] = &[
@@ -204,6 +214,7 @@ const DELIVERIES: &[Delivery] = &[
 
 /// Three turns and then the rest, each reply to its sender.
 const SERVED: Play = Play {
+    name: "serves_an_end",
     setup: Setup::Window(32),
     deliveries: DELIVERIES,
     room: 4,
@@ -218,11 +229,6 @@ const SERVED: Play = Play {
     ],
 };
 
-#[test]
-fn serves_an_end(rt: HostRuntime) {
-    plays(&rt, rt.alloc(), &SERVED);
-}
-
 /// What is reported of three turns whose send fails.
 const SEND_FAILED: Report = Report {
     failed_sends: 1,
@@ -231,6 +237,7 @@ const SEND_FAILED: Report = Report {
 
 /// A failed send is counted, and the repeated command then gets its reply.
 const GOES_ON: Play = Play {
+    name: "goes_on_after_a_failed_send",
     setup: Setup::Window(32),
     deliveries: DELIVERIES,
     room: 4,
@@ -244,11 +251,6 @@ const GOES_ON: Play = Play {
     ],
 };
 
-#[test]
-fn goes_on_after_a_failed_send(rt: HostRuntime) {
-    plays(&rt, rt.alloc(), &GOES_ON);
-}
-
 /// What is reported of a command whose reply is lost, and its duplicate.
 const ONE_LOST: Report = Report {
     turns: 2,
@@ -260,17 +262,13 @@ const ONE_LOST: Report = Report {
 
 /// GetState from A at 0 and again at 1, where the first send fails: the second gets the reply that the first got.
 const LOST: Play = Play {
+    name: "a_duplicate_gets_the_reply_that_was_lost",
     setup: Setup::Window(32),
     deliveries: &[Datagram(A, 0, &[GET]), Datagram(A, 1, &[GET])],
     room: 4,
     fail_send: Some(0),
     turns: &[Serves(5, ONE_LOST), Taken(1), First(A, &[MUTED])],
 };
-
-#[test]
-fn a_duplicate_gets_the_reply_that_was_lost(rt: HostRuntime) {
-    plays(&rt, rt.alloc(), &LOST);
-}
 
 /// Two commands of A, the first again, another under the second's handle, no bytes, too many bytes, silence, 15 other
 /// peers, and one more.
@@ -300,6 +298,7 @@ const ALL_COUNTED: Report = Report {
 
 /// With windows of one command everything that comes is counted as what it is.
 const COUNTED: Play = Play {
+    name: "counts_all_that_comes",
     setup: Setup::Window(1),
     deliveries: ALL_THAT_COMES,
     room: 32,
@@ -307,7 +306,10 @@ const COUNTED: Play = Play {
     turns: &[Serves(100, ALL_COUNTED), Taken(17)],
 };
 
+/// All plays.
+const PLAYS: &[Play] = &[CLOSED, SERVED, GOES_ON, LOST, COUNTED];
+
 #[test]
-fn counts_all_that_comes(rt: HostRuntime) {
-    plays(&rt, rt.alloc(), &COUNTED);
+fn plays(rt: HostRuntime) {
+    assert_eq!(rt; wrong_play(rt.alloc(), PLAYS), None);
 }

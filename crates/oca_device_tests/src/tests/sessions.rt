@@ -1,8 +1,9 @@
 //! Sessions, reply windows, locks and silence.
-use super::play::plays;
+use super::play::{Script, wrong_script};
 use super::*;
 use Part::*;
 use Step::*;
+use std::alloc::Global;
 
 /// A window of 32 after 33 commands: the first is old, the second a duplicate, and a lower one is old.
 const LAST_REPLIES: &[Step] = &[
@@ -12,22 +13,12 @@ const LAST_REPLIES: &[Step] = &[
     Ignores(A, 0, GetState(0), OLD),
 ];
 
-#[test]
-fn keeps_the_last_replies(rt: HostRuntime) {
-    plays(&rt, rt.alloc(), Setup::Window(32), LAST_REPLIES);
-}
-
 /// A handle that never came is old below the floor, and above the window one is fresh.
 const FLOOR: &[Step] = &[
     TellsMuted(6, 39),
     Ignores(A, 0, SetState(5, 2), OLD),
     Answers(A, 0, GetState(39), EXECUTED, State(39, 1)),
 ];
-
-#[test]
-fn executes_nothing_below_the_floor(rt: HostRuntime) {
-    plays(&rt, rt.alloc(), Setup::Window(32), FLOOR);
-}
 
 /// A window of one command.
 const WINDOW_OF_1: &[Step] = &[
@@ -39,22 +30,12 @@ const WINDOW_OF_1: &[Step] = &[
     Answers(A, 0, GetState(7), EXECUTED, State(7, 1)),
 ];
 
-#[test]
-fn keeps_as_few_as_one(rt: HostRuntime) {
-    plays(&rt, rt.alloc(), Setup::Window(1), WINDOW_OF_1);
-}
-
 /// A window of 64 commands.
 const WINDOW_OF_64: &[Step] = &[
     TellsMuted(1, 66),
     Ignores(A, 0, GetState(1), OLD),
     Answers(A, 0, GetState(2), KEPT, State(2, 1)),
 ];
-
-#[test]
-fn keeps_as_many_as_64(rt: HostRuntime) {
-    plays(&rt, rt.alloc(), Setup::Window(64), WINDOW_OF_64);
-}
 
 /// One peer: another finds no room until a session is forgotten.
 const ONE_PEER: &[Step] = &[
@@ -65,11 +46,6 @@ const ONE_PEER: &[Step] = &[
     Sessions(1),
 ];
 
-#[test]
-fn has_sessions_of_as_few_as_one(rt: HostRuntime) {
-    plays(&rt, rt.alloc(), Setup::Peers(1), ONE_PEER);
-}
-
 /// 64 peers: another finds no room until the sessions are forgotten.
 const PEERS_64: &[Step] = &[
     EachAnswers(9001, 9065, 0, GetState(1), EXECUTED, State(1, 1)),
@@ -78,11 +54,6 @@ const PEERS_64: &[Step] = &[
     Answers(9065, 120_001, GetState(1), EXECUTED, State(1, 1)),
     Sessions(1),
 ];
-
-#[test]
-fn has_sessions_of_as_many_as_64(rt: HostRuntime) {
-    plays(&rt, rt.alloc(), Setup::Peers(64), PEERS_64);
-}
 
 /// Another command under the handle of a retained one is not executed and gets nothing, and the retained one stays.
 const ANOTHER: &[Step] = &[
@@ -93,11 +64,6 @@ const ANOTHER: &[Step] = &[
     TellsMuted(2, 34),
     Ignores(A, 0, SetState(1, 2), OLD),
 ];
-
-#[test]
-fn ignores_another_command_under_a_kept_handle(rt: HostRuntime) {
-    plays(&rt, rt.alloc(), Setup::Window(32), ANOTHER);
-}
 
 /// A lock goes after three heartbeats of silence, and the reply that took it stays. B asks for the role: mute.
 const RELEASED: &[Step] = &[
@@ -121,11 +87,6 @@ const RELEASED: &[Step] = &[
     Answers(B, 3003, GetState(3), EXECUTED, State(3, 1)),
 ];
 
-#[test]
-fn releases_locks_and_keeps_replies(rt: HostRuntime) {
-    plays(&rt, rt.alloc(), Setup::Window(32), RELEASED);
-}
-
 /// A session is forgotten after more than 120,000 ms of silence, and the command is then executed again.
 const FORGETS: &[Step] = &[
     Answers(A, 0, SetState(1, 2), EXECUTED, Done(1)),
@@ -136,11 +97,6 @@ const FORGETS: &[Step] = &[
     Sessions(0),
     Answers(A, 240_001, SetState(1, 2), EXECUTED, Done(1)),
 ];
-
-#[test]
-fn forgets_silent_sessions(rt: HostRuntime) {
-    plays(&rt, rt.alloc(), Setup::Window(32), FORGETS);
-}
 
 /// A 17th peer has room once one of 16 is forgotten.
 const SIXTEEN: &[Step] = &[
@@ -153,11 +109,6 @@ const SIXTEEN: &[Step] = &[
     Ignores(A, 120_001, GET, Verdict::NoRoom),
 ];
 
-#[test]
-fn has_room_for_16_sessions(rt: HostRuntime) {
-    plays(&rt, rt.alloc(), Setup::Window(32), SIXTEEN);
-}
-
 /// SetState of 4097 under handle 1 that asks for no response.
 const QUIET_SET: Part = Command(0, 1, 4097, (4, 2), &[2]);
 
@@ -169,11 +120,6 @@ const NOT_SENT: &[Step] = &[
     Answers(A, 0, GetState(2), EXECUTED, State(2, 2)),
 ];
 
-#[test]
-fn retains_replies_that_were_not_sent(rt: HostRuntime) {
-    plays(&rt, rt.alloc(), Setup::Window(32), NOT_SENT);
-}
-
 /// A copy that is marked 100 after a datagram at 500 counts as 500: so late its peer was heard.
 const EARLIER: &[Step] = &[
     Answers(A, 500, GET, EXECUTED, MUTED),
@@ -184,7 +130,71 @@ const EARLIER: &[Step] = &[
     Sessions(0),
 ];
 
-#[test]
-fn an_earlier_moment_counts_as_the_one_seen(rt: HostRuntime) {
-    plays(&rt, rt.alloc(), Setup::Window(32), EARLIER);
+/// The scripts, by their names.
+const SCRIPTS: &[Script] = &[
+    Script {
+        name: "keeps_the_last_replies",
+        setup: Setup::Window(32),
+        steps: LAST_REPLIES,
+    },
+    Script {
+        name: "executes_nothing_below_the_floor",
+        setup: Setup::Window(32),
+        steps: FLOOR,
+    },
+    Script {
+        name: "keeps_as_few_as_one",
+        setup: Setup::Window(1),
+        steps: WINDOW_OF_1,
+    },
+    Script {
+        name: "keeps_as_many_as_64",
+        setup: Setup::Window(64),
+        steps: WINDOW_OF_64,
+    },
+    Script {
+        name: "has_sessions_of_as_few_as_one",
+        setup: Setup::Peers(1),
+        steps: ONE_PEER,
+    },
+    Script {
+        name: "has_sessions_of_as_many_as_64",
+        setup: Setup::Peers(64),
+        steps: PEERS_64,
+    },
+    Script {
+        name: "ignores_another_command_under_a_kept_handle",
+        setup: Setup::Window(32),
+        steps: ANOTHER,
+    },
+    Script {
+        name: "releases_locks_and_keeps_replies",
+        setup: Setup::Window(32),
+        steps: RELEASED,
+    },
+    Script {
+        name: "forgets_silent_sessions",
+        setup: Setup::Window(32),
+        steps: FORGETS,
+    },
+    Script {
+        name: "has_room_for_16_sessions",
+        setup: Setup::Window(32),
+        steps: SIXTEEN,
+    },
+    Script {
+        name: "retains_replies_that_were_not_sent",
+        setup: Setup::Window(32),
+        steps: NOT_SENT,
+    },
+    Script {
+        name: "an_earlier_moment_counts_as_the_one_seen",
+        setup: Setup::Window(32),
+        steps: EARLIER,
+    },
+];
+
+/// The first script that goes otherwise, and where.
+pub fn wrong(alloc: Global) -> Option<(&'static str, usize)> {
+    wrong_script(alloc, SCRIPTS)
 }

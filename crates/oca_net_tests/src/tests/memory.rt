@@ -5,7 +5,6 @@ use super::{A, B, LARGEST};
 use oca_net::{End, Heard, MemoryEnd, Scripted};
 use oca_types::{Packet, Peer};
 use std::alloc::Global;
-use std::process::Abort;
 
 /// An entry of what an end delivers.
 #[derive(Clone, Copy)]
@@ -136,13 +135,31 @@ fn first_wrong(end: &mut MemoryEnd, steps: &[Step]) -> Option<usize> {
     None
 }
 
-/// Runs calls of an end.
-fn plays(rt: &impl Abort, end: Option<MemoryEnd>, steps: &[Step]) {
-    let wrong = match end {
-        Some(mut end) => first_wrong(&mut end, steps),
+/// An end and its calls: what it will deliver, its room, and which of its sends fails.
+struct Script {
+    name: &'static str,
+    entries: &'static [Entry],
+    room: usize,
+    fail_send: Option<u64>,
+    steps: &'static [Step],
+}
+
+/// The first call that is answered otherwise; the last number where there is no end.
+fn wrong_step(alloc: Global, script: &Script) -> Option<usize> {
+    match end_of(alloc, script.entries, script.room, script.fail_send) {
+        Some(mut end) => first_wrong(&mut end, script.steps),
         None => Some(usize::MAX),
-    };
-    assert_eq!(rt; wrong, None);
+    }
+}
+
+/// The first script with a call that is answered otherwise, and that call.
+fn wrong_script(alloc: Global, scripts: &[Script]) -> Option<(&'static str, usize)> {
+    for script in scripts {
+        if let Some(at) = wrong_step(alloc, script) {
+            return Some((script.name, at));
+        }
+    }
+    None
 }
 
 /// Datagrams of 2, 1,473 and 1,472 bytes, and between them silence and a receive that fails.
@@ -169,11 +186,6 @@ const IN_ORDER: &[Step] = &[
     Failures(1),
 ];
 
-#[test]
-fn delivers_its_script_in_order(rt: HostRuntime) {
-    plays(&rt, end_of(rt.alloc(), ENTRIES, 0, None), IN_ORDER);
-}
-
 // After nine receives the whole script was delivered, the datagram of 1,473 bytes too.
 const SHOWN: &[Step] = &[
     Hears(Heard::Datagram { from: A, now: 5 }, &[0x3b, 0x00]),
@@ -188,11 +200,6 @@ const SHOWN: &[Step] = &[
     Delivered(ENTRIES),
 ];
 
-#[test]
-fn shows_what_it_delivered(rt: HostRuntime) {
-    plays(&rt, end_of(rt.alloc(), ENTRIES, 0, None), SHOWN);
-}
-
 // The send that fails takes no room, and beyond the room each send fails.
 const TO_THE_ROOM: &[Step] = &[
     Sends(A, &[1], true),
@@ -203,11 +210,6 @@ const TO_THE_ROOM: &[Step] = &[
     Taken(&[(A, &[1]), (B, &[3, 4])]),
 ];
 
-#[test]
-fn takes_up_to_its_room(rt: HostRuntime) {
-    plays(&rt, end_of(rt.alloc(), &[], 2, Some(1)), TO_THE_ROOM);
-}
-
 const BEYOND: &[Step] = &[
     Sends(A, &[1], false),
     Sends(A, &[2], true),
@@ -216,7 +218,39 @@ const BEYOND: &[Step] = &[
     Taken(&[(A, &[2])]),
 ];
 
+/// The scripts.
+const SCRIPTS: &[Script] = &[
+    Script {
+        name: "delivers_its_script_in_order",
+        entries: ENTRIES,
+        room: 0,
+        fail_send: None,
+        steps: IN_ORDER,
+    },
+    Script {
+        name: "shows_what_it_delivered",
+        entries: ENTRIES,
+        room: 0,
+        fail_send: None,
+        steps: SHOWN,
+    },
+    Script {
+        name: "takes_up_to_its_room",
+        entries: &[],
+        room: 2,
+        fail_send: Some(1),
+        steps: TO_THE_ROOM,
+    },
+    Script {
+        name: "counts_sends_beyond_the_room",
+        entries: &[],
+        room: 1,
+        fail_send: Some(0),
+        steps: BEYOND,
+    },
+];
+
 #[test]
-fn counts_sends_beyond_the_room(rt: HostRuntime) {
-    plays(&rt, end_of(rt.alloc(), &[], 1, Some(0)), BEYOND);
+fn scripts(rt: HostRuntime) {
+    assert_eq!(rt; wrong_script(rt.alloc(), SCRIPTS), None);
 }

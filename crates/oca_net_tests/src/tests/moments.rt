@@ -59,23 +59,35 @@ fn is_rising(moments: [u64; 4]) -> bool {
     moments[0] <= moments[1] && moments[1] <= moments[2] && moments[2] <= moments[3]
 }
 
-/// The first pause behind which the moments do not follow one another, and those.
-fn first_lag(rt: &HostRuntime, pauses: &[u64]) -> Option<(usize, Option<[u64; 4]>)> {
-    let Some(mut clocked) = clocked_end(rt) else {
-        return Some((usize::MAX, None));
-    };
+/// The first pause behind which the moments do not follow one another.
+fn first_lag(rt: &HostRuntime, clocked: &mut Clocked<'_>, pauses: &[u64]) -> Option<usize> {
     for (at, pause) in pauses.iter().enumerate() {
-        let moments = moments_after(rt, &mut clocked, *pause);
-        if !is_rising(moments.unwrap_or([1, 0, 0, 0])) {
-            return Some((at, moments));
+        match moments_after(rt, clocked, *pause) {
+            Some(moments) => {
+                if !is_rising(moments) {
+                    return Some(at);
+                }
+            }
+            None => return Some(at),
         }
     }
     None
 }
 
+/// The same of an end that is bound now; the last number where there is none.
+fn lag(rt: &HostRuntime, pauses: &[u64]) -> Option<usize> {
+    match clocked_end(rt) {
+        Some(mut clocked) => first_lag(rt, &mut clocked, pauses),
+        None => Some(usize::MAX),
+    }
+}
+
+// The pauses before the moments are asked for.
+const PAUSES: &[u64] = &[0, 3, 40, 400, 800];
+
 #[test]
 fn moments_are_milliseconds_since_bind(rt: HostRuntime) {
-    assert_eq!(rt; first_lag(&rt, &[0, 3, 40, 400, 800]), None);
+    assert_eq!(rt; lag(&rt, PAUSES), None);
 }
 
 /// Until when a receive waits.
@@ -177,22 +189,42 @@ fn agrees(rt: &HostRuntime, end: &mut UdpEnd<'_, HostRuntime>, step: Step) -> bo
 }
 
 /// The first step that is answered otherwise.
-fn first_wrong(rt: &HostRuntime, steps: &[Step]) -> Option<usize> {
-    let Some(mut end) = end_here(rt) else {
-        return Some(usize::MAX);
-    };
+fn first_wrong(
+    rt: &HostRuntime,
+    end: &mut UdpEnd<'_, HostRuntime>,
+    steps: &[Step],
+) -> Option<usize> {
     for (at, step) in steps.iter().enumerate() {
-        if !agrees(rt, &mut end, *step) {
+        if !agrees(rt, end, *step) {
             return Some(at);
         }
     }
     None
 }
 
-#[test]
-fn a_quiet_receive_takes_50_milliseconds(rt: HostRuntime) {
-    assert_eq!(rt; first_wrong(&rt, &[Quiet(&[Unsaid; 6], 80)]), None);
+/// The first step at a new end that is answered otherwise; the last number where there is none.
+fn wrong_step(rt: &HostRuntime, steps: &[Step]) -> Option<usize> {
+    match end_here(rt) {
+        Some(mut end) => first_wrong(rt, &mut end, steps),
+        None => Some(usize::MAX),
+    }
 }
+
+/// A script by its name.
+type Script = (&'static str, &'static [Step]);
+
+/// The first script with a step that is answered otherwise, and that step.
+fn wrong_script(rt: &HostRuntime, scripts: &[Script]) -> Option<(&'static str, usize)> {
+    for (name, steps) in scripts {
+        if let Some(at) = wrong_step(rt, steps) {
+            return Some((*name, at));
+        }
+    }
+    None
+}
+
+// A receive that is told no moment waits 50 ms.
+const UNSAID: &[Step] = &[Quiet(&[Unsaid; 6], 80)];
 
 // A wait ends with its moment, and before it where a datagram comes.
 const BY_A_MOMENT: &[Step] = &[
@@ -201,22 +233,12 @@ const BY_A_MOMENT: &[Step] = &[
     Echoes(&[1], u64::MAX),
 ];
 
-#[test]
-fn a_receive_waits_until_its_moment(rt: HostRuntime) {
-    assert_eq!(rt; first_wrong(&rt, BY_A_MOMENT), None);
-}
-
 // A receive by a moment that is past does not wait, and hears a datagram that is there. The next receive waits again.
 const BY_THE_PAST: &[Step] = &[
     TwentyPast(200),
     Echoes(&[1, 2], 0),
     Quiet(&[Unsaid], u64::MAX),
 ];
-
-#[test]
-fn a_receive_by_a_moment_that_is_past_does_not_wait(rt: HostRuntime) {
-    assert_eq!(rt; first_wrong(&rt, BY_THE_PAST), None);
-}
 
 // Each wait has its own time, whatever those before it had: far, near and none in turn.
 const IN_TURN: &[Step] = &[
@@ -230,9 +252,20 @@ const IN_TURN: &[Step] = &[
     Quiet(&[After(400)], u64::MAX),
 ];
 
+/// The scripts.
+const SCRIPTS: &[Script] = &[
+    ("a_quiet_receive_takes_50_milliseconds", UNSAID),
+    ("a_receive_waits_until_its_moment", BY_A_MOMENT),
+    (
+        "a_receive_by_a_moment_that_is_past_does_not_wait",
+        BY_THE_PAST,
+    ),
+    ("each_wait_has_its_own_time", IN_TURN),
+];
+
 #[test]
-fn each_wait_has_its_own_time(rt: HostRuntime) {
-    assert_eq!(rt; first_wrong(&rt, IN_TURN), None);
+fn scripts(rt: HostRuntime) {
+    assert_eq!(rt; wrong_script(&rt, SCRIPTS), None);
 }
 
 /// A system whose clock tells what it is set to, and nothing where it is not set.
@@ -285,22 +318,30 @@ fn is_said(
     end.now() == moment && quiet(end.receive_by(&mut packet, 0)) == Some(moment)
 }
 
-/// The first reading of the clock for which the end, bound when the clock told 1,000 ms, says another moment.
-fn first_unsaid(rt: &HostRuntime, readings: &[(Option<u64>, u64)]) -> Option<usize> {
-    let told = Told {
-        system: rt,
-        time: Cell::new(Some(Duration::from_millis(1_000))),
-    };
-    let Ok(mut end) = UdpEnd::bind(rt.alloc(), &told, LOCALHOST, 0) else {
-        return Some(usize::MAX);
-    };
-    for (at, reading) in readings.iter().enumerate() {
-        let (clock, moment) = *reading;
-        if !is_said(&mut end, &told, clock, moment) {
+/// The first reading of the clock for which the end says another moment.
+fn first_unsaid(
+    end: &mut UdpEnd<'_, Told<'_>>,
+    told: &Told<'_>,
+    readings: &[(Option<u64>, u64)],
+) -> Option<usize> {
+    for (at, (clock, moment)) in readings.iter().enumerate() {
+        if !is_said(end, told, *clock, *moment) {
             return Some(at);
         }
     }
     None
+}
+
+/// The same of an end that is bound when the clock tells 1,000 ms; the last number where there is none.
+fn unsaid(rt: &HostRuntime, readings: &[(Option<u64>, u64)]) -> Option<usize> {
+    let told = Told {
+        system: rt,
+        time: Cell::new(Some(Duration::from_millis(1_000))),
+    };
+    match UdpEnd::bind(rt.alloc(), &told, LOCALHOST, 0) {
+        Ok(mut end) => first_unsaid(&mut end, &told, readings),
+        Err(_) => Some(usize::MAX),
+    }
 }
 
 // Where the clock goes back, and where it can't be read, the latest moment is said again.
@@ -315,17 +356,34 @@ const READINGS: &[(Option<u64>, u64)] = &[
 
 #[test]
 fn moments_do_not_go_back(rt: HostRuntime) {
-    assert_eq!(rt; first_unsaid(&rt, READINGS), None);
+    assert_eq!(rt; unsaid(&rt, READINGS), None);
+}
+
+/// Whether an end at this clock hears nothing for 40 ms, and then says moments that are no earlier.
+fn is_quiet_until(end: &mut UdpEnd<'_, CountsSleep<'_, HostRuntime>>) -> bool {
+    let mut packet = Packet::new();
+    match quiet(end.receive_by(&mut packet, 40)) {
+        Some(now) => now >= 40 && end.now() >= now,
+        None => false,
+    }
+}
+
+/// Whether the clock is not behind this moment.
+fn is_not_before(clock: &CountsSleep<'_, HostRuntime>, before: Duration) -> bool {
+    match clock.monotonic() {
+        Ok(now) => now >= before,
+        Err(_) => false,
+    }
 }
 
 /// Whether a clock that counts sleep is not behind the system's, and an end over it says moments that rise with it.
 fn counts_sleep(rt: &HostRuntime) -> Option<bool> {
-    let clock = CountsSleep(rt);
     let before = rt.monotonic().ok()?;
-    let mut end = UdpEnd::bind(rt.alloc(), &clock, LOCALHOST, 0).ok()?;
-    let mut packet = Packet::new();
-    let now = quiet(end.receive_by(&mut packet, 40))?;
-    Some(clock.monotonic().ok()? >= before && now >= 40 && end.now() >= now)
+    let clock = CountsSleep(rt);
+    match UdpEnd::bind(rt.alloc(), &clock, LOCALHOST, 0) {
+        Ok(mut end) => Some(is_quiet_until(&mut end) && is_not_before(&clock, before)),
+        Err(_) => None,
+    }
 }
 
 #[test]

@@ -104,11 +104,6 @@ fn refuses(rt: &HostRuntime) -> Option<[bool; 3]> {
     Some([bound, unbound, host_refuses(rt, NO_MACHINE.ip, local)])
 }
 
-#[test]
-fn a_host_refuses_a_port_that_no_program_has(rt: HostRuntime) {
-    assert_eq!(rt; refuses(&rt), Some([false, true, false]));
-}
-
 /// Whether an end has a descriptor behind the standard ones, the same both ways.
 fn has_a_descriptor(rt: &HostRuntime) -> Option<[bool; 2]> {
     fill_standard_descriptors(rt).ok()?;
@@ -130,9 +125,34 @@ fn fault_reads(alloc: Global, fault: BindFault, text: &str) -> bool {
     }
 }
 
+/// Whether the faults are displayed so.
+fn faults_read(alloc: Global) -> bool {
+    fault_reads(alloc, BindFault::Io, "socket failed")
+        && fault_reads(alloc, BindFault::NoMemory, "no memory")
+        && error_reads(alloc, BindError::NoMemory, "no memory")
+}
+
+/// What is refused or told otherwise.
+fn first_wrong(rt: &HostRuntime) -> Option<&'static str> {
+    if is_taken_once(rt) != Some([true; 3]) {
+        return Some("a_port_in_use_is_refused");
+    }
+    if has_reasons(rt) != Some([true; 3]) {
+        return Some("a_refused_socket_has_the_systems_reason");
+    }
+    if refuses(rt) != Some([false, true, false]) {
+        return Some("a_host_refuses_a_port_that_no_program_has");
+    }
+    if has_a_descriptor(rt) != Some([true; 2]) {
+        return Some("an_end_has_a_descriptor");
+    }
+    if !faults_read(rt.alloc()) {
+        return Some("faults_in_words");
+    }
+    None
+}
+
 #[test]
-fn faults_in_words(rt: HostRuntime) {
-    assert!(rt; fault_reads(rt.alloc(), BindFault::Io, "socket failed"));
-    assert!(rt; fault_reads(rt.alloc(), BindFault::NoMemory, "no memory"));
-    assert!(rt; error_reads(rt.alloc(), BindError::NoMemory, "no memory"));
+fn refusals(rt: HostRuntime) {
+    assert_eq!(rt; first_wrong(&rt), None);
 }

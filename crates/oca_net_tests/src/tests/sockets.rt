@@ -54,13 +54,26 @@ struct Sockets<'a> {
     plain: UdpSocket,
 }
 
+/// Two ends.
+fn two_ends(rt: &HostRuntime) -> Option<[UdpEnd<'_, HostRuntime>; 2]> {
+    let first = end_here(rt)?;
+    match end_here(rt) {
+        Some(second) => Some([first, second]),
+        None => None,
+    }
+}
+
 /// Two ends and a socket without one.
 fn three_sockets(rt: &HostRuntime) -> Option<Sockets<'_>> {
-    Some(Sockets {
-        first: end_here(rt)?,
-        second: end_here(rt)?,
-        plain: UdpSocket::bind(rt, (Ipv4Addr::LOCALHOST, 0u16)).ok()?,
-    })
+    let plain = UdpSocket::bind(rt, (Ipv4Addr::LOCALHOST, 0u16)).ok()?;
+    match two_ends(rt) {
+        Some([first, second]) => Some(Sockets {
+            first,
+            second,
+            plain,
+        }),
+        None => None,
+    }
 }
 
 /// Where the socket is.
@@ -178,17 +191,35 @@ fn agrees(sockets: &mut Sockets<'_>, step: Step) -> bool {
 }
 
 /// The first call that is answered otherwise.
-fn first_wrong(rt: &HostRuntime, steps: &[Step]) -> Option<usize> {
-    let Some(mut sockets) = three_sockets(rt) else {
-        return Some(usize::MAX);
-    };
+fn first_wrong(sockets: &mut Sockets<'_>, steps: &[Step]) -> Option<usize> {
     for (at, step) in steps.iter().enumerate() {
-        if !agrees(&mut sockets, *step) {
+        if !agrees(sockets, *step) {
             return Some(at);
         }
     }
     None
 }
+
+/// The first call at new sockets that is answered otherwise; the last number where there are none.
+fn wrong_step(rt: &HostRuntime, steps: &[Step]) -> Option<usize> {
+    match three_sockets(rt) {
+        Some(mut sockets) => first_wrong(&mut sockets, steps),
+        None => Some(usize::MAX),
+    }
+}
+
+/// The first script with a call that is answered otherwise, and that call.
+fn wrong_script(rt: &HostRuntime, scripts: &[Script]) -> Option<(&'static str, usize)> {
+    for (name, steps) in scripts {
+        if let Some(at) = wrong_step(rt, steps) {
+            return Some((*name, at));
+        }
+    }
+    None
+}
+
+/// A script by its name.
+type Script = (&'static str, &'static [Step]);
 
 // Datagrams wait at the socket, in order, while the other end is answered.
 const EXCHANGE: &[Step] = &[
@@ -201,22 +232,12 @@ const EXCHANGE: &[Step] = &[
     Hears(Second, First, &[4]),
 ];
 
-#[test]
-fn two_ends_exchange_datagrams(rt: HostRuntime) {
-    assert_eq!(rt; first_wrong(&rt, EXCHANGE), None);
-}
-
 const AT_THE_LIMIT: &[Step] = &[
     Sends(Plain, First, &[9; LARGEST], true),
     Hears(First, Plain, &[9; LARGEST]),
     Sends(Plain, First, &[7; LARGEST + 1], true),
     HearsOversize,
 ];
-
-#[test]
-fn hears_1472_bytes_whole_and_1473_as_oversize(rt: HostRuntime) {
-    assert_eq!(rt; first_wrong(&rt, AT_THE_LIMIT), None);
-}
 
 const EMPTY_AND_LONGEST: &[Step] = &[
     Sends(Plain, First, &[], true),
@@ -225,20 +246,10 @@ const EMPTY_AND_LONGEST: &[Step] = &[
     HearsOversize,
 ];
 
-#[test]
-fn hears_empty_and_longest_datagrams(rt: HostRuntime) {
-    assert_eq!(rt; first_wrong(&rt, EMPTY_AND_LONGEST), None);
-}
-
 const WHOLE: &[Step] = &[
     Sends(First, Plain, &[3; LARGEST], true),
     Hears(Plain, First, &[3; LARGEST]),
 ];
-
-#[test]
-fn sends_1472_bytes_whole(rt: HostRuntime) {
-    assert_eq!(rt; first_wrong(&rt, WHOLE), None);
-}
 
 // A send to port 0 is refused, and one to every host, and the last one's reason is said. The end goes on.
 const REFUSED: &[Step] = &[
@@ -251,14 +262,21 @@ const REFUSED: &[Step] = &[
     Hears(First, First, &[1]),
 ];
 
-#[test]
-fn a_send_that_the_system_refuses_is_false(rt: HostRuntime) {
-    assert_eq!(rt; first_wrong(&rt, REFUSED), None);
-}
-
 // By default a system grants 212,992 bytes, as many as one neighbour that does not answer can hold, and doubles what is
 // asked up to that.
+const BUFFER: &[Step] = &[Granted(425_984)];
+
+/// The scripts.
+const SCRIPTS: &[Script] = &[
+    ("two_ends_exchange_datagrams", EXCHANGE),
+    ("hears_1472_bytes_whole_and_1473_as_oversize", AT_THE_LIMIT),
+    ("hears_empty_and_longest_datagrams", EMPTY_AND_LONGEST),
+    ("sends_1472_bytes_whole", WHOLE),
+    ("a_send_that_the_system_refuses_is_false", REFUSED),
+    ("a_send_buffer_is_asked_for", BUFFER),
+];
+
 #[test]
-fn a_send_buffer_is_asked_for(rt: HostRuntime) {
-    assert_eq!(rt; first_wrong(&rt, &[Granted(425_984)]), None);
+fn scripts(rt: HostRuntime) {
+    assert_eq!(rt; wrong_script(&rt, SCRIPTS), None);
 }

@@ -6,7 +6,6 @@ use super::answers::{Answer, reply};
 use super::building::messages_in;
 use oca_pdu::{WriteFault, extend_response, write_response};
 use oca_types::{Handle, Packet, Reply, Status};
-use std::process::Abort;
 
 /// Responses of the handles from the first on, below the end, and what adding each of them answers.
 #[derive(Clone, Copy)]
@@ -26,17 +25,6 @@ struct Script {
     front: &'static [u8],
     length: usize,
     messages: usize,
-}
-
-/// What went otherwise than a script says.
-#[derive(Clone, Copy, Debug, PartialEq, Eq)]
-enum Wrong {
-    /// The first response was refused.
-    First,
-    /// Responses of the row of this index were answered otherwise, or changed the packet where they were refused.
-    More(usize),
-    /// The packet is another at the end.
-    Packet,
 }
 
 /// A packet with a PDU of one response, where it has room.
@@ -89,13 +77,13 @@ fn are_added(packet: &mut Packet, more: More) -> bool
 }
 
 /// The first row whose responses are answered otherwise.
-fn first_wrong(packet: &mut Packet, rows: &[More]) -> Option<Wrong>
+fn first_wrong_row(packet: &mut Packet, rows: &[More]) -> Option<usize>
     requires { HoldsResponses packet.old.items }
 {
     let mut at: usize = 0;
     for more in rows {
         if !are_added(packet, *more) {
-            return Some(Wrong::More(at));
+            return Some(at);
         }
         at = at.saturating_add(1);
     }
@@ -109,23 +97,38 @@ fn is_of(packet: &Packet, script: &Script) -> bool {
         && messages_in(packet.as_slice()) == script.messages
 }
 
-/// What goes otherwise.
-fn wrong_in(script: &Script) -> Option<Wrong> {
-    let Some(mut packet) = one_response(Handle(script.handle), &reply(script.answer)) else {
-        return Some(Wrong::First);
-    };
-    if let Some(wrong) = first_wrong(&mut packet, script.more) {
-        return Some(wrong);
+/// The row of the script whose responses are answered otherwise; behind the last where the packet is another at the end.
+fn wrong_over(packet: &mut Packet, script: &Script) -> Option<usize>
+    requires { HoldsResponses packet.old.items }
+{
+    match first_wrong_row(packet, script.more) {
+        Some(at) => Some(at),
+        None => {
+            if is_of(packet, script) {
+                None
+            } else {
+                Some(script.more.len())
+            }
+        }
     }
-    if !is_of(&packet, script) {
-        return Some(Wrong::Packet);
-    }
-    None
 }
 
-/// Runs a script.
-fn runs(rt: &impl Abort, script: &Script) {
-    assert_eq!(rt; wrong_in(script), None);
+/// The same of a packet of its own; the last number where the first response is refused.
+fn wrong_in(script: &Script) -> Option<usize> {
+    match one_response(Handle(script.handle), &reply(script.answer)) {
+        Some(mut packet) => wrong_over(&mut packet, script),
+        None => Some(usize::MAX),
+    }
+}
+
+/// The first script in which something is otherwise.
+pub fn first_wrong() -> Option<usize> {
+    for (at, script) in SCRIPTS.iter().enumerate() {
+        if wrong_in(script).is_some() {
+            return Some(at);
+        }
+    }
+    None
 }
 
 /// A reply of one parameter, the byte 1.
@@ -152,11 +155,6 @@ const TWO: Script = Script {
     length: 32,
     messages: 2,
 };
-
-#[test]
-fn two_responses_in_one_pdu(rt: HostRuntime) {
-    runs(&rt, &TWO);
-}
 
 /// A reply without parameters.
 const LOCKED: Answer = Answer {
@@ -191,11 +189,6 @@ const AS_MANY: Script = Script {
     messages: 146,
 };
 
-#[test]
-fn as_many_responses_as_fit(rt: HostRuntime) {
-    runs(&rt, &AS_MANY);
-}
-
 /// Responses fit up to exactly 1,472 bytes.
 const OF_1472: Script = Script {
     handle: 1,
@@ -228,7 +221,5 @@ const OF_1472: Script = Script {
     messages: 2,
 };
 
-#[test]
-fn responses_of_1472_bytes(rt: HostRuntime) {
-    runs(&rt, &OF_1472);
-}
+/// The scripts.
+const SCRIPTS: &[Script] = &[TWO, AS_MANY, OF_1472];

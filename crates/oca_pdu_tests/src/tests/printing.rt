@@ -29,18 +29,13 @@ const KINDS: &[(PduFaultKind, u8, &str)] = &[
 ];
 
 /// The first check that has another number or prints other words.
-fn first_wrong(alloc: Global) -> Option<PduFaultKind> {
-    for (kind, number, words) in KINDS {
+pub fn first_wrong(alloc: Global) -> Option<usize> {
+    for (at, (kind, number, words)) in KINDS.iter().enumerate() {
         if kind.number() != *number || !prints(alloc, kind, words) {
-            return Some(*kind);
+            return Some(at);
         }
     }
     None
-}
-
-#[test]
-fn checks_are_printed(rt: HostRuntime) {
-    assert_eq!(rt; first_wrong(rt.alloc()), None);
 }
 
 /// Whether the bytes are refused with these words.
@@ -51,14 +46,15 @@ fn is_refused_with(alloc: Global, bytes: &[u8], words: &str) -> bool {
     }
 }
 
-#[test]
-fn a_fault_is_printed_with_its_place(rt: HostRuntime) {
-    let words = "the datagram ends within a field or a PDU, at offset 1";
-    assert!(rt; is_refused_with(rt.alloc(), &[0x3B, 0], words));
-}
-
-#[test]
-fn a_fault_of_writing_is_printed(rt: HostRuntime) {
-    let words = "the packet would pass 1,472 bytes";
-    assert!(rt; prints(rt.alloc(), &WriteFault::TooLong, words));
+/// Whether a fault is printed with its place, and one of writing.
+pub fn are_printed(alloc: Global) -> bool {
+    is_refused_with(
+        alloc,
+        &[0x3B, 0],
+        "the datagram ends within a field or a PDU, at offset 1",
+    ) && prints(
+        alloc,
+        &WriteFault::TooLong,
+        "the packet would pass 1,472 bytes",
+    )
 }

@@ -1,8 +1,9 @@
 //! Which peers have a session.
+use super::script::Made::{Plain, RoomFor};
 use super::script::Step::{
     Hears, HearsEach, Known, Len, Serves, ServesEach, Silent, SilentEach, SilentEachInto,
 };
-use super::script::{A, B, Ports, Step, runs, runs_with_room_for};
+use super::script::{A, B, Ports, Script, Step, wrong_script};
 use super::serving::Served::{Executed, Kept};
 use oca_session::Admission::{self, NoRoom, Opened};
 use oca_types::Peer;
@@ -24,16 +25,13 @@ const ROOM_FOR_1: &[Step] = &[
     Hears(B, 180_001, Opened),
 ];
 
-#[test]
-fn has_room_for_1(rt: HostRuntime) {
-    runs_with_room_for(&rt, rt.alloc(), 1, ROOM_FOR_1);
-}
-
 /// The peer at port 9003.
 const THIRD: Peer = Peer {
     ip: 0x7f00_0001,
     port: 9003,
 };
+
+use std::alloc::Global;
 
 /// There is room for two sessions, and for no other until one is forgotten.
 const ROOM_FOR_2: &[Step] = &[
@@ -48,11 +46,6 @@ const ROOM_FOR_2: &[Step] = &[
     Known(THIRD, false),
     Hears(THIRD, 120_001, Opened),
 ];
-
-#[test]
-fn has_room_for_2(rt: HostRuntime) {
-    runs_with_room_for(&rt, rt.alloc(), 2, ROOM_FOR_2);
-}
 
 /// 16 peers, A first.
 const THE_16: Ports = Ports {
@@ -85,11 +78,6 @@ const ROOM_FOR_64: &[Step] = &[
     Hears(THE_65TH, 120_001, Opened),
 ];
 
-#[test]
-fn has_room_for_64(rt: HostRuntime) {
-    runs_with_room_for(&rt, rt.alloc(), 64, ROOM_FOR_64);
-}
-
 /// Of 64 that lapse, `advance` answers the first 16 and `advance_into` all; all are forgotten.
 const ALL_LAPSE: &[Step] = &[
     HearsEach(THE_64, 0, Opened),
@@ -97,11 +85,6 @@ const ALL_LAPSE: &[Step] = &[
     SilentEach(120_001, THE_16),
     Len(0),
 ];
-
-#[test]
-fn of_64_that_lapse_the_first_16_are_answered(rt: HostRuntime) {
-    runs_with_room_for(&rt, rt.alloc(), 64, ALL_LAPSE);
-}
 
 /// The peers after A, up to 16.
 const OTHERS: Ports = Ports {
@@ -136,11 +119,6 @@ const ROOM_FOR_16: &[Step] = &[
     Serves(B, 1, Kept(1)),
 ];
 
-#[test]
-fn has_room_for_sixteen(rt: HostRuntime) {
-    runs(&rt, rt.alloc(), ROOM_FOR_16);
-}
-
 /// At the port of A, on another machine.
 const ELSEWHERE: Peer = Peer {
     ip: 0x7f00_0002,
@@ -160,7 +138,41 @@ const APART: &[Step] = &[
     Serves(A, 2, Executed),
 ];
 
-#[test]
-fn peers_have_windows_of_their_own(rt: HostRuntime) {
-    runs(&rt, rt.alloc(), APART);
+/// The scripts, by their names.
+const SCRIPTS: &[Script] = &[
+    Script {
+        name: "has_room_for_1",
+        made: RoomFor(1),
+        steps: ROOM_FOR_1,
+    },
+    Script {
+        name: "has_room_for_2",
+        made: RoomFor(2),
+        steps: ROOM_FOR_2,
+    },
+    Script {
+        name: "has_room_for_64",
+        made: RoomFor(64),
+        steps: ROOM_FOR_64,
+    },
+    Script {
+        name: "of_64_that_lapse_the_first_16_are_answered",
+        made: RoomFor(64),
+        steps: ALL_LAPSE,
+    },
+    Script {
+        name: "has_room_for_sixteen",
+        made: Plain,
+        steps: ROOM_FOR_16,
+    },
+    Script {
+        name: "peers_have_windows_of_their_own",
+        made: Plain,
+        steps: APART,
+    },
+];
+
+/// The first script that goes otherwise, and where.
+pub fn wrong(alloc: Global) -> Option<(&'static str, usize)> {
+    wrong_script(alloc, SCRIPTS)
 }

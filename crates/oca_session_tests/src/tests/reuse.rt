@@ -1,6 +1,7 @@
 //! Another command under a handle that is retained.
+use super::script::Made::{Plain, WindowsOf};
 use super::script::Step::{Asks, Hears, Serves, ServesAll};
-use super::script::{A, Handles, Step, runs, runs_with_windows_of};
+use super::script::{A, Handles, Script, Step, wrong_script};
 use super::serving::Served::{Executed, Kept, Old, Reused};
 use oca_session::Admission::Opened;
 use oca_types::{Command, Handle, MethodId, Ono};
@@ -13,6 +14,8 @@ const SET: Command<'static> = Command {
     count: 1,
     params: &[0, 1, 2, 3],
 };
+
+use std::alloc::Global;
 
 /// Whatever differs of target, method, ParamCount or parameters: the handle is reused, and the retained command stays.
 const DIFFERING: &[Step] = &[
@@ -87,11 +90,6 @@ const DIFFERING: &[Step] = &[
     Asks(A, SET, Kept(1)),
 ];
 
-#[test]
-fn tells_a_differing_command(rt: HostRuntime) {
-    runs(&rt, rt.alloc(), DIFFERING);
-}
-
 /// A handle that was pushed out is old, whatever it asks.
 const PUSHED_OUT: &[Step] = &[
     Hears(A, 0, Opened),
@@ -106,11 +104,6 @@ const PUSHED_OUT: &[Step] = &[
     ),
     Serves(A, 1, Old),
 ];
-
-#[test]
-fn a_handle_pushed_out_is_old(rt: HostRuntime) {
-    runs(&rt, rt.alloc(), PUSHED_OUT);
-}
 
 const FIRST: Command<'static> = Command {
     handle: Handle(0),
@@ -171,7 +164,26 @@ const USED_AGAIN: &[Step] = &[
     Asks(A, Command { count: 9, ..SIXTH }, Reused),
 ];
 
-#[test]
-fn cells_are_used_again(rt: HostRuntime) {
-    runs_with_windows_of(&rt, rt.alloc(), 2, USED_AGAIN);
+/// The scripts, by their names.
+const SCRIPTS: &[Script] = &[
+    Script {
+        name: "tells_a_differing_command",
+        made: Plain,
+        steps: DIFFERING,
+    },
+    Script {
+        name: "a_handle_pushed_out_is_old",
+        made: Plain,
+        steps: PUSHED_OUT,
+    },
+    Script {
+        name: "cells_are_used_again",
+        made: WindowsOf(2),
+        steps: USED_AGAIN,
+    },
+];
+
+/// The first script that goes otherwise, and where.
+pub fn wrong(alloc: Global) -> Option<(&'static str, usize)> {
+    wrong_script(alloc, SCRIPTS)
 }

@@ -4,7 +4,6 @@ use arrayvec::ArrayVec;
 use oca_session::{Admission, Sessions};
 use oca_types::{Command, MOST_PEERS, Peer, Peers, Sizes, Window};
 use std::alloc::Global;
-use std::process::Abort;
 
 pub const A: Peer = Peer {
     ip: 0x7f00_0001,
@@ -71,13 +70,22 @@ pub enum Step {
     LapsedFrom(Peer, Option<u64>),
 }
 
-/// Where a script went otherwise.
-#[derive(Clone, Copy, Debug, PartialEq, Eq)]
-pub enum Wrong {
-    /// There were no sessions: memory was refused, or there are no such sizes.
-    NoSessions,
-    /// The step of this index answered otherwise.
-    Step(usize),
+/// The sessions of a script.
+#[derive(Clone, Copy)]
+pub enum Made {
+    /// Those of a device whose sizes nobody chose: windows of 32, and room for 16.
+    Plain,
+    /// With windows of this size and room for 16.
+    WindowsOf(u8),
+    /// With windows of 1 and room for so many.
+    RoomFor(u8),
+}
+
+/// A script by its name.
+pub struct Script {
+    pub name: &'static str,
+    pub made: Made,
+    pub steps: &'static [Step],
 }
 
 /// The peer at this port of 127.0.0.1.
@@ -178,14 +186,11 @@ fn agrees(sessions: &mut Sessions, silent: &mut Silence, step: Step) -> bool {
 }
 
 /// The first event of the script that is answered otherwise.
-fn first_wrong(made: Option<Sessions>, script: &[Step]) -> Option<Wrong> {
-    let Some(mut sessions) = made else {
-        return Some(Wrong::NoSessions);
-    };
+fn first_wrong(sessions: &mut Sessions, steps: &[Step]) -> Option<usize> {
     let mut silent = Silence::new();
-    for (at, step) in script.iter().enumerate() {
-        if !agrees(&mut sessions, &mut silent, *step) {
-            return Some(Wrong::Step(at));
+    for (at, step) in steps.iter().enumerate() {
+        if !agrees(sessions, &mut silent, *step) {
+            return Some(at);
         }
     }
     None
@@ -203,18 +208,29 @@ fn with_room_for(alloc: Global, count: u8) -> Option<Sessions> {
     Sessions::with_sizes(alloc, Sizes { window, peers }).ok()
 }
 
-/// Runs a script over sessions with windows of 32 and room for 16.
-pub fn runs(rt: &impl Abort, alloc: Global, script: &[Step]) {
-    let made = Sessions::new(alloc, Window::default()).ok();
-    assert_eq!(rt; first_wrong(made, script), None);
+/// No session yet.
+fn sessions(alloc: Global, made: Made) -> Option<Sessions> {
+    match made {
+        Made::Plain => Sessions::new(alloc, Window::default()).ok(),
+        Made::WindowsOf(size) => with_windows_of(alloc, size),
+        Made::RoomFor(count) => with_room_for(alloc, count),
+    }
 }
 
-/// Runs a script over sessions with windows of this size and room for 16.
-pub fn runs_with_windows_of(rt: &impl Abort, alloc: Global, size: u8, script: &[Step]) {
-    assert_eq!(rt; first_wrong(with_windows_of(alloc, size), script), None);
+/// The first event of the script that is answered otherwise; the last number where there are no sessions.
+fn wrong_step(alloc: Global, script: &Script) -> Option<usize> {
+    match sessions(alloc, script.made) {
+        Some(mut sessions) => first_wrong(&mut sessions, script.steps),
+        None => Some(usize::MAX),
+    }
 }
 
-/// Runs a script over sessions with windows of 1 and room for so many.
-pub fn runs_with_room_for(rt: &impl Abort, alloc: Global, count: u8, script: &[Step]) {
-    assert_eq!(rt; first_wrong(with_room_for(alloc, count), script), None);
+/// The first script of which an event is answered otherwise, and that event.
+pub fn wrong_script(alloc: Global, scripts: &[Script]) -> Option<(&'static str, usize)> {
+    for script in scripts {
+        if let Some(at) = wrong_step(alloc, script) {
+            return Some((script.name, at));
+        }
+    }
+    None
 }

@@ -3,7 +3,7 @@ use oca_session::{Judged, Sessions};
 use oca_types::{Command, Handle, MethodId, Ono, Params, Peer, Reply, Status};
 
 /// What a device does with a command.
-#[derive(Clone, Copy, Debug, PartialEq, Eq)]
+#[derive(Clone, Copy, PartialEq, Eq)]
 pub enum Served {
     Executed,
     /// A duplicate got the reply with this ParamCount.

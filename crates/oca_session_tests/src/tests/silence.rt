@@ -1,10 +1,12 @@
 //! Lapses, forgetting and the present moment.
+use super::script::Made::Plain;
 use super::script::Step::{
     Beats, ForgottenFrom, Hears, LapsedFrom, Len, Moment, Serves, Silent, SilentInto,
 };
-use super::script::{A, B, Step, runs};
+use super::script::{A, B, Script, Step, wrong_script};
 use super::serving::Served::{Executed, Kept, Stranger};
 use oca_session::Admission::{Known, Opened};
+use std::alloc::Global;
 
 /// Three heartbeats of silence lapse a session and leave its window.
 const LAPSES: &[Step] = &[
@@ -21,11 +23,6 @@ const LAPSES: &[Step] = &[
     Serves(A, 1, Kept(1)),
 ];
 
-#[test]
-fn lapses_after_three_heartbeats(rt: HostRuntime) {
-    runs(&rt, rt.alloc(), LAPSES);
-}
-
 /// A heartbeat that is shortened while nobody is silent counts at once, for the peer that set it alone.
 const SHORTENED: &[Step] = &[
     Hears(A, 0, Opened),
@@ -41,11 +38,6 @@ const SHORTENED: &[Step] = &[
     Silent(90_001, &[A, B]),
 ];
 
-#[test]
-fn a_shortened_heartbeat_counts(rt: HostRuntime) {
-    runs(&rt, rt.alloc(), SHORTENED);
-}
-
 /// A new session has the heartbeat 5,000; one of 0 counts as 250, and one of a minute as 30,000.
 const LIMITS: &[Step] = &[
     Hears(A, 0, Opened),
@@ -59,11 +51,6 @@ const LIMITS: &[Step] = &[
     Silent(110_000, &[]),
     Silent(110_001, &[A]),
 ];
-
-#[test]
-fn keeps_heartbeats_within_their_limits(rt: HostRuntime) {
-    runs(&rt, rt.alloc(), LIMITS);
-}
 
 /// A session is forgotten after 120,000 ms of silence, and what comes then is executed as new.
 const FORGETS: &[Step] = &[
@@ -79,11 +66,6 @@ const FORGETS: &[Step] = &[
     Serves(A, 1, Executed),
 ];
 
-#[test]
-fn forgets_after_two_minutes(rt: HostRuntime) {
-    runs(&rt, rt.alloc(), FORGETS);
-}
-
 /// The list that `advance_into` is given holds those who are lapsed then: what it held before is gone.
 const REPLACES: &[Step] = &[
     Hears(A, 0, Opened),
@@ -93,11 +75,6 @@ const REPLACES: &[Step] = &[
     SilentInto(125_000, &[]),
     SilentInto(125_001, &[B]),
 ];
-
-#[test]
-fn replaces_the_list_of_the_lapsed(rt: HostRuntime) {
-    runs(&rt, rt.alloc(), REPLACES);
-}
 
 /// A moment that is earlier than one already seen counts as the one already seen.
 const BACK: &[Step] = &[
@@ -110,11 +87,6 @@ const BACK: &[Step] = &[
     Silent(100, &[A, B]),
 ];
 
-#[test]
-fn does_not_go_back(rt: HostRuntime) {
-    runs(&rt, rt.alloc(), BACK);
-}
-
 /// At the latest moment of all nobody is silent who was heard at it, and nobody lapses.
 const LATEST: &[Step] = &[
     Hears(A, 0, Opened),
@@ -123,11 +95,6 @@ const LATEST: &[Step] = &[
     Silent(u64::MAX, &[]),
     Len(1),
 ];
-
-#[test]
-fn reaches_the_latest_moment(rt: HostRuntime) {
-    runs(&rt, rt.alloc(), LATEST);
-}
 
 /// From which moments on a peer is silent for three heartbeats, and a session for 120,000 ms.
 const MOMENTS: &[Step] = &[
@@ -157,7 +124,51 @@ const MOMENTS: &[Step] = &[
     ForgottenFrom(None),
 ];
 
-#[test]
-fn tells_when_a_peer_is_silent(rt: HostRuntime) {
-    runs(&rt, rt.alloc(), MOMENTS);
+/// The scripts, by their names.
+const SCRIPTS: &[Script] = &[
+    Script {
+        name: "lapses_after_three_heartbeats",
+        made: Plain,
+        steps: LAPSES,
+    },
+    Script {
+        name: "a_shortened_heartbeat_counts",
+        made: Plain,
+        steps: SHORTENED,
+    },
+    Script {
+        name: "keeps_heartbeats_within_their_limits",
+        made: Plain,
+        steps: LIMITS,
+    },
+    Script {
+        name: "forgets_after_two_minutes",
+        made: Plain,
+        steps: FORGETS,
+    },
+    Script {
+        name: "replaces_the_list_of_the_lapsed",
+        made: Plain,
+        steps: REPLACES,
+    },
+    Script {
+        name: "does_not_go_back",
+        made: Plain,
+        steps: BACK,
+    },
+    Script {
+        name: "reaches_the_latest_moment",
+        made: Plain,
+        steps: LATEST,
+    },
+    Script {
+        name: "tells_when_a_peer_is_silent",
+        made: Plain,
+        steps: MOMENTS,
+    },
+];
+
+/// The first script that goes otherwise, and where.
+pub fn wrong(alloc: Global) -> Option<(&'static str, usize)> {
+    wrong_script(alloc, SCRIPTS)
 }

@@ -1,10 +1,12 @@
 //! What a reply window retains, and which handles it accepts.
+use super::script::Made::{Plain, WindowsOf};
 use super::script::Step::{Executes, Hears, Known, Retains, Serves, ServesAll};
-use super::script::{A, Handles, Step, runs, runs_with_windows_of};
+use super::script::{A, Handles, Script, Step, wrong_script};
 use super::serving::Answer;
 use super::serving::Served::{Executed, Kept, Old};
 use oca_session::Admission::Opened;
 use oca_types::Status;
+use std::alloc::Global;
 
 /// The window holds the last 32 commands, and what it pushed out is old.
 const OF_32: &[Step] = &[
@@ -18,22 +20,12 @@ const OF_32: &[Step] = &[
     Serves(A, 2, Old),
 ];
 
-#[test]
-fn answers_from_the_window_alone(rt: HostRuntime) {
-    runs(&rt, rt.alloc(), OF_32);
-}
-
 /// A command that comes for the first time after 32 higher ones is old: it was never executed.
 const LATE: &[Step] = &[
     Hears(A, 0, Opened),
     ServesAll(A, Handles { first: 6, end: 39 }, Executed),
     Serves(A, 5, Old),
 ];
-
-#[test]
-fn calls_a_late_command_old(rt: HostRuntime) {
-    runs(&rt, rt.alloc(), LATE);
-}
 
 /// An overtaken command is executed when it comes.
 const OVERTAKEN: &[Step] = &[
@@ -44,11 +36,6 @@ const OVERTAKEN: &[Step] = &[
     Serves(A, 3, Executed),
     Serves(A, 3, Kept(3)),
 ];
-
-#[test]
-fn accepts_an_overtaken_command(rt: HostRuntime) {
-    runs(&rt, rt.alloc(), OVERTAKEN);
-}
 
 /// A window of 1 holds the last command alone.
 const OF_1: &[Step] = &[
@@ -61,11 +48,6 @@ const OF_1: &[Step] = &[
     Serves(A, 7, Executed),
 ];
 
-#[test]
-fn a_window_of_1_holds_the_last(rt: HostRuntime) {
-    runs_with_windows_of(&rt, rt.alloc(), 1, OF_1);
-}
-
 /// A window of 64 holds 64.
 const OF_64: &[Step] = &[
     Hears(A, 0, Opened),
@@ -73,11 +55,6 @@ const OF_64: &[Step] = &[
     Serves(A, 1, Old),
     Serves(A, 2, Kept(2)),
 ];
-
-#[test]
-fn a_window_of_64_holds_64(rt: HostRuntime) {
-    runs_with_windows_of(&rt, rt.alloc(), 64, OF_64);
-}
 
 /// A reply with a status, a ParamCount and parameters of its own.
 const LOCKED: Answer = Answer {
@@ -94,7 +71,41 @@ const WHOLE: &[Step] = &[
     Retains(A, u32::MAX, LOCKED),
 ];
 
-#[test]
-fn retains_the_reply(rt: HostRuntime) {
-    runs(&rt, rt.alloc(), WHOLE);
+/// The scripts, by their names.
+const SCRIPTS: &[Script] = &[
+    Script {
+        name: "answers_from_the_window_alone",
+        made: Plain,
+        steps: OF_32,
+    },
+    Script {
+        name: "calls_a_late_command_old",
+        made: Plain,
+        steps: LATE,
+    },
+    Script {
+        name: "accepts_an_overtaken_command",
+        made: Plain,
+        steps: OVERTAKEN,
+    },
+    Script {
+        name: "a_window_of_1_holds_the_last",
+        made: WindowsOf(1),
+        steps: OF_1,
+    },
+    Script {
+        name: "a_window_of_64_holds_64",
+        made: WindowsOf(64),
+        steps: OF_64,
+    },
+    Script {
+        name: "retains_the_reply",
+        made: Plain,
+        steps: WHOLE,
+    },
+];
+
+/// The first script that goes otherwise, and where.
+pub fn wrong(alloc: Global) -> Option<(&'static str, usize)> {
+    wrong_script(alloc, SCRIPTS)
 }

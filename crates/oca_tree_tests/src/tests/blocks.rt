@@ -1,12 +1,14 @@
 //! The methods of blocks, and what is listed of them.
 use super::methods::{COMMON, LOCKABLE};
 use super::script::Addition::{Many, One};
+use super::script::Over::{Bench, Built};
 use super::script::Row::{Does, Measures, Reads};
-use super::script::{Addition, At, Row, on_bench, on_built};
+use super::script::{Addition, At, Row, Script, Wrong, wrong_script};
 use super::words::*;
 use oca_tree::{Kind, Spec};
 use oca_types::Status;
 use oca_types::Status::{BadMethod, BufferOverflow, NotImplemented};
+use std::alloc::Global;
 
 /// What the root is.
 const ROOT_IS: &[Row] = &[
@@ -59,11 +61,6 @@ const BLOCKS: &[At] = &[
     At(100, &[Measures(GET_MEMBERS_RECURSIVE, Status::Ok, 1, 146)]),
 ];
 
-#[test]
-fn methods_of_blocks(rt: HostRuntime) {
-    on_bench(&rt, rt.alloc(), BLOCKS);
-}
-
 // What is listed of a block: its members, and all that lies in it.
 const TWO_MUTES: &[Addition] = &[
     One(100, 4096, BLOCK, Ok(())),
@@ -97,11 +94,6 @@ const LISTS: &[At] = &[
     At(4096, &[Reads(GET_MEMBERS_RECURSIVE, 1, INNER)]),
 ];
 
-#[test]
-fn members_and_descendants(rt: HostRuntime) {
-    on_built(&rt, rt.alloc(), TWO_MUTES, LISTS);
-}
-
 /// An Int16 actuator.
 const TRIM: Spec<'static> = Spec {
     role: "trim",
@@ -129,9 +121,36 @@ const TOO_LONG: &[At] = &[At(
     &[Measures(GET_MEMBERS_RECURSIVE, BufferOverflow, 0, 0)],
 )];
 
-#[test]
-fn an_answer_has_its_limit(rt: HostRuntime) {
-    on_built(&rt, rt.alloc(), OF_65, OF_1432_BYTES);
-    on_built(&rt, rt.alloc(), OF_65_AND_A_MUTE, OF_1452_BYTES);
-    on_built(&rt, rt.alloc(), OF_66, TOO_LONG);
+/// The scripts.
+const SCRIPTS: &[Script] = &[
+    Script {
+        name: "methods_of_blocks",
+        over: Bench,
+        parts: BLOCKS,
+    },
+    Script {
+        name: "members_and_descendants",
+        over: Built(TWO_MUTES),
+        parts: LISTS,
+    },
+    Script {
+        name: "an_answer_has_its_limit_1",
+        over: Built(OF_65),
+        parts: OF_1432_BYTES,
+    },
+    Script {
+        name: "an_answer_has_its_limit_2",
+        over: Built(OF_65_AND_A_MUTE),
+        parts: OF_1452_BYTES,
+    },
+    Script {
+        name: "an_answer_has_its_limit_3",
+        over: Built(OF_66),
+        parts: TOO_LONG,
+    },
+];
+
+/// The first script that goes otherwise, and where.
+pub fn wrong(alloc: Global) -> Option<(&'static str, Wrong)> {
+    wrong_script(alloc, SCRIPTS)
 }

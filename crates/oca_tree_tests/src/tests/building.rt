@@ -1,7 +1,8 @@
 //! What a builder refuses.
 use super::script::Addition::{Many, Nested, One};
+use super::script::Over::Built;
 use super::script::Row::{Holds, Len, Reads};
-use super::script::{Addition, At, on_built};
+use super::script::{Addition, At, Script, Wrong, wrong_script};
 use super::words::*;
 use oca_tree::{AddFault, Kind, Room, Setting, Spec, TreeBuilder};
 use oca_types::Ono;
@@ -41,11 +42,6 @@ const FAULTS: &[Addition] = &[
 ];
 
 const OF_128: &[At] = &[At(100, &[Len(128)])];
-
-#[test]
-fn a_builder_refuses(rt: HostRuntime) {
-    on_built(&rt, rt.alloc(), FAULTS, OF_128);
-}
 
 /// A switch without positions.
 const OF_NO_NAMES: Spec<'static> = Spec {
@@ -117,11 +113,6 @@ const SWITCH_ROWS: &[At] = &[At(
     ],
 )];
 
-#[test]
-fn a_switch_needs_its_positions(rt: HostRuntime) {
-    on_built(&rt, rt.alloc(), SWITCHES, SWITCH_ROWS);
-}
-
 // The words of each fault.
 const WORDS: &[(AddFault, &str)] = &[
     (AddFault::Full, "there is no room for another object"),
@@ -149,18 +140,13 @@ fn says(alloc: Global, fault: AddFault, words: &str) -> bool {
 }
 
 /// The first fault with other words.
-fn first_wrong_words(alloc: Global) -> Option<usize> {
+pub fn first_wrong_words(alloc: Global) -> Option<usize> {
     for (at, (fault, words)) in WORDS.iter().enumerate() {
         if !says(alloc, *fault, words) {
             return Some(at);
         }
     }
     None
-}
-
-#[test]
-fn faults_are_printed(rt: HostRuntime) {
-    assert_eq!(rt; first_wrong_words(rt.alloc()), None);
 }
 
 /// The fault of the first mute that a builder does not take into the root.
@@ -195,8 +181,16 @@ const ROOMS: &[(u16, Option<usize>)] = &[
     (4097, None),
 ];
 
-/// The first room that is filled otherwise.
-fn first_wrong_room(alloc: Global) -> Option<usize> {
+/// The room where none is chosen.
+fn default_room() -> u16 {
+    Room::default().get()
+}
+
+/// The first room that is filled otherwise; the last number where another is the default.
+pub fn first_wrong_room(alloc: Global) -> Option<usize> {
+    if default_room() != 128 {
+        return Some(usize::MAX);
+    }
     for (at, (room, objects)) in ROOMS.iter().enumerate() {
         if most_objects(alloc, *room) != *objects
             || Room::new(*room).is_none() != objects.is_none()
@@ -207,8 +201,21 @@ fn first_wrong_room(alloc: Global) -> Option<usize> {
     None
 }
 
-#[test]
-fn a_builder_has_the_room_that_was_chosen(rt: HostRuntime) {
-    assert_eq!(rt; first_wrong_room(rt.alloc()), None);
-    assert_eq!(rt; Room::default().get(), 128);
+/// The scripts.
+const SCRIPTS: &[Script] = &[
+    Script {
+        name: "a_builder_refuses",
+        over: Built(FAULTS),
+        parts: OF_128,
+    },
+    Script {
+        name: "a_switch_needs_its_positions",
+        over: Built(SWITCHES),
+        parts: SWITCH_ROWS,
+    },
+];
+
+/// The first script that goes otherwise, and where.
+pub fn wrong(alloc: Global) -> Option<(&'static str, Wrong)> {
+    wrong_script(alloc, SCRIPTS)
 }

@@ -1,12 +1,14 @@
 //! Commands of the bench device and their refusals.
+use super::script::Over::Bench;
 use super::script::Row::{Does, Holds, Reads, Sends};
-use super::script::{At, on_bench};
+use super::script::{At, Script, Wrong, wrong_script};
 use super::words::*;
 use oca_tree::Setting;
 use oca_types::Status;
 use oca_types::Status::{
     BadMethod, BadOno, InvalidRequest, NotImplemented, ParameterError, ParameterOutOfRange,
 };
+use std::alloc::Global;
 
 // A mute answers the state that it was set to.
 const MUTE_ROWS: &[At] = &[At(
@@ -21,11 +23,6 @@ const MUTE_ROWS: &[At] = &[At(
     ],
 )];
 
-#[test]
-fn a_mute_is_set_and_read(rt: HostRuntime) {
-    on_bench(&rt, rt.alloc(), MUTE_ROWS);
-}
-
 // A number takes its limits and refuses what is outside them.
 const NUMBER_ROWS: &[At] = &[At(
     4100,
@@ -36,11 +33,6 @@ const NUMBER_ROWS: &[At] = &[At(
         Reads(GET_SETTING, 3, &[0xFD, 0xA8, 0xFD, 0xA8, 0x02, 0x58]),
     ],
 )];
-
-#[test]
-fn a_number_stays_in_its_range(rt: HostRuntime) {
-    on_bench(&rt, rt.alloc(), NUMBER_ROWS);
-}
 
 // A command is refused by the first status that applies, and changes nothing.
 const REFUSALS: &[At] = &[
@@ -57,11 +49,6 @@ const REFUSALS: &[At] = &[
     At(4102, &[Does(LOCK_TOTAL, InvalidRequest)]),
     At(4097, &[Does(UNLOCK, InvalidRequest)]),
 ];
-
-#[test]
-fn refusals_of_the_worked_examples(rt: HostRuntime) {
-    on_bench(&rt, rt.alloc(), REFUSALS);
-}
 
 // What comes first where more than one status applies.
 const FIRST_STATUSES: &[At] = &[
@@ -84,11 +71,6 @@ const FIRST_STATUSES: &[At] = &[
         ],
     ),
 ];
-
-#[test]
-fn the_first_status_that_applies(rt: HostRuntime) {
-    on_bench(&rt, rt.alloc(), FIRST_STATUSES);
-}
 
 // A text is counted in characters, and limited in bytes.
 const FIVE_CHARACTERS: &[u8] = &[0, 5, 0x42, 0xC3, 0xBC, 0x68, 0x6E, 0x65];
@@ -114,11 +96,6 @@ const LABELS: &[At] = &[At(
     ],
 )];
 
-#[test]
-fn a_label_counts_characters(rt: HostRuntime) {
-    on_bench(&rt, rt.alloc(), LABELS);
-}
-
 // A position that is disabled does not become the current one.
 const DISABLED: &[At] = &[At(
     4099,
@@ -141,7 +118,41 @@ const DISABLED: &[At] = &[At(
     ],
 )];
 
-#[test]
-fn a_position_is_disabled(rt: HostRuntime) {
-    on_bench(&rt, rt.alloc(), DISABLED);
+/// The scripts.
+const SCRIPTS: &[Script] = &[
+    Script {
+        name: "a_mute_is_set_and_read",
+        over: Bench,
+        parts: MUTE_ROWS,
+    },
+    Script {
+        name: "a_number_stays_in_its_range",
+        over: Bench,
+        parts: NUMBER_ROWS,
+    },
+    Script {
+        name: "refusals_of_the_worked_examples",
+        over: Bench,
+        parts: REFUSALS,
+    },
+    Script {
+        name: "the_first_status_that_applies",
+        over: Bench,
+        parts: FIRST_STATUSES,
+    },
+    Script {
+        name: "a_label_counts_characters",
+        over: Bench,
+        parts: LABELS,
+    },
+    Script {
+        name: "a_position_is_disabled",
+        over: Bench,
+        parts: DISABLED,
+    },
+];
+
+/// The first script that goes otherwise, and where.
+pub fn wrong(alloc: Global) -> Option<(&'static str, Wrong)> {
+    wrong_script(alloc, SCRIPTS)
 }

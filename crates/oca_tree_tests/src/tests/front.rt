@@ -1,9 +1,11 @@
 //! Setting objects at the device's own front.
+use super::script::Over::Bench;
 use super::script::Row::{Calls, Holds, Locked, Puts, Sends};
-use super::script::{At, on_bench};
+use super::script::{At, Script, Wrong, wrong_script};
 use super::words::*;
 use oca_tree::{LocalValue, Lock, LockKind, SetFault, Setting};
 use oca_types::Status;
+use std::alloc::Global;
 
 const MUTED: Option<Setting> = Some(Setting::State(1));
 
@@ -53,11 +55,6 @@ const SETTINGS: &[At] = &[
         ],
     ),
 ];
-
-#[test]
-fn the_front_sets(rt: HostRuntime) {
-    on_bench(&rt, rt.alloc(), SETTINGS);
-}
 
 /// The trim of the bench device as it begins.
 const TRIM_OF_0: Option<Setting> = Some(Setting::Number {
@@ -125,11 +122,6 @@ const REFUSALS: &[At] = &[
     ),
 ];
 
-#[test]
-fn the_front_is_refused(rt: HostRuntime) {
-    on_bench(&rt, rt.alloc(), REFUSALS);
-}
-
 // A position that is disabled is refused, as a peer's command is.
 const DISABLED: &[At] = &[At(
     4099,
@@ -139,11 +131,6 @@ const DISABLED: &[At] = &[At(
         Holds(FIRST),
     ],
 )];
-
-#[test]
-fn the_front_takes_no_disabled_position(rt: HostRuntime) {
-    on_bench(&rt, rt.alloc(), DISABLED);
-}
 
 // No lock binds the front.
 const LOCKED: &[At] = &[At(
@@ -163,7 +150,31 @@ const LOCKED: &[At] = &[At(
     ],
 )];
 
-#[test]
-fn no_lock_binds_the_front(rt: HostRuntime) {
-    on_bench(&rt, rt.alloc(), LOCKED);
+/// The scripts.
+const SCRIPTS: &[Script] = &[
+    Script {
+        name: "the_front_sets",
+        over: Bench,
+        parts: SETTINGS,
+    },
+    Script {
+        name: "the_front_is_refused",
+        over: Bench,
+        parts: REFUSALS,
+    },
+    Script {
+        name: "the_front_takes_no_disabled_position",
+        over: Bench,
+        parts: DISABLED,
+    },
+    Script {
+        name: "no_lock_binds_the_front",
+        over: Bench,
+        parts: LOCKED,
+    },
+];
+
+/// The first script that goes otherwise, and where.
+pub fn wrong(alloc: Global) -> Option<(&'static str, Wrong)> {
+    wrong_script(alloc, SCRIPTS)
 }

@@ -1,7 +1,8 @@
 //! An actuator of each integer type, at its limits.
 use super::script::Addition::One;
+use super::script::Over::Built;
 use super::script::Row::{Holds, Reads, Sends};
-use super::script::{Addition, At, on_built};
+use super::script::{Addition, At, Script, Wrong, wrong_script};
 use super::words::*;
 use oca_tree::{Kind, Setting, Spec};
 use oca_types::Status;
@@ -33,6 +34,8 @@ const INT32: Spec<'static> = Spec {
     },
     ..INT8
 };
+
+use std::alloc::Global;
 
 const INT64: Spec<'static> = Spec {
     kind: Kind::Int64 {
@@ -118,11 +121,6 @@ const SETTINGS: &[At] = &[
     At(4103, &[Reads(GET_SETTING, 3, OF_UINT64)]),
 ];
 
-#[test]
-fn every_integer_type(rt: HostRuntime) {
-    on_built(&rt, rt.alloc(), INTEGERS, SETTINGS);
-}
-
 // A number is set in its own width, and in no other.
 const WIDTHS: &[At] = &[
     At(
@@ -147,7 +145,21 @@ const WIDTHS: &[At] = &[
     ),
 ];
 
-#[test]
-fn widths_of_integers(rt: HostRuntime) {
-    on_built(&rt, rt.alloc(), INTEGERS, WIDTHS);
+/// The scripts.
+const SCRIPTS: &[Script] = &[
+    Script {
+        name: "every_integer_type",
+        over: Built(INTEGERS),
+        parts: SETTINGS,
+    },
+    Script {
+        name: "widths_of_integers",
+        over: Built(INTEGERS),
+        parts: WIDTHS,
+    },
+];
+
+/// The first script that goes otherwise, and where.
+pub fn wrong(alloc: Global) -> Option<(&'static str, Wrong)> {
+    wrong_script(alloc, SCRIPTS)
 }

@@ -1,6 +1,7 @@
 //! What is read of each object.
+use super::script::Over::{Bench, Channels};
 use super::script::Row::{Ends, Holds, Len, Shows};
-use super::script::{At, Wrong, first_wrong, on_bench};
+use super::script::{At, Script, Wrong, wrong_script};
 use oca_tree::{Tree, bench, bench_with_channels};
 use oca_types::Class;
 use std::alloc::Global;
@@ -21,11 +22,6 @@ const BENCH: &[At] = &[
     At(4096, &[Shows(1, Class::Block, BLOCK_FIELDS, 100, "desk")]),
     At(4095, &[Ends(8), Holds(None)]),
 ];
-
-#[test]
-fn the_objects_of_the_bench_device(rt: HostRuntime) {
-    on_bench(&rt, rt.alloc(), BENCH);
-}
 
 // What is read of each object on the desk of the bench device.
 const ON_THE_DESK: &[At] = &[
@@ -51,11 +47,6 @@ const ON_THE_DESK: &[At] = &[
         &[Shows(7, Class::Uint8, &[1, 1, 1, 1, 6], 4096, "dim")],
     ),
 ];
-
-#[test]
-fn the_objects_on_the_desk(rt: HostRuntime) {
-    on_bench(&rt, rt.alloc(), ON_THE_DESK);
-}
 
 // The strips of channels stand behind the objects of the bench device.
 const NO_STRIPS: &[At] = &[At(100, &[Len(8)])];
@@ -83,22 +74,9 @@ const STRIPS: &[At] = &[
     ),
 ];
 
-/// What goes wrong in a script over the bench device with so many channels.
-fn wrong_of_channels(alloc: Global, channels: u16, script: &[At]) -> Option<Wrong> {
-    match bench_with_channels(alloc, channels) {
-        Ok(mut tree) => first_wrong(&mut tree, script),
-        Err(_) => Some(Wrong::NoTree),
-    }
-}
-
-#[test]
-fn the_bench_device_with_channels(rt: HostRuntime) {
-    assert_eq!(rt; wrong_of_channels(rt.alloc(), 0, NO_STRIPS), None);
-    assert_eq!(rt; wrong_of_channels(rt.alloc(), 1022, STRIPS), None);
-    assert_eq!(rt;
-        wrong_of_channels(rt.alloc(), 1023, &[]),
-        Some(Wrong::NoTree)
-    );
+/// Whether there is no bench device with so many channels.
+pub fn has_no_room_for(alloc: Global, channels: u16) -> bool {
+    bench_with_channels(alloc, channels).is_err()
 }
 
 /// How many objects the iterator gives, where each is what is given by index.
@@ -115,12 +93,35 @@ fn in_order(tree: &Tree) -> Option<usize> {
 }
 
 /// How many objects of the bench device the iterator gives in order.
-fn in_order_on_bench(alloc: Global) -> Option<usize> {
+pub fn in_order_on_bench(alloc: Global) -> Option<usize> {
     in_order(&bench(alloc).ok()?)
 }
 
-// The iterator gives what is given by index.
-#[test]
-fn objects_in_order(rt: HostRuntime) {
-    assert_eq!(rt; in_order_on_bench(rt.alloc()), Some(8));
+/// The scripts.
+const SCRIPTS: &[Script] = &[
+    Script {
+        name: "the_objects_of_the_bench_device",
+        over: Bench,
+        parts: BENCH,
+    },
+    Script {
+        name: "the_objects_on_the_desk",
+        over: Bench,
+        parts: ON_THE_DESK,
+    },
+    Script {
+        name: "the_bench_device_without_channels",
+        over: Channels(0),
+        parts: NO_STRIPS,
+    },
+    Script {
+        name: "the_bench_device_with_channels",
+        over: Channels(1022),
+        parts: STRIPS,
+    },
+];
+
+/// The first script that goes otherwise, and where.
+pub fn wrong(alloc: Global) -> Option<(&'static str, Wrong)> {
+    wrong_script(alloc, SCRIPTS)
 }

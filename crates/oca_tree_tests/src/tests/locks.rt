@@ -1,11 +1,11 @@
 //! Locks of two peers.
+use super::script::Over::Bench;
 use super::script::Row::{Calls, Locked, Releases};
-use super::script::{At, call, gives, on_bench};
+use super::script::{At, Script, Wrong, call, gives, wrong_script};
 use super::words::*;
 use oca_tree::{Lock, LockKind, Tree, bench};
 use oca_types::{Ono, Status};
 use std::alloc::Global;
-use std::process::Abort;
 
 /// A ParamCount of 0 and no parameters.
 const NONE: (u8, &[u8]) = (0, &[]);
@@ -57,11 +57,6 @@ const TWO_PEERS: &[At] = &[
     ),
 ];
 
-#[test]
-fn locks_of_two_peers(rt: HostRuntime) {
-    on_bench(&rt, rt.alloc(), TWO_PEERS);
-}
-
 /// A lock of A that keeps others from reading too.
 const TOTAL_OF_A: Option<Lock> = Some(Lock {
     kind: LockKind::Total,
@@ -102,18 +97,28 @@ fn locks(tree: &mut Tree, lock: Lock) -> bool {
     gives(tree, lock.holder, 4097, method, NONE, DONE)
 }
 
+/// Whether the mute is locked so, or is to be left without a lock.
+fn begins(tree: &mut Tree, before: Option<Lock>) -> bool {
+    match before {
+        Some(lock) => locks(tree, lock),
+        None => true,
+    }
+}
+
+/// Whether the case comes out so over this bench device.
+fn comes_out_of(tree: &mut Tree, case: Case) -> bool {
+    let (before, method, params, status, after) = case;
+    begins(tree, before)
+        && call(tree, A, 4097, method, params).0 == status
+        && tree.lock_of(Ono(4097)) == after
+}
+
 /// Whether the case comes out so over a bench device of its own.
 fn comes_out(alloc: Global, case: Case) -> bool {
-    let (before, method, params, status, after) = case;
-    let Ok(mut tree) = bench(alloc) else {
-        return false;
-    };
-    if let Some(lock) = before
-        && !locks(&mut tree, lock)
-    {
-        return false;
+    match bench(alloc) {
+        Ok(mut tree) => comes_out_of(&mut tree, case),
+        Err(_) => false,
     }
-    call(&mut tree, A, 4097, method, params).0 == status && tree.lock_of(Ono(4097)) == after
 }
 
 /// The first case that comes out otherwise.
@@ -124,11 +129,6 @@ fn first_wrong(alloc: Global, cases: &[Case]) -> Option<usize> {
         }
     }
     None
-}
-
-/// Each of the cases comes out as it says.
-fn all_come_out(rt: &impl Abort, alloc: Global, cases: &[Case]) {
-    assert_eq!(rt; first_wrong(alloc, cases), None);
 }
 
 // Both kinds of lock against reading and writing, for the holder and for another peer.
@@ -156,11 +156,6 @@ const ACCESSES: &[Case] = &[
         READONLY_OF_B,
     ),
 ];
-
-#[test]
-fn each_lock_meets_each_access(rt: HostRuntime) {
-    all_come_out(&rt, rt.alloc(), ACCESSES);
-}
 
 // Both kinds of lock against locking, for the holder, who changes the kind, and for another peer.
 const LOCKINGS: &[Case] = &[
@@ -194,11 +189,6 @@ const LOCKINGS: &[Case] = &[
     ),
 ];
 
-#[test]
-fn each_lock_meets_locking(rt: HostRuntime) {
-    all_come_out(&rt, rt.alloc(), LOCKINGS);
-}
-
 // Both kinds of lock against unlocking, for the holder and for another peer.
 const UNLOCKINGS: &[Case] = &[
     (None, UNLOCK, NONE, Status::InvalidRequest, None),
@@ -207,11 +197,6 @@ const UNLOCKINGS: &[Case] = &[
     (TOTAL_OF_B, UNLOCK, NONE, Status::Locked, TOTAL_OF_B),
     (READONLY_OF_B, UNLOCK, NONE, Status::Locked, READONLY_OF_B),
 ];
-
-#[test]
-fn each_lock_meets_unlocking(rt: HostRuntime) {
-    all_come_out(&rt, rt.alloc(), UNLOCKINGS);
-}
 
 // A release takes one peer's locks off and leaves those of another.
 const RELEASE: &[At] = &[
@@ -224,7 +209,36 @@ const RELEASE: &[At] = &[
     At(5, &[Locked(None)]),
 ];
 
-#[test]
-fn release_takes_the_peers_locks_off(rt: HostRuntime) {
-    on_bench(&rt, rt.alloc(), RELEASE);
+/// The scripts.
+const SCRIPTS: &[Script] = &[
+    Script {
+        name: "locks_of_two_peers",
+        over: Bench,
+        parts: TWO_PEERS,
+    },
+    Script {
+        name: "release_takes_the_peers_locks_off",
+        over: Bench,
+        parts: RELEASE,
+    },
+];
+
+/// The first script that goes otherwise, and where.
+pub fn wrong(alloc: Global) -> Option<(&'static str, Wrong)> {
+    wrong_script(alloc, SCRIPTS)
+}
+
+/// The first access that comes out otherwise.
+pub fn wrong_access(alloc: Global) -> Option<usize> {
+    first_wrong(alloc, ACCESSES)
+}
+
+/// The first locking that comes out otherwise.
+pub fn wrong_locking(alloc: Global) -> Option<usize> {
+    first_wrong(alloc, LOCKINGS)
+}
+
+/// The first unlocking that comes out otherwise.
+pub fn wrong_unlocking(alloc: Global) -> Option<usize> {
+    first_wrong(alloc, UNLOCKINGS)
 }

@@ -1,12 +1,14 @@
 //! The table of methods once over the bench device: what every object has, mutes and polarities, and basic actuators.
+use super::script::Over::Bench;
 use super::script::Row::{Does, Holds, Reads, Sends};
-use super::script::{At, Row, on_bench};
+use super::script::{At, Row, Script, Wrong, wrong_script};
 use super::words::*;
 use oca_tree::Setting;
 use oca_types::Status;
 use oca_types::Status::{
     BadMethod, InvalidRequest, NotImplemented, ParameterError, ParameterOutOfRange,
 };
+use std::alloc::Global;
 
 /// What every object answers as the bench device begins, and the methods that are left out.
 pub const COMMON: &[Row] = &[
@@ -98,11 +100,6 @@ const MUTE_AND_POLARITY: &[At] = &[
     At(4098, STATES),
 ];
 
-#[test]
-fn methods_of_mute_and_polarity(rt: HostRuntime) {
-    on_bench(&rt, rt.alloc(), MUTE_AND_POLARITY);
-}
-
 /// What the Int16 actuator is.
 const TRIM_IS: &[Row] = &[
     Reads(
@@ -184,7 +181,21 @@ const BASIC_ACTUATORS: &[At] = &[
     At(4102, DIMMER_ROWS),
 ];
 
-#[test]
-fn methods_of_basic_actuators(rt: HostRuntime) {
-    on_bench(&rt, rt.alloc(), BASIC_ACTUATORS);
+/// The scripts.
+const SCRIPTS: &[Script] = &[
+    Script {
+        name: "methods_of_mute_and_polarity",
+        over: Bench,
+        parts: MUTE_AND_POLARITY,
+    },
+    Script {
+        name: "methods_of_basic_actuators",
+        over: Bench,
+        parts: BASIC_ACTUATORS,
+    },
+];
+
+/// The first script that goes otherwise, and where.
+pub fn wrong(alloc: Global) -> Option<(&'static str, Wrong)> {
+    wrong_script(alloc, SCRIPTS)
 }

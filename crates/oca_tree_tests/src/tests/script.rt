@@ -1,12 +1,11 @@
 //! Trees that are built by a table, and scripts of commands over them.
 use super::words::{A, BLOCK, Called};
 use oca_tree::{
-    AddFault, LocalValue, Lock, SetFault, Setting, Spec, Start, StartFault, Tree, TreeBuilder,
-    bench,
+    AddFault, LocalValue, Lock, Room, SetFault, Setting, Spec, Start, StartFault, Tree,
+    TreeBuilder, bench, bench_with_channels,
 };
 use oca_types::{Class, Command, Handle, MethodId, Ono, Params, Peer, Status, class_fields};
 use std::alloc::Global;
-use std::process::Abort;
 
 /// What is done at an object, and what comes of it.
 #[derive(Clone, Copy)]
@@ -60,16 +59,35 @@ pub enum Addition {
 
 use Addition::*;
 
-/// What went otherwise than a table says.
-#[derive(Clone, Copy, Debug, PartialEq, Eq)]
-pub enum Wrong {
-    /// There was no tree.
-    NoTree,
-    /// The addition at this index.
-    Addition(usize),
-    /// Of the script's part at an index the row at an index.
-    Row(usize, usize),
+/// The tree that a script is run over.
+#[derive(Clone, Copy)]
+pub enum Over {
+    /// The bench device.
+    Bench,
+    /// The bench device with so many channels.
+    Channels(u16),
+    /// The tree of these additions.
+    Built(&'static [Addition]),
+    /// The root alone, with this stored of it.
+    Root(Start<'static>),
 }
+
+/// A script by its name.
+pub struct Script {
+    pub name: &'static str,
+    pub over: Over,
+    pub parts: &'static [At],
+}
+
+/// What went otherwise than a table says: of the script's part at an index the row at an index; behind the last part the
+/// addition at an index, or the last number of all where there was no tree.
+pub type Wrong = (usize, usize);
+
+/// What is no part of a script.
+const NO_PART: usize = usize::MAX;
+
+/// There was no tree.
+const NO_TREE: Wrong = (NO_PART, usize::MAX);
 
 /// Parameters with a byte that an answer takes the place of.
 fn used_parameters() -> Params {
@@ -187,10 +205,10 @@ fn first_wrong_row(tree: &mut Tree, ono: u32, rows: &[Row]) -> Option<usize> {
 }
 
 /// The first part of a script with a row that comes out otherwise, and the row.
-pub fn first_wrong(tree: &mut Tree, script: &[At]) -> Option<Wrong> {
+fn first_wrong(tree: &mut Tree, script: &[At]) -> Option<Wrong> {
     for (at, part) in script.iter().enumerate() {
         if let Some(row) = first_wrong_row(tree, part.0, part.1) {
-            return Some(Wrong::Row(at, row));
+            return Some((at, row));
         }
     }
     None
@@ -237,41 +255,63 @@ fn adds(builder: &mut TreeBuilder, addition: &Addition) -> bool {
 }
 
 /// The first addition that is answered otherwise.
-fn first_wrong_addition(builder: &mut TreeBuilder, additions: &[Addition]) -> Option<Wrong> {
+pub fn first_wrong_addition(builder: &mut TreeBuilder, additions: &[Addition]) -> Option<usize> {
     for (at, addition) in additions.iter().enumerate() {
         if !adds(builder, addition) {
-            return Some(Wrong::Addition(at));
+            return Some(at);
         }
     }
     None
 }
 
-/// What goes wrong in the additions to a builder and in a script over its tree.
-pub fn wrong_of_built(
-    mut builder: TreeBuilder,
-    additions: &[Addition],
-    script: &[At],
-) -> Option<Wrong> {
-    if let Some(wrong) = first_wrong_addition(&mut builder, additions) {
-        return Some(wrong);
+/// What goes wrong in a script over a tree.
+fn wrong_over(tree: Result<Tree, AddFault>, parts: &[At]) -> Option<Wrong> {
+    match tree {
+        Ok(mut tree) => first_wrong(&mut tree, parts),
+        Err(_) => Some(NO_TREE),
     }
-    first_wrong(&mut builder.finish(), script)
 }
 
-/// Runs a script over the bench device.
-pub fn on_bench(rt: &impl Abort, alloc: Global, script: &[At]) {
-    let wrong = match bench(alloc) {
-        Ok(mut tree) => first_wrong(&mut tree, script),
-        Err(_) => Some(Wrong::NoTree),
-    };
-    assert_eq!(rt; wrong, None);
+/// What goes wrong in the additions to a builder and in a script over its tree.
+fn wrong_with(mut builder: TreeBuilder, additions: &[Addition], parts: &[At]) -> Option<Wrong> {
+    match first_wrong_addition(&mut builder, additions) {
+        Some(at) => Some((NO_PART, at)),
+        None => first_wrong(&mut builder.finish(), parts),
+    }
 }
 
-/// Runs a script over the tree of these additions.
-pub fn on_built(rt: &impl Abort, alloc: Global, additions: &[Addition], script: &[At]) {
-    let wrong = match TreeBuilder::new(alloc) {
-        Ok(builder) => wrong_of_built(builder, additions, script),
-        Err(_) => Some(Wrong::NoTree),
-    };
-    assert_eq!(rt; wrong, None);
+/// What goes wrong in the additions and in a script over their tree.
+fn wrong_of_built(alloc: Global, additions: &[Addition], parts: &[At]) -> Option<Wrong> {
+    match TreeBuilder::new(alloc) {
+        Ok(builder) => wrong_with(builder, additions, parts),
+        Err(_) => Some(NO_TREE),
+    }
+}
+
+/// What goes wrong in a script over the root alone.
+fn wrong_of_root(alloc: Global, stored: &Start<'_>, parts: &[At]) -> Option<Wrong> {
+    match TreeBuilder::with_root(alloc, Room::default(), stored) {
+        Ok(builder) => wrong_with(builder, &[], parts),
+        Err(_) => Some(NO_TREE),
+    }
+}
+
+/// What goes wrong in a script.
+fn wrong_in(alloc: Global, script: &Script) -> Option<Wrong> {
+    match script.over {
+        Over::Bench => wrong_over(bench(alloc), script.parts),
+        Over::Channels(count) => wrong_over(bench_with_channels(alloc, count), script.parts),
+        Over::Built(additions) => wrong_of_built(alloc, additions, script.parts),
+        Over::Root(stored) => wrong_of_root(alloc, &stored, script.parts),
+    }
+}
+
+/// The first script in which something goes wrong, and what.
+pub fn wrong_script(alloc: Global, scripts: &[Script]) -> Option<(&'static str, Wrong)> {
+    for script in scripts {
+        if let Some(wrong) = wrong_in(alloc, script) {
+            return Some((script.name, wrong));
+        }
+    }
+    None
 }

@@ -1,12 +1,12 @@
 //! What was stored of an object is there when the device begins again.
 use super::script::Addition::{One, Stored, Unstored};
+use super::script::Over::{Built, Root};
 use super::script::Row::{Len, Reads};
-use super::script::{Addition, At, Wrong, on_built, wrong_of_built};
+use super::script::{Addition, At, Script, Wrong, first_wrong_addition, wrong_script};
 use super::words::*;
 use oca_tree::{AddFault, Kind, Room, Spec, Start, StartFault, Tree, TreeBuilder, bench};
 use oca_types::Ono;
 use std::alloc::Global;
-use std::process::Abort;
 
 /// What nothing stored stands for.
 const NOTHING: Start<'static> = Start {
@@ -47,11 +47,6 @@ const STORED_ROWS: &[At] = &[At(
     ],
 )];
 
-#[test]
-fn a_switch_begins_as_stored(rt: HostRuntime) {
-    on_built(&rt, rt.alloc(), STORED, STORED_ROWS);
-}
-
 // The default is what an object is without it.
 const UNSTORED: &[Addition] = &[
     One(100, 4096, BLOCK, Ok(())),
@@ -66,11 +61,6 @@ const UNSTORED_ROWS: &[At] = &[At(
         Reads(GET_POSITION_ENABLEDS, 1, &[0, 3, 1, 1, 1]),
     ],
 )];
-
-#[test]
-fn nothing_stored_is_an_object_as_added(rt: HostRuntime) {
-    on_built(&rt, rt.alloc(), UNSTORED, UNSTORED_ROWS);
-}
 
 // A label of 64 bytes is taken and one of 65 is not; behind it other flags than as many as the positions are refused.
 const LONG: Start<'static> = Start {
@@ -106,11 +96,6 @@ const FITTING: &[Addition] = &[
 
 const OF_3: &[At] = &[At(100, &[Len(3)])];
 
-#[test]
-fn what_was_stored_must_fit(rt: HostRuntime) {
-    on_built(&rt, rt.alloc(), FITTING, OF_3);
-}
-
 // A mute has no positions: no flags fit it but none.
 const ONE_FLAG: Start<'static> = Start {
     position_enableds: Some(&[true]),
@@ -128,20 +113,6 @@ const FLAGS_OF_A_MUTE: &[Addition] = &[
     Stored(4096, 4097, MUTE, NO_FLAGS, Ok(())),
 ];
 
-#[test]
-fn a_mute_takes_no_flags(rt: HostRuntime) {
-    on_built(&rt, rt.alloc(), FLAGS_OF_A_MUTE, &[]);
-}
-
-/// Runs a script over a tree of the root alone, with this stored of it.
-fn on_root(rt: &impl Abort, alloc: Global, stored: &Start<'_>, script: &[At]) {
-    let wrong = match TreeBuilder::with_root(alloc, Room::default(), stored) {
-        Ok(builder) => wrong_of_built(builder, &[], script),
-        Err(_) => Some(Wrong::NoTree),
-    };
-    assert_eq!(rt; wrong, None);
-}
-
 // The root's label is there again too.
 const GREETING: Start<'static> = Start {
     label: "Hi",
@@ -155,11 +126,6 @@ const ROOT_ROWS: &[At] = &[At(
         Reads(GET_ROLE, 1, &[0, 4, 0x72, 0x6F, 0x6F, 0x74]),
     ],
 )];
-
-#[test]
-fn the_root_begins_as_stored(rt: HostRuntime) {
-    on_root(&rt, rt.alloc(), &GREETING, ROOT_ROWS);
-}
 
 // The words of each fault.
 const WORDS: &[(StartFault, &str)] = &[
@@ -180,18 +146,13 @@ fn says(alloc: Global, fault: StartFault, words: &str) -> bool {
 }
 
 /// The first fault with other words.
-fn first_wrong_words(alloc: Global) -> Option<usize> {
+pub fn first_wrong_words(alloc: Global) -> Option<usize> {
     for (at, (fault, words)) in WORDS.iter().enumerate() {
         if !says(alloc, *fault, words) {
             return Some(at);
         }
     }
     None
-}
-
-#[test]
-fn faults_of_starts_are_printed(rt: HostRuntime) {
-    assert_eq!(rt; first_wrong_words(rt.alloc()), None);
 }
 
 /// What is told of an object: its number, its label, whether it is enabled and can be locked, and the flags and the names
@@ -232,19 +193,27 @@ const TOLD: &[Told] = &[
     },
 ];
 
-/// The root, the switch with what was stored of both, and a lamp that can't be locked.
+/// A lamp that can't be locked.
+const LAMP: Spec<'static> = Spec {
+    role: "lamp",
+    lockable: false,
+    kind: Kind::Boolean(true),
+};
+
+/// The switch with what was stored of it, and the lamp.
+const SWITCH_AND_LAMP: &[Addition] = &[
+    Stored(100, 4096, INPUT, DISABLED, Ok(())),
+    One(100, 4097, LAMP, Ok(())),
+];
+
+/// The root, the switch with what was stored of both, and the lamp.
 fn stored_tree(alloc: Global) -> Option<Tree> {
-    let lamp = Spec {
-        role: "lamp",
-        lockable: false,
-        kind: Kind::Boolean(true),
-    };
     let mut builder = TreeBuilder::with_root(alloc, Room::default(), &GREETING).ok()?;
-    builder
-        .add_with(Ono(100), Ono(4096), &INPUT, &DISABLED)
-        .ok()?;
-    builder.add(Ono(100), Ono(4097), &lamp).ok()?;
-    Some(builder.finish())
+    if first_wrong_addition(&mut builder, SWITCH_AND_LAMP).is_none() {
+        Some(builder.finish())
+    } else {
+        None
+    }
 }
 
 /// Whether these are the names of its positions.
@@ -269,35 +238,77 @@ fn is_told(tree: &Tree, row: &Told) -> bool {
         && are_names(tree, row)
 }
 
+/// Whether nothing is told of an object that is not there.
+fn is_untold(tree: &Tree, ono: u32) -> bool {
+    tree.start_of(Ono(ono)).is_none() && tree.is_lockable(Ono(ono)).is_none()
+}
+
 /// The first row that is not told; of no object is anything told.
-fn first_wrong_told(alloc: Global) -> Option<usize> {
-    let Some(tree) = stored_tree(alloc) else {
-        return Some(TOLD.len());
-    };
+fn first_wrong_told(tree: &Tree) -> Option<usize> {
     for (at, row) in TOLD.iter().enumerate() {
-        if !is_told(&tree, row) {
+        if !is_told(tree, row) {
             return Some(at);
         }
     }
-    if tree.start_of(Ono(4098)).is_some() || tree.is_lockable(Ono(4098)).is_some() {
-        return Some(TOLD.len());
+    if is_untold(tree, 4098) {
+        None
+    } else {
+        Some(TOLD.len())
     }
-    None
 }
 
-#[test]
-fn what_was_stored_is_told(rt: HostRuntime) {
-    assert_eq!(rt; first_wrong_told(rt.alloc()), None);
+/// Whether the tree is the same but for locks as itself, and not as the bench.
+fn is_compared(alloc: Global, tree: &Tree) -> bool {
+    match bench(alloc) {
+        Ok(other) => tree.is_but_for_locks(tree) && !tree.is_but_for_locks(&other),
+        Err(_) => false,
+    }
 }
 
-/// Whether two trees are the same but for locks: one with itself, and with the bench.
-fn compared(alloc: Global) -> Option<(bool, bool)> {
-    let tree = stored_tree(alloc)?;
-    let other = bench(alloc).ok()?;
-    Some((tree.is_but_for_locks(&tree), tree.is_but_for_locks(&other)))
+/// The first row that is not told of what was stored; the last number where trees are compared otherwise, or there is none.
+pub fn first_wrong_stored(alloc: Global) -> Option<usize> {
+    match stored_tree(alloc) {
+        Some(tree) => {
+            if is_compared(alloc, &tree) {
+                first_wrong_told(&tree)
+            } else {
+                Some(usize::MAX)
+            }
+        }
+        None => Some(usize::MAX),
+    }
 }
 
-#[test]
-fn trees_are_compared(rt: HostRuntime) {
-    assert_eq!(rt; compared(rt.alloc()), Some((true, false)));
+/// The scripts.
+const SCRIPTS: &[Script] = &[
+    Script {
+        name: "a_switch_begins_as_stored",
+        over: Built(STORED),
+        parts: STORED_ROWS,
+    },
+    Script {
+        name: "nothing_stored_is_an_object_as_added",
+        over: Built(UNSTORED),
+        parts: UNSTORED_ROWS,
+    },
+    Script {
+        name: "what_was_stored_must_fit",
+        over: Built(FITTING),
+        parts: OF_3,
+    },
+    Script {
+        name: "a_mute_takes_no_flags",
+        over: Built(FLAGS_OF_A_MUTE),
+        parts: &[],
+    },
+    Script {
+        name: "the_root_begins_as_stored",
+        over: Root(GREETING),
+        parts: ROOT_ROWS,
+    },
+];
+
+/// The first script that goes otherwise, and where.
+pub fn wrong(alloc: Global) -> Option<(&'static str, Wrong)> {
+    wrong_script(alloc, SCRIPTS)
 }

@@ -1,11 +1,13 @@
 //! Each method of a switch over the bench device.
 use super::methods::{COMMON, DESK, LOCKABLE};
+use super::script::Over::Bench;
 use super::script::Row::{Calls, Does, Holds, Reads, Sends};
-use super::script::{At, Row, on_bench};
+use super::script::{At, Row, Script, Wrong, wrong_script};
 use super::words::*;
 use oca_tree::Setting;
 use oca_types::Status;
 use oca_types::Status::{BadMethod, ParameterError, ParameterOutOfRange};
+use std::alloc::Global;
 
 /// What the switch is.
 const INPUT_IS: &[Row] = &[
@@ -95,7 +97,14 @@ const SWITCH: &[At] = &[
     At(4099, &[Does((4, 11), BadMethod)]),
 ];
 
-#[test]
-fn methods_of_a_switch(rt: HostRuntime) {
-    on_bench(&rt, rt.alloc(), SWITCH);
+/// The scripts.
+const SCRIPTS: &[Script] = &[Script {
+    name: "methods_of_a_switch",
+    over: Bench,
+    parts: SWITCH,
+}];
+
+/// The first script that goes otherwise, and where.
+pub fn wrong(alloc: Global) -> Option<(&'static str, Wrong)> {
+    wrong_script(alloc, SCRIPTS)
 }

@@ -10,17 +10,9 @@ fn is_written_over(room: &mut [u8], bytes: &[u8]) -> bool {
     *room == *bytes
 }
 
-#[test]
-fn no_byte_is_written_over(rt: HostRuntime) {
-    assert!(rt; is_written_over(&mut [], &[]));
-}
-
-#[test]
-fn one_byte_is_written_over(rt: HostRuntime) {
-    assert!(rt; is_written_over(&mut [9], &[1]));
-}
-
-#[test]
-fn several_bytes_are_written_over(rt: HostRuntime) {
-    assert!(rt; is_written_over(&mut [9, 9, 9], &[1, 2, 3]));
+/// Whether no byte, one byte and several are written over.
+pub fn are_written_over() -> bool {
+    is_written_over(&mut [], &[])
+        && is_written_over(&mut [9], &[1])
+        && is_written_over(&mut [9, 9, 9], &[1, 2, 3])
 }

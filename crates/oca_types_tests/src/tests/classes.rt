@@ -26,18 +26,13 @@ fn is_class(alloc: Global, class: Class, fields: &[u16], name: &str) -> bool {
 }
 
 /// The first class that has other fields or another name.
-fn first_wrong_class(alloc: Global) -> Option<Class> {
-    for (class, fields, name) in CLASSES {
+pub fn first_wrong_class(alloc: Global) -> Option<usize> {
+    for (at, (class, fields, name)) in CLASSES.iter().enumerate() {
         if !is_class(alloc, *class, fields, name) {
-            return Some(*class);
+            return Some(at);
         }
     }
     None
-}
-
-#[test]
-fn classes_have_these_fields_and_names(rt: HostRuntime) {
-    assert_eq!(rt; first_wrong_class(rt.alloc()), None);
 }
 
 /// Statuses, their numbers and their names (AES70-2).
@@ -67,22 +62,15 @@ fn is_status(alloc: Global, status: Status, number: u8, name: &str) -> bool {
         && prints(alloc, &status, name)
 }
 
-/// The first status that has another number or another name.
-fn first_wrong_status(alloc: Global) -> Option<Status> {
-    for (status, number, name) in STATUSES {
+/// The first status that has another number or another name; the last number where one has the number 15.
+pub fn first_wrong_status(alloc: Global) -> Option<usize> {
+    for (at, (status, number, name)) in STATUSES.iter().enumerate() {
         if !is_status(alloc, *status, *number, name) {
-            return Some(*status);
+            return Some(at);
         }
     }
+    if Status::with_number(15).is_some() {
+        return Some(usize::MAX);
+    }
     None
-}
-
-#[test]
-fn numbers_and_names_of_the_statuses(rt: HostRuntime) {
-    assert_eq!(rt; first_wrong_status(rt.alloc()), None);
-}
-
-#[test]
-fn no_status_has_the_number_15(rt: HostRuntime) {
-    assert_eq!(rt; Status::with_number(15), None);
 }

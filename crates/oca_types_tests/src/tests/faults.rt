@@ -20,45 +20,33 @@ const OF_TAKES: &[(ReadFault, &str)] = &[
 ];
 
 /// The first fault that prints other words.
-fn first_wrong(alloc: Global) -> Option<ReadFault> {
-    for (fault, words) in OF_TAKES {
+pub fn first_wrong(alloc: Global) -> Option<usize> {
+    for (at, (fault, words)) in OF_TAKES.iter().enumerate() {
         if !prints(alloc, fault, words) {
-            return Some(*fault);
+            return Some(at);
         }
     }
     None
 }
 
-#[test]
-fn faults_of_takes_are_printed(rt: HostRuntime) {
-    assert_eq!(rt; first_wrong(rt.alloc()), None);
+/// Whether a put without room and refused memory print their words.
+fn prints_refusals(alloc: Global) -> bool {
+    prints(
+        alloc,
+        &PutFault::Full,
+        "the parameters would pass 1,452 bytes",
+    ) && prints(alloc, &NoMemory, "no memory")
 }
 
-#[test]
-fn faults_of_puts_are_printed(rt: HostRuntime) {
-    assert!(rt;
-        prints(
-            rt.alloc(),
-            &PutFault::Full,
-            "the parameters would pass 1,452 bytes"
-        )
-    );
-}
-
-#[test]
-fn refused_memory_is_printed(rt: HostRuntime) {
-    assert!(rt; prints(rt.alloc(), &NoMemory, "no memory"));
-}
-
-/// Whether a command's handle, its object and its method print these words.
-fn print_as(alloc: Global, handle: &str, ono: &str, method: &str) -> bool {
+/// Whether a command's handle, its object and its method print their words.
+fn prints_command(alloc: Global) -> bool {
     let id = MethodId { level: 4, index: 2 };
-    prints(alloc, &Handle(0xFFFF_FFFF), handle)
-        && prints(alloc, &Ono(4097), ono)
-        && prints(alloc, &id, method)
+    prints(alloc, &Handle(0xFFFF_FFFF), "4294967295")
+        && prints(alloc, &Ono(4097), "4097")
+        && prints(alloc, &id, "4.2")
 }
 
-#[test]
-fn the_words_of_a_command_are_printed(rt: HostRuntime) {
-    assert!(rt; print_as(rt.alloc(), "4294967295", "4097", "4.2"));
+/// Whether both are so.
+pub fn are_printed(alloc: Global) -> bool {
+    prints_refusals(alloc) && prints_command(alloc)
 }

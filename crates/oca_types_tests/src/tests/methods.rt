@@ -62,7 +62,7 @@ fn is_found(class: Class, id: MethodId, kind: MethodKind) -> bool {
 }
 
 /// The first row that is answered otherwise.
-fn first_wrong() -> Option<usize> {
+pub fn first_wrong() -> Option<usize> {
     for (at, row) in METHODS.iter().enumerate() {
         let (class, level, index, kind) = *row;
         let id = MethodId { level, index };
@@ -71,11 +71,6 @@ fn first_wrong() -> Option<usize> {
         }
     }
     None
-}
-
-#[test]
-fn methods_of_the_classes(rt: HostRuntime) {
-    assert_eq!(rt; first_wrong(), None);
 }
 
 /// Classes, and methods that they do not have.
@@ -88,16 +83,11 @@ const OF_NO_CLASS: &[(Class, Method)] = &[
 ];
 
 /// The first row whose class has the method.
-fn first_found() -> Option<usize> {
+pub fn first_found() -> Option<usize> {
     for (at, (class, method)) in OF_NO_CLASS.iter().enumerate() {
         if method_id(*class, *method).is_some() {
             return Some(at);
         }
     }
     None
-}
-
-#[test]
-fn methods_that_a_class_does_not_have(rt: HostRuntime) {
-    assert_eq!(rt; first_found(), None);
 }

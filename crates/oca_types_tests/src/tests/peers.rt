@@ -1,4 +1,5 @@
 //! Peers as text, and moments that may be missing.
+use crate::tests::faults::prints;
 use oca_types::{Peer, sooner};
 use std::alloc::Global;
 use std::net::SocketAddrV4;
@@ -32,14 +33,6 @@ const PEERS: &[(Peer, [u8; 4], &str)] = &[
     ),
 ];
 
-/// Whether a peer prints this text.
-fn prints(alloc: Global, peer: Peer, text: &str) -> bool {
-    match peer.to_string(alloc) {
-        Ok(printed) => printed.as_str() == text,
-        Err(_) => false,
-    }
-}
-
 /// Whether the text names this peer.
 fn reads(text: &str, peer: Peer) -> bool {
     match text.parse::<Peer>() {
@@ -55,18 +48,13 @@ fn is_at(peer: Peer, numbers: [u8; 4]) -> bool {
 }
 
 /// The first peer that has other numbers or another text.
-fn first_wrong(alloc: Global) -> Option<Peer> {
-    for (peer, numbers, text) in PEERS {
-        if !is_at(*peer, *numbers) || !prints(alloc, *peer, text) || !reads(text, *peer) {
-            return Some(*peer);
+pub fn first_wrong(alloc: Global) -> Option<usize> {
+    for (at, (peer, numbers, text)) in PEERS.iter().enumerate() {
+        if !is_at(*peer, *numbers) || !prints(alloc, peer, text) || !reads(text, *peer) {
+            return Some(at);
         }
     }
     None
-}
-
-#[test]
-fn peers_as_text(rt: HostRuntime) {
-    assert_eq!(rt; first_wrong(rt.alloc()), None);
 }
 
 /// Texts that name no peer.
@@ -80,7 +68,7 @@ const NO_PEERS: &[&str] = &[
 ];
 
 /// The first of them that is read.
-fn first_read() -> Option<usize> {
+pub fn first_read() -> Option<usize> {
     for (at, text) in NO_PEERS.iter().enumerate() {
         if text.parse::<Peer>().is_ok() {
             return Some(at);
@@ -89,21 +77,16 @@ fn first_read() -> Option<usize> {
     None
 }
 
-#[test]
-fn texts_that_name_no_peer(rt: HostRuntime) {
-    assert_eq!(rt; first_read(), None);
-}
-
-#[test]
-fn a_peer_on_this_machine(rt: HostRuntime) {
-    assert_eq!(rt; Peer::loopback(9001), AT_9001);
-}
-
 /// 127.0.0.1:9001.
 const AT_9001: Peer = Peer {
     ip: 0x7F00_0001,
     port: 9001,
 };
+
+/// Whether a port of this machine is that.
+pub fn is_loopback() -> bool {
+    Peer::loopback(9001) == AT_9001
+}
 
 /// Two moments that may be missing, and the sooner.
 const MOMENTS: &[(Option<u64>, Option<u64>, Option<u64>)] = &[
@@ -115,16 +98,11 @@ const MOMENTS: &[(Option<u64>, Option<u64>, Option<u64>)] = &[
 ];
 
 /// The first row whose sooner moment is another.
-fn first_wrong_moment() -> Option<usize> {
+pub fn first_wrong_moment() -> Option<usize> {
     for (at, row) in MOMENTS.iter().enumerate() {
         if sooner(row.0, row.1) != row.2 {
             return Some(at);
         }
     }
     None
-}
-
-#[test]
-fn the_sooner_moment(rt: HostRuntime) {
-    assert_eq!(rt; first_wrong_moment(), None);
 }

@@ -3,7 +3,6 @@ use oca_types::{
     Class, Cursor, Field, Params, PutFault, Text, put_bool, put_class_identification, put_i8,
     put_i16, put_i32, put_i64, put_text, put_u8, put_u16, put_u32, put_u64,
 };
-use std::process::Abort;
 
 /// A value that is put.
 #[derive(Clone, Copy)]
@@ -46,34 +45,20 @@ fn put(params: &mut Params, value: Value) -> Result<(), PutFault> {
     }
 }
 
-/// What went otherwise than a row says.
-#[derive(Clone, Copy, Debug, PartialEq, Eq)]
-enum Wrong {
-    /// The value of this index was refused.
-    Refused(usize),
-    /// The bytes are others.
-    Bytes,
-    /// The row of this index is answered otherwise.
-    Row(usize),
-}
-
-/// What goes otherwise where the values are put one after the other, and are to be these bytes.
-fn wrong_put(values: &[Value], bytes: &[u8]) -> Option<Wrong> {
-    let mut params = Params::new();
-    for (at, value) in values.iter().enumerate() {
-        if put(&mut params, *value) != Ok(()) {
-            return Some(Wrong::Refused(at));
+/// Whether the values are put one after the other.
+fn puts_all(params: &mut Params, values: &[Value]) -> bool {
+    for value in values {
+        if put(params, *value) != Ok(()) {
+            return false;
         }
     }
-    if params.as_slice() != bytes {
-        return Some(Wrong::Bytes);
-    }
-    None
+    true
 }
 
-/// The values are put one after the other, and are these bytes.
-fn are_put(rt: &impl Abort, values: &[Value], bytes: &[u8]) {
-    assert_eq!(rt; wrong_put(values, bytes), None);
+/// Whether the values, put one after the other, are these bytes.
+fn are_put(values: &[Value], bytes: &[u8]) -> bool {
+    let mut params = Params::new();
+    puts_all(&mut params, values) && params.as_slice() == bytes
 }
 
 const UNSIGNED: &[Value] = &[
@@ -87,11 +72,6 @@ const UNSIGNED_BYTES: &[u8] = &[
     255, 255, 254, 1, 2, 3, 4, 255, 255, 255, 255, 255, 255, 255, 255,
 ];
 
-#[test]
-fn unsigned_numbers_are_put(rt: HostRuntime) {
-    are_put(&rt, UNSIGNED, UNSIGNED_BYTES);
-}
-
 const SIGNED: &[Value] = &[
     Value::I8(-128),
     Value::I16(-600),
@@ -102,11 +82,6 @@ const SIGNED: &[Value] = &[
 const SIGNED_BYTES: &[u8] = &[
     0x80, 0xFD, 0xA8, 0xFF, 0xFF, 0xFF, 0xFE, 0x80, 0, 0, 0, 0, 0, 0, 0,
 ];
-
-#[test]
-fn signed_numbers_are_put(rt: HostRuntime) {
-    are_put(&rt, SIGNED, SIGNED_BYTES);
-}
 
 const OTHERS: &[Value] = &[
     Value::Bool(false),
@@ -119,9 +94,21 @@ const OTHER_BYTES: &[u8] = &[
     0, 1, 0, 5, 0x42, 0xC3, 0xBC, 0x68, 0x6E, 0x65, 0, 4, 0, 1, 0, 1, 0, 1, 0, 2, 0, 2,
 ];
 
-#[test]
-fn other_values_are_put(rt: HostRuntime) {
-    are_put(&rt, OTHERS, OTHER_BYTES);
+/// Values, and their bytes.
+const PUT: &[(&[Value], &[u8])] = &[
+    (UNSIGNED, UNSIGNED_BYTES),
+    (SIGNED, SIGNED_BYTES),
+    (OTHERS, OTHER_BYTES),
+];
+
+/// The first row that is put otherwise.
+pub fn first_wrong() -> Option<usize> {
+    for (at, (values, bytes)) in PUT.iter().enumerate() {
+        if !are_put(values, bytes) {
+            return Some(at);
+        }
+    }
+    None
 }
 
 /// Parameters of so many bytes 7.
@@ -161,18 +148,13 @@ const WITHOUT_ROOM: &[(u16, Value)] = &[
 ];
 
 /// The first of them that has room, or changes the bytes.
-fn first_with_room() -> Option<Wrong> {
+pub fn first_with_room() -> Option<usize> {
     for (at, (length, value)) in WITHOUT_ROOM.iter().enumerate() {
         if !has_no_room(*length, *value) {
-            return Some(Wrong::Row(at));
+            return Some(at);
         }
     }
     None
-}
-
-#[test]
-fn values_without_room_up_to_1452_are_refused(rt: HostRuntime) {
-    assert_eq!(rt; first_with_room(), None);
 }
 
 /// Values behind so many bytes that are 1,452 with them.
@@ -191,18 +173,13 @@ const WITH_ROOM: &[(u16, Value)] = &[
 ];
 
 /// The first of them that has no room, or is of another size.
-fn first_without_room() -> Option<Wrong> {
+pub fn first_without_room() -> Option<usize> {
     for (at, (length, value)) in WITH_ROOM.iter().enumerate() {
         if !fills(*length, *value) {
-            return Some(Wrong::Row(at));
+            return Some(at);
         }
     }
     None
-}
-
-#[test]
-fn values_have_room_up_to_1452(rt: HostRuntime) {
-    assert_eq!(rt; first_without_room(), None);
 }
 
 /// Whether a value of one length is read back from what was put, of so many bytes.
@@ -218,7 +195,7 @@ fn is_read_back<F: Field + PartialEq>(value: F) -> bool {
     }
 }
 
-#[test]
-fn values_of_one_length_are_read_back(rt: HostRuntime) {
-    assert!(rt; is_read_back(0xFFFE_u16) && is_read_back(i64::MIN) && is_read_back(true));
+/// Whether values of one length are read back.
+pub fn are_read_back() -> bool {
+    is_read_back(0xFFFE_u16) && is_read_back(i64::MIN) && is_read_back(true)
 }

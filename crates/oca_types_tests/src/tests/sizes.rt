@@ -1,6 +1,5 @@
 //! Sizes that a program chooses.
 use oca_types::{Peers, Sizes, Span, Window};
-use std::process::Abort;
 
 /// Which size it is.
 #[derive(Clone, Copy)]
@@ -46,29 +45,30 @@ fn first_wrong(size: Size, most: u8) -> Option<u8> {
     None
 }
 
-/// A size is from 1 to the most, and by default this.
-fn is_up_to(rt: &impl Abort, size: Size, most: u8, default: u8) {
-    assert_eq!(rt; first_wrong(size, most), None);
-    assert_eq!(rt; default_of(size), default);
+/// The sizes, each with the most that it may be and what it is by default.
+const SIZES: &[(Size, u8, u8)] = &[
+    (Size::Window, 64, 32),
+    (Size::Peers, 64, 16),
+    (Size::Span, 32, 16),
+];
+
+/// Whether a size is from 1 to the most, and by default this.
+fn is_up_to(size: Size, most: u8, default: u8) -> bool {
+    first_wrong(size, most).is_none() && default_of(size) == default
 }
 
-#[test]
-fn windows_of_1_to_64(rt: HostRuntime) {
-    is_up_to(&rt, Size::Window, 64, 32);
+/// The first size that is otherwise.
+pub fn first_wrong_size() -> Option<usize> {
+    for (at, (size, most, default)) in SIZES.iter().enumerate() {
+        if !is_up_to(*size, *most, *default) {
+            return Some(at);
+        }
+    }
+    None
 }
 
-#[test]
-fn peers_of_1_to_64(rt: HostRuntime) {
-    is_up_to(&rt, Size::Peers, 64, 16);
-}
-
-#[test]
-fn spans_of_1_to_32(rt: HostRuntime) {
-    is_up_to(&rt, Size::Span, 32, 16);
-}
-
-#[test]
-fn a_window_of_32_for_16_peers_by_default(rt: HostRuntime) {
+/// Whether a device has windows of 32 for 16 peers by default.
+pub fn are_by_default() -> bool {
     let sizes = Sizes::default();
-    assert_eq!(rt; (sizes.window.get(), sizes.peers.get()), (32, 16));
+    sizes.window.get() == 32 && sizes.peers.get() == 16
 }

@@ -1,10 +1,9 @@
 //! Texts: well-formed, cut short, too long and no UTF-8.
 use oca_types::ReadFault::{NotUtf8, Short, TooLong};
 use oca_types::{Cursor, ReadFault, Text};
-use std::process::Abort;
 
 /// Bytes, and the text that is taken of them with the number of the bytes behind it, or the refusal.
-type Row = (&'static [u8], Result<(&'static str, u8), ReadFault>);
+pub type Row = (&'static [u8], Result<(&'static str, u8), ReadFault>);
 
 /// Whether so many bytes are left.
 fn leaves(cursor: &mut Cursor<'_>, left: u8) -> bool {
@@ -51,7 +50,7 @@ fn agrees(row: Row) -> bool {
 }
 
 /// The first of the rows that is answered otherwise.
-fn first_wrong(rows: &[Row]) -> Option<usize> {
+pub fn first_wrong(rows: &[Row]) -> Option<usize> {
     for (at, row) in rows.iter().enumerate() {
         if !agrees(*row) {
             return Some(at);
@@ -60,18 +59,13 @@ fn first_wrong(rows: &[Row]) -> Option<usize> {
     None
 }
 
-/// The rows are answered so.
-fn are_answered(rt: &impl Abort, rows: &[Row]) {
-    assert_eq!(rt; first_wrong(rows), None);
-}
-
 /// A text of 64 bytes.
 const A64: &str = "aaaaaaaaaaaaaaaaaaaaaaaaaaaaaaaaaaaaaaaaaaaaaaaaaaaaaaaaaaaaaaaa";
 
 /// A text of 65 bytes.
 const A65: &str = "aaaaaaaaaaaaaaaaaaaaaaaaaaaaaaaaaaaaaaaaaaaaaaaaaaaaaaaaaaaaaaaaa";
 
-const WORKED_EXAMPLES: &[Row] = &[
+pub const WORKED_EXAMPLES: &[Row] = &[
     (&[0, 1, 0xC3], Err(Short)),
     (&[0, 1, 0xFF], Err(NotUtf8)),
     (
@@ -98,12 +92,7 @@ const WORKED_EXAMPLES: &[Row] = &[
     (b"\x00\x41aaaaaaaaaa\xFF", Err(NotUtf8)),
 ];
 
-#[test]
-fn texts_of_the_worked_examples(rt: HostRuntime) {
-    are_answered(&rt, WORKED_EXAMPLES);
-}
-
-const COUNTS: &[Row] = &[
+pub const COUNTS: &[Row] = &[
     // no text, and a count of which a part is missing
     (&[], Err(Short)),
     (&[0], Err(Short)),
@@ -120,12 +109,7 @@ const COUNTS: &[Row] = &[
     (&[0, 1, 0x61, 0xFF], Ok(("a", 1))),
 ];
 
-#[test]
-fn texts_and_their_counts(rt: HostRuntime) {
-    are_answered(&rt, COUNTS);
-}
-
-const EDGES: &[Row] = &[
+pub const EDGES: &[Row] = &[
     // the largest scalar value, and above it
     (&[0, 1, 0xF4, 0x8F, 0xBF, 0xBF], Ok(("\u{10FFFF}", 0))),
     (&[0, 1, 0xF4, 0x90, 0x80, 0x80], Err(NotUtf8)),
@@ -152,11 +136,6 @@ const EDGES: &[Row] = &[
     (&[0, 1, 0xF0, 0x9F, 0x98, 0x80], Ok(("😀", 0))),
 ];
 
-#[test]
-fn texts_at_the_edges_of_utf8(rt: HostRuntime) {
-    are_answered(&rt, EDGES);
-}
-
 /// 32 characters of two bytes each, and one more behind them.
 const OF_32: &[u8] = &[
     0, 0x20, 0xC3, 0xBC, 0xC3, 0xBC, 0xC3, 0xBC, 0xC3, 0xBC, 0xC3, 0xBC, 0xC3, 0xBC, 0xC3, 0xBC,
@@ -176,15 +155,10 @@ const OF_33: &[u8] = &[
 ];
 
 /// 32 characters in 64 bytes, and 33 in 66.
-const TWO_BYTES: &[Row] = &[
+pub const TWO_BYTES: &[Row] = &[
     (OF_32, Ok(("üüüüüüüüüüüüüüüüüüüüüüüüüüüüüüüü", 2))),
     (OF_33, Err(TooLong)),
 ];
-
-#[test]
-fn texts_of_characters_of_two_bytes(rt: HostRuntime) {
-    are_answered(&rt, TWO_BYTES);
-}
 
 /// Whether it is a text, and the same once more.
 fn is_short(text: &str) -> bool {
@@ -194,14 +168,7 @@ fn is_short(text: &str) -> bool {
     }
 }
 
-#[test]
-fn texts_of_64_bytes(rt: HostRuntime) {
-    assert!(rt; is_short(A64));
-    assert!(rt; is_short("Bühne"));
-    assert!(rt; !is_short(A65));
-}
-
-#[test]
-fn the_empty_text_by_default(rt: HostRuntime) {
-    assert_eq!(rt; Text::default().as_str(), "");
+/// Whether texts have at most 64 bytes, and none by default.
+pub fn are_short() -> bool {
+    is_short(A64) && is_short("Bühne") && !is_short(A65) && Text::default().as_str() == ""
 }
