@@ -46,52 +46,62 @@ const ANSWERS: &[Answer] = &[
 /// How many turns find the objects.
 const FINDING: u32 = 10;
 
-/// The response to the command of this handle.
-fn response(alloc: Global, handle: u8, answer: &Answer) -> Option<Scripted> {
+/// The head of the response to the command of this handle.
+fn head(handle: u8, answer: &Answer) -> Option<[u8; 20]> {
     let (status, count, params) = *answer;
     let size = u8::try_from(params.len()).ok()?;
-    let head = [
-        0x3b,
-        0,
-        1,
-        0,
-        0,
-        0,
-        size.checked_add(19)?,
-        3,
-        0,
-        1,
-        0,
-        0,
-        0,
-        size.checked_add(10)?,
-        0,
-        0,
-        0,
-        handle,
-        status,
-        count,
-    ];
+    let pdu = size.checked_add(19)?;
+    let message = size.checked_add(10)?;
+    Some([
+        0x3b, 0, 1, 0, 0, 0, pdu, 3, 0, 1, 0, 0, 0, message, 0, 0, 0, handle, status, count,
+    ])
+}
+
+/// Adds the response to the command of this handle.
+fn add(alloc: Global, script: &mut Vec<Scripted>, handle: u8, answer: &Answer) -> bool {
+    let Some(head) = head(handle, answer) else {
+        return false;
+    };
     let mut bytes = Vec::new(alloc);
-    bytes.extend_from_slice(&head).ok()?;
-    bytes.extend_from_slice(params).ok()?;
-    Some(Scripted::Datagram {
-        from: DEVICE,
-        bytes,
-        now: 10,
-    })
+    bytes.extend_from_slice(&head).is_ok()
+        && bytes.extend_from_slice(answer.2).is_ok()
+        && script
+            .push(Scripted::Datagram {
+                from: DEVICE,
+                bytes,
+                now: 10,
+            })
+            .is_ok()
+}
+
+/// Adds the responses to the commands from the handle 7 on.
+fn add_all(alloc: Global, script: &mut Vec<Scripted>, answers: &[Answer]) -> bool {
+    let mut handle = 7u8;
+    for answer in answers {
+        if !add(alloc, script, handle, answer) {
+            return false;
+        }
+        handle = handle.saturating_add(1);
+    }
+    true
+}
+
+/// An end that delivers these answers in turn.
+fn end(alloc: Global, answers: &[Answer]) -> Option<MemoryEnd> {
+    let mut script = Vec::new(alloc);
+    if add_all(alloc, &mut script, answers) {
+        MemoryEnd::new(alloc, script, 64, None).ok()
+    } else {
+        None
+    }
 }
 
 /// A panel whose first handle is 7, over an end that delivers these answers in turn.
 fn panel(alloc: Global, answers: &[Answer]) -> Option<Panel<MemoryEnd>> {
-    let mut script = Vec::new(alloc);
-    let mut handle = 7u8;
-    for answer in answers {
-        script.push(response(alloc, handle, answer)?).ok()?;
-        handle = handle.checked_add(1)?;
+    match end(alloc, answers) {
+        Some(end) => Some(Panel::open(DEVICE, end, Handle(7), Span::default(), 0)),
+        None => None,
     }
-    let end = MemoryEnd::new(alloc, script, 64, None).ok()?;
-    Some(Panel::open(DEVICE, end, Handle(7), Span::default(), 0))
 }
 
 /// The name of 127.0.0.1:8080.
