@@ -5,6 +5,7 @@ Usage: ctl_runs.py BIN     BIN is the folder with `ocactl`
 
 A row is a run, as in `runs.py`. Readers that give and writers that take a little at a time are tried in `ocactl_tests`; here a read or a
 write fails by the system. The last line is 'N passed, M failed'."""
+import contextlib
 import os
 import resource
 import select
@@ -297,17 +298,19 @@ def sends(runs):
         runs.gives([*SENT, "--device", "127.0.0.1:65000", "--port", str(end.getsockname()[1])], b"", 1, b"", b"socket failed\n")
 
 
-def handles_heard(end, least):
-    """The handles of the commands that come, until there are so many and a second more."""
+def handles_heard(end, run, least):
+    """The handles of the commands that come, until there are so many and a second more, or the run is over."""
     handles, until = set(), time.monotonic() + 60
     while time.monotonic() < until:
         if len(handles) >= least:
-            until = min(until, time.monotonic() + 1)
-            least = 1 << 32
+            until, least = time.monotonic() + 1, 1 << 32
+        is_over = run.poll() is not None
         if select.select([end], [], [], 0.05)[0]:
             datagram = end.recv(2048)
             if datagram[7] in (0, 1):
                 handles.add(datagram[14:18])
+        elif is_over:
+            break
     return handles
 
 
@@ -321,9 +324,10 @@ def lets_ahead(runs, host, more, ahead):
             runs.gives(words, b"", 2, b"", b"bad words\n")
             return
         run = subprocess.Popen([f"{runs.folder}/ocactl", *words[1:]], stdin=subprocess.PIPE, stdout=subprocess.PIPE, stderr=subprocess.PIPE)
-        run.stdin.write(40 * b"4097 4 1 0 -\n")
-        run.stdin.flush()
-        handles = handles_heard(end, ahead)
+        with contextlib.suppress(BrokenPipeError):
+            run.stdin.write(40 * b"4097 4 1 0 -\n")
+            run.stdin.flush()
+        handles = handles_heard(end, run, ahead)
         run.kill()
         said = run.communicate(timeout=120)
         runs.check(words, len(handles) == ahead, (sorted(handles), said))

@@ -5,6 +5,7 @@ use oca_program::{Failure, Form, RunFault, report};
 use oca_script::{LineFault, Printer, ReplayFault};
 use oca_textree::ObjectFault;
 use std::alloc::Global;
+use std::process::Abort;
 
 /// Where a run's failure comes from.
 #[derive(Clone, Copy)]
@@ -78,11 +79,6 @@ const FAULTS: &[(Cause, u8, &str)] = &[
     (Run(RunFault::Socket), 1, "socket failed\n"),
 ];
 
-#[test]
-fn statuses_and_texts(rt: HostRuntime) {
-    assert_eq!(rt; first_wrong(rt.alloc(), FAULTS), None);
-}
-
 /// The first text that is of its form where it must not be, or is not where it must.
 fn first_misread(rows: &[(Form, &str, bool)]) -> Option<usize> {
     for (at, row) in rows.iter().enumerate() {
@@ -127,11 +123,6 @@ const FORMS: &[(Form, &str, bool)] = &[
     (Form::Bytes, "0", false),
 ];
 
-#[test]
-fn forms_of_options(rt: HostRuntime) {
-    assert_eq!(rt; first_misread(FORMS), None);
-}
-
 const LINES_AND_SOCKETS: &[(Cause, u8, &str)] = &[
     (
         Replay(ReplayFault::Line(7, LineFault::Hex)),
@@ -144,11 +135,6 @@ const LINES_AND_SOCKETS: &[(Cause, u8, &str)] = &[
     (Bind(BindFault::Io), 1, "socket failed\n"),
     (Bind(BindFault::NoMemory), 1, "no memory\n"),
 ];
-
-#[test]
-fn faults_of_lines_and_sockets(rt: HostRuntime) {
-    assert_eq!(rt; first_wrong(rt.alloc(), LINES_AND_SOCKETS), None);
-}
 
 /// A failure with a note.
 fn noted(alloc: Global, fault: RunFault, note: &str) -> Option<Failure> {
@@ -163,56 +149,93 @@ fn prints_note(alloc: Global, fault: RunFault, note: &str, status: u8, text: &[u
     }
 }
 
-/// How many bytes are printed of a refused socket with this note, whose status is 1.
-fn length_with_note(alloc: Global, note: &str) -> Option<usize> {
-    let failure = noted(alloc, RunFault::Socket, note)?;
+/// Whether so many bytes are printed of a refused socket with this note, whose status is 1.
+fn prints_length(failure: &Failure, length: usize) -> bool {
     let mut faults = Printer::new(ShortWriter::new(9, usize::MAX));
-    if report(&failure, &mut faults) != 1 {
-        return None;
-    }
-    Some(faults.sink().taken.len())
+    report(failure, &mut faults) == 1 && faults.sink().taken.len() == length
 }
 
-/// How many bytes are printed of a refused socket with a note of so many bytes.
-fn length_with_note_of(alloc: Global, count: usize) -> Option<usize> {
-    let mut note = String::new(alloc);
+/// Adds a note of so many bytes.
+fn add_note(note: &mut String, count: usize) -> bool {
     for _ in 0..count {
-        note.push('x').ok()?;
+        if note.push('x').is_err() {
+            return false;
+        }
     }
-    length_with_note(alloc, note.as_str())
+    true
 }
 
-// A note is one line behind its word, and stands before the fault's line; one of more than 1,000 bytes is left out.
-#[test]
-fn notes(rt: HostRuntime) {
-    let alloc = rt.alloc();
+/// A note of so many bytes.
+fn note_of(alloc: Global, count: usize) -> Option<String> {
+    let mut note = String::new(alloc);
+    if add_note(&mut note, count) {
+        Some(note)
+    } else {
+        None
+    }
+}
+
+/// Whether so many bytes are printed of a refused socket with a note of so many.
+fn prints_note_of(alloc: Global, count: usize, length: usize) -> bool {
+    match note_of(alloc, count) {
+        Some(note) => prints_length(&Failure::noted(RunFault::Socket, note), length),
+        None => false,
+    }
+}
+
+/// Whether a note is one line behind its word, and stands before the fault's line, and one of more than 1,000 bytes is left
+/// out.
+fn are_notes(alloc: Global) -> bool {
     let text = b"note: error: no\nbad words\n";
-    assert!(rt; prints_note(alloc, RunFault::BadWords, "error: no\n\nmore", 2, text));
-    assert_eq!(rt; length_with_note_of(alloc, 1_000), Some(6 + 1_000 + 1 + 14));
-    assert_eq!(rt; length_with_note_of(alloc, 1_001), Some(14));
+    prints_note(alloc, RunFault::BadWords, "error: no\n\nmore", 2, text)
+        && prints_note_of(alloc, 1_000, 6 + 1_000 + 1 + 14)
+        && prints_note_of(alloc, 1_001, 14)
 }
 
-/// How many bytes are printed of a fault by a writer with so much room, where the status is 2.
-fn length_within(room: usize) -> Option<usize> {
+/// Whether a writer with so much room is filled by a fault, where the status is 2.
+fn is_filled(room: usize) -> bool {
     let mut faults = Printer::new(ShortWriter::new(3, room));
-    if report(&Failure::from(RunFault::BadWords), &mut faults) != 2 {
-        return None;
-    }
-    Some(faults.sink().taken.len())
+    report(&Failure::from(RunFault::BadWords), &mut faults) == 2
+        && faults.sink().taken.len() == room
 }
 
-/// The first of these rooms that is not filled.
+/// The first of these rooms that is not filled: a fault that can't be written ends the run with its status all the same.
 fn first_unfilled(rooms: usize) -> Option<usize> {
     for room in 0..rooms {
-        if length_within(room) != Some(room) {
+        if !is_filled(room) {
             return Some(room);
         }
     }
     None
 }
 
-// A fault that can't be written ends the run with its status all the same.
+/// The first fault of a run that is told otherwise.
+fn wrong_fault(alloc: Global) -> Option<usize> {
+    first_wrong(alloc, FAULTS)
+}
+
+/// The first fault of lines and sockets that is told otherwise.
+fn wrong_of_lines(alloc: Global) -> Option<usize> {
+    first_wrong(alloc, LINES_AND_SOCKETS)
+}
+
+/// The first form that is read otherwise.
+fn wrong_form() -> Option<usize> {
+    first_misread(FORMS)
+}
+
+/// The table of this name has no row that comes out otherwise.
+fn none_in(rt: &impl Abort, table: &'static str, wrong: Option<usize>) {
+    if let Some(at) = wrong {
+        panic!(rt; "{table}: row {at}");
+    }
+}
+
 #[test]
-fn faults_that_are_not_written(rt: HostRuntime) {
-    assert_eq!(rt; first_unfilled(10), None);
+fn faults_and_forms(rt: HostRuntime) {
+    none_in(&rt, "faults", wrong_fault(rt.alloc()));
+    none_in(&rt, "lines and sockets", wrong_of_lines(rt.alloc()));
+    none_in(&rt, "forms", wrong_form());
+    none_in(&rt, "rooms", first_unfilled(10));
+    assert!(rt; are_notes(rt.alloc()));
 }

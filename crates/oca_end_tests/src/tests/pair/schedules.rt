@@ -77,7 +77,7 @@ struct Chosen {
 }
 
 /// The sizes of a network, where they are sizes.
-fn chosen(network: &Network) -> Option<Chosen> {
+fn sizes_of(network: &Network) -> Option<Chosen> {
     let peers = match network.peers {
         Some(count) => Some(Peers::new(count)?),
         None => None,
@@ -152,7 +152,7 @@ fn is_led_to(
 
 /// Whether the script leads to what the case says over the bench device.
 fn leads(alloc: Global, case: &Case, starts: &[Start], script: &Script) -> bool {
-    let Some(chosen) = chosen(&case.network) else {
+    let Some(chosen) = sizes_of(&case.network) else {
         return false;
     };
     match bench(alloc) {

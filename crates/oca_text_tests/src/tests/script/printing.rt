@@ -18,11 +18,6 @@ fn prints_a_line() -> bool {
         && line.sink().taken.as_slice() == b"> 3bfa-18446744073709551615".as_slice()
 }
 
-#[test]
-fn printed_lines(rt: HostRuntime) {
-    assert!(rt; prints_a_line());
-}
-
 /// A call of a printer, and what it must answer.
 #[derive(Clone, Copy)]
 enum Step {
@@ -151,9 +146,14 @@ fn are_read(alloc: Global) -> bool {
         && reads(alloc, &WriteFailed, "write failed")
 }
 
+/// Whether faults are told so.
+fn are_told(alloc: Global) -> bool {
+    first_undisplayed(alloc, OF_LINES).is_none()
+        && first_untold(alloc, OF_REPLAYS).is_none()
+        && are_read(alloc)
+}
+
 #[test]
-fn printed_faults(rt: HostRuntime) {
-    assert_eq!(rt; first_undisplayed(rt.alloc(), OF_LINES), None);
-    assert_eq!(rt; first_untold(rt.alloc(), OF_REPLAYS), None);
-    assert!(rt; are_read(rt.alloc()));
+fn printed_lines_and_faults(rt: HostRuntime) {
+    assert!(rt; prints_a_line() && are_told(rt.alloc()));
 }

@@ -61,7 +61,7 @@ struct Ends {
 }
 
 /// What came of a replay of SCRIPT.
-#[derive(Clone, Copy, Debug, PartialEq, Eq)]
+#[derive(Clone, Copy, PartialEq, Eq)]
 struct Outcome {
     ended: Ended,
     /// How many lines were served.
@@ -208,18 +208,21 @@ pub fn write_fails_at_each_place() -> Option<usize> {
     first_miswritten()
 }
 
-/// How a replay of SCRIPT through a reader and a writer ends that has room for so many bytes, and how many it took.
-fn replay_through_writer(place: usize, takes_nothing: bool) -> Option<(Ended, usize)> {
+/// How a replay of SCRIPT through a reader into this writer ends.
+fn replay_into(short: &mut ShortWriter) -> Ended {
     let mut lines = 0;
     let mut from = FromReader::new(PieceReader::new(SCRIPT, 5, usize::MAX));
+    let mut to = Printer::new(ToWriter::new(short));
+    serve_lines::<Echo, FromReader<PieceReader>, ToWriter<&mut ShortWriter>>(
+        &mut lines, &mut 0, &mut from, &mut to,
+    )
+}
+
+/// Whether a replay through a reader and a writer that has room for so many bytes ends so, and takes as many.
+fn ends_through_writer(place: usize, takes_nothing: bool, ended: Ended) -> bool {
     let mut short = ShortWriter::new(3, place);
     short.takes_nothing = takes_nothing;
-    let mut to = Printer::new(ToWriter::new(&mut short));
-    let ended = serve_lines::<Echo, FromReader<PieceReader>, ToWriter<&mut ShortWriter>>(
-        &mut lines, &mut 0, &mut from, &mut to,
-    );
-    drop(to);
-    Some((ended, front_taken(&short)?))
+    replay_into(&mut short) == ended && front_taken(&short) == Some(place)
 }
 
 /// The first room at which a replay through a writer ends otherwise.
@@ -230,7 +233,7 @@ fn first_mistaken(takes_nothing: bool) -> Option<usize> {
         } else {
             Err(ReplayFault::Write)
         };
-        if replay_through_writer(place, takes_nothing) != Some((ended, place)) {
+        if !ends_through_writer(place, takes_nothing, ended) {
             return Some(place);
         }
     }
@@ -245,12 +248,11 @@ fn replay_through_reader() -> Ended {
     serve_lines::<Echo, FromReader<PieceReader>, Discard>(&mut lines, &mut 0, &mut from, &mut to)
 }
 
-// The same through a reader and a writer: a write that takes nothing is a failed one.
-#[test]
-fn readers_and_writers(rt: HostRuntime) {
-    assert_eq!(rt; first_mistaken(false), None);
-    assert_eq!(rt; first_mistaken(true), None);
-    assert_eq!(rt; replay_through_reader(), Err(ReplayFault::Read));
+/// Whether the same holds through a reader and a writer: a write that takes nothing is a failed one.
+fn are_readers_and_writers() -> bool {
+    first_mistaken(false).is_none()
+        && first_mistaken(true).is_none()
+        && replay_through_reader() == Err(ReplayFault::Read)
 }
 
 /// How a replay ends in which nothing can be written, and how many bytes it does not read, in pieces of four.
@@ -264,11 +266,12 @@ fn replay_without_room() -> Option<(Ended, usize)> {
     Some((outcome.ended, outcome.unread))
 }
 
-// The second read does not come where the first line's text can't be written.
-#[test]
-fn what_is_held_is_written_before_a_read(rt: HostRuntime) {
-    let wanted = (Err(ReplayFault::Write), SCRIPT.len() - 4);
-    assert_eq!(rt; replay_without_room(), Some(wanted));
+/// Whether the second read does not come where the first line's text can't be written.
+fn is_written_before_a_read() -> bool {
+    match replay_without_room() {
+        Some((ended, unread)) => ended == Err(ReplayFault::Write) && unread == SCRIPT.len() - 4,
+        None => false,
+    }
 }
 
 /// The lines that were served, and how the replay ended.
@@ -331,12 +334,15 @@ fn replayed_after(first: u8) -> (u64, Ended) {
     replayed(&lines)
 }
 
-#[test]
-fn length_of_a_line(rt: HostRuntime) {
-    assert_eq!(rt; first_wrong(LENGTHS), None);
-    assert_eq!(rt; replayed_after(b'a'), (2, Ok(())));
-    let form = Err(ReplayFault::Line(1, LineFault::Form));
-    assert_eq!(rt; replayed_after(0xff), (0, form));
+/// Whether a line of 4,096 bytes is served, and refused where it has no form of one.
+fn are_lengths_of_lines() -> bool {
+    replayed_after(b'a') == (2, Ok(()))
+        && replayed_after(0xff) == (0, Err(ReplayFault::Line(1, LineFault::Form)))
+}
+
+/// The first script of a long line that ends otherwise.
+fn first_long() -> Option<usize> {
+    first_wrong(LENGTHS)
 }
 
 /// The same for a pattern that is given again and again.
@@ -361,12 +367,17 @@ fn replayed_lines(count: usize) -> (u64, Ended) {
     replayed_pattern(&lines, count)
 }
 
+/// Whether a script of 16,777,216 bytes is served, and one of more is not.
+fn are_lengths_of_scripts() -> bool {
+    replayed_lines(16_777_216) == (167_773, Ok(()))
+        && replayed_lines(16_777_217) == (167_772, Err(ReplayFault::TooMuch))
+        && replayed_pattern(b"#", 99_999_999) == (0, TOO_LONG)
+}
+
 #[test]
-fn length_of_a_script(rt: HostRuntime) {
-    assert_eq!(rt; replayed_lines(16_777_216), (167_773, Ok(())));
-    assert_eq!(rt;
-        replayed_lines(16_777_217),
-        (167_772, Err(ReplayFault::TooMuch))
-    );
-    assert_eq!(rt; replayed_pattern(b"#", 99_999_999), (0, TOO_LONG));
+fn ends_and_lengths(rt: HostRuntime) {
+    assert!(rt; are_readers_and_writers());
+    assert!(rt; is_written_before_a_read());
+    assert!(rt; are_lengths_of_lines() && first_long().is_none());
+    assert!(rt; are_lengths_of_scripts());
 }

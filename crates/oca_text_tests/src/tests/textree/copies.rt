@@ -12,10 +12,7 @@ const NO_LIMIT: usize = 100_000;
 /// Whether a tree is written as this text.
 fn is_written_as(tree: &Tree, text: &[u8]) -> bool {
     let mut to = Printer::new(ShortWriter::new(100, NO_LIMIT));
-    if print_tree(tree, &mut to).is_err() || to.flush().is_err() {
-        return false;
-    }
-    to.sink().taken.as_slice() == text
+    print_tree(tree, &mut to).is_ok() && to.flush().is_ok() && to.sink().taken.as_slice() == text
 }
 
 /// Whether the tree of a text is written as the other text.
@@ -205,12 +202,19 @@ const REFUSED: &[Refused] = &[
     (b"root on \"\t\"", ObjectFault::Form),
 ];
 
+/// Whether a line is refused so.
+fn is_refused(alloc: Global, line: &[u8], fault: ObjectFault) -> bool {
+    match tree_from_text(alloc, line) {
+        Ok(_) => false,
+        Err(found) => found == TreeFault::Line(1, fault),
+    }
+}
+
 /// The first line that is not refused so.
 fn first_not_refused(alloc: Global, rows: &[Refused]) -> Option<usize> {
     for (at, (line, fault)) in rows.iter().enumerate() {
-        match tree_from_text(alloc, line) {
-            Err(found) if found == TreeFault::Line(1, *fault) => {}
-            _ => return Some(at),
+        if !is_refused(alloc, line, *fault) {
+            return Some(at);
         }
     }
     None
