@@ -99,9 +99,13 @@ impl Client {
         Ok(read || written)
     }
 
-    /// Reads, answers and writes what can be, with no wait.
+    /// Reads, answers and writes what can be, with no wait. Behind an order that was taken the rest has time.
     fn serve(&mut self, site: &mut Site, now: u64) -> Stands {
+        let ticket = site.view().next_ticket();
         for _ in 0..ROUNDS {
+            if site.view().next_ticket() != ticket {
+                return Stands::HasMore;
+            }
             match self.step(site, now) {
                 Ok(moves) => {
                     if self.http.is_done() {
@@ -174,6 +178,8 @@ pub struct Clients {
     alloc: Global,
     clients: Vec<Client>,
     tokens: usize,
+    /// Where the connection stands whose turn it is.
+    place: usize,
     more: bool,
 }
 
@@ -184,6 +190,7 @@ impl Clients {
             alloc,
             clients: Vec::new(alloc),
             tokens,
+            place: 0,
             more: false,
         }
     }
@@ -242,17 +249,30 @@ impl Clients {
         }
     }
 
-    /// Serves each connection that is ready, and closes those that ended or are late.
+    /// Serves each connection that is ready, one after another, and closes those that ended or are late. Where an order
+    /// was taken, the rest is served the next time.
     pub fn serve(&mut self, site: &mut Site, now: u64) {
         self.more = false;
-        let mut place = 0usize;
+        let ticket = site.view().next_ticket();
         for _ in 0..self.clients.len() {
-            let ends = self.serve_at(place, site, now);
-            if ends {
-                self.close(place);
-            } else {
-                place = place.saturating_add(1);
+            if site.view().next_ticket() != ticket {
+                self.more = true;
+                return;
             }
+            self.serve_next(site, now);
+        }
+    }
+
+    /// Serves the connection whose turn it is.
+    fn serve_next(&mut self, site: &mut Site, now: u64) {
+        if self.place >= self.clients.len() {
+            self.place = 0;
+        }
+        let place = self.place;
+        if self.serve_at(place, site, now) {
+            self.close(place);
+        } else {
+            self.place = place.saturating_add(1);
         }
     }
 
