@@ -242,10 +242,11 @@ def bad_network(folder, browser):
 
 def along(window):
     """The keyboard goes from strip to strip, where the next one was not near yet too."""
-    window.run("(()=>{const i=[...strips[20].box.querySelectorAll('button')];i[i.length-1].focus()})()")
+    begins = "strips.find(s=>s.at>0&&s.awake&&strips[s.at+1]&&!strips[s.at+1].awake)||strips[1]"
+    at = window.run(f"(()=>{{const s={begins},b=[...s.box.querySelectorAll('button')];b[b.length-1].focus();return s.at}})()")
     for kind in ("rawKeyDown", "keyUp"):
         window.call("Input.dispatchKeyEvent", type=kind, key="Tab", code="Tab", windowsVirtualKeyCode=9)
-    check(window.wait("document.activeElement.closest('section')===strips[21].box") is not None, "the keyboard goes on to the next strip")
+    check(window.wait(f"document.activeElement.closest('section')===strips[{at}+1].box") is not None, f"the keyboard goes on to the strip behind strip {at}")
 
 
 def large(folder, browser):

@@ -3,7 +3,7 @@
 /// What the page may do: run its own script, wear its own style, and ask the panel that sent it, and nothing else. The
 /// hashes are those of the script and of the style below; `tools/panel.py` compares them.
 pub const POLICY: &str =
-    "default-src 'none'; style-src 'sha256-v+r0yxJg0feMiQv0FAwcifO0rQSTQ0KbazcLhd+AhpA='; script-src 'sha256-ywM7R/UH5FIOQrCryjfEFuTAmYSlqBi/z6lAmzv6fzA='; connect-src 'self'; frame-ancestors 'none'; base-uri 'none'; form-action 'none'";
+    "default-src 'none'; style-src 'sha256-EYgLg/CEe5sDJG2L/zO6vbTflkmY/AXtixAYc2RPzF8='; script-src 'sha256-e+qRfLfVGHd05UgSqnCQWOppkXF1o+dF3ksaXk5hgag='; connect-src 'self'; frame-ancestors 'none'; base-uri 'none'; form-action 'none'";
 
 /// The page. It asks for `/tree` and `/values`, and sends orders to `/set`, `/lock` and `/unlock`. What comes from the device
 /// goes into it by `textContent` and by properties alone, never as HTML.
@@ -18,11 +18,11 @@ body{margin:0;font:15px/1.35 system-ui,sans-serif;background:var(--page);color:v
 header{position:sticky;top:0;z-index:1;background:var(--card);border-bottom:1px solid var(--edge);padding:8px 12px;display:flex;flex-wrap:wrap;gap:4px 18px;align-items:baseline}
 h1{font-size:16px;margin:0}
 #link{font-weight:600}.good{color:var(--good)}.bad{color:var(--bad)}.soft{color:var(--soft);font-variant-numeric:tabular-nums}
-main{display:grid;grid-template-columns:repeat(auto-fill,minmax(310px,1fr));gap:10px;padding:10px;align-items:start}
+main{display:grid;grid-template-columns:repeat(auto-fill,minmax(316px,1fr));gap:10px;padding:10px;align-items:start}
 section{background:var(--card);border:1px solid var(--edge);border-radius:8px;padding:8px 10px;min-width:0;content-visibility:auto}
 section section{background:var(--inner);margin:6px 0}
 h2{font-size:14px;margin:0 0 4px;display:flex;gap:8px;align-items:center;justify-content:space-between;overflow-wrap:anywhere}
-.row{display:grid;grid-template-columns:minmax(60px,1fr) minmax(150px,2fr) auto;gap:4px 8px;align-items:center;padding:3px 0;min-height:34px}
+.row{display:grid;grid-template-columns:minmax(60px,1fr) minmax(155px,2fr) auto;gap:4px 8px;align-items:center;padding:3px 0;min-height:34px}
 .row>.name{color:var(--soft);overflow-wrap:anywhere}
 .control{display:flex;gap:6px;align-items:center;min-width:0}
 button,select,input{font:inherit;color:inherit;background:var(--inner);border:1px solid var(--edge);border-radius:5px;padding:3px 8px;max-width:100%}
@@ -147,8 +147,9 @@ function wake(strip){
 const idle=window.requestIdleCallback?f=>requestIdleCallback(f,{timeout:1000}):f=>setTimeout(()=>f({timeRemaining:()=>0}),30);
 function wakeRest(of,at){
  idle(rest=>{
+  if(of!==strips)return;
   do{while(at<of.length&&of[at].awake)at++;wake(of[at])}while(at<of.length&&rest.timeRemaining()>5);
-  if(at<of.length&&of===strips)wakeRest(of,at);
+  if(at<of.length)wakeRest(of,at);
  });
 }
 function strip(box,row){

@@ -178,8 +178,6 @@ pub struct Clients {
     alloc: Global,
     clients: Vec<Client>,
     tokens: usize,
-    /// Where the connection stands whose turn it is.
-    place: usize,
     more: bool,
 }
 
@@ -190,7 +188,6 @@ impl Clients {
             alloc,
             clients: Vec::new(alloc),
             tokens,
-            place: 0,
             more: false,
         }
     }
@@ -249,30 +246,17 @@ impl Clients {
         }
     }
 
-    /// Serves each connection that is ready, one after another, and closes those that ended or are late. Where an order
-    /// was taken, the rest is served the next time.
+    /// Serves each connection that is ready, and closes those that ended or are late.
     pub fn serve(&mut self, site: &mut Site, now: u64) {
         self.more = false;
-        let ticket = site.view().next_ticket();
+        let mut place = 0usize;
         for _ in 0..self.clients.len() {
-            if site.view().next_ticket() != ticket {
-                self.more = true;
-                return;
+            let ends = self.serve_at(place, site, now);
+            if ends {
+                self.close(place);
+            } else {
+                place = place.saturating_add(1);
             }
-            self.serve_next(site, now);
-        }
-    }
-
-    /// Serves the connection whose turn it is.
-    fn serve_next(&mut self, site: &mut Site, now: u64) {
-        if self.place >= self.clients.len() {
-            self.place = 0;
-        }
-        let place = self.place;
-        if self.serve_at(place, site, now) {
-            self.close(place);
-        } else {
-            self.place = place.saturating_add(1);
         }
     }
 

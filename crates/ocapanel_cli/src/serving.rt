@@ -410,8 +410,8 @@ impl Rounds {
 
 /// Lets the browsers in that wait, and answers their requests.
 fn serve_browsers<R: RandomSource>(rt: &R, rounds: &mut Rounds, site: &mut Site, now: u64) {
-    accept(rt, rounds, now);
     if !rounds.holds(site.view(), now) {
+        accept(rt, rounds, now);
         rounds.clients.serve(site, now);
         rounds.note_orders(site.view(), now);
     }
