@@ -45,14 +45,14 @@ const DEVICE: OptionRow = OptionRow {
 const SPAN: OptionRow = OptionRow {
     name: "span",
     value: "S",
-    help: "How far above the lowest untaken command the next handle may lie, 1 to 32 [16 unless given]; above 16 the device needs a window of twice as many less one: its default of 32 bears 16",
+    help: "How far above the oldest command whose answer was not taken the next handle may lie, 1 to 32 [16 unless given]; the device's window must be at least twice this number less one: its default of 32 is enough for 16",
     required: false,
 };
 
 const FIRST_HANDLE: OptionRow = OptionRow {
     name: "first-handle",
     value: "H",
-    help: "The handle of the first command, 0 to 4294967295 [by the clock unless given: it rises by 100000 a second, and begins anew at 2147483648]",
+    help: "The handle of the first command, 0 to 4294967295 [by the clock unless given: it rises by 100000 a second, and wraps at 2147483648]",
     required: false,
 };
 
@@ -66,14 +66,14 @@ const OWN_FIRST_HANDLE: OptionRow = OptionRow {
 const IP: OptionRow = OptionRow {
     name: "ip",
     value: "A.B.C.D",
-    help: "The local address [127.0.0.1 for a device of this machine, any address else, unless given]",
+    help: "The local address [unless given: 127.0.0.1 for a device on this machine, otherwise any address of this machine]",
     required: false,
 };
 
 const AHEAD: OptionRow = OptionRow {
     name: "ahead",
     value: "N",
-    help: "How many commands may be under way at once, 1 to the span; those may be executed in any order [1 unless given]",
+    help: "How many commands may be in flight at once, 1 to the span; the device may execute these in any order [1 unless given]",
     required: false,
 };
 
@@ -115,35 +115,35 @@ const PARAMS: OptionRow = OptionRow {
 const SEND_TURNS: OptionRow = OptionRow {
     name: "turns",
     value: "T",
-    help: "How often to wait, 50 ms at most each; at 0 the command is sent once and no answer waited for [200 unless given]",
+    help: "Give up after T waits of up to 50 ms each; at 0 the command is sent once and no answer waited for [200 unless given]",
     required: false,
 };
 
 const SEND_PORT: OptionRow = OptionRow {
     name: "port",
     value: "PORT",
-    help: "The local port [one of the system's choice unless given: a session of its own at the device for each call, of which there are 16 unless its maker chose otherwise, so give a port for many calls in a row]",
+    help: "The local port [unless given one that the system chooses: a new session at the device for each call, of which it has 16 unless its maker chose otherwise, so give a port for many calls in a row]",
     required: false,
 };
 
 const RUN_PORT: OptionRow = OptionRow {
     name: "port",
     value: "PORT",
-    help: "The local port [65001 or 65002 unless given, by turns of six hours, or one of the system's choice where that is in use]",
+    help: "The local port [65001 or 65002 unless given, alternating every six hours, or one that the system chooses where that is in use]",
     required: false,
 };
 
 const TURNS: OptionRow = OptionRow {
     name: "turns",
     value: "T",
-    help: "How often to wait for an answer, 50 ms at most each [200 unless given]",
+    help: "Give up after T waits of up to 50 ms each [200 unless given]",
     required: false,
 };
 
 const PORT: OptionRow = OptionRow {
     name: "port",
     value: "PORT",
-    help: "The local port [65001 or 65002 unless given, by turns of six hours; where that is in use one of the system's choice, but of lock and unlock, which are refused then]",
+    help: "The local port [65001 or 65002 unless given, alternating every six hours; where that is in use lock and unlock fail, and other commands use one that the system chooses]",
     required: false,
 };
 
@@ -184,23 +184,23 @@ const GET_EXAMPLE: &str =
     "Prints a line for each object: its ONo and its value: muted or unmuted; inverted or non-inverted; on or off; a position's number and
 name; an integer. Behind the ONo of another stands why: a status as Locked, or no value, no answer, lost.
 
-Status: 0 where all was done, 4 where something was refused, 3 where an answer did not come. The name of a position that is not told
+Exit status: 0 where all was done, 4 where something was refused, 3 where an answer did not come. The name of a position that is not told
 changes nothing of it.
 
-Example: ocactl get --device 127.0.0.1:65000 4097 4100";
+Example, with the bench device: ocactl get --device 127.0.0.1:65000 4097 4100";
 
 const SET_EXAMPLE: &str =
     "VALUE is muted or unmuted; inverted or non-inverted; on or off; a position's number or its name; an integer. Where one is for no value
 of its object, or that can't be found out, nothing is set. Up to N set commands are waited for at once (--ahead), 1 unless given; the
 lines stand in the order of the words, whichever is carried out first.
 
-Status: 0 where all was set, 4 where something was refused, 2 where a value is none of its object's, 3 where an answer did not come.
+Exit status: 0 where all was set, 4 where something was refused, 2 where a value is none of its object's, 3 where an answer did not come.
 
-Example: ocactl set --device 127.0.0.1:65000 4097 unmuted 4100 -60";
+Example, with the bench device: ocactl set --device 127.0.0.1:65000 4097 unmuted 4100 -60";
 
 const LOCK_EXAMPLE: &str =
-    "Other controllers then neither read nor set the objects. A lock is released where its holder, this address and port, is silent for
-more than 15 seconds; with --hold it is kept until the input ends.
+    "While an object is locked, other controllers can neither read nor set it. Without --hold a lock is released once its holder (this
+address and port) has been silent for more than 15 seconds; with --hold it is kept until standard input ends.
 
 Example: ocactl lock --device 127.0.0.1:65000 4097";
 
@@ -212,14 +212,15 @@ const REPLAY_EXAMPLE: &str =
 Example: printf '0 submit 4097 4 1 0 -\\n0 due\\n' | ocactl replay --device 127.0.0.1:65000 --first-handle 1";
 
 const SEND_EXAMPLE: &str =
-    "Status of send: 0 for an answer with status 0, 4 for another, 3 where none came.
+    "Exit status: 0 for an answer with status 0, 4 for another, 3 where none came.
 
 Example: ocactl send --device 127.0.0.1:65000 --first-handle 1 --target 4097 --level 4 --index 1 --count 0";
 
 const RUN_EXAMPLE: &str =
-    "Lines: ONO LEVEL INDEX COUNT HEX, a command, HEX being - for no parameters; wait, for the answers to all before it.
+    "Each line is a command, ONO LEVEL INDEX COUNT HEX (object number, DefLevel, MethodIndex, ParamCount, and the parameters in
+hexadecimal or - for none), or the word wait, which waits for the answers to all commands before it.
 
-Status: 0 where each command was answered, 3 where one was not.
+Exit status: 0 where each command was answered, 3 where one was not.
 
 Example: echo '4097 4 1 0 -' | ocactl run --device 127.0.0.1:65000";
 
