@@ -149,17 +149,17 @@ fn fares(link: &mut Link, end: &mut Timed, asked: Asked) -> bool {
     is_outcome(&ask(link, end, GET_STATE, asked.0), asked.1)
 }
 
-/// Whether the commands fare so, and the end sends at these moments.
-fn sends(link: &mut Link, end: &mut Timed, row: &Row) -> bool {
-    for asked in row.asks {
+/// Whether the commands fare so.
+fn all_fare(link: &mut Link, end: &mut Timed, asks: &[Asked]) -> bool {
+    for asked in asks {
         if !fares(link, end, *asked) {
             return false;
         }
     }
-    end.sends.as_slice() == row.moments
+    true
 }
 
-/// Whether the row is so over a new link and a new end.
+/// Whether the row is so over a new link and a new end: the commands fare so, and the end sends at these moments.
 fn is_so(row: &Row) -> bool {
     let mut end = Timed {
         now: row.begun,
@@ -168,7 +168,9 @@ fn is_so(row: &Row) -> bool {
         receives: 0,
     };
     match link(1, 16) {
-        Some(mut link) => sends(&mut link, &mut end, row),
+        Some(mut link) => {
+            all_fare(&mut link, &mut end, row.asks) && end.sends.as_slice() == row.moments
+        }
         None => false,
     }
 }

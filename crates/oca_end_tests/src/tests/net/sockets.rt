@@ -55,10 +55,10 @@ struct Sockets<'a> {
 }
 
 /// Two ends.
-fn two_ends(rt: &HostRuntime) -> Option<[UdpEnd<'_, HostRuntime>; 2]> {
+fn two_ends(rt: &HostRuntime) -> Option<(UdpEnd<'_, HostRuntime>, UdpEnd<'_, HostRuntime>)> {
     let first = end_here(rt)?;
     match end_here(rt) {
-        Some(second) => Some([first, second]),
+        Some(second) => Some((first, second)),
         None => None,
     }
 }
@@ -67,7 +67,7 @@ fn two_ends(rt: &HostRuntime) -> Option<[UdpEnd<'_, HostRuntime>; 2]> {
 fn three_sockets(rt: &HostRuntime) -> Option<Sockets<'_>> {
     let plain = UdpSocket::bind(rt, (Ipv4Addr::LOCALHOST, 0u16)).ok()?;
     match two_ends(rt) {
-        Some([first, second]) => Some(Sockets {
+        Some((first, second)) => Some(Sockets {
             first,
             second,
             plain,
