@@ -44,7 +44,7 @@ pub enum Asked {
 }
 
 const EXAMPLE: &str =
-    "The panel is one of this machine alone: only its own browsers reach it. One process serves at most 8 connections; it ends where it is stopped.
+    "Only browsers on this machine can reach the panel. One process serves at most 8 of their connections at once, and runs until it is stopped.
 
 Example: ocapanel --device 127.0.0.1:65000, and open http://127.0.0.1:8080/";
 
@@ -79,7 +79,7 @@ fn with_listen<'a>(alloc: Global, command: Command<'a>) -> Result<Command<'a>, A
         alloc,
         "listen",
         "A.B.C.D:PORT",
-        "Where browsers are listened to, an address of 127.0.0.0/8 [127.0.0.1:8080 unless given]; at port 0 the system chooses one",
+        "The address and port for browsers, an address of 127.0.0.0/8 [127.0.0.1:8080 unless given]; at port 0 the system chooses one",
     );
     match command.arg(listen) {
         Ok(command) => with_span(alloc, command),
@@ -93,7 +93,7 @@ fn with_span<'a>(alloc: Global, command: Command<'a>) -> Result<Command<'a>, All
         alloc,
         "span",
         "S",
-        "How far above the lowest untaken command the next handle may lie, 2 to 32 [16 unless given]; half of it is kept for orders",
+        "How far above the oldest command whose answer was not taken the next handle may lie, 2 to 32 [16 unless given]; half of it is kept for what browsers ask to be set",
     );
     match command.arg(span) {
         Ok(command) => with_port(alloc, command),
