@@ -9,6 +9,7 @@ import os
 import random
 import re
 import resource
+import shutil
 import signal
 import socket
 import struct
@@ -30,12 +31,6 @@ def command(handle, target, level, index, *params):
 
 def text(said):
     return struct.pack(">H", len(said)) + said.encode()
-
-
-def limit_files(most):
-    """No file grows beyond so many bytes: a write fails then, and no signal ends the program."""
-    signal.signal(signal.SIGXFSZ, signal.SIG_IGN)
-    resource.setrlimit(resource.RLIMIT_FSIZE, (most, most))
 
 
 class Peer:
@@ -238,6 +233,19 @@ def broken(checks, folder):
     checks.same("a folder", (peer, run.wait(timeout=30)), (None, 1))
 
 
+def unknown(checks, folder):
+    """Of a file in a folder that may not be searched nobody knows whether it is there: that is told, and nothing is served."""
+    os.mkdir(f"{folder}/closed")
+    shutil.copy(f"{checks.folder}/ocadev", f"{folder}/ocadev")
+    os.chmod(folder, 0o711)
+    os.chmod(f"{folder}/closed", 0)
+    other = ["setpriv", "--reuid=65534", "--regid=65534", "--clear-groups"] if os.geteuid() == 0 else []
+    words = [*other, f"{folder}/ocadev", "serve", "--port", "0", "--turns", "1", "--keep", f"{folder}/closed/state"]
+    ran = subprocess.run(words, stdin=subprocess.DEVNULL, capture_output=True, text=True, timeout=30)
+    checks.same("a file of which nothing is known", (ran.returncode, ran.stdout, ran.stderr.splitlines()[-1:]), (1, "", ["read failed"]))
+    os.chmod(f"{folder}/closed", 0o700)
+
+
 def main():
     checks = Checks(sys.argv[1])
     with tempfile.TemporaryDirectory() as folder:
@@ -245,6 +253,7 @@ def main():
         kills(checks, folder)
         full(checks, folder)
         broken(checks, folder)
+        unknown(checks, folder)
     print(f"{checks.passed} passed, {checks.failed} failed")
     sys.exit(checks.failed != 0)
 
