@@ -312,7 +312,7 @@ def versions(checks):
     """`--version` prints the number of `include/oca.pc.in` and the toolchain's line of README."""
     top = EXAMPLES.parent
     number = re.search(r"^Version: (.*)$", (top / "include/oca.pc.in").read_text(), re.MULTILINE)[1]
-    toolchain = re.search(r"^Checked with the toolchain `([^`]*)`", (top / "README.md").read_text(), re.MULTILINE)[1]
+    toolchain = re.search(r"checked with\s+`(rattle-kit-[^`]*)`", (top / "README.md").read_text())[1]
     for program in ("ocadev", "ocactl", "ocapanel"):
         for word in ("--version", "-V"):
             done = subprocess.run([f"{checks.folder}/{program}", word], capture_output=True, text=True, timeout=30)
