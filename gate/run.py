@@ -117,17 +117,20 @@ def paragraphs(file):
 
 
 def left_out(steps, tools):
-    """The tools that are programs and stand in no step. What a step only uses says so by having no `main` to call."""
+    """The tools that are programs and stand in no step, and the runs of a tool that its head names by a line 'In the gate: WORDS' and that
+    stand in none. What a step only uses says so by having no `main` to call."""
     named = " ".join(step.command for step in steps)
     programs = [tool for tool in sorted(tools.glob("*.py")) if '__name__ == "__main__"' in tool.read_text()]
     by_hand = [tool for tool in programs if "\nNo step of the gate." in tool.read_text()]
-    return [tool.name for tool in programs if tool not in by_hand and f"{tools.name}/{tool.name}" not in named]
+    runs = [f"{tools.name}/{words}" for tool in programs for words in re.findall(r"^In the gate: (.+)$", tool.read_text(), re.M)]
+    missing = [tool.name for tool in programs if tool not in by_hand and f"{tools.name}/{tool.name}" not in named]
+    return missing + [words.split("/", 1)[1] for words in runs if not any(step.command.endswith(words) for step in steps)]
 
 
-def least_of_ci():
+def least_of_ci(top=TOP):
     """`rt ci` counts each crate of crates.txt, and each edit that must fail."""
-    lines = (line.split("#")[0].strip() for line in (TOP / "crates.txt").read_text().splitlines())
-    return sum(map(bool, lines)) + len(list(TOP.glob("crates/*/must-fail/*.edit")))
+    lines = (line.split("#")[0].strip() for line in (top / "crates.txt").read_text().splitlines())
+    return sum(map(bool, lines)) + len(list(top.glob("crates/*/must-fail/*.edit")))
 
 
 def processor_minutes():

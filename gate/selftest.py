@@ -1,6 +1,11 @@
 #!/usr/bin/env python3
-"""The gate's own test: steps that try nothing, too little, fail, crash, hang, or can't be read must make the gate fail;
-and a tool that no step runs must be found. The last line is 'N passed, M failed'."""
+"""The gate's own test: steps that try nothing, too little, fail, crash, hang, or can't be read must make the gate fail, and
+so must an `rt ci` that does; a tool that no step runs must be found; and what a tool compares by must see a difference and
+tell it. The last line is 'N passed, M failed'."""
+import contextlib
+import importlib
+import inspect
+import io
 import subprocess
 import sys
 import tempfile
@@ -54,14 +59,75 @@ def finds_what_is_left_out(folder):
     main = '\nif __name__ == "__main__":\n    pass\n'
     for name, text in (("run_by_a_step", main), ("left_out", main), ("module", ""), ("by_hand", '"""By hand.\n\nNo step of the gate."""' + main)):
         (tools / f"{name}.py").write_text(text)
-    return run.left_out([run.Step("1 1 python3 tools/run_by_a_step.py bin")], tools) == ["left_out.py"]
+    (tools / "twice.py").write_text('"""Twice.\n\nIn the gate: twice.py bin\nIn the gate: twice.py bin more\n"""' + main)
+    steps = [run.Step(f"1 1 python3 tools/{words}") for words in ("run_by_a_step.py bin", "twice.py bin")]
+    return run.left_out(steps, tools) == ["left_out.py", "twice.py bin more"]
+
+
+# what `rt ci` does, how many checks it is to pass, and what is counted of it
+OF_CI = [
+    ("rt ci that passes", "echo 'proved'; echo '3 passed, 0 failed (1 kept)'; echo '3 passed, 0 failed'", 3, (3, 0)),
+    ("rt ci that passes too little", "echo '3 passed, 0 failed'", 4, (3, 1)),
+    ("rt ci that fails", "echo '3 passed, 2 failed'; exit 1", 3, (3, 2)),
+    ("rt ci that ends badly behind a good count", "echo '3 passed, 0 failed'; exit 1", 3, (3, 1)),
+    ("rt ci that says nothing", "true", 3, (1, 1)),
+    ("rt ci that is not there", "./no-such-command", 3, (0, 1)),
+]
+
+
+def is_counted(command, least, wanted):
+    """Whether so many checks are counted of a command that is watched."""
+    with contextlib.redirect_stdout(io.StringIO()):
+        got = run.watched(command, least)
+    if got != wanted:
+        print(f"{got} in place of {wanted}")
+    return got == wanted
+
+
+def knows_the_least(folder):
+    """`rt ci` is to pass a check for each crate and each edit that must fail; those of other folders are none of its."""
+    for name in ("crates/a/must-fail/one.edit", "crates/b/must-fail/one.edit", "crates/b/must-fail/two.edit", "crates/b/wrong/three.edit"):
+        (folder / name).parent.mkdir(parents=True, exist_ok=True)
+        (folder / name).touch()
+    (folder / "crates.txt").write_text("# crates\na: b\n\nb: # none\n")
+    return run.least_of_ci(folder) == 5
+
+
+def ends_all_that_hangs(folder):
+    """What a step has started that hangs is ended with it."""
+    place = folder / "late"
+    run.kept(run.Step(f"1 0.01 (sleep 2; touch {place}) & sleep 600"))
+    subprocess.run(["sleep", "3"], check=True)
+    return not place.exists()
+
+
+def sees_differences(tool):
+    """Whether the tool's checks count what is the same as passed, and any difference as failed, which they tell."""
+    checks = tool.Checks(*[None] * (len(inspect.signature(tool.Checks).parameters)))
+    told = io.StringIO()
+    with contextlib.redirect_stdout(told):
+        checks.same("the same", ("a", 1), ("a", 1))
+        quiet = told.getvalue()
+        for got, wanted in ((("a", 1), ("a", 2)), ("", None), (False, None), ([], [[]]), ("ab", "abc")):
+            checks.same("a difference", got, wanted)
+    return (checks.passed, checks.failed, quiet, told.getvalue().count("a difference")) == (1, 5, "", 5)
+
+
+def tools_with_checks():
+    """The tools that compare by a class of their own."""
+    sys.path.insert(0, str(run.TOP / "tools"))
+    names = [file.stem for file in sorted((run.TOP / "tools").glob("*.py")) if "\nclass Checks:" in file.read_text()]
+    return [(name, importlib.import_module(name)) for name in names]
 
 
 def main():
     passed = failed = 0
     with tempfile.TemporaryDirectory() as room:
         tried = [(what, is_as_wanted(Path(room), *case)) for what, *case in CASES]
-        tried.append(("a tool that no step runs is found", finds_what_is_left_out(Path(room))))
+        tried += [(what, is_counted(*case)) for what, *case in OF_CI]
+        tried += [("a tool that no step runs is found", finds_what_is_left_out(Path(room))), ("the least of rt ci", knows_the_least(Path(room))),
+                  ("what hangs is ended", ends_all_that_hangs(Path(room)))]
+    tried += [(f"{name}.py sees differences", sees_differences(tool)) for name, tool in tools_with_checks()]
     for what, is_well in tried:
         passed, failed = passed + is_well, failed + (not is_well)
         if not is_well:

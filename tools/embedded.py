@@ -134,6 +134,21 @@ def knobs(checks, folder):
     amplifier.stop()
 
 
+def objects(checks, folder):
+    """What a peer reads of each object of the amplifier: its class, its role, that it can be locked, and a gain's limits."""
+    amplifier = Amplifier(folder)
+    peer = Peer(amplifier.port)
+    block, mute, gain = (oca.CLASSES[kind] for kind in ("block", "mute", "int16"))
+    for number, (mutes, gains) in enumerate(zip(MUTES, GAINS), 1):
+        for ono, identifier, role in ((mutes - 1, block, f"channel {number}"), (mutes, mute, "mute"), (gains, gain, "gain")):
+            said = oca.u16(len(identifier)) + b"".join(map(oca.u16, identifier)) + oca.u16(2)
+            checks.same(f"{ono}: its class", peer.ask(ono, 1, 1), (0, said))
+            checks.same(f"{ono}: its role", peer.ask(ono, 1, 5), (0, oca.text_bytes(role)))
+            checks.same(f"{ono}: it can be locked", peer.ask(ono, 1, 2), (0, b"\1"))
+        checks.same(f"{gains}: its limits", peer.ask(gains, 5, 1), (0, b"\0\0" + b"\xfc\xe0" + b"\0\x64"))
+    amplifier.stop()
+
+
 def closed(checks, folder):
     """Both serve where standard input or output is closed."""
     for descriptor in (0, 1):
@@ -149,7 +164,7 @@ def closed(checks, folder):
 
 def main():
     checks = Checks()
-    for part in (panel_sets, knobs, closed):
+    for part in (panel_sets, knobs, objects, closed):
         part(checks, sys.argv[1])
     print(f"embedded: the samples, each from both sides\n{checks.passed} passed, {checks.failed} failed")
     return 1 if checks.failed else 0

@@ -420,6 +420,16 @@ def silence(checks):
                       "wait two minutes, or give another --port\n")
 
 
+def failed_sends(checks):
+    """Sends that the system refuses, from 127.0.0.1 to another machine: a note says why the last of them failed."""
+    said = "note: a send failed: Invalid argument (os error 22)\nnote: nothing was heard from 192.0.2.1:65000\n"
+    for command, words, printed in (("get", ["4097"], "4097 no answer\n"),
+                                    ("send", ["--target", "4097", "--level", "4", "--index", "1", "--count", "0"], "no answer\n")):
+        run = subprocess.run([f"{checks.folder}/ocactl", command, "--ip", "127.0.0.1", "--device", "192.0.2.1:65000", "--port", str(checks.port),
+                              "--turns", "1", *words], capture_output=True, text=True, timeout=60)
+        checks.same(f"{command}: a send failed", (run.stdout, run.stderr, run.returncode), (printed, said, 3))
+
+
 class Deaf(Served):
     """The second implementation's device, which answers keep-alives, and no command of these methods (None: of any)."""
 
@@ -515,7 +525,8 @@ def held(checks):
 
 def main():
     checks = Checks(sys.argv[1])
-    for part in (trees, gets, sets, sets_at_once, tells_at_once, refusals, bad_words, locks, strange_answers, silence, old_sessions, own_port_in_use, held):
+    for part in (trees, gets, sets, sets_at_once, tells_at_once, refusals, bad_words, locks, strange_answers, silence, failed_sends,
+                 old_sessions, own_port_in_use, held):
         try:
             with own_ports.alone() if part in (old_sessions, own_port_in_use) else contextlib.nullcontext():
                 part(checks)

@@ -7,6 +7,9 @@ Usage: lossy.py BIN [COMMANDS] [SEED]     so many commands one at a time, with a
        lossy.py BIN directed [WINDOW..]   16 under way, of which the last overtakes the others and stays unanswered
                                           while they are answered and 15 more are executed; then a copy of it comes
 
+In the gate: lossy.py bin 30
+In the gate: lossy.py bin directed
+
 Of each run it prints a table, and at the end 'N passed, M failed' over the runs. One at a time, each answer must be
 what the second implementation of the profile says, and the last two commands read back what was set. With 16 under way
 the commands may be executed in any order, so they are such whose answers tell them apart in every order. The exit

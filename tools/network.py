@@ -5,8 +5,11 @@ Usage: network.py BIN     BIN is the folder with `ocadev` and `ocactl`
 
 Signals and failing calls come from the layer of `unreliable.c`. What the programs print and how long they take is compared. What is
 timed is held against waits of the same length that this script makes meanwhile, and tried again while it is too long, since a
-machine may be busy. The last line is 'N passed, M failed'."""
+machine may be busy: a part is repeated only where nothing but times was wrong, and how often one was stands before the last line.
+The last line is 'N passed, M failed'."""
+import contextlib
 import errno
+import itertools
 import os
 import re
 import socket
@@ -25,8 +28,8 @@ HERE = Path(__file__).resolve().parent
 GET = (4097, 4, 1, 0, b"")
 WAIT_MS = 50
 TRIES = 12
-# turns in which a command and its copy come, also on a machine that is busy: five seconds
-TURNS_OF_A_COPY = 100
+# so many turns that no run comes to their end by waiting: it is ended by datagrams, each of which is a turn
+TURNS_OF_A_COPY = 4000
 
 
 def bound(ip="127.0.0.1", port=0):
@@ -69,27 +72,31 @@ def answer(peer, handle, to):
 class Checks:
     def __init__(self, folder, layer):
         self.folder, self.layer, self.passed, self.failed, self.runs = folder, layer, 0, 0, []
+        self.late, self.repeated = 0, []
 
     def part(self, part):
-        """Runs a part: what fails is tried twice more, the whole part, since a machine that stands still for a second or two is no
-        fault of the programs. A part that fails three times has failed."""
+        """Runs a part. Where times alone were wrong it is tried twice more, since a machine that stands still for a second or two is no
+        fault of the programs; whatever else is wrong, events and counts, has failed at once."""
         for left in (2, 1, 0):
-            passed, failed = self.passed, self.failed
+            passed, failed, self.late = self.passed, self.failed, 0
             part(self)
-            if self.failed == failed or not left:
+            if self.failed == failed or self.failed > failed + self.late or not left:
                 return
-            print(f"once more: {part.__name__}: {self.failed - failed} checks failed", flush=True)
+            print(f"once more: {part.__name__}: {self.late} times were too long", flush=True)
+            self.repeated.append(part.__name__)
             self.passed, self.failed = passed, failed
 
-    def expect(self, what, good, told=""):
+    def expect(self, what, good, told="", is_time=False):
+        """A check; `is_time` where it is wrong only since something took too long."""
         if good:
             self.passed += 1
         else:
             self.failed += 1
-            print(f"WRONG: {what}: {told}")
+            self.late += is_time
+            print(f"{'LATE' if is_time else 'WRONG'}: {what}: {told}")
 
-    def same(self, what, got, expected):
-        self.expect(what, got == expected, f"{got!r:.300} in place of {expected!r:.300}")
+    def same(self, what, got, expected, is_time=False):
+        self.expect(what, got == expected, f"{got!r:.300} in place of {expected!r:.300}", is_time)
 
     def start(self, *words, stdin=subprocess.DEVNULL, close=(), **settings):
         """A run with these descriptors closed and this done by the layer."""
@@ -143,6 +150,20 @@ def report(run):
     return {name: int(value) for name, value in zip(words[::2], words[1::2])}
 
 
+def ended(run, port):
+    """What a run of `serve` printed that is ended by datagrams of no bytes, each of which is a turn: its report, and what it said of faults."""
+    def flood():
+        with bound() as peer:
+            while run.poll() is None:
+                for _ in range(100):
+                    peer.sendto(b"", ("127.0.0.1", port))
+                time.sleep(0.005)
+
+    thread = threading.Thread(target=flood, daemon=True)
+    thread.start()
+    return run.communicate(timeout=60)
+
+
 def quiet_turns(checks):
     """A turn without a datagram waits 50 ms, with signals too; each failing receive waits as long and is counted."""
     turns = 20
@@ -164,7 +185,8 @@ def quiet_turns(checks):
                 checks.expect(f"{settings}: quiet turns and failed ones", False, counts)
             if took[-1] < 1.2:
                 break
-        checks.expect(f"{settings}: a turn takes as long as a wait of 50 ms", min(took) < 1.2 and not short, f"{took} of such a wait")
+        checks.expect(f"{settings}: no turn is shorter than a wait of 50 ms", not short, f"{took} of such a wait")
+        checks.expect(f"{settings}: a turn takes as long as a wait of 50 ms", min(took) < 1.2, f"{took} of such a wait", is_time=True)
 
 
 def signals(checks):
@@ -176,26 +198,27 @@ def signals(checks):
                 checks.same(f"{settings}: answer {handle} of `serve`", answer(peer, handle, ("127.0.0.1", port))[0], response(handle))
         for handle in range(1, 4):
             got = checks.send(f"127.0.0.1:{port}", handle, **settings)
-            checks.same(f"{settings}: `send`", got, ("answer 0 1 01\n", "", 0))
+            checks.same(f"{settings}: `send`", got, ("answer 0 1 01\n", "", 0), is_time=got[0] == "lost\n")
         run.kill()
 
 
 def refused_sends(checks):
-    """A send that the system refuses is counted, and the command is answered when it comes again."""
-    for number in (errno.ENETUNREACH, errno.ENOBUFS, errno.EPERM):
-        run, port = checks.serve(TURNS_OF_A_COPY, FAIL_SEND=1, ERRNO=number)
+    """Sends that the system refuses are counted, each, and the command is answered when it comes again; a note says how many and why."""
+    for number, count, words in ((errno.ENETUNREACH, 1, ()), (errno.ENOBUFS, 2, ()), (errno.EPERM, 3, ()), (errno.EPERM, 2, ("--verbose",)),
+                                 (errno.EPERM, 2, ("--stats", 86400))):
+        run, port = checks.serve(TURNS_OF_A_COPY, *words, FAIL_SEND=count, ERRNO=number)
         with bound() as peer:
             checks.same(f"error {number}: the answer to a copy", answer(peer, 5, ("127.0.0.1", port))[0], response(5))
-        out, told = run.communicate(timeout=60)
-        counts = dict(zip(out.split()[::2], map(int, out.split()[1::2])))
-        counted = [counts.get("executed"), counts.get("kept", 0) > 0, counts.get("failed-sends")]
-        checks.same(f"error {number}: executed, kept, failed sends", counted, [1, True, 1])
-        checks.expect(f"error {number}: a note", re.fullmatch(r"note: failed sends: 1, the last: .+\n", told), told)
-    run, port = checks.serve(TURNS_OF_A_COPY, "--verbose", FAIL_SEND=1, ERRNO=errno.EPERM)
-    with bound() as peer:
-        checks.same("--verbose: the answer to a copy", answer(peer, 5, ("127.0.0.1", port))[0], response(5))
-    told = run.communicate(timeout=60)[1].splitlines()
-    checks.expect("--verbose: the failed send, and a note", "failed-sends 1" in told[0] and told[-1].startswith("note: failed sends: 1, the last: "), told)
+        out, told = ended(run, port)
+        counts, lines = dict(zip(out.split()[::2], map(int, out.split()[1::2]))), told.splitlines()
+        counted = [counts.get("executed"), counts.get("kept", 0) >= count, counts.get("failed-sends")]
+        checks.same(f"error {number} {words}: executed, kept, failed sends", counted, [1, True, count])
+        notes = [line for line in lines if line.startswith("note: ")]
+        checks.expect(f"error {number} {words}: a note", len(notes) == 1 and notes[0].startswith(f"note: failed sends: {count}, the last: ")
+                      and len(notes[0]) > len("note: failed sends: 1, the last: ") and lines[-1] == notes[0], told[-300:])
+        if "--verbose" in words:
+            shown = [line.split(" served ")[1] for line in lines if " served " in line][:count + 1]
+            checks.same("--verbose: each failed send", shown, ["1 0 0 failed-sends 1"] + ["0 1 0 failed-sends 1"] * (count - 1) + ["0 1 0"])
 
 
 def a_stalled_neighbour(checks):
@@ -214,7 +237,7 @@ def a_stalled_neighbour(checks):
             soon = sorted(slowest[-20:])[10] / waits.one
             if soon < 1.2:
                 break
-        checks.expect("behind five sends without room an answer comes as soon as a wait of 50 ms ends", soon < 1.2, f"{slowest} ms")
+        checks.expect("behind five sends without room an answer comes as soon as a wait of 50 ms ends", soon < 1.2, f"{slowest} ms", is_time=True)
         run.kill()
 
 
@@ -244,6 +267,78 @@ def closed_descriptors(checks):
     checks.same("`serve` without any of the three", run.returncode, 1)
 
 
+def opened(run, closed):
+    """What stands at each of these descriptors of a run, once it has a socket; nothing where it has none in ten seconds."""
+    place, until = f"/proc/{run.pid}/fd", time.monotonic() + 10
+    while run.poll() is None and time.monotonic() < until:
+        try:
+            there = {name: os.readlink(f"{place}/{name}") for name in os.listdir(place)}
+        except OSError:
+            continue
+        if any(what.startswith("socket:") for what in there.values()):
+            return [there.get(str(descriptor), "closed") for descriptor in closed]
+        time.sleep(0.005)
+    return None
+
+
+def null_at_closed(checks):
+    """Each program has the null device at each of the descriptors 0 to 2 that was closed, before it opens a socket: none gets the number."""
+    with bound() as silent:
+        to = silent.getsockname()[1]
+        send = ("--target", 1, "--level", 1, "--index", 1, "--count", 0)
+        for words in (("ocadev", "serve", "--port", 0, "--turns", 1000), ("ocactl", "send", "--device", f"127.0.0.1:{to}", *send),
+                      ("ocapanel", "--device", f"127.0.0.1:{to}", "--listen", "127.0.0.1:0"), ("amplifier", 0, 1000), ("panel", to)):
+            for closed in (of for count in (1, 2, 3) for of in itertools.combinations((0, 1, 2), count)):
+                run = checks.start(*words, close=closed)
+                checks.same(f"{words[0]}: {closed} closed", opened(run, closed), ["/dev/null"] * len(closed))
+                run.kill()
+                run.communicate(timeout=60)
+
+
+def asleep(checks):
+    """A machine that sleeps: its sleep counts. A lock whose holder was silent meanwhile is released, and a command is not given out again
+    100 seconds after its last copy; with no sleep, or one that is too short, neither is so."""
+    lock = oca.pdu(1, [oca.Command(1, 4097, 1, 3, 0, b"").body()])
+    for seconds, status in ((20, 0), (10, 3), (0, 3)):
+        run, port = checks.serve(100000, SLEPT=seconds)
+        with bound() as holder, bound() as other:
+            holder.sendto(lock, ("127.0.0.1", port))
+            checks.same(f"a sleep of {seconds} seconds: the lock", holder.recv(2000), oca.pdu(3, [oca.response_body(1, 0, 0, b"")]))
+            got = answer(other, 1, ("127.0.0.1", port))[0]
+            checks.same(f"a sleep of {seconds} seconds: what another peer gets", got and got[18], status)
+        run.kill()
+    for seconds, copies in ((101, 1), (60, 20)):
+        with bound() as silent:
+            got = checks.send(f"127.0.0.1:{silent.getsockname()[1]}", 1, SLEPT=seconds)
+            checks.same(f"a sleep of {seconds} seconds: `send`", (got[0], got[2]), ("lost\n", 3))
+            silent.setblocking(False)
+            heard = []
+            with contextlib.suppress(BlockingIOError):
+                while True:
+                    heard.append(silent.recv(2000))
+            checks.same(f"a sleep of {seconds} seconds: how often it was sent", heard, [get_command(1)] * copies)
+
+
+def kept_safely(checks):
+    """A state that is kept is on the disk before it takes the place of the one before."""
+    with tempfile.TemporaryDirectory() as room, bound() as peer:
+        run, port = checks.serve(100000, "--keep", f"{room}/state", CALLS=f"{room}/calls")
+        for handle, state in ((1, b"\2"), (2, b"\1")):
+            peer.sendto(oca.pdu(1, [oca.Command(handle, 4097, 4, 2, 1, state).body()]), ("127.0.0.1", port))
+            checks.same(f"--keep: the answer to {handle}", peer.recv(2000), oca.pdu(3, [oca.response_body(handle, 0, 0, b"")]))
+            until, wanted = time.monotonic() + 30, ["fsync", "rename"] * handle
+            while time.monotonic() < until and (said := calls_in(room)) != wanted:
+                time.sleep(0.01)
+            checks.same(f"--keep: what is called for {handle}", said, wanted)
+        run.kill()
+
+
+def calls_in(room):
+    """What the layer told of calls."""
+    path = Path(room, "calls")
+    return path.read_text().split() if path.exists() else []
+
+
 def calls_in_a_row(checks):
     """Forty commands from one port, each answered as the first."""
     run, port = checks.serve(100000)
@@ -268,12 +363,13 @@ def main():
         subprocess.run(["gcc", "-O1", "-Wall", "-shared", "-fPIC", "-o", layer, str(HERE / "unreliable.c"), "-ldl"], check=True)
         checks = Checks(os.path.abspath(sys.argv[1]), layer)
         try:
-            for part in (closed_descriptors, quiet_turns, signals, refused_sends, a_stalled_neighbour, calls_in_a_row, other_addresses):
+            for part in (closed_descriptors, null_at_closed, quiet_turns, signals, refused_sends, a_stalled_neighbour, asleep, kept_safely, calls_in_a_row, other_addresses):
                 checks.part(part)
         finally:
             for run in checks.runs:
                 if run.poll() is None:
                     run.kill()
+    print(f"network: parts that were repeated since times were too long: {', '.join(checks.repeated) or 'none'}")
     print(f"{checks.passed} passed, {checks.failed} failed")
     return 1 if checks.failed else 0
 

@@ -183,6 +183,7 @@ def objects(folder, device, panel):
     check(panel.wait(lambda _: panel.value(TRIM) == "0") is not None and panel.shown[TRIM]["limits"] == ["-600", "600"], "limits")
     for ono, value in [(MUTE, "unmuted"), (POLARITY, "inverted"), (TRIM, "-60"), (SOURCE, "2"), (4096, "on"), (MUTE, "muted"), (MUTE, "unmuted")]:
         check(panel.fare("/set", ono, value) is None, f"{ono} is set to {value}")
+        check(panel.value(ono) == value, f"{ono} shows {value} where its order is told: {panel.value(ono)}")
         check(panel.wait(lambda _, o=ono, v=value: panel.value(o) == v) is not None, f"{ono} shows {value}")
     said = ocactl(folder, device.port, "get", str(MUTE), str(TRIM), str(SOURCE))
     check(said == f"{MUTE} unmuted\n{TRIM} -60\n{SOURCE} 2 Stage left\n", said)

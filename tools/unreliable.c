@@ -7,7 +7,10 @@
  *   SIGNALS=N        N signals a second interrupt the process
  *   INTERRUPT=N      N signals come before each receive and each send does anything
  *   FAIL_RECEIVE=N   the first N receives fail with ERRNO              FAIL_SEND=N    the first N sends fail with ERRNO
- *   STALL=PORT       a send to this port finds no room: it waits as long as the socket lets it, for ever where it does */
+ *   STALL=PORT       a send to this port finds no room: it waits as long as the socket lets it, for ever where it does
+ *   SLEPT=N          behind the first send that is taken the machine seems to have slept for N seconds: the clock that counts sleep,
+ *                    CLOCK_BOOTTIME, is so far ahead, and no other
+ *   CALLS=FILE       a line goes to this file for each fsync and each rename, as it is made */
 #define _GNU_SOURCE
 #include <dlfcn.h>
 #include <errno.h>
@@ -16,6 +19,7 @@
 #include <signal.h>
 #include <stdio.h>
 #include <stdlib.h>
+#include <string.h>
 #include <sys/socket.h>
 #include <sys/time.h>
 #include <time.h>
@@ -28,8 +32,11 @@ static ssize_t (*real_write)(int, const void *, size_t);
 static ssize_t (*real_recvfrom)(int, void *, size_t, int, struct sockaddr *, socklen_t *);
 static ssize_t (*real_sendto)(int, const void *, size_t, int, const struct sockaddr *, socklen_t);
 static long requests, reads, writes, refuse, refuse_from, fail_read, fail_write, piece;
-static long receives, sends, interrupt, interrupted, fail_receive, fail_send, with, stall;
-static int started;
+static int (*real_clock_gettime)(clockid_t, struct timespec *);
+static int (*real_fsync)(int);
+static int (*real_rename)(const char *, const char *);
+static long receives, sends, interrupt, interrupted, fail_receive, fail_send, with, stall, slept;
+static int started, has_sent;
 
 static long set(const char *name) {
     const char *text = getenv(name);
@@ -43,6 +50,9 @@ static void find(void) {
     real_write = dlsym(RTLD_NEXT, "write");
     real_recvfrom = dlsym(RTLD_NEXT, "recvfrom");
     real_sendto = dlsym(RTLD_NEXT, "sendto");
+    real_clock_gettime = dlsym(RTLD_NEXT, "clock_gettime");
+    real_fsync = dlsym(RTLD_NEXT, "fsync");
+    real_rename = dlsym(RTLD_NEXT, "rename");
 }
 
 static void on_signal(int number) { (void)number; }
@@ -67,6 +77,7 @@ __attribute__((constructor)) static void start(void) {
     fail_send = set("FAIL_SEND");
     with = set("ERRNO");
     stall = set("STALL");
+    slept = set("SLEPT");
     if (set("SIGNALS")) send_signals(set("SIGNALS"));
     started = 1;
 }
@@ -137,7 +148,34 @@ ssize_t sendto(int file, const void *bytes, size_t size, int flags, const struct
     if (is_interrupted()) return -1;
     if (++sends <= fail_send) { errno = with; return -1; }
     if (stall && ntohs(((const struct sockaddr_in *)to)->sin_port) == stall) return wait_for_room(file, flags);
-    return real_sendto(file, bytes, size, flags, to, length);
+    ssize_t taken = real_sendto(file, bytes, size, flags, to, length);
+    has_sent = has_sent || taken >= 0;
+    return taken;
+}
+
+int clock_gettime(clockid_t clock, struct timespec *time) {
+    if (!real_clock_gettime) find();
+    int status = real_clock_gettime(clock, time);
+    if (status == 0 && clock == CLOCK_BOOTTIME && has_sent) time->tv_sec += slept;
+    return status;
+}
+
+static void tell_call(const char *line) {
+    const char *path = getenv("CALLS");
+    int file = path ? open(path, O_WRONLY | O_CREAT | O_APPEND, 0600) : -1;
+    if (file < 0) return;
+    if (real_write(file, line, strlen(line)) < 0) abort();
+    close(file);
+}
+
+int fsync(int file) {
+    tell_call("fsync\n");
+    return real_fsync(file);
+}
+
+int rename(const char *from, const char *to) {
+    tell_call("rename\n");
+    return real_rename(from, to);
 }
 
 ssize_t __write(int file, const void *bytes, size_t size) { return write(file, bytes, size); }

@@ -247,12 +247,73 @@ def bad_options(checks):
         checks.same(f"bad option of {words}", (done.stdout, lines[0].startswith(f"note: {note}"), lines[1:], done.returncode), ("", True, ["bad words"], 2))
 
 
+# The forms of options by their names: of a number its most digits, its least and its largest value.
+NUMBERS = {"window": (3, 1, 64), "peers": (3, 1, 64), "channels": (4, 0, 1022), "turns": (10, 0, oca.U32), "stats": (5, 1, 86400), "port": (5, 0, 65535),
+           "span": (3, 1, 32), "ahead": (3, 1, 32), "first-handle": (10, 0, oca.U32), "target": (10, 0, oca.U32), "level": (5, 0, 65535),
+           "index": (5, 0, 65535), "count": (3, 0, 255), ("ocapanel", "span"): (3, 2, 32)}
+HOST = "A.B.C.D:PORT, the address of one host, 1.0.0.0 to 223.255.255.255, and a port from 1 to 65535"
+ADDRESS = "A.B.C.D, the address of one host, 1.0.0.0 to 223.255.255.255, or 0.0.0.0"
+TEXTS = {"device": HOST, ("replay", "device"): "A.B.C.D:PORT", "listen": "A.B.C.D:PORT", "ip": ADDRESS,
+         "params": "an even number of hexadecimal digits, 2 to 2890, or -"}
+FREE = {"tree", "keep"}  # any text names a file
+# What each command wants besides the option that is bad.
+WANTED = {("ocadev", "serve"): {"port": "0"}, ("ocactl", "replay"): {"device": "127.0.0.1:9", "first-handle": "1"},
+          ("ocactl", "send"): {"device": "127.0.0.1:9", "target": "1", "level": "1", "index": "1", "count": "0"}, ("ocapanel", ""): {"device": "127.0.0.1:9"},
+          **{("ocactl", name): {"device": "127.0.0.1:9"} for name in ("run", "tree", "get", "set", "lock", "unlock")}}
+BEHIND = {"get": ["4097"], "set": ["4097", "muted"], "lock": ["4097"], "unlock": ["4097"]}
+
+
+def commands_of(folder):
+    """Each command of each program, with its options that take a value, as its help names them."""
+    def help_of(program, *words):
+        return subprocess.run([f"{folder}/{program}", *words, "--help"], capture_output=True, text=True, timeout=30).stdout
+
+    for program in ("ocadev", "ocactl", "ocapanel"):
+        listed = re.search(r"^Commands:\n((?:.+\n)+)", help_of(program), re.M)
+        names = [name for name in re.findall(r"^  (\w+)", listed[1], re.M) if name != "help"] if listed else [""]
+        for name in names:
+            yield program, name, re.findall(r"^ +(?:-\w, )?--([a-z-]+)[ =]<", help_of(program, *[name] * bool(name)), re.M)
+
+
+def bad_values(checks):
+    """Each option of each command with values that are not of its form: the note names it, the value and the form, and nothing else is done."""
+    for program, name, options in commands_of(checks.folder):
+        for option in options:
+            numbers = NUMBERS.get((program, option), NUMBERS.get(option))
+            if numbers:
+                digits, least, largest = numbers
+                form = f"1 to {digits} digits, {least} to {largest}"
+                values = ["x", "-1", str(largest + 1), "0" * digits + "1", *([str(least - 1)] if least else [])]
+            elif option in FREE:
+                continue
+            else:
+                form = TEXTS.get((name, option), TEXTS.get(option, f"no form is known of --{option}"))
+                values = ["x"]
+            for value in values:
+                given = {**WANTED.get((program, name), {}), option: value}
+                words = [program, *[name] * bool(name), *(f"--{which}={that}" for which, that in given.items()), *BEHIND.get(name, [])]
+                done = subprocess.run([f"{checks.folder}/{words[0]}", *words[1:]], stdin=subprocess.DEVNULL, capture_output=True, text=True, timeout=30)
+                checks.same(" ".join(words), (done.stdout, done.stderr, done.returncode), ("", f"note: --{option} {value} is not of its form: {form}\nbad words\n", 2))
+
+
+def missing_options(checks):
+    """Each option that a command wants is named, in one line, where it is missing."""
+    for (program, name), wanted in WANTED.items():
+        shown = subprocess.run([f"{checks.folder}/{program}", *[name] * bool(name), "--help"], capture_output=True, text=True, timeout=30).stdout
+        for option in wanted:
+            kind = re.search(rf"--{option}[ =]<([^>]+)>", shown)[1]
+            words = [program, *[name] * bool(name), *(f"--{which}={that}" for which, that in wanted.items() if which != option), *BEHIND.get(name, [])]
+            done = subprocess.run([f"{checks.folder}/{words[0]}", *words[1:]], stdin=subprocess.DEVNULL, capture_output=True, text=True, timeout=30)
+            said = f"note: error: the following required arguments were not provided: --{option} <{kind}>\nbad words\n"
+            checks.same(" ".join(words), (done.stdout, done.stderr, done.returncode), ("", said, 2))
+
+
 def versions(checks):
     """`--version` prints the number of `include/oca.pc.in` and the toolchain's line of README."""
     top = EXAMPLES.parent
     number = re.search(r"^Version: (.*)$", (top / "include/oca.pc.in").read_text(), re.MULTILINE)[1]
     toolchain = re.search(r"^Checked with the toolchain `([^`]*)`", (top / "README.md").read_text(), re.MULTILINE)[1]
-    for program in ("ocadev", "ocactl"):
+    for program in ("ocadev", "ocactl", "ocapanel"):
         for word in ("--version", "-V"):
             done = subprocess.run([f"{checks.folder}/{program}", word], capture_output=True, text=True, timeout=30)
             checks.same(f"{program} {word}", (done.stdout, done.stderr, done.returncode), (f"{program} {number}\nchecked with {toolchain}\n", "", 0))
@@ -295,9 +356,13 @@ def serves(checks):
     checks.same("serve: its answers", answered, 10)
 
 
+# What is told of a span of 17.
+WIDE = ["note: --span 17: the device needs a window of 33 commands or more; its 32, unless it is told another, bear a span of 16"]
+
+
 def wide_spans(checks):
     """`send` and `run` with a span of 17, and `send` with one of 16: which window the device needs, where it is not the one that it has."""
-    said = "note: --span 17: the device needs a window of 33 commands or more; its 32, unless it is told another, bear a span of 16\n"
+    said = f"{WIDE[0]}\n"
     for command, span, told in ((["send", "--target", 1, "--level", 1, "--index", 1, "--count", 0], 17, said),
                                 (["send", "--target", 1, "--level", 1, "--index", 1, "--count", 0], 16, ""), (["run"], 17, said)):
         with bound() as device:
@@ -309,6 +374,39 @@ def wide_spans(checks):
             sender = device.recvfrom(2000)[1]
             device.sendto(response(1, 0, 0, b""), sender)
             checks.same(f"{command[0]} --span {span}", (*run.communicate(timeout=30), run.returncode), ("answer 0 0 -\n", told, 0))
+
+
+def spans_of_hands(checks):
+    """Each command for hands says which window the device needs, where the span is above 16, and only there; what it then asks is not answered."""
+    for command in ("tree", "get", "set", "lock", "unlock"):
+        for span in (16, 17):
+            with bound() as device:
+                run = checks.start("ocactl", command, "--device", f"127.0.0.1:{device.getsockname()[1]}", "--span", span, "--turns", 0, "--port", free_port(),
+                                   *BEHIND.get(command, []))
+                said = run.communicate(timeout=30)[1].splitlines()
+                notes = [line for line in said if "needs a window" in line]
+                checks.same(f"{command} --span {span}", (notes, said[:len(notes)]), (WIDE, WIDE) if span > 16 else ([], []))
+
+
+def holds(checks):
+    """`lock --hold`: its status is the graver of locking and of taking off, and nothing is taken off that was not locked."""
+    for answers, printed, status in (((0, 0), "4097 locked\n4097 unlocked\n", 0), ((0, 3), "4097 locked\n4097 Locked\n", 4), ((3,), "4097 Locked\n", 4)):
+        with bound() as device:
+            run = checks.start("ocactl", "lock", "--hold", "--device", f"127.0.0.1:{device.getsockname()[1]}", "--first-handle", 1, "--port", free_port(), 4097)
+            data, heard = b"", []
+            for handle, answer in enumerate(answers, 1):
+                data, sender = next_command(device, data)
+                heard.append(data)
+                device.sendto(response(handle, answer, 0, b""), sender)
+                if handle == 1 and answer == 0:
+                    checks.same("lock --hold: it is locked", run.stdout.readline(), "4097 locked\n")
+                    run.stdin.close()
+                    run.stdin = None
+            out = run.communicate(timeout=30)
+            wanted = [oca.pdu(1, [oca.Command(handle, 4097, 1, index, 0, b"").body()]) for handle, index in ((1, 3), (2, 4))]
+            checks.same(f"lock --hold, {answers}: what is asked", heard, wanted[:len(answers)])
+            before = "4097 locked\n" if answers[0] == 0 else ""
+            checks.same(f"lock --hold, {answers}", (before + out[0], out[1], run.returncode), (printed, "", status))
 
 
 def typed(checks):
@@ -525,7 +623,7 @@ def trees(checks):
 
 def main():
     checks = Checks(sys.argv[1])
-    for part in (sends, runs, runs_ahead, drives_while_it_waits, typed, wide_spans, at_own_ports, limits, defaults, faults, bad_options, versions, unwritten, serves, serves_until_stopped, trees):
+    for part in (sends, runs, runs_ahead, drives_while_it_waits, typed, wide_spans, spans_of_hands, holds, at_own_ports, limits, defaults, faults, bad_options, bad_values, missing_options, versions, unwritten, serves, serves_until_stopped, trees):
         try:
             with own_ports.alone() if part in (at_own_ports, unwritten) else contextlib.nullcontext():
                 part(checks)

@@ -1,9 +1,9 @@
 //! The lines of an input, as they come.
-use super::wait::is_ready;
 use arrayvec::ArrayVec;
+use oca_wait::wait_for;
 use std::io;
 use std::io::Read;
-use std::os::fd::AsRawFd;
+use std::os::fd::{AsRawFd, RawFd};
 
 /// The most bytes of a line; a longer one is cut.
 const LONGEST: usize = 80;
@@ -51,5 +51,13 @@ impl<I: Read + AsRawFd + Drop> Lines<I> {
             return None;
         }
         Some(std::mem::replace(&mut self.begun, Line::new()))
+    }
+}
+
+/// Whether a read of the descriptor would not wait: there are bytes, the end, or an error, which the read tells.
+fn is_ready(descriptor: RawFd) -> bool {
+    match wait_for(Some(descriptor), None, 0) {
+        Ok(ready) => ready.input,
+        Err(_) => false,
     }
 }

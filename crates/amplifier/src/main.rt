@@ -8,7 +8,6 @@
 mod channels;
 mod knob;
 mod lines;
-mod wait;
 
 use channels::{Channels, build};
 use knob::Knob;

@@ -1,4 +1,5 @@
-//! Tests of oca_device on its public interface: scripts of events, each with what must come of it.
+//! Tests of the device, its objects and its sessions, on the public interfaces of its crates: scripts of events, each
+//! with what it must answer.
 #![tactic(auto)]
 
 #[cfg(test)]

@@ -1,5 +1,5 @@
 -- Why a run of a program fails: its exit status, and the lines that are printed (*profile*).
-use Rattle.std.specs.Prelude.{ℕ, List, [], ◌++◌, Option, None, Some, codes, decimal, length, nat_le, if◌then◌else◌, string_bytes}
+use Rattle.std.specs.Prelude.{ℕ, List, [], ◌++◌, Option, None, Some, codes, decimal, length, nat_le, if◌then◌else◌, string_bytes, Result, Ok, Err}
 use Rattle.std.specs.Option.{option_map}
 use Rattle.clap.specs.declared.error.kind.ErrorKind.{ErrorKind}
 use Rattle.clap.specs.declared.error.kind.ErrorKind.TheVariants as kinds
@@ -50,6 +50,11 @@ words_fault other = BadWords
 abbrev pub tree_fault : TreeFault → RunFault
 tree_fault (trees.Line number fault) = Object number fault
 tree_fault trees.NoMemory = NoMemory
+
+-- what a function gave, or the fault of its failure
+abbrev pub fault_in : {A : Type 0} → Result A Failure → Result A RunFault
+fault_in (Ok x) = Ok x
+fault_in (Err failure) = Err failure.fault
 
 -- the line of a line's fault
 abbrev pub line_text : ℕ → List ℕ → List ℕ

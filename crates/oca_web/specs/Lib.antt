@@ -2,6 +2,8 @@ pub mod Admission
 pub mod Asking
 pub mod Objects
 pub mod Orders
+pub mod Said
 pub mod Sites
+pub mod Telling
 pub mod Views
 pub mod Walking

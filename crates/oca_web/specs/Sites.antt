@@ -12,6 +12,7 @@ use Rattle.oca_web.specs.declared.order.Deed.TheVariants as deeds
 use Rattle.oca_web.specs.declared.site.Site.{Site}
 use Rattle.oca_web.specs.Admission.{lets_request_in}
 use Rattle.oca_web.specs.Orders.{with_order}
+use Rattle.oca_web.specs.Said.{IsSaid}
 
 -- the order sets something
 abbrev pub IsSetting : Deed → Type 0
@@ -46,12 +47,13 @@ abbrev pub TakesOrder : Result Unit AllocError → Ono → Deed → Site → Res
 TakesOrder (Ok u) ono deed old response new = AddsOrder ono deed old response new ⊎ AddsNone old response new
 TakesOrder (Err e) ono deed old response new = KeepsAll old new
 
-abbrev pub AddsFor : List ℕ → Site → Response → Site → Type 0
-AddsFor path old response new = (ono : Ono) × (deed : Deed) × IsDeedFor path deed × AddsOrder ono deed old response new
+-- one order was added: the one for which the path and the body ask
+abbrev pub AddsFor : List ℕ → List ℕ → Site → Response → Site → Type 0
+AddsFor path body old response new = (ono : Ono) × (deed : Deed) × IsDeedFor path deed × IsSaid body ono deed × AddsOrder ono deed old response new
 
-abbrev pub PostsOrder : List ℕ → Result Unit AllocError → Site → Response → Site → Type 0
-PostsOrder path (Ok u) old response new = AddsFor path old response new ⊎ AddsNone old response new
-PostsOrder path (Err e) old response new = KeepsAll old new
+abbrev pub PostsOrder : List ℕ → List ℕ → Result Unit AllocError → Site → Response → Site → Type 0
+PostsOrder path body (Ok u) old response new = AddsFor path body old response new ⊎ AddsNone old response new
+PostsOrder path body (Err e) old response new = KeepsAll old new
 
 abbrev pub KeepsOrders : Result Unit AllocError → Site → Response → Site → Type 0
 KeepsOrders (Ok u) old response new = AddsNone old response new
@@ -60,12 +62,12 @@ KeepsOrders (Err e) old response new = KeepsAll old new
 abbrev pub method_of : Request (List ℕ) → List ℕ
 method_of r = (head_of r).method
 
--- A POST THAT IS LET IN adds one order, which its path asks for, and is answered 202 with the order's own ticket; or it is
--- refused with another status, and adds none.
+-- A POST THAT IS LET IN adds one order: what its path asks for, of the object and with the value that its body says. It is
+-- answered 202 with the order's own ticket; or it is refused with another status, and adds none.
 pub record Orders (old : Site) (request : Request (List ℕ)) (response : Response) (new : Site) : Type 0 where
   pub let_in : lets_request_in old.names.items request ≡ true
   pub post : bytes_eq (codes "POST") (method_of request) ≡ true
-  pub adds : AddsFor (uri_path (head_of request).uri) old response new
+  pub adds : AddsFor (uri_path (head_of request).uri) request.body old response new
 
 -- NOTHING IS ORDERED: of a request that is not let in the whole view stays as it was.
 pub record OrdersNothing (old : Site) (request : Request (List ℕ)) (response : Response) (new : Site) : Type 0 where

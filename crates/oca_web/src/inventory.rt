@@ -1,6 +1,6 @@
 //! What is known of a device, and what is asked of it.
 use crate::ask::{Ask, Asked, Question, class_for};
-use crate::object::{Lock, Object, Shown};
+use crate::object::{Lock, Object, Shown, reading_with};
 use crate::objects::Objects;
 use crate::order::{Deed, Order};
 use crate::orders::lower;
@@ -378,7 +378,8 @@ impl Inventory {
         known.next().is_none()
     }
 
-    /// Learns how an order fared: whose lock is on its object, and what it is set to, which is asked anew.
+    /// Learns how an order fared: whose lock is on its object, and what it is set to, which is asked anew. What was asked
+    /// before is not learned, since its answer may be older than the order.
     pub fn learn_order(&mut self, order: Order, done: Result<(), Trouble>) -> Result<(), NoMemory>
         ensures { KeepsWalk self.old self.new }
     {
@@ -389,7 +390,16 @@ impl Inventory {
             return Ok(());
         };
         let lock = lock_after(order.deed, done, shown.lock);
-        self.objects.show(place, Shown { lock, ..shown });
+        let reading = reading_after(order.deed, done, shown.reading);
+        self.objects.show(
+            place,
+            Shown {
+                lock,
+                reading,
+                ..shown
+            },
+        );
+        forget_values(self.asked.as_mut_slice(), place);
         self.ask_first(place)
     }
 
@@ -467,5 +477,26 @@ fn lock_after(deed: Deed, done: Result<(), Trouble>, before: Lock) -> Lock {
         (Deed::Unlock, Ok(())) => Lock::Free,
         (_, Err(Trouble::Refused(LOCKED))) => Lock::Other,
         _ => before,
+    }
+}
+
+/// What an object is set to behind an order that fared so: where it was carried out, what was ordered.
+fn reading_after(
+    deed: Deed,
+    done: Result<(), Trouble>,
+    before: Option<Reading>,
+) -> Option<Reading> {
+    match (deed, done, before) {
+        (Deed::Set(value), Ok(()), Some(reading)) => Some(reading_with(reading, value)),
+        _ => before,
+    }
+}
+
+/// The answers to questions in flight for the value of the object at this place are not learned: they are of no walk.
+fn forget_values(asked: &mut [Asked], place: usize) {
+    for one in asked.iter_mut() {
+        if one.question.place == place && one.question.ask == Ask::Value {
+            one.question.epoch = 0;
+        }
     }
 }

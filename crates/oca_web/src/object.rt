@@ -1,5 +1,8 @@
 //! What is known of an object.
-use oca_model::{Flags, Names, Reading, Value, word_of};
+ghost use Rattle.std.specs.Prelude.{◌≡◌, ◌⊎◌};
+ghost use Rattle.oca_model.specs.Readings.{value_of};
+
+use oca_model::{Flags, Names, Ranged, Reading, Value, word_of};
 use oca_panel::Trouble;
 use oca_types::{Class, Ono, Text};
 
@@ -106,6 +109,28 @@ pub fn limits_of(reading: Reading) -> Option<(Value, Value)> {
         Reading::Uint16(r) => Some((Value::Uint16(r.least), Value::Uint16(r.greatest))),
         Reading::Uint32(r) => Some((Value::Uint32(r.least), Value::Uint32(r.greatest))),
         Reading::Uint64(r) => Some((Value::Uint64(r.least), Value::Uint64(r.greatest))),
+    }
+}
+
+/// What a reading says once the object is set to this value: the value, with the same limits. A value of another class
+/// changes nothing.
+pub fn reading_with(reading: Reading, value: Value) -> Reading
+    ensures { (value_of result ≡ value) ⊎ (result ≡ reading) }
+{
+    match (reading, value) {
+        (Reading::Mute(_), Value::Mute(state)) => Reading::Mute(state),
+        (Reading::Polarity(_), Value::Polarity(state)) => Reading::Polarity(state),
+        (Reading::Boolean(_), Value::Boolean(truth)) => Reading::Boolean(truth),
+        (Reading::Switch(r), Value::Switch(setting)) => Reading::Switch(Ranged { setting, ..r }),
+        (Reading::Int8(r), Value::Int8(setting)) => Reading::Int8(Ranged { setting, ..r }),
+        (Reading::Int16(r), Value::Int16(setting)) => Reading::Int16(Ranged { setting, ..r }),
+        (Reading::Int32(r), Value::Int32(setting)) => Reading::Int32(Ranged { setting, ..r }),
+        (Reading::Int64(r), Value::Int64(setting)) => Reading::Int64(Ranged { setting, ..r }),
+        (Reading::Uint8(r), Value::Uint8(setting)) => Reading::Uint8(Ranged { setting, ..r }),
+        (Reading::Uint16(r), Value::Uint16(setting)) => Reading::Uint16(Ranged { setting, ..r }),
+        (Reading::Uint32(r), Value::Uint32(setting)) => Reading::Uint32(Ranged { setting, ..r }),
+        (Reading::Uint64(r), Value::Uint64(setting)) => Reading::Uint64(Ranged { setting, ..r }),
+        _ => reading,
     }
 }
 

@@ -3,7 +3,7 @@
 /// What the page may do: run its own script, wear its own style, and ask the panel that sent it, and nothing else. The
 /// hashes are those of the script and of the style below; `tools/panel.py` compares them.
 pub const POLICY: &str =
-    "default-src 'none'; style-src 'sha256-dn+mR2AxYnEAVhY4RTzaQrYAB6Ah7zky01dU8/UU6w8='; script-src 'sha256-ZyjkCXVYBIPizZ5pEb9lkZoiuaI5Ns6bJztCIeWy8YQ='; connect-src 'self'; frame-ancestors 'none'; base-uri 'none'; form-action 'none'";
+    "default-src 'none'; style-src 'sha256-EYgLg/CEe5sDJG2L/zO6vbTflkmY/AXtixAYc2RPzF8='; script-src 'sha256-e+qRfLfVGHd05UgSqnCQWOppkXF1o+dF3ksaXk5hgag='; connect-src 'self'; frame-ancestors 'none'; base-uri 'none'; form-action 'none'";
 
 /// The page. It asks for `/tree` and `/values`, and sends orders to `/set`, `/lock` and `/unlock`. What comes from the device
 /// goes into it by `textContent` and by properties alone, never as HTML.
@@ -18,11 +18,11 @@ body{margin:0;font:15px/1.35 system-ui,sans-serif;background:var(--page);color:v
 header{position:sticky;top:0;z-index:1;background:var(--card);border-bottom:1px solid var(--edge);padding:8px 12px;display:flex;flex-wrap:wrap;gap:4px 18px;align-items:baseline}
 h1{font-size:16px;margin:0}
 #link{font-weight:600}.good{color:var(--good)}.bad{color:var(--bad)}.soft{color:var(--soft);font-variant-numeric:tabular-nums}
-main{display:grid;grid-template-columns:repeat(auto-fill,minmax(290px,1fr));gap:10px;padding:10px;align-items:start}
-section{background:var(--card);border:1px solid var(--edge);border-radius:8px;padding:8px 10px;min-width:0;content-visibility:auto;contain-intrinsic-size:auto 150px}
+main{display:grid;grid-template-columns:repeat(auto-fill,minmax(316px,1fr));gap:10px;padding:10px;align-items:start}
+section{background:var(--card);border:1px solid var(--edge);border-radius:8px;padding:8px 10px;min-width:0;content-visibility:auto}
 section section{background:var(--inner);margin:6px 0}
 h2{font-size:14px;margin:0 0 4px;display:flex;gap:8px;align-items:center;justify-content:space-between;overflow-wrap:anywhere}
-.row{display:grid;grid-template-columns:minmax(60px,1fr) minmax(165px,2fr) auto;gap:4px 8px;align-items:center;padding:3px 0}
+.row{display:grid;grid-template-columns:minmax(60px,1fr) minmax(155px,2fr) auto;gap:4px 8px;align-items:center;padding:3px 0;min-height:34px}
 .row>.name{color:var(--soft);overflow-wrap:anywhere}
 .control{display:flex;gap:6px;align-items:center;min-width:0}
 button,select,input{font:inherit;color:inherit;background:var(--inner);border:1px solid var(--edge);border-radius:5px;padding:3px 8px;max-width:100%}
@@ -34,22 +34,26 @@ button.lock{font-size:12px;padding:2px 6px;min-width:4.8em}
 .said{grid-column:1/-1;color:var(--bad);font-size:13px;overflow-wrap:anywhere}.said:empty{display:none}
 .away main{opacity:.6}
 </style></head><body>
-<header><h1>OCA panel</h1><span id="link" role="status">asking the device</span><span class="soft" id="flight"></span><span class="soft" id="again"></span><span class="soft" id="lost"></span><span class="bad" id="note" role="alert"></span></header>
+<header><h1>OCA panel</h1><span id="link" role="status">asking the device</span><span class="soft" id="heard"></span><span class="soft" id="flight"></span><span class="soft" id="again"></span><span class="soft" id="lost"></span><span class="bad" id="note" role="alert"></span></header>
 <main id="main" aria-busy="true"></main>
 <script>
 "use strict";
 const node=(tag,cls,text)=>{const e=document.createElement(tag);if(cls)e.className=cls;if(text!==undefined)e.textContent=text;return e};
 const by=id=>document.getElementById(id);
 const put=(e,text)=>{if(e.textContent!==text)e.textContent=text};
-let epoch=0,since=0,rows=new Map(),awaited=new Map(),timer=0,busy=false,again=false;
+const NOTHING="18446744073709551615";
+let epoch=0,since=NOTHING,rows=new Map(),awaited=new Map(),timer=0,busy=false,again=false,pace=2,told=[];
+let strips=[],near=null,seen=null,inView=new Set(),asked="";
 const times=[];
 async function order(path,row,value){
  if(row.ticket){row.next=[path,value];return}
  row.ticket=-1;row.begun=performance.now();row.box.classList.add("sent");
  try{
   const body={ono:row.ono};if(value!==undefined)body.value=value;
-  const r=await fetch(path,{method:"POST",headers:{"Content-Type":"application/json"},body:JSON.stringify(body)});
-  if(r.status===202){row.ticket=await r.json();awaited.set(row.ticket,row);poll()}
+  const sent=fetch(path,{method:"POST",headers:{"Content-Type":"application/json"},body:JSON.stringify(body)});
+  pace=2;poll();
+  const r=await sent;
+  if(r.status===202){row.ticket=await r.json();const t=told.find(t=>t.ticket===row.ticket);if(t)settle(row,t.trouble);else{awaited.set(row.ticket,row);pace=2;poll()}}
   else settle(row,r.status===503?"too many orders wait":r.status===404?"no such object":r.status===422?"no such value":"refused: "+r.status);
  }catch(e){settle(row,"the panel's program does not answer")}
 }
@@ -99,8 +103,9 @@ function controls(row){
 }
 function title(row){return row.label||row.role||"object "+row.ono}
 function show(row){
- if(row.ticket===0)row.draw();
  put(row.name,title(row));
+ if(!row.said)return;
+ if(row.ticket===0)row.draw();
  row.box.classList.toggle("held",row.lock==="other");row.box.classList.toggle("off",!row.enabled);
  for(const c of row.inputs){c.setAttribute("aria-label",title(row)+(row.strip?", "+row.strip:""));c.disabled=!row.enabled}
  if(row.locker){put(row.locker,row.lock==="own"?"unlock":"lock");row.locker.setAttribute("aria-pressed",row.lock==="own");
@@ -119,62 +124,109 @@ function locker(row,lockable){
  c.onclick=()=>order(row.lock==="own"?"/unlock":"/lock",row);
  row.locker=c;return c;
 }
+// A strip is there with its names at once; its controls are made when it comes near, and those of all others while nothing
+// else is to be done, so that the keyboard, a search and a reader of the page find them.
+function fill(row){
+ if(row.said)return;
+ row.said=node("div","said");row.said.setAttribute("role","status");
+ if(row.kind==="block"){
+  row.draw=()=>{};
+  if(row.ono===100)row.box.prepend(row.said);
+  else{const lock=locker(row,row.lockable);if(lock)row.name.after(lock);row.name.parentNode.after(row.said)}
+ }else{
+  row.inputs=controls(row);const c=node("div","control");c.append(...row.inputs);
+  row.box.append(c,locker(row,row.lockable)||node("span"),row.said);
+ }
+ show(row);
+}
+function wake(strip){
+ if(!strip||strip.awake)return;
+ strip.awake=true;near.unobserve(strip.box);
+ for(const row of strip.rows)fill(row);
+}
+const idle=window.requestIdleCallback?f=>requestIdleCallback(f,{timeout:1000}):f=>setTimeout(()=>f({timeRemaining:()=>0}),30);
+function wakeRest(of,at){
+ idle(rest=>{
+  if(of!==strips)return;
+  do{while(at<of.length&&of[at].awake)at++;wake(of[at])}while(at<of.length&&rest.timeRemaining()>5);
+  if(at<of.length)wakeRest(of,at);
+ });
+}
+function strip(box,row){
+ const s={box,rows:row?[row]:[],inner:[],awake:false,at:strips.length};
+ box.strip=s;strips.push(s);return s;
+}
+function high(s){
+ const size=62+34*s.rows.filter(r=>r.kind!=="block").length+s.inner.reduce((n,i)=>n+high(i)+12,0);
+ s.box.style.containIntrinsicSize="auto 280px auto "+size+"px";
+ return size;
+}
+function watch(){
+ if(near){near.disconnect();seen.disconnect()}
+ inView=new Set();asked="";
+ near=new IntersectionObserver(all=>{for(const e of all)if(e.isIntersecting)wake(e.target.strip)},{rootMargin:"100% 0px"});
+ seen=new IntersectionObserver(all=>{for(const e of all){const s=e.target.strip;if(e.isIntersecting)inView.add(s);else inView.delete(s)}asked=range()});
+ for(const s of strips)if(s.at){near.observe(s.box);seen.observe(s.box)}
+}
 function build(tree){
- epoch=tree.epoch;since=0;rows=new Map();awaited.clear();
+ epoch=tree.epoch;since=0;rows=new Map();awaited.clear();strips=[];
  const main=node("main");main.id="main";
- const boxes=new Map([[100,{box:main,title:""}]]);
+ const root=strip(main),boxes=new Map([[100,root]]);root.title="";
  tree.objects.forEach((o,place)=>{
-  const row={ono:o.ono,kind:o.class,role:o.role,label:"",names:o.names,flags:[],value:null,limits:null,lock:"free",enabled:true,trouble:null,why:"",ticket:0,next:null,place};
-  const within=boxes.get(o.in)||boxes.get(100);row.strip=within.title;
-  row.name=node("span","name",o.role);row.said=node("div","said");row.said.setAttribute("role","status");row.inputs=[];
+  const row={ono:o.ono,kind:o.class,role:o.role,label:"",names:o.names,lockable:o.lockable,flags:[],value:null,limits:null,lock:"free",enabled:true,trouble:null,why:"",ticket:0,next:null,place,inputs:[],said:null};
+  const within=boxes.get(o.in)||root;row.strip=within.title;
+  row.name=node("span","name",o.role);
   if(o.class==="block"){
-   if(o.ono===100){row.box=main;row.draw=()=>{};main.append(row.said);rows.set(100,row);return}
-   row.box=node("section");const head=node("h2");head.append(row.name);row.draw=()=>{};
-   const lock=locker(row,o.lockable);if(lock)head.append(lock);
-   row.box.append(head,row.said);row.box.setAttribute("aria-label",o.role);boxes.set(o.ono,{box:row.box,title:o.role});
+   if(o.ono===100){row.box=main;root.rows.push(row)}
+   else{
+    row.box=node("section");const head=node("h2");head.append(row.name);
+    row.box.append(head);row.name.id="name"+o.ono;row.box.setAttribute("aria-labelledby",row.name.id);
+    const own=strip(row.box,row);own.title=o.role;boxes.set(o.ono,own);within.inner.push(own);
+    within.box.append(row.box);
+   }
   }else{
-   row.box=node("div","row");row.inputs=controls(row);const c=node("div","control");c.append(...row.inputs);
-   row.box.append(row.name,c);const lock=locker(row,o.lockable);row.box.append(lock||node("span"));row.box.append(row.said);
+   row.box=node("div","row");row.box.append(row.name);
+   if(within===root){const s=node("section");s.append(row.box);root.inner.push(strip(s,row));main.append(s)}
+   else{within.rows.push(row);within.box.append(row.box)}
   }
   row.box.dataset.ono=o.ono;
-  if(o.class!=="block"&&within.box===main){const s=node("section");s.append(row.box);main.append(s)}else within.box.append(row.box);
   rows.set(o.ono,row);
  });
+ for(const s of root.inner)high(s);
+ main.addEventListener("focusin",e=>{const s=e.target.closest("section");if(s){wake(strips[s.strip.at-1]);wake(strips[s.strip.at+1])}});
  by("main").replaceWith(main);
+ watch();wake(root);wakeRest(strips,0);
 }
-function visible(){
- const high=innerHeight;let first=null,last=0;
- for(const s of by("main").children){
-  const r=s.getBoundingClientRect();if(r.bottom<0||r.top>high)continue;
-  const inside=s.matches("[data-ono]")?[s,...s.querySelectorAll("[data-ono]")]:s.querySelectorAll("[data-ono]");
-  for(const e of inside){const p=rows.get(+e.dataset.ono)?.place;if(p===undefined)continue;if(first===null||p<first)first=p;if(p>last)last=p}
- }
+function range(){
+ let first=null,last=0;
+ for(const s of inView)for(const r of s.rows){if(first===null||r.place<first)first=r.place;if(r.place>last)last=r.place}
  return first===null?"":"&first="+first+"&count="+(last-first+1);
 }
 const ms=n=>n<1000?n+" ms":n<60000?(n/1000).toFixed(1)+" s":Math.floor(n/60000)+" min";
 function tell(v){
  const l=v.link,away=l.lost_for!==null;
  by("link").className=away||l.heard===null?"bad":"good";
- const heard=l.heard===null?"not heard yet":"heard "+ms(l.heard)+" ago";
- const text=away?"device lost since "+new Date(Date.now()-l.lost_for).toLocaleTimeString()+", "+heard:"device "+heard;
- by("link").textContent=text;
+ put(by("link"),away?"device lost since "+new Date(Date.now()-l.lost_for).toLocaleTimeString():l.heard===null?"asking the device":"device heard");
+ put(by("heard"),l.heard===null?"":ms(l.heard)+" ago");
  put(by("flight"),l.in_flight+" in flight");put(by("again"),l.again+" retransmissions");put(by("lost"),l.lost+" sessions lost");
  document.body.classList.toggle("away",away);put(by("note"),"");
 }
 async function poll(){
  clearTimeout(timer);if(busy){again=true;return}busy=true;again=false;
  try{
-  const r=await fetch("/values?since="+since+(epoch?visible():""));if(!r.ok)throw 0;const v=await r.json();
+  const r=await fetch("/values?since="+since+asked);if(!r.ok)throw 0;const v=await r.json();
+  if(v.epoch!==epoch)since=NOTHING;
   if(v.walked&&v.epoch!==epoch){const t=await fetch("/tree");if(!t.ok)throw 0;const tree=await t.json();if(tree.walked){build(tree);again=true}}
   else if(v.epoch===epoch){
    since=v.change;
    for(const o of v.objects){const row=rows.get(o.ono);if(row){Object.assign(row,{value:o.value,limits:o.limits,trouble:o.trouble,lock:o.lock,enabled:o.enabled,label:o.label,flags:o.flags});show(row)}}
    by("main").removeAttribute("aria-busy");
   }
-  for(const t of v.told){const row=awaited.get(t.ticket);if(row){awaited.delete(t.ticket);settle(row,t.trouble)}}
+  told=v.told;
+  for(const t of told){const row=awaited.get(t.ticket);if(row){awaited.delete(t.ticket);settle(row,t.trouble)}}
   tell(v);
  }catch(e){put(by("note"),"the panel's program does not answer")}
- busy=false;timer=setTimeout(poll,again?0:awaited.size?8:document.hidden?1000:100);
+ busy=false;timer=setTimeout(poll,again?0:awaited.size?pace=Math.min(40,1.5*pace):document.hidden?1000:100);
 }
 poll();
 </script></body></html>

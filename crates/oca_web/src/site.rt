@@ -1,5 +1,7 @@
 //! The service: which requests are let in, and what answers them.
-ghost use Rattle.std.specs.Prelude.{◌≡◌, ◌≢◌, IfErr};
+ghost use Rattle.std.specs.Prelude.{◌≡◌, ◌≢◌, IfErr, IfOk, Some};
+ghost use Rattle.serde_json.specs.View.{view};
+ghost use Rattle.oca_web.specs.Said.{ono_said};
 
 use crate::admission::{Name, field, has_host, has_page, lets_in};
 use crate::order::Deed;
@@ -24,7 +26,9 @@ pub struct Site {
 }
 
 impl Site {
-    ghost use Rattle.std.specs.Prelude.{◌≡◌, ◌≢◌, [], IfOk, IfErr};
+    ghost use Rattle.std.specs.Prelude.{◌≡◌, ◌≢◌, [], IfOk, IfErr, Some};
+    ghost use Rattle.serde_json.specs.View.{view};
+    ghost use Rattle.oca_web.specs.Said.{IsSaid, IsSaidIn, IsValueSaid, ono_said};
     ghost use Rattle.http_server.specs.Response.{IsBlank};
     ghost use Rattle.oca_web.specs.Admission.{lets_request_in};
     ghost use Rattle.oca_web.specs.Sites.{IsAnswered, IsDeedFor, IsSetting, KeepsOrders, PostsOrder, TakesOrder};
@@ -133,7 +137,7 @@ impl Site {
         ensures { response.new.status ≡ response.old.status }
     {
         let told = tree_told(self.alloc, self.view.inventory())?;
-        put_json(self.alloc, &told, response)
+        put_json(told.as_slice(), response)
     }
 
     /// Answers with what changed, to a page that is open.
@@ -147,13 +151,13 @@ impl Site {
         let count = number_in(query, "count").min(65_535) as usize;
         self.view.open(first, count);
         let told = values_told(self.alloc, &self.view, since)?;
-        put_json(self.alloc, &told, response)
+        put_json(told.as_slice(), response)
     }
 
     /// Answers a request that orders something.
     fn post(&mut self, path: &str, body: &[u8], response: &mut Response) -> Result<(), AllocError>
         requires { response.old.body.items ≡ [] }
-        ensures { PostsOrder path.now result self.old response.new self.new }
+        ensures { PostsOrder path.now body.now result self.old response.new self.new }
     {
         match self.order_in(path, body) {
             Ok((ono, deed)) => self.take_order(ono, deed, response),
@@ -167,27 +171,38 @@ impl Site {
     /// What is ordered: the path says the deed, and the body the object and, for `/set`, its value.
     fn order_in(&self, path: &str, body: &[u8]) -> Result<(Ono, Deed), StatusCode>
         ensures deed { IfOk result (λ o. IsDeedFor path.now o.1) }
+        ensures said { IfOk result (λ o. IsSaid body.now o.0 o.1) }
         ensures refused { IfErr result (λ status. status ≢ 202) }
     {
-        let Ok(wanted) = Value::from_slice(self.alloc, body) else {
-            return Err(StatusCode::BAD_REQUEST);
-        };
+        match Value::from_slice(self.alloc, body) {
+            Ok(wanted) => self.order_said(path, &wanted),
+            Err(_) => Err(StatusCode::BAD_REQUEST),
+        }
+    }
+
+    /// What is ordered by a body that says this.
+    fn order_said(&self, path: &str, wanted: &Value) -> Result<(Ono, Deed), StatusCode>
+        ensures deed { IfOk result (λ o. IsDeedFor path.now o.1) }
+        ensures said { IfOk result (λ o. IsSaidIn (view wanted.now) o.0 o.1) }
+        ensures refused { IfErr result (λ status. status ≢ 202) }
+    {
         match path {
-            "/set" => self.setting_in(&wanted),
-            "/lock" => Ok((self.known_in(&wanted)?, Deed::Lock)),
-            "/unlock" => Ok((self.known_in(&wanted)?, Deed::Unlock)),
+            "/set" => self.setting_in(wanted),
+            "/lock" => self.lock_in(wanted, Deed::Lock),
+            "/unlock" => self.lock_in(wanted, Deed::Unlock),
             "/" | "/tree" | "/values" => Err(StatusCode::METHOD_NOT_ALLOWED),
             _ => Err(StatusCode::NOT_FOUND),
         }
     }
 
-    /// The object that a body names, where it is known.
-    fn known_in(&self, wanted: &Value) -> Result<Ono, StatusCode>
-        ensures { IfErr result (λ status. status ≢ 202) }
+    /// The object that a body names, where it is known, and that it is to be locked or unlocked.
+    fn lock_in(&self, wanted: &Value, deed: Deed) -> Result<(Ono, Deed), StatusCode>
+        ensures said { IfOk result (λ o. (ono_said (view wanted.now) ≡ Some o.0.0) × (o.1 ≡ deed)) }
+        ensures refused { IfErr result (λ status. status ≢ 202) }
     {
         let ono = ono_in(wanted)?;
         if self.view.knows(ono) {
-            Ok(ono)
+            Ok((ono, deed))
         } else {
             Err(StatusCode::NOT_FOUND)
         }
@@ -196,12 +211,22 @@ impl Site {
     /// The object that a body names, and what it is to be set to.
     fn setting_in(&self, wanted: &Value) -> Result<(Ono, Deed), StatusCode>
         ensures deed { IfOk result (λ o. IsSetting o.1) }
+        ensures said { IfOk result (λ o. IsSaidIn (view wanted.now) o.0 o.1) }
         ensures refused { IfErr result (λ status. status ≢ 202) }
     {
         let ono = ono_in(wanted)?;
-        let Some(word) = wanted.get("value").and_then(Value::as_str) else {
-            return Err(StatusCode::BAD_REQUEST);
-        };
+        match wanted.get("value").and_then(Value::as_str) {
+            Some(word) => self.setting_of(ono, word),
+            None => Err(StatusCode::BAD_REQUEST),
+        }
+    }
+
+    /// What an object is to be set to by this word.
+    fn setting_of(&self, ono: Ono, word: &str) -> Result<(Ono, Deed), StatusCode>
+        ensures deed { IfOk result (λ o. IsSetting o.1) }
+        ensures said { IfOk result (λ o. (o.0 ≡ ono) × IsValueSaid (Some word.now) o.1) }
+        ensures refused { IfErr result (λ status. status ≢ 202) }
+    {
         match self.view.value_named(ono, word) {
             Ok(value) => Ok((ono, Deed::Set(value))),
             Err(NoOrder::NoObject) => Err(StatusCode::NOT_FOUND),
@@ -256,7 +281,8 @@ impl Service for Site {
 
 /// The number of the object that a body names.
 fn ono_in(wanted: &Value) -> Result<Ono, StatusCode>
-    ensures { IfErr result (λ status. status ≢ 202) }
+    ensures said { IfOk result (λ o. ono_said (view wanted.now) ≡ Some o.0) }
+    ensures refused { IfErr result (λ status. status ≢ 202) }
 {
     let Some(ono) = wanted.get("ono").and_then(Value::as_u64) else {
         return Err(StatusCode::BAD_REQUEST);
@@ -294,12 +320,11 @@ fn put_kind(response: &mut Response) -> Result<(), AllocError>
 }
 
 /// Answers with JSON.
-fn put_json(alloc: Global, told: &Value, response: &mut Response) -> Result<(), AllocError>
+fn put_json(told: &[u8], response: &mut Response) -> Result<(), AllocError>
     ensures { response.new.status ≡ response.old.status }
 {
     put_kind(response)?;
-    let text = told.to_string(alloc)?;
-    response.body.put_slice(text.as_bytes())
+    response.body.put_slice(told)
 }
 
 /// Answers with the page.

@@ -1,5 +1,6 @@
 //! A view of a device: what is known of it, the orders of the pages, and how its link is.
-ghost use Rattle.std.specs.Prelude.{◌≡◌};
+ghost use Rattle.std.specs.Prelude.{◌≡◌, IfOk};
+ghost use Rattle.oca_web.specs.Said.{IsNamed};
 
 use crate::ask::Question;
 use crate::asking::{ask_one, leaves_half};
@@ -10,7 +11,7 @@ use crate::turns::{lose_orders, settle_orders, submit_orders};
 use oca_model::{Value, value_from_word};
 use oca_net::End;
 use oca_panel::{Panel, answer_of};
-use oca_types::{Handle, NoMemory, Ono, Peer, Span};
+use oca_types::{Class, Handle, NoMemory, Ono, Peer, Span};
 use std::alloc::Global;
 
 /// Where the device is, and how many of its commands are in flight at most.
@@ -62,9 +63,10 @@ pub struct View {
 }
 
 impl View {
-    ghost use Rattle.std.specs.Prelude.{◌≡◌};
+    ghost use Rattle.std.specs.Prelude.{◌≡◌, IfOk};
     ghost use Rattle.oca_web.specs.Objects.{one_more};
     ghost use Rattle.oca_web.specs.Orders.{Adds, SettlesOrders};
+    ghost use Rattle.oca_web.specs.Said.{IsNamed};
     ghost use Rattle.oca_web.specs.Views.{GoesOn, RenewsLost, TakesTurn};
     ghost use Rattle.oca_web.specs.Walking.{BeginsAnew, KeepsWalk, StaysOver};
 
@@ -95,7 +97,9 @@ impl View {
     }
 
     /// The orders.
-    pub fn orders(&self) -> &Orders {
+    pub fn orders(&self) -> &Orders
+        ensures { result.now ≡ self.now.orders }
+    {
         &self.orders
     }
 
@@ -114,6 +118,11 @@ impl View {
         self.orders
             .in_flight()
             .saturating_add(self.inventory.in_flight())
+    }
+
+    /// Whether orders wait or are in flight.
+    pub fn has_orders(&self) -> bool {
+        self.orders.waits() || self.orders.in_flight() > 0
     }
 
     /// How many commands were submitted.
@@ -148,16 +157,13 @@ impl View {
     }
 
     /// The value of an object that a word names.
-    pub fn value_named(&self, ono: Ono, word: &str) -> Result<Value, NoOrder> {
-        let Some(class) = self.inventory.class_of(ono) else {
-            return Err(NoOrder::NoObject);
-        };
-        let Some(class) = class else {
-            return Err(NoOrder::NoValue);
-        };
-        match value_from_word(class, word) {
-            Some(value) => Ok(value),
-            None => Err(NoOrder::NoValue),
+    pub fn value_named(&self, ono: Ono, word: &str) -> Result<Value, NoOrder>
+        ensures { IfOk result (IsNamed word.now) }
+    {
+        match self.inventory.class_of(ono) {
+            Some(Some(class)) => value_in(class, word),
+            Some(None) => Err(NoOrder::NoValue),
+            None => Err(NoOrder::NoObject),
         }
     }
 
@@ -326,5 +332,15 @@ impl View {
     /// The earliest moment at which there is something to do, but for what the link is due to send.
     pub fn next_moment(&self) -> Option<u64> {
         self.inventory.next_moment(self.news.now)
+    }
+}
+
+/// The value of an object of this class that a word names.
+fn value_in(class: Class, word: &str) -> Result<Value, NoOrder>
+    ensures { IfOk result (IsNamed word.now) }
+{
+    match value_from_word(class, word) {
+        Some(value) => Ok(value),
+        None => Err(NoOrder::NoValue),
     }
 }

@@ -4,10 +4,9 @@ use oca_model::{MuteState, Reading};
 use oca_net::{MemoryEnd, Scripted};
 use oca_panel::Panel;
 use oca_types::{Handle, Peer, Span};
-use oca_web::{Lock, MOST_TOLD, MOST_WAITING, Name, PAGE, POLICY, Site, View};
+use oca_web::{Lock, MOST_TOLD, MOST_WAITING, Name, PAGE, POLICY, Shown, Site, View};
 use std::alloc::Global;
 use std::hash::RandomState;
-use std::process::Abort;
 use std::random::RandomSource;
 
 const DEVICE: Peer = Peer {
@@ -47,80 +46,148 @@ const ANSWERS: &[Answer] = &[
 /// How many turns find the objects.
 const FINDING: u32 = 10;
 
-/// The response to the command of this handle.
-fn response(alloc: Global, handle: u8, answer: &Answer) -> Option<Scripted> {
+/// The head of the response to the command of this handle.
+fn head(handle: u8, answer: &Answer) -> Option<[u8; 20]> {
     let (status, count, params) = *answer;
     let size = u8::try_from(params.len()).ok()?;
-    let head = [
-        0x3b,
-        0,
-        1,
-        0,
-        0,
-        0,
-        size.checked_add(19)?,
-        3,
-        0,
-        1,
-        0,
-        0,
-        0,
-        size.checked_add(10)?,
-        0,
-        0,
-        0,
-        handle,
-        status,
-        count,
-    ];
+    let pdu = size.checked_add(19)?;
+    let message = size.checked_add(10)?;
+    Some([
+        0x3b, 0, 1, 0, 0, 0, pdu, 3, 0, 1, 0, 0, 0, message, 0, 0, 0, handle, status, count,
+    ])
+}
+
+/// Adds the response to the command of this handle.
+fn add(alloc: Global, script: &mut Vec<Scripted>, handle: u8, answer: &Answer) -> bool {
+    let Some(head) = head(handle, answer) else {
+        return false;
+    };
     let mut bytes = Vec::new(alloc);
-    bytes.extend_from_slice(&head).ok()?;
-    bytes.extend_from_slice(params).ok()?;
-    Some(Scripted::Datagram {
-        from: DEVICE,
-        bytes,
-        now: 10,
-    })
+    bytes.extend_from_slice(&head).is_ok()
+        && bytes.extend_from_slice(answer.2).is_ok()
+        && script
+            .push(Scripted::Datagram {
+                from: DEVICE,
+                bytes,
+                now: 10,
+            })
+            .is_ok()
+}
+
+/// Adds the responses to the commands from the handle 7 on.
+fn add_all(alloc: Global, script: &mut Vec<Scripted>, answers: &[Answer]) -> bool {
+    let mut handle = 7u8;
+    for answer in answers {
+        if !add(alloc, script, handle, answer) {
+            return false;
+        }
+        handle = handle.saturating_add(1);
+    }
+    true
+}
+
+/// An end that delivers these answers in turn.
+fn end(alloc: Global, answers: &[Answer]) -> Option<MemoryEnd> {
+    let mut script = Vec::new(alloc);
+    if add_all(alloc, &mut script, answers) {
+        MemoryEnd::new(alloc, script, 64, None).ok()
+    } else {
+        None
+    }
 }
 
 /// A panel whose first handle is 7, over an end that delivers these answers in turn.
 fn panel(alloc: Global, answers: &[Answer]) -> Option<Panel<MemoryEnd>> {
-    let mut script = Vec::new(alloc);
-    let mut handle = 7u8;
-    for answer in answers {
-        script.push(response(alloc, handle, answer)?).ok()?;
-        handle = handle.checked_add(1)?;
+    match end(alloc, answers) {
+        Some(end) => Some(Panel::open(DEVICE, end, Handle(7), Span::default(), 0)),
+        None => None,
     }
-    let end = MemoryEnd::new(alloc, script, 64, None).ok()?;
-    Some(Panel::open(DEVICE, end, Handle(7), Span::default(), 0))
+}
+
+/// The name of 127.0.0.1:8080.
+fn name(alloc: Global) -> Option<Name> {
+    let host = String::from_str(alloc, "127.0.0.1:8080").ok()?;
+    let origin = String::from_str(alloc, "http://127.0.0.1:8080").ok()?;
+    Some(Name { host, origin })
+}
+
+/// Its name alone.
+fn names(alloc: Global) -> Option<Vec<Name>> {
+    Vec::from_array(alloc, [name(alloc)?]).ok()
 }
 
 /// A site at 127.0.0.1:8080.
 fn site(alloc: Global) -> Option<Site> {
-    let view = View::new(alloc, DEVICE, Span::default(), Handle(7), 0).ok()?;
-    let mut names = Vec::new(alloc);
-    names
-        .push(Name {
-            host: String::from_str(alloc, "127.0.0.1:8080").ok()?,
-            origin: String::from_str(alloc, "http://127.0.0.1:8080").ok()?,
-        })
-        .ok()?;
-    Some(Site::new(alloc, view, names))
+    let names = names(alloc)?;
+    match View::new(alloc, DEVICE, Span::default(), Handle(7), 0) {
+        Ok(view) => Some(Site::new(alloc, view, names)),
+        Err(_) => None,
+    }
+}
+
+/// A turn, behind which the view goes on.
+fn take_turn(view: &mut View, panel: &mut Panel<MemoryEnd>) -> bool {
+    view.take_turn(panel).is_ok() && view.go_on(panel).is_ok()
+}
+
+/// So many turns.
+fn take_turns(view: &mut View, panel: &mut Panel<MemoryEnd>, turns: u32) -> bool {
+    for _ in 0..turns {
+        if !take_turn(view, panel) {
+            return false;
+        }
+    }
+    true
 }
 
 /// Goes on, and takes so many turns.
-fn drive(site: &mut Site, panel: &mut Panel<MemoryEnd>, turns: u32) -> Option<()> {
-    site.view().note(10, 1);
-    site.view().go_on(panel).ok()?;
-    for _ in 0..turns {
-        site.view().take_turn(panel).ok()?;
-        site.view().go_on(panel).ok()?;
+fn drive(site: &mut Site, panel: &mut Panel<MemoryEnd>, turns: u32) -> bool {
+    let view = site.view();
+    view.note(10, 1);
+    view.go_on(panel).is_ok() && take_turns(view, panel, turns)
+}
+
+/// A site that has found the device over a panel.
+#[derive(Drop)]
+struct Found {
+    panel: Panel<MemoryEnd>,
+    site: Site,
+}
+
+/// The site over the panel, once it has found the device.
+fn find_over(alloc: Global, mut panel: Panel<MemoryEnd>) -> Option<Found> {
+    let mut site = site(alloc)?;
+    if drive(&mut site, &mut panel, FINDING) {
+        Some(Found { panel, site })
+    } else {
+        None
     }
-    Some(())
+}
+
+/// A site that has found the device.
+fn find(alloc: Global) -> Option<Found> {
+    find_over(alloc, panel(alloc, ANSWERS)?)
 }
 
 /// A request, and how its answer begins and ends.
 type Row = (&'static [u8], &'static [u8], &'static [u8]);
+
+/// The order that sets the mute, which gets the first ticket.
+const SET: Row = (
+    b"POST /set HTTP/1.1\r\nHost: 127.0.0.1:8080\r\nOrigin: http://127.0.0.1:8080\r\nContent-Type: application/json\r\nContent-Length: 30\r\n\r\n{\"ono\":4097,\"value\":\"unmuted\"}",
+    b"HTTP/1.1 202 ",
+    b"\r\n\r\n1",
+);
+
+/// The order that locks it, which gets the second.
+const LOCK: Row = (
+    b"POST /lock HTTP/1.1\r\nHost: 127.0.0.1:8080\r\nOrigin: http://127.0.0.1:8080\r\nContent-Type: application/json\r\nContent-Length: 12\r\n\r\n{\"ono\":4097}",
+    b"HTTP/1.1 202 ",
+    b"\r\n\r\n2",
+);
+
+/// Both.
+const ORDERS: &[Row] = &[SET, LOCK];
 
 /// What a page sends: the first two orders are taken, and get their tickets.
 const ROWS: &[Row] = &[
@@ -134,16 +201,8 @@ const ROWS: &[Row] = &[
         b"HTTP/1.1 421 ",
         b"",
     ),
-    (
-        b"POST /set HTTP/1.1\r\nHost: 127.0.0.1:8080\r\nOrigin: http://127.0.0.1:8080\r\nContent-Type: application/json\r\nContent-Length: 30\r\n\r\n{\"ono\":4097,\"value\":\"unmuted\"}",
-        b"HTTP/1.1 202 ",
-        b"\r\n\r\n1",
-    ),
-    (
-        b"POST /lock HTTP/1.1\r\nHost: 127.0.0.1:8080\r\nOrigin: http://127.0.0.1:8080\r\nContent-Type: application/json\r\nContent-Length: 12\r\n\r\n{\"ono\":4097}",
-        b"HTTP/1.1 202 ",
-        b"\r\n\r\n2",
-    ),
+    SET,
+    LOCK,
     (
         b"POST /unlock HTTP/1.1\r\nHost: 127.0.0.1:8080\r\nOrigin: http://evil.example\r\nContent-Type: application/json\r\nContent-Length: 12\r\n\r\n{\"ono\":4097}",
         b"HTTP/1.1 403 ",
@@ -176,107 +235,188 @@ const ROWS: &[Row] = &[
     ),
 ];
 
-/// Whether a request is answered so.
-fn is_answered<R: RandomSource>(alloc: Global, rt: &R, site: &mut Site, row: &Row) -> Option<bool> {
-    let (request, begins, ends) = *row;
+/// A connection of a browser.
+fn connection<R: RandomSource>(alloc: Global, rt: &R) -> Option<Connection> {
     let keys = RandomState::new(rt).ok()?;
-    let mut http = Connection::new(alloc, keys, Config::default());
+    Some(Connection::new(alloc, keys, Config::default()))
+}
+
+/// Takes a request in.
+fn take_in(http: &mut Connection, request: &[u8]) -> bool {
     let mut reader = request;
-    http.read_from(&mut reader).ok()?;
-    http.advance(site);
-    let mut all = Vec::new(alloc);
+    http.read_from(&mut reader).is_ok()
+}
+
+/// Puts out what is to be sent.
+fn put_out(http: &mut Connection, sent: &mut Vec<u8>) -> bool {
     for _ in 0..64u32 {
         if !http.wants_write() {
-            break;
+            return true;
         }
-        http.write_to(&mut all).ok()?;
+        if http.write_to(sent).is_err() {
+            return false;
+        }
     }
-    let sent = all.as_slice();
-    Some(sent.starts_with(begins) && sent.ends_with(ends))
+    true
+}
+
+/// Whether what is sent begins and ends as the row says.
+fn is_sent(alloc: Global, http: &mut Connection, row: &Row) -> bool {
+    let mut sent = Vec::new(alloc);
+    put_out(http, &mut sent) && sent.starts_with(row.1) && sent.ends_with(row.2)
+}
+
+/// Whether a request on this connection is answered so.
+fn is_answered_on(alloc: Global, http: &mut Connection, site: &mut Site, row: &Row) -> bool {
+    if !take_in(http, row.0) {
+        return false;
+    }
+    http.advance(site);
+    is_sent(alloc, http, row)
+}
+
+/// Whether a request is answered so.
+fn is_answered<R: RandomSource>(alloc: Global, rt: &R, site: &mut Site, row: &Row) -> bool {
+    match connection(alloc, rt) {
+        Some(mut http) => is_answered_on(alloc, &mut http, site, row),
+        None => false,
+    }
+}
+
+/// What is shown of the mute.
+fn shown(view: &View) -> Option<Shown> {
+    view.inventory().objects().shown(1)
+}
+
+/// Whether the mute can be locked.
+fn is_lockable(view: &View) -> bool {
+    match view.inventory().objects().as_slice().get(1) {
+        Some(mute) => mute.lockable,
+        None => false,
+    }
+}
+
+/// Whether the mute is read so.
+fn is_read(view: &View, state: MuteState) -> bool {
+    match shown(view) {
+        Some(shown) => shown.reading == Some(Reading::Mute(state)),
+        None => false,
+    }
+}
+
+/// Whether the mute is locked by this panel.
+fn is_own(view: &View) -> bool {
+    match shown(view) {
+        Some(shown) => shown.lock == Lock::Own,
+        None => false,
+    }
+}
+
+/// Whether all objects are known.
+fn is_whole(view: &View) -> bool {
+    view.inventory().is_walked() && !view.inventory().is_stale()
+}
+
+/// Whether ten commands were submitted, each is answered, and the device was heard at 10.
+fn is_quiet(view: &View) -> bool {
+    view.submitted() == 10
+        && view.in_flight() == 0
+        && !view.is_spent()
+        && view.news().heard == Some(10)
 }
 
 /// The device is found, with its mute and the mute's state.
-fn is_found(alloc: Global) -> Option<bool> {
-    let mut panel = panel(alloc, ANSWERS)?;
-    let mut site = site(alloc)?;
-    drive(&mut site, &mut panel, FINDING)?;
-    let view = site.view();
-    let is_whole = view.inventory().is_walked() && !view.inventory().is_stale();
-    let mute = view.inventory().objects().as_slice().get(1)?;
-    let is_read = mute.shown.reading == Some(Reading::Mute(MuteState::Muted));
-    let is_quiet = view.submitted() == 10 && view.in_flight() == 0 && !view.is_spent();
-    Some(is_whole && is_read && is_quiet && mute.lockable && view.news().heard == Some(10))
+fn is_found(alloc: Global) -> bool {
+    match find(alloc) {
+        Some(mut found) => {
+            let view = found.site.view();
+            is_whole(view) && is_read(view, MuteState::Muted) && is_lockable(view) && is_quiet(view)
+        }
+        None => false,
+    }
 }
 
-/// Two orders of one object fare one after the other, as the device answers.
-fn are_told<R: RandomSource>(alloc: Global, rt: &R) -> Option<bool> {
-    let mut panel = panel(alloc, ANSWERS)?;
-    let mut site = site(alloc)?;
-    drive(&mut site, &mut panel, FINDING)?;
-    for row in [ROWS.get(2)?, ROWS.get(3)?] {
-        if !is_answered(alloc, rt, &mut site, row)? {
-            return Some(false);
+/// Whether two orders were done, and no other waits.
+fn are_done(view: &View) -> bool {
+    let mut count = 0u32;
+    for one in view.orders().told() {
+        if one.done != Ok(()) {
+            return false;
         }
+        count = count.saturating_add(1);
     }
-    drive(&mut site, &mut panel, 4)?;
-    let view = site.view();
-    let told = view.orders().told();
-    let done = told.len() == 2 && told.iter().all(|one| one.done == Ok(()));
-    let mute = view.inventory().objects().as_slice().get(1)?;
-    let is_set = mute.shown.reading == Some(Reading::Mute(MuteState::Unmuted));
-    Some(done && is_set && mute.shown.lock == Lock::Own && !view.orders().waits())
+    count == 2 && !view.orders().waits()
+}
+
+/// Whether two orders of one object fare one after the other, as the device answers.
+fn fare_so(found: &mut Found) -> bool {
+    if !drive(&mut found.site, &mut found.panel, 4) {
+        return false;
+    }
+    let view = found.site.view();
+    are_done(view) && is_read(view, MuteState::Unmuted) && is_own(view)
 }
 
 /// The first row that is answered otherwise.
-fn first_wrong<R: RandomSource>(alloc: Global, rt: &R) -> Option<usize> {
-    let Some(mut panel) = panel(alloc, ANSWERS) else {
-        return Some(100);
-    };
-    let Some(mut site) = site(alloc) else {
-        return Some(101);
-    };
-    if drive(&mut site, &mut panel, FINDING).is_none() {
-        return Some(102);
-    }
-    for (at, row) in ROWS.iter().enumerate() {
-        if is_answered(alloc, rt, &mut site, row) != Some(true) {
+fn first_wrong<R: RandomSource>(
+    alloc: Global,
+    rt: &R,
+    site: &mut Site,
+    rows: &[Row],
+) -> Option<usize> {
+    for (at, row) in rows.iter().enumerate() {
+        if !is_answered(alloc, rt, site, row) {
             return Some(at);
         }
     }
     None
 }
 
-/// No row is wrong.
-fn none_wrong(rt: &impl Abort, wrong: Option<usize>) {
-    assert_eq!(rt; wrong, None);
+/// Whether the two orders are taken, and are told.
+fn are_told<R: RandomSource>(alloc: Global, rt: &R) -> bool {
+    match find(alloc) {
+        Some(mut found) => {
+            first_wrong(alloc, rt, &mut found.site, ORDERS).is_none() && fare_so(&mut found)
+        }
+        None => false,
+    }
 }
 
-/// What holds if it is `true`.
-fn holds(rt: &impl Abort, is_so: Option<bool>) {
-    assert_eq!(rt; is_so, Some(true));
+/// The first row that is answered otherwise once the device is found.
+fn first_other<R: RandomSource>(alloc: Global, rt: &R) -> Option<usize> {
+    match find(alloc) {
+        Some(mut found) => first_wrong(alloc, rt, &mut found.site, ROWS),
+        None => Some(usize::MAX),
+    }
 }
 
 /// A device is found.
 #[test]
 fn finds(rt: HostRuntime) {
-    holds(&rt, is_found(rt.alloc()));
+    assert!(rt; is_found(rt.alloc()));
 }
 
 /// Orders fare as the device answers.
 #[test]
 fn tells(rt: HostRuntime) {
-    holds(&rt, are_told(rt.alloc(), &rt));
+    assert!(rt; are_told(rt.alloc(), &rt));
 }
 
 /// Each request gets its status.
 #[test]
 fn answers(rt: HostRuntime) {
-    none_wrong(&rt, first_wrong(rt.alloc(), &rt));
+    assert_eq!(rt; first_other(rt.alloc(), &rt), None);
 }
 
-/// The page and its policy are there, and the limits are those of the contracts.
+/// Whether the page and its policy are there, and the limits are those of the contracts.
+fn is_page() -> bool {
+    PAGE.starts_with("<!doctype html>")
+        && POLICY.starts_with("default-src 'none'")
+        && MOST_TOLD == 128
+        && MOST_WAITING == 64
+}
+
 #[test]
 fn page(rt: HostRuntime) {
-    let is_page = PAGE.starts_with("<!doctype html>") && POLICY.starts_with("default-src 'none'");
-    holds(&rt, Some(is_page && MOST_TOLD == 128 && MOST_WAITING == 64));
+    assert!(rt; is_page());
 }

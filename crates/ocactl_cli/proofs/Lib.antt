@@ -1,6 +1,8 @@
-pub mod FieldLemmas
-pub mod ServeLemmas
+pub mod WaitLemmas
 pub mod ExchangeLemmas
+mod PairLemmas
+mod RunLemmas
 mod TurnLemmas
 mod HandLemmas
 mod TreeLemmas
+mod HoldLemmas

@@ -1,9 +1,12 @@
 -- What the words of a command for hands ask for (*profile*).
-use Rattle.std.specs.Prelude.{◌≡◌, ℕ, Bool, true, false, ◌||◌, List, codes, map, Some}
+use Rattle.std.specs.Prelude.{◌≡◌, ◌⊎◌, ℕ, Bool, true, false, ◌||◌, List, codes, map, Some}
 use Rattle.std.specs.Str.{bytes_eq}
 use Rattle.clap.specs.declared.parser.matches.ArgMatches.{ArgMatches}
 use Rattle.oca_types.specs.Sizes.{span_size}
-use Rattle.ocactl_cli.specs.Words.{AreNumbers, behind_options, holds_said, linking_fields, linking_in, reach_fields, reach_in, sending_fields, sending_in, ahead_in, handling_in}
+use Rattle.oca_program.specs.declared.fault.RunFault.{RunFault}
+use Rattle.oca_program.specs.declared.fault.RunFault.TheVariants as fault
+use Rattle.ocactl_cli.specs.Words.{AreNumbers, behind_options, holds_said, linking_fields, linking_in, reach_fields, reach_in, sending_fields, sending_in, ahead_in, handling_in, pairs_said}
+use Rattle.ocactl_cli.specs.PrivateHands.{pair_of}
 use Rattle.ocactl_cli.specs.declared.words.Linking.{Linking}
 use Rattle.ocactl_cli.specs.declared.words.Reach.{Reach}
 use Rattle.ocactl_cli.specs.declared.words.Sending.{Sending}
@@ -33,9 +36,9 @@ IsTaskOf name holds onos task.Tree = ⊥
 abbrev pub IsOnosTask : List ℕ → Bool → List (List ℕ) → Task → Type 0
 IsOnosTask name holds texts asked = (onos : List ℕ) × AreNumbers texts onos × IsTaskOf name holds onos asked
 
--- It sets objects, so many at once.
+-- It sets objects to what words name, as words say them, so many at once.
 abbrev pub IsSetTask : List (List ℕ) → ℕ → Task → Type 0
-IsSetTask texts ahead (task.Set most pairs) = span_size most ≡ ahead
+IsSetTask texts ahead (task.Set most pairs) = (span_size most ≡ ahead) × (pairs_said texts ≡ Some (map pair_of pairs.items))
 IsSetTask texts ahead (task.Get of) = ⊥
 IsSetTask texts ahead (task.Unlock of) = ⊥
 IsSetTask texts ahead (task.Lock of) = ⊥
@@ -60,6 +63,10 @@ AsksTask name words ahead (task.Get of) = IsTaskWith name (holds_said words) (be
 AsksTask name words ahead (task.Unlock of) = IsTaskWith name (holds_said words) (behind_options words) ahead (task.Unlock of)
 AsksTask name words ahead (task.Lock of) = IsTaskWith name (holds_said words) (behind_options words) ahead (task.Lock of)
 AsksTask name words ahead (task.Hold of) = IsTaskWith name (holds_said words) (behind_options words) ahead (task.Hold of)
+
+-- The words ask for nothing, or there was no memory for what they ask for.
+abbrev pub IsRefusal : RunFault → Type 0
+IsRefusal why = (why ≡ fault.BadWords) ⊎ (why ≡ fault.NoMemory)
 
 -- ---- every command
 

@@ -20,7 +20,7 @@ use Rattle.oca_script.specs.Ends.{Input, Output}
 use Rattle.oca_script.specs.Printing.{WritesOut, WritesWhole, WritesFront}
 use Rattle.oca_script.specs.Replaying.{Replays, Outcome as ReadsLines}
 use Rattle.ocactl_cli.specs.Requests.{LineAsked, Send, Wait, asked_line}
-use Rattle.ocactl_cli.specs.Printing.{answer_text, refusal_text}
+use Rattle.ocactl_replay.specs.Printing.{answer_text, refusal_text}
 
 -- the line that is printed
 abbrev pub outcome_text : Outcome → List ℕ

@@ -21,7 +21,7 @@ use Rattle.oca_model.specs.Words.{IsRead, word_of}
 use Rattle.oca_model.specs.Statuses.{status_name_of}
 use Rattle.oca_panel.specs.declared.trouble.Trouble.{Trouble}
 use Rattle.oca_panel.specs.declared.trouble.Trouble.TheVariants as trouble
-use Rattle.oca_panel.specs.Panels.{PanelState, EndsIn}
+use Rattle.oca_panel.specs.Panels.{PanelState, EndsIn, TurnsOnce}
 use Rattle.oca_panel.specs.Outcomes.{done_answered, names_answered, text_answered}
 use Rattle.oca_panel.specs.Objects.{AsksClass, BeginsSetting, GetsValue, Reads, SetsValue}
 use Rattle.ocactl_cli.specs.declared.tasks.Task.{Task}
@@ -306,6 +306,45 @@ pub record AsksAll (One : ℕ → PanelState → PanelState → Told → Type 0)
   pub turns : InTurn One targets fared old new
   pub worst : status ≡ gravest fared
   pub writes : WritesWhole was is (fared_lines fared)
+
+-- ---- locks that are kept
+
+-- the objects that were locked: those whose status is 0
+abbrev pub held_if : ℕ → ℕ → List ℕ
+held_if target status = if status == 0 then target ∷ [] else []
+
+abbrev pub held_one : ℕ × Told → List ℕ
+held_one fared = held_if fared.0 (told_status fared.1)
+
+abbrev pub held_of : List (ℕ × Told) → List ℕ
+held_of fared = flat_map held_one fared
+
+-- turns were taken
+pub data TakesTurns : (old new : PanelState) → Type 0 where
+  NoTurn : {s : PanelState} → TakesTurns s s
+  OneTurn : {r s t : PanelState} {further : Bool} → TakesTurns r s → TurnsOnce s t further → TakesTurns r t
+
+-- Their locks were kept for some turns, and then taken off; the exit status is the graver one.
+pub record KeepsLocks (held : List ℕ) (before : ℕ) (old new : PanelState) (status : ℕ) (was is : Output) : Type 0 where
+  pub kept : PanelState
+  pub after : ℕ
+  pub turns : TakesTurns old kept
+  pub unlocks : AsksAll (Locks false) held kept new after was is
+  pub worst : status ≡ graver_of before after
+
+-- where there are any
+abbrev pub KeepsHeld : List ℕ → (before : ℕ) → PanelState → PanelState → (status : ℕ) → Output → Output → Type 0
+KeepsHeld [] before old new status was is = (status ≡ before) × (new ≡ old) × (is ≡ was)
+KeepsHeld (target ∷ held) before old new status was is = KeepsLocks (target ∷ held) before old new status was is
+
+-- ALL OBJECTS WERE LOCKED, and those that are locked kept so for some turns, and unlocked then. When these turns end no clause says.
+pub record HoldsAll (targets : List ℕ) (old new : PanelState) (status : ℕ) (was is : Output) : Type 0 where
+  pub fared : List (ℕ × Told)
+  pub locked : PanelState
+  pub between : Output
+  pub locks : InTurn (Locks true) targets fared old locked
+  pub writes : WritesWhole was between (fared_lines fared)
+  pub keeps : KeepsHeld (held_of fared) (gravest fared) locked new status between is
 
 -- ---- the words of the command line
 

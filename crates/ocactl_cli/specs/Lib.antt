@@ -1,14 +1,12 @@
 pub mod Requests
-pub mod Printing
-pub mod Replaying
 pub mod Exchanges
 pub mod Hands
 pub mod Reasons
-pub mod PrivateRequests
-pub mod PrivateLines
 pub mod PrivateExchanges
 pub mod PrivateHands
 pub mod Words
 pub mod Trees
 pub mod PrivateTrees
 pub mod Asked
+pub mod Sockets
+pub mod Runs

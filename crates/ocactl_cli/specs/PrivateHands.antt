@@ -1,5 +1,5 @@
 -- For private contracts: objects and values as the program has them, and what is done for one of several.
-use Rattle.std.specs.Prelude.{◌≡◌, ◌⊎◌, ◌<◌, ◌≤◌, ℕ, Bool, true, false, List, [], ◌∷◌, ◌++◌, length, map, Result, Ok, Err}
+use Rattle.std.specs.Prelude.{◌≡◌, ◌⊎◌, ◌<◌, ◌≤◌, ℕ, Bool, true, false, List, [], ◌∷◌, ◌++◌, length, map, Some, Result, Ok, Err}
 use Rattle.oca_types.specs.declared.words.Ono.{Ono}
 use Rattle.oca_script.specs.declared.fault.WriteFailed.{WriteFailed}
 use Rattle.oca_script.specs.Ends.{Output}
@@ -16,7 +16,7 @@ use Rattle.ocactl_cli.specs.declared.setting.Wish.{Wish}
 use Rattle.ocactl_cli.specs.declared.setting.Submitted.{Submitted}
 use Rattle.ocactl_cli.specs.declared.told.Told.{Told}
 use Rattle.ocactl_cli.specs.declared.told.Told.TheVariants.{Hindered}
-use Rattle.ocactl_cli.specs.Hands.{FindsValue, FindsAll, OnlyFinds, GivesUp, SetCommand, SetsUpTo, SetsEach, fared_by, fared_line, fared_lines, gravest, graver_of, last_refused, line_of, told_status}
+use Rattle.ocactl_cli.specs.Hands.{InTurn, KeepsHeld, Locks, held_if, held_of, FindsValue, FindsAll, OnlyFinds, GivesUp, SetCommand, SetsUpTo, SetsEach, fared_by, fared_line, fared_lines, gravest, graver_of, last_refused, line_of, ono_said, told_status}
 
 abbrev pub pair_of : Pair → ℕ × List ℕ
 pair_of p = (p.ono.0, p.word)
@@ -29,6 +29,12 @@ wish_of w = (w.ono.0, w.value)
 
 abbrev pub command_of : Submitted → SetCommand
 command_of s = record { target = s.wish.ono.0; value = s.wish.value; returned = s.returned }
+
+-- one more pair was listed, as two words say it
+pub record AddsPair (first second : List ℕ) (old new : List Pair) : Type 0 where
+  pub ono : ℕ
+  pub said : ono_said first ≡ Some ono
+  pub adds : map pair_of new ≡ map pair_of old ++ (ono, second) ∷ []
 
 -- a line was written, and this is its status; or a write failed
 abbrev pub WritesLine : (status : ℕ) (line : List ℕ) → Result ℕ WriteFailed → Output → Output → Type 0
@@ -140,3 +146,29 @@ SetsOnlyIf false ahead wishes before old new result was is = (result ≡ Ok befo
 
 abbrev pub SetsFound : ℕ → List (ℕ × Value) → Search → PanelState → PanelState → Result ℕ Failure → Output → Output → Type 0
 SetsFound ahead wishes search old new result was is = SetsOnlyIf search.all ahead wishes search.status old new result was is
+
+-- ---- locks that are kept
+
+-- each of these objects was locked, and those that are locked are listed
+pub record LocksEach (targets : List ℕ) (old new : PanelState) (status : ℕ) (held : List Ono) (was is : Output) : Type 0 where
+  pub fared : List (ℕ × Told)
+  pub locks : InTurn (Locks true) targets fared old new
+  pub worst : status ≡ gravest fared
+  pub writes : WritesWhole was is (fared_lines fared)
+  pub listed : map number_of held ≡ held_of fared
+
+-- one more was listed where its status is 0
+pub record ListsHeld (target own status now : ℕ) (held more : List Ono) : Type 0 where
+  pub worst : now ≡ graver_of status own
+  pub listed : map number_of more ≡ map number_of held ++ held_if target own
+
+-- one more was locked, and told
+pub record LocksNext (target : ℕ) (old new : PanelState) (status now : ℕ) (held more : List Ono) (was is : Output) : Type 0 where
+  pub own : ℕ
+  pub tells : TellsOne (Locks true) target old new (Ok own) was is
+  pub lists : ListsHeld target own status now held more
+
+-- what was held is kept and taken off, or the sink failed
+abbrev pub KeepsOrFails : List ℕ → ℕ → PanelState → PanelState → Result ℕ Failure → Output → Output → Type 0
+KeepsOrFails held before old new (Ok status) was is = KeepsHeld held before old new status was is
+KeepsOrFails held before old new (Err failure) was is = GivesUp failure is

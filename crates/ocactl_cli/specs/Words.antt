@@ -156,3 +156,9 @@ holds_said words = is_true (given words (codes "hold"))
 -- One number a word, all of them, in their order.
 abbrev pub AreNumbers : List (List ℕ) → List ℕ → Type 0
 AreNumbers texts numbers = map ono_said texts ≡ map Some numbers
+
+-- An object and the word for its value, all of them, in their order: where a value is missing, or a word is no number, there are none.
+abbrev pub pairs_said : List (List ℕ) → Option (List (ℕ × List ℕ))
+pairs_said [] = Some []
+pairs_said (text ∷ []) = None
+pairs_said (text ∷ word ∷ texts) = then_in (ono_said text) (λ ono. option_map (λ pairs. (ono, word) ∷ pairs) (pairs_said texts))

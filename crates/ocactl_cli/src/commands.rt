@@ -10,7 +10,6 @@ ghost use Rattle.ocactl_cli.specs.Exchanges.{FirstIsOpen, Idles, NoneUnderWay, S
 ghost use Rattle.ocactl_cli.specs.PrivateExchanges.{AwaitsAndPrints, IdlesAndPrints, SendsAndPrints, ServesAndPrints, GoesOn, is_write_failure, line_in, line_asked};
 
 use super::exchange::print_outcome;
-use super::request::{PARAMS_ROOM, command_by};
 use super::session::Session;
 use oca_control::{Outcome, refused};
 use oca_net::End;
@@ -18,6 +17,7 @@ use oca_script::field::first_field;
 use oca_script::lines::serve_lines;
 use oca_script::{Language, LineFault, Printer, ReplayFault, Sink, Source, Stop, WriteFailed};
 use oca_types::Request;
+use ocactl_replay::request::{PARAMS_ROOM, command_by};
 use std::marker::PhantomData;
 
 /// What a line asks for: to send a command, or that all before it are answered first.

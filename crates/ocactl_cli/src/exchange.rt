@@ -4,13 +4,13 @@ ghost use Rattle.oca_types.specs.Peers.{request_of};
 ghost use Rattle.oca_script.specs.Printing.{Prints};
 ghost use Rattle.ocactl_cli.specs.Exchanges.{AsksOnce, outcome_text, outcome_status};
 
-use super::line::{Line, print_line};
 use super::told::status_of;
 use oca_control::{Link, Outcome, ask};
 use oca_net::End;
 use oca_panel::done_in;
 use oca_script::{Printer, Sink, WriteFailed};
 use oca_types::Request;
+use ocactl_replay::line::{Line, print_line};
 
 /// The exit status for a command: 0 where it was carried out, else that of why it was not.
 pub fn outcome_status(outcome: &Outcome) -> u8

@@ -2,20 +2,18 @@
 //!
 //! [`run::run`] is the whole program on its words: `tree`, `get`, `set`, `lock` and `unlock` speak of a device's objects in words,
 //! `send` sends a command to a device over UDP and prints its answer, `run` sends the commands that a source has to give, and `replay`
-//! runs a link over the script there. Each of them over any end stands in a module of its own: [`commands`], [`exchange`], [`hands`],
-//! [`replay`].
+//! runs a link over the script there. Each of them over any end stands in a module of its own: [`commands`], [`exchange`], [`hands`];
+//! `replay` is the library `ocactl_replay`.
 #![tactic(auto)]
 
+mod command_line;
 pub mod commands;
 pub mod exchange;
 pub mod hands;
 mod holding;
-mod line;
 pub mod probe;
 mod reaching;
 mod reason;
-pub mod replay;
-mod request;
 pub mod run;
 pub mod session;
 mod setting;

@@ -21,7 +21,7 @@ const ROUNDS: u32 = 4;
 const TURNS: u32 = 5;
 
 /// Whether a device answers the commands of a port.
-#[derive(Clone, Copy, Debug, PartialEq, Eq)]
+#[derive(Clone, Copy, PartialEq)]
 pub enum Found {
     /// It answered one.
     Answering,

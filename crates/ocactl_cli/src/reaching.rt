@@ -1,8 +1,7 @@
 //! How a device is reached: the socket's port, and a link with its first handle.
-ghost use Rattle.std.specs.Prelude.{◌≡◌, ◌<◌};
-ghost use Rattle.oca_types.specs.Sizes.{span_size};
-ghost use Rattle.oca_control.specs.Links.{new_link};
-ghost use Rattle.ocactl_cli.specs.Reasons.{first_of};
+ghost use Rattle.std.specs.Prelude.{◌≡◌, ◌<◌, IfErr, IfOk, true};
+ghost use Rattle.oca_net.specs.Sockets.{IsBoundAt};
+ghost use Rattle.ocactl_cli.specs.Sockets.{IsBoundByChoice, IsBoundFor, IsLinkTo, IsUnreached};
 
 use super::probe::{Found, probe};
 use super::watched::Watched;
@@ -13,7 +12,7 @@ use oca_panel::OwnPort;
 use oca_program::socket::bind;
 use oca_program::{Failure, print_note};
 use oca_script::{Printer, Sink};
-use oca_types::{Handle, Peer};
+use oca_types::Peer;
 use std::alloc::Global;
 use std::net::Net;
 use std::rt::Clock;
@@ -33,29 +32,111 @@ pub fn reached<'a, N: Net + Clock, F: Sink>(
     reach: Reach,
     own_alone: bool,
     faults: &mut Printer<F>,
-) -> Result<(Link, DeviceEnd<'a, N>), Failure> {
+) -> Result<(Link, DeviceEnd<'a, N>), Failure>
+    ensures link { IfOk result (λ r. IsLinkTo reach r.0) }
+    ensures fault { IfErr result (λ failure. IsUnreached failure.fault) }
+{
     let own = OwnPort::now(system);
-    if let Some(port) = reach.port {
-        let end = bind_at(alloc, system, reach, port)?;
-        return Ok((link_of(reach, own.first_handle.0, 0), end));
-    }
-    if own_alone {
-        bind_at(alloc, system, reach, own.other)?;
-    }
-    match bind_at(alloc, system, reach, own.port) {
-        Ok(end) => Ok(answering(alloc, system, reach, own, end, faults)),
-        Err(failure) => {
-            if own_alone {
-                return Err(failure);
-            }
-            let end = bind_at(alloc, system, reach, 0)?;
-            Ok((link_of(reach, own.first_handle.0, 0), end))
-        }
+    match bound(alloc, system, reach, own, own_alone) {
+        Ok((end, is_own)) => Ok(linked(alloc, system, reach, own, is_own, end, faults)),
+        Err(failure) => Err(failure),
     }
 }
 
-/// A link over the program's own port where the device answers its commands, else over the other one. Where the words
-/// give the first handle, nothing is asked first.
+/// A socket at the port that the words give, else at the program's own or another one; and whether it is the program's
+/// own.
+fn bound<'a, N: Net + Clock>(
+    alloc: Global,
+    system: &'a N,
+    reach: Reach,
+    own: OwnPort,
+    own_alone: bool,
+) -> Result<(UdpEnd<'a, N>, bool), Failure>
+    ensures bound { IfOk result (λ r. IsBoundFor reach.port reach.ip own.port own_alone r.0.local r.1) }
+    ensures fault { IfErr result (λ failure. IsUnreached failure.fault) }
+{
+    match reach.port {
+        Some(port) => at(alloc, system, reach, port, false),
+        None => by_choice(alloc, system, reach, own, own_alone),
+    }
+}
+
+/// A socket at this port.
+fn at<'a, N: Net + Clock>(
+    alloc: Global,
+    system: &'a N,
+    reach: Reach,
+    port: u16,
+    is_own: bool,
+) -> Result<(UdpEnd<'a, N>, bool), Failure>
+    ensures bound { IfOk result (λ r. IsBoundAt reach.ip port r.0.local × (r.1 ≡ is_own)) }
+    ensures fault { IfErr result (λ failure. IsUnreached failure.fault) }
+{
+    match bind_at(alloc, system, reach, port) {
+        Ok(end) => Ok((end, is_own)),
+        Err(failure) => Err(failure),
+    }
+}
+
+/// A socket at the program's own port. Where that is in use, at one of the system's choice, unless no other may be
+/// taken.
+fn by_choice<'a, N: Net + Clock>(
+    alloc: Global,
+    system: &'a N,
+    reach: Reach,
+    own: OwnPort,
+    own_alone: bool,
+) -> Result<(UdpEnd<'a, N>, bool), Failure>
+    ensures bound { IfOk result (λ r. IsBoundByChoice reach.ip own.port own_alone r.0.local r.1) }
+    ensures fault { IfErr result (λ failure. IsUnreached failure.fault) }
+{
+    if own_alone {
+        return at_own_alone(alloc, system, reach, own);
+    }
+    match bind_at(alloc, system, reach, own.port) {
+        Ok(end) => Ok((end, true)),
+        Err(_) => at(alloc, system, reach, 0, false),
+    }
+}
+
+/// A socket at the program's own port, where neither of the program's two is in use.
+fn at_own_alone<'a, N: Net + Clock>(
+    alloc: Global,
+    system: &'a N,
+    reach: Reach,
+    own: OwnPort,
+) -> Result<(UdpEnd<'a, N>, bool), Failure>
+    ensures bound { IfOk result (λ r. IsBoundAt reach.ip own.port r.0.local × (r.1 ≡ true)) }
+    ensures fault { IfErr result (λ failure. IsUnreached failure.fault) }
+{
+    match bind_at(alloc, system, reach, own.other) {
+        Ok(_) => at(alloc, system, reach, own.port, true),
+        Err(failure) => Err(failure),
+    }
+}
+
+/// A link over this socket. At the program's own port it is over the other one, where the device does not answer
+/// commands from the first.
+fn linked<'a, N: Net + Clock, F: Sink>(
+    alloc: Global,
+    system: &'a N,
+    reach: Reach,
+    own: OwnPort,
+    is_own: bool,
+    end: UdpEnd<'a, N>,
+    faults: &mut Printer<F>,
+) -> (Link, DeviceEnd<'a, N>)
+    requires { own.first_handle.0 < 2147483648 }
+    ensures { IsLinkTo reach result.0 }
+{
+    let end = Watched::new(end, reach.device);
+    if is_own && reach.first_handle.is_none() {
+        return answering(alloc, system, reach, own, end, faults);
+    }
+    (reach.link(own.first_handle.0, 0), end)
+}
+
+/// A link over the program's own port where the device answers its commands, else over the other one.
 fn answering<'a, N: Net + Clock, F: Sink>(
     alloc: Global,
     system: &'a N,
@@ -65,42 +146,66 @@ fn answering<'a, N: Net + Clock, F: Sink>(
     faults: &mut Printer<F>,
 ) -> (Link, DeviceEnd<'a, N>)
     requires { own.first_handle.0 < 2147483648 }
+    ensures { IsLinkTo reach result.0 }
 {
-    if reach.first_handle.is_some() {
-        return (link_of(reach, own.first_handle.0, 0), end);
+    match probe(&mut end, reach.device, own.first_handle) {
+        Found::Deaf => elsewhere(alloc, system, reach, own, end, faults),
+        Found::Answering | Found::Unheard => further(reach, own, end),
     }
-    let found = probe(&mut end, reach.device, own.first_handle);
-    if found == Found::Deaf {
-        if let Ok(other) = bind_at(alloc, system, reach, own.other) {
+}
+
+/// A link over the other of the program's ports, where that can be had; else further over this one.
+fn elsewhere<'a, N: Net + Clock, F: Sink>(
+    alloc: Global,
+    system: &'a N,
+    reach: Reach,
+    own: OwnPort,
+    mut end: DeviceEnd<'a, N>,
+    faults: &mut Printer<F>,
+) -> (Link, DeviceEnd<'a, N>)
+    requires { own.first_handle.0 < 2147483648 }
+    ensures { IsLinkTo reach result.0 }
+{
+    match bind_at(alloc, system, reach, own.other) {
+        Ok(other) => {
             note_other(alloc, reach.device, own, faults);
-            return (link_of(reach, own.first_handle.0, 0), other);
+            (
+                reach.link(own.first_handle.0, 0),
+                Watched::new(other, reach.device),
+            )
         }
-        end.forget();
+        Err(_) => {
+            end.forget();
+            further(reach, own, end)
+        }
     }
-    let now = end.end().now();
-    (link_of(reach, own.first_handle.0 + 1, now), end)
 }
 
-/// A new link, made at this moment, with this first handle unless the words give one.
-fn link_of(reach: Reach, first_handle: u32, now: u64) -> Link
-    ensures { result ≡ new_link reach.device (first_of reach.first_handle first_handle) now (span_size reach.span) }
+/// A link over a socket by which a command was sent before.
+fn further<'a, N: Net + Clock>(
+    reach: Reach,
+    own: OwnPort,
+    end: DeviceEnd<'a, N>,
+) -> (Link, DeviceEnd<'a, N>)
+    requires { own.first_handle.0 < 2147483648 }
+    ensures { IsLinkTo reach result.0 }
 {
-    let first = match reach.first_handle {
-        Some(handle) => handle,
-        None => first_handle,
-    };
-    Link::new(reach.device, Handle(first), now, reach.span)
+    let now = end.end().now();
+    (reach.link(own.first_handle.0 + 1, now), end)
 }
 
-/// An end at a port, for the device of these words. A refusal says the port.
+/// A socket at a port, and at the address of these words. A refusal says the port.
 fn bind_at<'a, N: Net + Clock>(
     alloc: Global,
     system: &'a N,
     reach: Reach,
     port: u16,
-) -> Result<DeviceEnd<'a, N>, Failure> {
+) -> Result<UdpEnd<'a, N>, Failure>
+    ensures bound { IfOk result (λ end. IsBoundAt reach.ip port end.local) }
+    ensures fault { IfErr result (λ failure. IsUnreached failure.fault) }
+{
     match bind(alloc, system, reach.ip, port) {
-        Ok(end) => Ok(Watched::new(end, reach.device)),
+        Ok(end) => Ok(end),
         Err(failure) => Err(naming(alloc, failure, port)),
     }
 }

@@ -14,7 +14,7 @@ use std::net::Net;
 use std::rt::Clock;
 
 /// What is known of a device that gave no answer.
-#[derive(Clone, Copy, Debug, PartialEq, Eq)]
+#[derive(Clone, Copy)]
 pub enum Reason {
     /// Nothing was heard from it.
     NeverHeard,

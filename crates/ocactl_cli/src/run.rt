@@ -1,11 +1,22 @@
 //! A run of the program.
+ghost use Rattle.std.specs.Prelude.{◌≡◌, if◌then◌else◌, map};
+ghost use Rattle.clap.specs.Words.{kind_of};
+ghost use Rattle.oca_types.specs.Sizes.{span_size};
+ghost use Rattle.oca_script.specs.Ends.{input};
+ghost use Rattle.oca_script.specs.Printing.{WritesOut};
+ghost use Rattle.oca_program.specs.Faults.{fault_in};
+ghost use Rattle.oca_panel.specs.Panels.{PanelState};
+ghost use Rattle.ocactl_cli.specs.Hands.{Gets, Locks};
+ghost use Rattle.ocactl_cli.specs.PrivateHands.{number_of, pair_of};
+ghost use Rattle.ocactl_cli.specs.Runs.{exit_status, RunsOn, Obeys, DoesAsked, Does, Helps, Tells};
+ghost use Rattle.ocactl_cli.specs.Runs.{ReplaysOn, SendsAt, SendsOne, AsksOver, RunsAt, RunsFrom, DoesAt, DoesTask, AsksEach};
+
 use super::commands::send_all;
 use super::exchange::ask_once;
 use super::hands::{get_all, lock_all, set_all};
 use super::holding::hold;
 use super::reaching::reached;
 use super::reason::note_silence;
-use super::replay::replay;
 use super::session::Session;
 use super::tasks::Task;
 use super::walk::walk;
@@ -18,7 +29,8 @@ use oca_program::options::help_or_failure;
 use oca_program::socket::bind;
 use oca_program::{Failure, RunFault, print_note, report};
 use oca_script::{Printer, Sink, Source, WriteFailed};
-use oca_types::Span;
+use oca_types::{Ono, Span};
+use ocactl_replay::replay::replay;
 use std::alloc::Global;
 use std::convert::AsStr;
 use std::net::Net;
@@ -42,7 +54,11 @@ pub fn run<N: Net + Clock, S: AsStr, R: Source, W: Sink, F: Sink>(
     reader: &mut R,
     printer: &mut Printer<W>,
     faults: &mut Printer<F>,
-) -> u8 {
+) -> u8
+    ensures { RunsOn (map S.text words.now) result
+        (input (R.remaining reader.old) (R.failed reader.old))
+        (input (R.remaining reader.new) (R.failed reader.new)) printer.old printer.new }
+{
     match matches_of(alloc, words) {
         Ok(matches) => status_of(
             obeyed(alloc, system, &matches, reader, printer, faults),
@@ -53,7 +69,9 @@ pub fn run<N: Net + Clock, S: AsStr, R: Source, W: Sink, F: Sink>(
 }
 
 /// The exit status of a run that ended so. Why it failed, where it did, is printed.
-fn status_of<F: Sink>(ended: Result<u8, Failure>, faults: &mut Printer<F>) -> u8 {
+fn status_of<F: Sink>(ended: Result<u8, Failure>, faults: &mut Printer<F>) -> u8
+    ensures { result ≡ exit_status (fault_in ended) }
+{
     match ended {
         Ok(status) => status,
         Err(failure) => report(&failure, faults),
@@ -61,7 +79,9 @@ fn status_of<F: Sink>(ended: Result<u8, Failure>, faults: &mut Printer<F>) -> u8
 }
 
 /// Prints the text of `--help` or `--version`, where the words ask for that.
-fn helped<W: Sink>(alloc: Global, error: &Error, printer: &mut Printer<W>) -> Result<u8, Failure> {
+fn helped<W: Sink>(alloc: Global, error: &Error, printer: &mut Printer<W>) -> Result<u8, Failure>
+    ensures { Helps (kind_of error.now) (fault_in result) printer.old printer.new }
+{
     match help_or_failure(alloc, error) {
         Ok(text) => told(text.as_bytes(), printer),
         Err(failure) => Err(failure),
@@ -69,7 +89,9 @@ fn helped<W: Sink>(alloc: Global, error: &Error, printer: &mut Printer<W>) -> Re
 }
 
 /// Prints a text, and hands it on.
-fn told<W: Sink>(text: &[u8], printer: &mut Printer<W>) -> Result<u8, Failure> {
+fn told<W: Sink>(text: &[u8], printer: &mut Printer<W>) -> Result<u8, Failure>
+    ensures { Tells text.now (fault_in result) printer.old printer.new }
+{
     match print_all(text, printer) {
         Ok(()) => Ok(0),
         Err(failed) => Err(Failure::from(failed)),
@@ -77,7 +99,9 @@ fn told<W: Sink>(text: &[u8], printer: &mut Printer<W>) -> Result<u8, Failure> {
 }
 
 /// The same, where only a write fails.
-fn print_all<W: Sink>(text: &[u8], printer: &mut Printer<W>) -> Result<(), WriteFailed> {
+fn print_all<W: Sink>(text: &[u8], printer: &mut Printer<W>) -> Result<(), WriteFailed>
+    ensures { WritesOut result printer.old printer.new text.now }
+{
     printer.print(text)?;
     printer.flush()
 }
@@ -90,7 +114,11 @@ fn obeyed<N: Net + Clock, R: Source, W: Sink, F: Sink>(
     reader: &mut R,
     printer: &mut Printer<W>,
     faults: &mut Printer<F>,
-) -> Result<u8, Failure> {
+) -> Result<u8, Failure>
+    ensures { Obeys words.now (fault_in result)
+        (input (R.remaining reader.old) (R.failed reader.old))
+        (input (R.remaining reader.new) (R.failed reader.new)) printer.old printer.new }
+{
     match words.subcommand() {
         Some((name, options)) => commanded(alloc, system, name, options, reader, printer, faults),
         None => Err(Failure::from(RunFault::BadWords)),
@@ -106,7 +134,11 @@ fn commanded<N: Net + Clock, R: Source, W: Sink, F: Sink>(
     reader: &mut R,
     printer: &mut Printer<W>,
     faults: &mut Printer<F>,
-) -> Result<u8, Failure> {
+) -> Result<u8, Failure>
+    ensures { DoesAsked name.now options.now (fault_in result)
+        (input (R.remaining reader.old) (R.failed reader.old))
+        (input (R.remaining reader.new) (R.failed reader.new)) printer.old printer.new }
+{
     match asked_for(alloc, name, options) {
         Ok(asked) => served(alloc, system, &asked, reader, printer, faults),
         Err(failure) => Err(failure),
@@ -121,7 +153,11 @@ fn served<N: Net + Clock, R: Source, W: Sink, F: Sink>(
     reader: &mut R,
     printer: &mut Printer<W>,
     faults: &mut Printer<F>,
-) -> Result<u8, Failure> {
+) -> Result<u8, Failure>
+    ensures { Does asked.now (fault_in result)
+        (input (R.remaining reader.old) (R.failed reader.old))
+        (input (R.remaining reader.new) (R.failed reader.new)) printer.old printer.new }
+{
     match asked {
         Asked::Replay(linking) => replayed(*linking, reader, printer),
         Asked::Send(reach, sending) => sent(alloc, system, *reach, sending, printer, faults),
@@ -137,7 +173,11 @@ fn replayed<R: Source, W: Sink>(
     linking: Linking,
     reader: &mut R,
     printer: &mut Printer<W>,
-) -> Result<u8, Failure> {
+) -> Result<u8, Failure>
+    ensures { ReplaysOn linking (fault_in result)
+        (input (R.remaining reader.old) (R.failed reader.old))
+        (input (R.remaining reader.new) (R.failed reader.new)) printer.old printer.new }
+{
     let mut link = linking.link();
     match replay(&mut link, reader, printer) {
         Ok(()) => Ok(0),
@@ -171,7 +211,9 @@ fn sent<N: Net + Clock, W: Sink, F: Sink>(
     sending: &Sending,
     printer: &mut Printer<W>,
     faults: &mut Printer<F>,
-) -> Result<u8, Failure> {
+) -> Result<u8, Failure>
+    ensures { SendsAt reach sending.now (fault_in result) printer.old printer.new }
+{
     note_span(alloc, reach.span, faults);
     match bind(alloc, system, reach.ip, reach.port.unwrap_or(0)) {
         Ok(end) => {
@@ -191,7 +233,9 @@ fn sent_over<N: Net + Clock, W: Sink, F: Sink>(
     sending: &Sending,
     printer: &mut Printer<W>,
     faults: &mut Printer<F>,
-) -> Result<u8, Failure> {
+) -> Result<u8, Failure>
+    ensures { SendsOne reach sending.now (fault_in result) printer.old printer.new }
+{
     match send_one(system, reach, &mut end, sending, printer) {
         Ok(status) => {
             note_no_answer(alloc, system, &mut end, reach, status == 3, false, faults);
@@ -210,7 +254,11 @@ fn ran<N: Net + Clock, R: Source, W: Sink, F: Sink>(
     reader: &mut R,
     printer: &mut Printer<W>,
     faults: &mut Printer<F>,
-) -> Result<u8, Failure> {
+) -> Result<u8, Failure>
+    ensures { RunsAt reach (span_size ahead) (fault_in result)
+        (input (R.remaining reader.old) (R.failed reader.old))
+        (input (R.remaining reader.new) (R.failed reader.new)) printer.old printer.new }
+{
     note_span(alloc, reach.span, faults);
     match reached(alloc, system, reach, false, faults) {
         Ok((link, end)) => {
@@ -231,10 +279,14 @@ fn ran_over<N: Net + Clock, R: Source, W: Sink, F: Sink>(
     reader: &mut R,
     printer: &mut Printer<W>,
     faults: &mut Printer<F>,
-) -> Result<u8, Failure> {
+) -> Result<u8, Failure>
+    ensures { RunsFrom session.entry (fault_in result)
+        (input (R.remaining reader.old) (R.failed reader.old))
+        (input (R.remaining reader.new) (R.failed reader.new)) printer.old printer.new }
+{
     match send_all(&mut session, reader, printer) {
         Ok(()) => Ok(concluded(alloc, system, session, reach, faults)),
-        Err(fault) => Err(Failure::from(fault)),
+        Err(stopped) => Err(Failure::from(stopped)),
     }
 }
 
@@ -245,7 +297,9 @@ fn concluded<N: Net + Clock, F: Sink>(
     session: Session<Watched<UdpEnd<'_, N>>>,
     reach: Reach,
     faults: &mut Printer<F>,
-) -> u8 {
+) -> u8
+    ensures { result ≡ if session.entry.unanswered then 3 else 0 }
+{
     let status = if session.unanswered() { 3 } else { 0 };
     let silent = session.is_lost();
     let mut end = session.into_end();
@@ -263,7 +317,11 @@ fn done<N: Net + Clock, R: Source, W: Sink, F: Sink>(
     reader: &mut R,
     printer: &mut Printer<W>,
     faults: &mut Printer<F>,
-) -> Result<u8, Failure> {
+) -> Result<u8, Failure>
+    ensures { DoesAt reach turns task.now (fault_in result)
+        (input (R.remaining reader.old) (R.failed reader.old))
+        (input (R.remaining reader.new) (R.failed reader.new)) printer.old printer.new }
+{
     note_span(alloc, reach.span, faults);
     match reached(alloc, system, reach, task.locks(), faults) {
         Ok((link, end)) => {
@@ -284,7 +342,11 @@ fn done_over<N: Net + Clock, R: Source, W: Sink, F: Sink>(
     reader: &mut R,
     printer: &mut Printer<W>,
     faults: &mut Printer<F>,
-) -> Result<u8, Failure> {
+) -> Result<u8, Failure>
+    ensures { (after : PanelState) × DoesTask task.now panel.entry after (fault_in result)
+        (input (R.remaining reader.old) (R.failed reader.old))
+        (input (R.remaining reader.new) (R.failed reader.new)) printer.old printer.new }
+{
     match do_task(alloc, &mut panel, task, reader, printer) {
         Ok(status) => {
             let silent = status == 3 && panel.unanswered();
@@ -303,14 +365,48 @@ fn do_task<E: End, R: Source, W: Sink>(
     task: &Task,
     reader: &mut R,
     printer: &mut Printer<W>,
-) -> Result<u8, Failure> {
+) -> Result<u8, Failure>
+    ensures { DoesTask task.now panel.old panel.new (fault_in result)
+        (input (R.remaining reader.old) (R.failed reader.old))
+        (input (R.remaining reader.new) (R.failed reader.new)) printer.old printer.new }
+{
     match task {
-        Task::Get(onos) => Ok(get_all(panel, onos.as_slice(), printer)?),
+        Task::Get(onos) => get_each(panel, onos.as_slice(), printer),
         Task::Set(ahead, pairs) => set_all(alloc, panel, pairs.as_slice(), *ahead, printer),
-        Task::Lock(onos) => Ok(lock_all(panel, onos.as_slice(), true, printer)?),
+        Task::Lock(onos) => lock_each(panel, onos.as_slice(), true, printer),
         Task::Hold(onos) => hold(alloc, panel, onos.as_slice(), reader, printer),
-        Task::Unlock(onos) => Ok(lock_all(panel, onos.as_slice(), false, printer)?),
+        Task::Unlock(onos) => lock_each(panel, onos.as_slice(), false, printer),
         Task::Tree => walk(alloc, panel, printer),
+    }
+}
+
+/// Prints how objects are set. Returns the exit status.
+fn get_each<E: End, W: Sink>(
+    panel: &mut Panel<E>,
+    onos: &[Ono],
+    printer: &mut Printer<W>,
+) -> Result<u8, Failure>
+    ensures { AsksEach Gets (map number_of onos.now) panel.old panel.new (fault_in result) printer.old printer.new }
+{
+    match get_all(panel, onos, printer) {
+        Ok(status) => Ok(status),
+        Err(failed) => Err(Failure::from(failed)),
+    }
+}
+
+/// Locks objects, or takes their locks off. Returns the exit status.
+fn lock_each<E: End, W: Sink>(
+    panel: &mut Panel<E>,
+    onos: &[Ono],
+    locks: bool,
+    printer: &mut Printer<W>,
+) -> Result<u8, Failure>
+    ensures { AsksEach (Locks locks) (map number_of onos.now) panel.old panel.new
+        (fault_in result) printer.old printer.new }
+{
+    match lock_all(panel, onos, locks, printer) {
+        Ok(status) => Ok(status),
+        Err(failed) => Err(Failure::from(failed)),
     }
 }
 
@@ -321,9 +417,11 @@ fn send_one<C: Clock, E: End, W: Sink>(
     end: &mut E,
     sending: &Sending,
     printer: &mut Printer<W>,
-) -> Result<u8, Failure> {
-    let mut link = reach.link(OwnPort::now(clock).first_handle.0);
-    Ok(ask_once(&mut link, end, sending.command(), sending.turns, printer)?)
+) -> Result<u8, WriteFailed>
+    ensures { AsksOver reach sending.now result printer.old printer.new }
+{
+    let mut link = reach.link(OwnPort::now(clock).first_handle.0, 0);
+    ask_once(&mut link, end, sending.command(), sending.turns, printer)
 }
 
 /// Prints what is known of why a command got no answer, where one got none: why a send failed, where one has, and when the device was

@@ -1,27 +1,28 @@
 //! The words of the command line.
-ghost use Rattle.std.specs.Prelude.{◌≡◌, ◌≤◌, IfOk, IfSome};
+ghost use Rattle.std.specs.Prelude.{◌≡◌, ◌≤◌, IfErr, IfOk, IfSome, map};
 ghost use Rattle.std.specs.Option.{option_map};
 ghost use Rattle.oca_types.specs.Sizes.{span_size};
 ghost use Rattle.oca_control.specs.Links.{new_link};
 ghost use Rattle.oca_types.specs.Peers.{request_of};
+ghost use Rattle.oca_program.specs.Commands.{AreMatchesOf};
+ghost use Rattle.oca_program.specs.declared.fault.RunFault.TheVariants.{BadWords};
 ghost use Rattle.ocactl_cli.specs.Reasons.{first_of};
-ghost use Rattle.ocactl_cli.specs.Asked.{AsksFor, AsksSend, AsksRun};
+ghost use Rattle.ocactl_cli.specs.Asked.{AsksFor, AsksSend, AsksRun, IsRefusal};
 ghost use Rattle.ocactl_cli.specs.Words.{array_items, span_of as span_said, span_in as span_given, linking_fields, first_handle_in, linking_in, host_in, own_address, port_in, handle_in, reach_fields, reach_in, ahead_in, handling_fields, handling_in, sending_fields, sending_in, params_of as params_said, params_in as params_given};
 
-use super::tasks::{Task, is_task, task_of, turns_of, with_tasks};
+use super::command_line::program;
+use super::tasks::{Task, is_task, task_of, turns_of};
 use arrayvec::ArrayVec;
-use clap::{Arg, ArgMatches, Command, Error};
+use clap::{ArgMatches, Error};
 use oca_control::Link;
 use oca_program::form::bad_option;
-use oca_program::options::{
-    host_in, number_if, number_in, number_or, option, own_or, peer_in, text_of,
-};
-use oca_program::{Failure, Form, Rule, VERSION};
+use oca_program::options::{host_in, number_if, number_in, number_or, own_or, peer_in, text_of};
+use oca_program::{Failure, Form, Rule};
 use oca_script::field::{hex_bytes, number};
 use oca_types::{
     Handle, LOOPBACK, MOST_COMMAND_PARAMETER_BYTES, MethodId, Ono, Peer, Request, Span,
 };
-use std::alloc::{AllocError, Global};
+use std::alloc::Global;
 use std::convert::AsStr;
 
 /// How many turns `send` takes, unless it is said.
@@ -55,15 +56,16 @@ pub struct Reach {
 }
 
 impl Reach {
-    /// A new link, made at moment 0, with this first handle unless the words give one.
-    pub fn link(&self, first_handle: u32) -> Link
-        ensures { result ≡ new_link self.now.device (first_of self.now.first_handle first_handle) 0 (span_size self.now.span) }
+    /// A new link, made at this moment, with this first handle unless the words give one.
+    pub fn link(&self, first_handle: u32, now: u64) -> Link
+        ensures { result ≡ new_link
+            self.now.device (first_of self.now.first_handle first_handle) now (span_size self.now.span) }
     {
         let first = match self.first_handle {
             Some(handle) => handle,
             None => first_handle,
         };
-        Link::new(self.device, Handle(first), 0, self.span)
+        Link::new(self.device, Handle(first), now, self.span)
     }
 }
 
@@ -80,7 +82,14 @@ pub struct Sending {
 impl Sending {
     /// The command.
     pub fn command(&self) -> Request<'_>
-        ensures { request_of result ≡ record { target = self.now.target.0; level = self.now.method.level; index = self.now.method.index; count = self.now.count; params = self.now.params.items } }
+        ensures { request_of result ≡ record {
+          target =
+              self.now.target.0;
+          level = self.now.method.level;
+          index = self.now.method.index;
+          count = self.now.count;
+          params = self.now.params.items;
+        } }
     {
         Request {
             target: self.target,
@@ -104,236 +113,18 @@ pub enum Asked {
     Do(Reach, u32, Task),
 }
 
-/// With the option of the device's address.
-fn with_device<'a>(command: Command<'a>, alloc: Global) -> Result<Command<'a>, AllocError> {
-    command.arg(option(alloc, "device", "A.B.C.D:PORT", "The device's address").required(true))
-}
-
-/// With the option of the span.
-fn with_span<'a>(command: Command<'a>, alloc: Global) -> Result<Command<'a>, AllocError> {
-    command.arg(option(
-        alloc,
-        "span",
-        "S",
-        "How far above the lowest untaken command the next handle may lie, 1 to 32 [16 unless given]; above 16 the device needs a window of twice as many less one: its default of 32 bears 16",
-    ))
-}
-
-/// With the options of each link: the device and the span.
-fn linked<'a>(command: Command<'a>, alloc: Global) -> Result<Command<'a>, AllocError> {
-    with_span(with_device(command, alloc)?, alloc)
-}
-
-/// With the option of the first handle.
-fn with_first_handle<'a>(command: Command<'a>, alloc: Global) -> Result<Command<'a>, AllocError> {
-    command.arg(option(
-        alloc,
-        "first-handle",
-        "H",
-        "The handle of the first command, 0 to 4294967295 [by the clock unless given: it rises by 100000 a second, and begins anew at 2147483648]",
-    ))
-}
-
-/// With the option of the local address.
-fn with_ip<'a>(command: Command<'a>, alloc: Global) -> Result<Command<'a>, AllocError> {
-    command.arg(option(
-        alloc,
-        "ip",
-        "A.B.C.D",
-        "The local address [127.0.0.1 for a device of this machine, any address else, unless given]",
-    ))
-}
-
-/// With the options of a link over a network.
-pub fn networked<'a>(command: Command<'a>, alloc: Global) -> Result<Command<'a>, AllocError> {
-    with_ip(with_first_handle(linked(command, alloc)?, alloc)?, alloc)
-}
-
-/// With the option of how many commands may be under way at once.
-pub fn with_ahead<'a>(command: Command<'a>, alloc: Global) -> Result<Command<'a>, AllocError> {
-    command.arg(option(
-        alloc,
-        "ahead",
-        "N",
-        "How many commands may be under way at once, 1 to the span; those may be executed in any order [1 unless given]",
-    ))
-}
-
-const REPLAY_EXAMPLE: &str =
-    "Lines: N submit ONO LEVEL INDEX COUNT HEX, N due, N from A.B.C.D:PORT HEX, take H; N is a moment in ms.
-
-Example: printf '0 submit 4097 4 1 0 -\\n0 due\\n' | ocactl replay --device 127.0.0.1:65000 --first-handle 1";
-
-const RUN_EXAMPLE: &str =
-    "Lines: ONO LEVEL INDEX COUNT HEX, a command, HEX being - for no parameters; wait, for the answers to all before it.
-
-Status: 0 where each command was answered, 3 where one was not.
-
-Example: echo '4097 4 1 0 -' | ocactl run --device 127.0.0.1:65000";
-
-const PROGRAM_EXAMPLE: &str = "Example: ocactl set --device 127.0.0.1:65000 4097 unmuted";
-
-const SEND_EXAMPLE: &str =
-    "Status of send: 0 for an answer with status 0, 4 for another, 3 where none came.
-
-Example: ocactl send --device 127.0.0.1:65000 --first-handle 1 --target 4097 --level 4 --index 1 --count 0";
-
-/// The command `replay`.
-fn replay_command<'a>(alloc: Global) -> Result<Command<'a>, AllocError> {
-    let command = Command::new(alloc, "replay")
-        .about("Runs a controller's link over a script on standard input, with no network")
-        .after_help(REPLAY_EXAMPLE);
-    with_own_handle(linked(command, alloc)?, alloc)
-}
-
-/// With the option of the first handle, which `replay` wants.
-fn with_own_handle<'a>(command: Command<'a>, alloc: Global) -> Result<Command<'a>, AllocError> {
-    let first_handle = option(
-        alloc,
-        "first-handle",
-        "H",
-        "The handle of the first command, 0 to 4294967295",
-    );
-    command.arg(first_handle.required(true))
-}
-
-/// With an option that is to be given.
-fn with_required<'a>(
-    command: Command<'a>,
-    alloc: Global,
-    name: &'a str,
-    value: &'a str,
-    help: &'a str,
-) -> Result<Command<'a>, AllocError> {
-    command.arg(option(alloc, name, value, help).required(true))
-}
-
-/// With the option of the target.
-fn with_target<'a>(command: Command<'a>, alloc: Global) -> Result<Command<'a>, AllocError> {
-    with_required(
-        command,
-        alloc,
-        "target",
-        "ONO",
-        "The target's object number",
-    )
-}
-
-/// With the options of the method.
-fn with_method<'a>(command: Command<'a>, alloc: Global) -> Result<Command<'a>, AllocError> {
-    let levelled = with_required(command, alloc, "level", "L", "The method's DefLevel")?;
-    with_required(levelled, alloc, "index", "I", "The method's MethodIndex")
-}
-
-/// With the option of how many parameters there are.
-fn with_count<'a>(command: Command<'a>, alloc: Global) -> Result<Command<'a>, AllocError> {
-    with_required(
-        command,
-        alloc,
-        "count",
-        "C",
-        "ParamCount: how many parameters there are",
-    )
-}
-
-/// With the option of the parameters.
-fn with_params<'a>(command: Command<'a>, alloc: Global) -> Result<Command<'a>, AllocError> {
-    command.arg(option(
-        alloc,
-        "params",
-        "HEX",
-        "The parameters in hexadecimal, - for none [none unless given]",
-    ))
-}
-
-/// With the option of how often `send` waits.
-fn with_turns<'a>(command: Command<'a>, alloc: Global) -> Result<Command<'a>, AllocError> {
-    command.arg(option(
-        alloc,
-        "turns",
-        "T",
-        "How often to wait, 50 ms at most each; at 0 the command is sent once and no answer waited for [200 unless given]",
-    ))
-}
-
-/// With the option of `send`'s port.
-fn with_any_port<'a>(command: Command<'a>, alloc: Global) -> Result<Command<'a>, AllocError> {
-    command.arg(option(
-        alloc,
-        "port",
-        "PORT",
-        "The local port [one of the system's choice unless given: a session of its own at the device for each call, of which there are 16 unless its maker chose otherwise, so give a port for many calls in a row]",
-    ))
-}
-
-/// With the options of a command with its parameters.
-fn commanding<'a>(command: Command<'a>, alloc: Global) -> Result<Command<'a>, AllocError> {
-    let aimed = with_method(with_target(command, alloc)?, alloc)?;
-    with_params(with_count(aimed, alloc)?, alloc)
-}
-
-/// The command `send`.
-fn send_command<'a>(alloc: Global) -> Result<Command<'a>, AllocError> {
-    let command = Command::new(alloc, "send")
-        .about("Sends a command to a device and prints its answer: status, ParamCount, parameters")
-        .after_help(SEND_EXAMPLE);
-    let sending = commanding(networked(command, alloc)?, alloc)?;
-    with_any_port(with_turns(sending, alloc)?, alloc)
-}
-
-/// With the option of `run`'s port.
-fn with_run_port<'a>(command: Command<'a>, alloc: Global) -> Result<Command<'a>, AllocError> {
-    command.arg(option(
-        alloc,
-        "port",
-        "PORT",
-        "The local port [65001 or 65002 unless given, by turns of six hours, or one of the system's choice where that is in use]",
-    ))
-}
-
-/// The command `run`.
-fn run_command<'a>(alloc: Global) -> Result<Command<'a>, AllocError> {
-    let command = Command::new(alloc, "run")
-        .about(
-            "Sends the commands on standard input and prints the answer of each, in the order of their lines",
-        )
-        .after_help(RUN_EXAMPLE);
-    with_run_port(with_ahead(networked(command, alloc)?, alloc)?, alloc)
-}
-
-/// The program without its commands.
-fn program<'a>(alloc: Global) -> Command<'a> {
-    Command::new(alloc, "ocactl")
-        .about("A controller of OCA (AES70) devices over UDP")
-        .version(VERSION)
-        .after_help(PROGRAM_EXAMPLE)
-        .subcommand_required(true)
-}
-
-/// With a command, where there is memory for it.
-pub fn with<'a>(
-    program: Command<'a>,
-    added: Result<Command<'a>, AllocError>,
-) -> Result<Command<'a>, AllocError> {
-    program.subcommand(added?)
-}
-
-/// The whole program.
-fn command<'a>(alloc: Global) -> Result<Command<'a>, AllocError> {
-    let replaying = with(with_tasks(program(alloc), alloc)?, replay_command(alloc))?;
-    let sending = with(replaying, send_command(alloc))?;
-    with(sending, run_command(alloc))
-}
-
 /// The words, the program's name first, matched with what the program takes.
-pub fn matches_of<'a, S: AsStr>(alloc: Global, words: &'a [S]) -> Result<ArgMatches<'a>, Error> {
-    command(alloc)?.try_get_matches_from(words)
+pub fn matches_of<'a, S: AsStr>(alloc: Global, words: &'a [S]) -> Result<ArgMatches<'a>, Error>
+    ensures { IfOk result (AreMatchesOf (map S.text words.entry.now)) }
+{
+    program(alloc)?.try_get_matches_from(words)
 }
 
 /// What a command with these options asks for. Refusals: `BadWords` where it is none, or where a value is not of its
 /// form, which a note then names; `NoMemory`.
 pub fn asked_for(alloc: Global, name: &str, options: &ArgMatches<'_>) -> Result<Asked, Failure>
-    ensures { IfOk result (AsksFor name.now options.now) }
+    ensures asks { IfOk result (AsksFor name.now options.now) }
+    ensures refused { IfErr result (λ failure. IsRefusal failure.fault) }
 {
     if is_task(name) {
         return task_asked(alloc, name, options);
@@ -498,7 +289,9 @@ const OF_OTHERS: [Rule; 12] = [
 const ABOVE_THE_SPAN: &str = "--ahead is more than the span, which is 16 unless --span is given";
 
 /// Why the options of a command were not read.
-fn unread(alloc: Global, name: &str, words: &ArgMatches<'_>) -> Failure {
+fn unread(alloc: Global, name: &str, words: &ArgMatches<'_>) -> Failure
+    ensures { result.fault ≡ BadWords }
+{
     let rules: &[Rule] = if name == "replay" {
         &OF_REPLAY
     } else {
@@ -509,7 +302,8 @@ fn unread(alloc: Global, name: &str, words: &ArgMatches<'_>) -> Failure {
 
 /// What the options and the words of a command for hands say.
 fn task_asked(alloc: Global, name: &str, options: &ArgMatches<'_>) -> Result<Asked, Failure>
-    ensures { IfOk result (AsksFor name.now options.now) }
+    ensures asks { IfOk result (AsksFor name.now options.now) }
+    ensures refused { IfErr result (λ failure. IsRefusal failure.fault) }
 {
     match handling_of(options) {
         Some(handling) => task_by(alloc, name, options, handling),
@@ -525,7 +319,8 @@ fn task_by(
     handling: Handling,
 ) -> Result<Asked, Failure>
     requires { handling_in options.now ≡ Some (handling_fields handling) }
-    ensures { IfOk result (AsksFor name.now options.now) }
+    ensures asks { IfOk result (AsksFor name.now options.now) }
+    ensures refused { IfErr result (λ failure. IsRefusal failure.fault) }
 {
     match task_of(alloc, name, options, handling.ahead) {
         Ok(task) => Ok(Asked::Do(handling.reach, handling.turns, task)),

@@ -1,6 +1,3 @@
-pub mod RequestLemmas
-pub mod PacketLemmas
-pub mod ServeLemmas
 pub mod TotalLemmas
 pub mod HeldLemmas
 pub mod ReadingLemmas

@@ -10,7 +10,7 @@ use Rattle.oca_script.specs.Printing.{WritesOut}
 use Rattle.oca_program.specs.Faults.{run_fault}
 use Rattle.oca_program.specs.declared.fault.RunFault.{RunFault}
 use Rattle.oca_program.specs.declared.fault.RunFault.TheVariants.{Write}
-use Rattle.ocadev_cli.specs.Replaying.{Outcome}
+use Rattle.ocadev_replay.specs.Replaying.{Outcome}
 use Rattle.ocadev_cli.specs.Runs.{Tells, ReplaysOn}
 
 abbrev failed : RunFault → Result Unit RunFault

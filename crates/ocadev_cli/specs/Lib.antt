@@ -1,7 +1,4 @@
-pub mod Requests
 pub mod Printing
-pub mod Replaying
-pub mod PrivateRequests
 pub mod Words
 pub mod Commands
 pub mod Totals

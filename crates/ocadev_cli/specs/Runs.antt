@@ -23,7 +23,7 @@ use Rattle.ocadev_cli.specs.Commands.{AreMatchesOf, IsCommand}
 use Rattle.ocadev_cli.specs.Makings.{Makes}
 use Rattle.ocadev_cli.specs.Keeping.{starting_objects}
 use Rattle.ocadev_cli.specs.Printing.{report_text, tree_text}
-use Rattle.ocadev_cli.specs.Replaying.{Outcome}
+use Rattle.ocadev_replay.specs.Replaying.{Outcome}
 use Rattle.ocadev_cli.specs.Totals.{ServesOn}
 
 -- ---- how a run ends

@@ -17,7 +17,6 @@ ghost use Rattle.ocadev_cli.specs.Totals.{ServesOn};
 
 use super::keep::{Keeping, is_there, starting};
 use super::making::{made, objects};
-use super::replay::replay;
 use super::report::{print_listening, print_report};
 use super::serving::{Telling, serve_on, serve_traced, serve_turns};
 use super::show::{show, show_text};
@@ -32,6 +31,7 @@ use oca_program::{Failure, RunFault, print_note, report};
 use oca_script::{Printer, Sink, Source, WriteFailed};
 use oca_tree::Tree;
 use oca_types::Sizes;
+use ocadev_replay::replay::replay;
 use std::alloc::Global;
 use std::convert::AsStr;
 use std::net::Net;

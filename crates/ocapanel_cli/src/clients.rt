@@ -99,9 +99,13 @@ impl Client {
         Ok(read || written)
     }
 
-    /// Reads, answers and writes what can be, with no wait.
+    /// Reads, answers and writes what can be, with no wait. Behind an order that was taken the rest has time.
     fn serve(&mut self, site: &mut Site, now: u64) -> Stands {
+        let ticket = site.view().next_ticket();
         for _ in 0..ROUNDS {
+            if site.view().next_ticket() != ticket {
+                return Stands::HasMore;
+            }
             match self.step(site, now) {
                 Ok(moves) => {
                     if self.http.is_done() {
@@ -135,6 +139,39 @@ impl Client {
     }
 }
 
+/// The connection is waited for under this token, and sends at once.
+fn is_waited_for(stream: &mut TcpStream, poll: &Poll, token: Token) -> bool {
+    let _ = stream.set_nodelay(true);
+    let both = Interest::READABLE | Interest::WRITABLE;
+    poll.registry().register(stream, token, both).is_ok()
+}
+
+/// A connection on which nothing came yet.
+fn client_of(
+    alloc: Global,
+    stream: TcpStream,
+    token: Token,
+    keys: RandomState,
+    now: u64,
+) -> Client {
+    Client {
+        stream,
+        http: Connection::new(alloc, keys, config()),
+        token,
+        ready: true,
+        moved: now,
+        begun: Some(now),
+    }
+}
+
+/// The limits of a connection.
+fn config() -> Config {
+    Config {
+        max_body_len: MOST_BODY,
+        ..Config::default()
+    }
+}
+
 /// The connections of browsers.
 #[derive(Drop)]
 pub struct Clients {
@@ -157,29 +194,20 @@ impl Clients {
 
     /// Lets a connection in, where there are fewer than eight or one of them rests; else it is closed. Where the system
     /// or memory refuses something, it is closed too.
-    pub fn add(&mut self, mut stream: TcpStream, poll: &Poll, keys: RandomState, now: u64) {
-        if self.clients.len() >= MOST && !self.close_resting(now) {
-            return;
+    pub fn add(&mut self, stream: TcpStream, poll: &Poll, keys: RandomState, now: u64) {
+        if self.clients.len() < MOST || self.close_resting(now) {
+            self.keep(stream, poll, keys, now);
         }
-        let _ = stream.set_nodelay(true);
+    }
+
+    /// Keeps a connection, where the system takes it.
+    fn keep(&mut self, mut stream: TcpStream, poll: &Poll, keys: RandomState, now: u64) {
         let token = self.next_token();
-        let both = Interest::READABLE | Interest::WRITABLE;
-        if poll.registry().register(&mut stream, token, both).is_err() {
-            return;
+        if is_waited_for(&mut stream, poll, token) {
+            let client = client_of(self.alloc, stream, token, keys, now);
+            let _ = self.clients.push(client);
+            self.more = true;
         }
-        let config = Config {
-            max_body_len: MOST_BODY,
-            ..Config::default()
-        };
-        let _ = self.clients.push(Client {
-            stream,
-            http: Connection::new(self.alloc, keys, config),
-            token,
-            ready: true,
-            moved: now,
-            begun: Some(now),
-        });
-        self.more = true;
     }
 
     /// A token that no source has.

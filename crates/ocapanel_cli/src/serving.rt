@@ -5,7 +5,7 @@ use crate::words::Serving;
 use mio::net::TcpListener;
 use mio::unix::SourceFd;
 use mio::{Events, Interest, Poll, Token};
-use oca_net::UdpEnd;
+use oca_net::{End, UdpEnd};
 use oca_panel::{OwnPort, Panel};
 use oca_program::socket::bind;
 use oca_program::{Failure, RunFault, print_note};
@@ -30,11 +30,11 @@ const DEVICE: Token = Token(1);
 /// The most turns that are taken before the browsers have theirs.
 const MOST_TURNS: u32 = 256;
 
+/// The answer to an order is waited for so many milliseconds at most before requests are answered again.
+const ANSWER_MS: u64 = 4;
+
 /// The longest wait, in milliseconds: as often, connections on which nothing moves are looked at.
 const LONGEST_WAIT_MS: u64 = 1000;
-
-/// The panel of the program.
-type OwnPanel<'a, C> = Panel<Ready<UdpEnd<'a, C>>>;
 
 /// Serves until a call of the system fails, memory is refused, or no handle is left.
 pub fn serve<R: Net + RandomSource, N: Net + Clock, F: Sink>(
@@ -44,17 +44,63 @@ pub fn serve<R: Net + RandomSource, N: Net + Clock, F: Sink>(
     serving: Serving,
     faults: &mut Printer<F>,
 ) -> Result<(), Failure> {
-    let end = bind(alloc, system, address_for(serving.device), serving.port)?;
+    let first = OwnPort::now(system).first_handle;
+    match bind(alloc, system, address_for(serving.device), serving.port) {
+        Ok(end) => serve_over(alloc, rt, serving, first, end, faults),
+        Err(failure) => Err(failure),
+    }
+}
+
+/// Serves over the socket for the device.
+fn serve_over<'a, R: Net + RandomSource, C: Clock, F: Sink>(
+    alloc: Global,
+    rt: &R,
+    serving: Serving,
+    first: Handle,
+    end: UdpEnd<'a, C>,
+    faults: &mut Printer<F>,
+) -> Result<(), Failure> {
     let own = Own {
         descriptor: end.as_raw_fd(),
-        first: OwnPort::now(system).first_handle,
+        first,
         made: end.now(),
     };
-    let (mut rounds, local) = rounds_of(alloc, rt, serving, own)?;
-    let mut site = site_of(alloc, serving, own, local)?;
-    let mut panel = Panel::open(serving.device, Ready::new(end), own.first, serving.span, 0);
-    print_listening(alloc, local, faults);
-    go_round(alloc, rt, &mut rounds, &mut panel, &mut site, faults)
+    let mut panel = Panel::open(serving.device, Ready::new(end), first, serving.span, 0);
+    serve_panel(alloc, rt, serving, own, &mut panel, faults)
+}
+
+/// Serves a panel to browsers.
+fn serve_panel<E: End, R: Net + RandomSource, F: Sink>(
+    alloc: Global,
+    rt: &R,
+    serving: Serving,
+    own: Own,
+    panel: &mut Panel<Ready<E>>,
+    faults: &mut Printer<F>,
+) -> Result<(), Failure> {
+    match rounds_of(alloc, rt, serving, own) {
+        Ok(mut rounds) => serve_site(alloc, rt, serving, own, &mut rounds, panel, faults),
+        Err(failure) => Err(failure),
+    }
+}
+
+/// Serves a panel to the browsers that are listened to.
+fn serve_site<E: End, R: Net + RandomSource, F: Sink>(
+    alloc: Global,
+    rt: &R,
+    serving: Serving,
+    own: Own,
+    rounds: &mut Rounds,
+    panel: &mut Panel<Ready<E>>,
+    faults: &mut Printer<F>,
+) -> Result<(), Failure> {
+    match site_of(alloc, serving, own, rounds.local) {
+        Ok(mut site) => {
+            print_listening(alloc, rounds.local, faults);
+            go_round(alloc, rt, rounds, panel, &mut site, faults)
+        }
+        Err(failure) => Err(failure),
+    }
 }
 
 /// What is known of the socket for the device.
@@ -68,43 +114,66 @@ struct Own {
     made: u64,
 }
 
-/// What the loop waits for, and where browsers are listened to.
-fn rounds_of<R: Net>(
-    alloc: Global,
-    rt: &R,
-    serving: Serving,
-    own: Own,
-) -> Result<(Rounds, Peer), Failure> {
-    let mut listener = listen(alloc, rt, serving.listen)?;
-    let poll = poll_of(alloc, rt, &mut listener, own.descriptor)?;
-    let local = local_of(&listener, serving.listen);
-    let rounds = Rounds {
-        listener,
-        poll,
-        clients: Clients::new(alloc, 1),
-        verbose: serving.verbose,
-        was_lost: false,
-    };
-    Ok((rounds, local))
-}
-
-/// The service at this address.
-fn site_of(alloc: Global, serving: Serving, own: Own, local: Peer) -> Result<Site, Failure> {
-    let names = names_of(alloc, local).map_err(refused)?;
-    match View::new(alloc, serving.device, serving.span, own.first, own.made) {
-        Ok(view) => Ok(Site::new(alloc, view, names)),
-        Err(NoMemory) => Err(Failure::from(RunFault::NoMemory)),
-    }
-}
-
 /// What the loop waits for, and what it has told.
 #[derive(Drop)]
 struct Rounds {
     listener: TcpListener,
     poll: Poll,
     clients: Clients,
+    /// Where browsers are listened to.
+    local: Peer,
     verbose: bool,
     was_lost: bool,
+    /// The ticket of the last order that was taken, and until when the browsers wait for its answer.
+    ticket: u64,
+    held_until: u64,
+}
+
+/// What the loop waits for.
+fn rounds_of<R: Net>(alloc: Global, rt: &R, serving: Serving, own: Own) -> Result<Rounds, Failure> {
+    match listen(alloc, rt, serving.listen) {
+        Ok(listener) => rounds_with(alloc, rt, serving, own, listener),
+        Err(failure) => Err(failure),
+    }
+}
+
+/// What the loop waits for, with this listener.
+fn rounds_with<R: Net>(
+    alloc: Global,
+    rt: &R,
+    serving: Serving,
+    own: Own,
+    mut listener: TcpListener,
+) -> Result<Rounds, Failure> {
+    match poll_of(alloc, rt, &mut listener, own.descriptor) {
+        Ok(poll) => Ok(Rounds {
+            local: local_of(&listener, serving.listen),
+            listener,
+            poll,
+            clients: Clients::new(alloc, DEVICE.0),
+            verbose: serving.verbose,
+            was_lost: false,
+            ticket: 1,
+            held_until: 0,
+        }),
+        Err(failure) => Err(failure),
+    }
+}
+
+/// The service at this address.
+fn site_of(alloc: Global, serving: Serving, own: Own, local: Peer) -> Result<Site, Failure> {
+    match View::new(alloc, serving.device, serving.span, own.first, own.made) {
+        Ok(view) => site_over(alloc, view, local),
+        Err(NoMemory) => Err(Failure::from(RunFault::NoMemory)),
+    }
+}
+
+/// The service over a view.
+fn site_over(alloc: Global, view: View, local: Peer) -> Result<Site, Failure> {
+    match names_of(alloc, local) {
+        Ok(names) => Ok(Site::new(alloc, view, names)),
+        Err(_) => Err(Failure::from(RunFault::NoMemory)),
+    }
 }
 
 /// The local address of a socket for this device.
@@ -141,18 +210,48 @@ fn local_of(listener: &TcpListener, asked: Peer) -> Peer {
 /// The names by which the panel may be asked: its address, and `localhost` for 127.0.0.1.
 fn names_of(alloc: Global, local: Peer) -> Result<Vec<Name>, AllocError> {
     let mut names = Vec::new(alloc);
-    names.push(Name {
-        host: format!(in alloc; "{local}")?,
-        origin: format!(in alloc; "http://{local}")?,
-    })?;
+    match put_names(alloc, &mut names, local) {
+        Ok(()) => Ok(names),
+        Err(refused) => Err(refused),
+    }
+}
+
+/// Adds the names by which the panel may be asked.
+fn put_names(alloc: Global, names: &mut Vec<Name>, local: Peer) -> Result<(), AllocError> {
+    put_name(alloc, names, format!(in alloc; "{local}"))?;
     if local.ip == LOOPBACK {
         let port = local.port;
-        names.push(Name {
-            host: format!(in alloc; "localhost:{port}")?,
-            origin: format!(in alloc; "http://localhost:{port}")?,
-        })?;
+        put_name(alloc, names, format!(in alloc; "localhost:{port}"))?;
     }
-    Ok(names)
+    Ok(())
+}
+
+/// Adds a name, and the origin of its pages.
+fn put_name(
+    alloc: Global,
+    names: &mut Vec<Name>,
+    host: Result<String, AllocError>,
+) -> Result<(), AllocError> {
+    match host {
+        Ok(host) => put_host(alloc, names, host),
+        Err(refused) => Err(refused),
+    }
+}
+
+/// Adds a name, and the origin of its pages.
+fn put_host(alloc: Global, names: &mut Vec<Name>, host: String) -> Result<(), AllocError> {
+    match format!(in alloc; "http://{host}") {
+        Ok(origin) => push_name(names, Name { host, origin }),
+        Err(refused) => Err(refused),
+    }
+}
+
+/// Adds a name.
+fn push_name(names: &mut Vec<Name>, name: Name) -> Result<(), AllocError> {
+    match names.push(name) {
+        Ok(()) => Ok(()),
+        Err(_) => Err(AllocError),
+    }
 }
 
 /// What is waited for at once: the listener and the device's socket.
@@ -162,15 +261,20 @@ fn poll_of<R: Net>(
     listener: &mut TcpListener,
     descriptor: i32,
 ) -> Result<Poll, Failure> {
-    let poll = Poll::new(rt).map_err(|reason| failed(alloc, reason))?;
+    match Poll::new(rt) {
+        Ok(poll) => match register(&poll, listener, descriptor) {
+            Ok(()) => Ok(poll),
+            Err(reason) => Err(failed(alloc, reason)),
+        },
+        Err(reason) => Err(failed(alloc, reason)),
+    }
+}
+
+/// The listener and the device's socket are waited for.
+fn register(poll: &Poll, listener: &mut TcpListener, descriptor: i32) -> io::Result<()> {
     let registry = poll.registry();
-    registry
-        .register(listener, LISTENER, Interest::READABLE)
-        .map_err(|reason| failed(alloc, reason))?;
-    registry
-        .register(&mut SourceFd(&descriptor), DEVICE, Interest::READABLE)
-        .map_err(|reason| failed(alloc, reason))?;
-    Ok(poll)
+    registry.register(listener, LISTENER, Interest::READABLE)?;
+    registry.register(&mut SourceFd(&descriptor), DEVICE, Interest::READABLE)
 }
 
 /// Prints where browsers are listened to.
@@ -197,49 +301,69 @@ fn no_memory(_refused: NoMemory) -> Failure {
     Failure::from(RunFault::NoMemory)
 }
 
-/// Memory was refused.
-fn refused(_refused: AllocError) -> Failure {
-    Failure::from(RunFault::NoMemory)
-}
-
 /// Goes round: what came from the device, what is to be sent to it, the browsers, and a wait.
-fn go_round<'a, R: Net + RandomSource, C: Clock, F: Sink>(
+fn go_round<E: End, R: Net + RandomSource, F: Sink>(
     alloc: Global,
     rt: &R,
     rounds: &mut Rounds,
-    panel: &mut OwnPanel<'a, C>,
+    panel: &mut Panel<Ready<E>>,
     site: &mut Site,
     faults: &mut Printer<F>,
 ) -> Result<(), Failure> {
-    let mut events = Events::with_capacity(alloc, 32).map_err(refused)?;
-    for _ in 0..u64::MAX {
-        let drained = turn(panel, site.view()).map_err(no_memory)?;
-        note_link(alloc, rounds, site.view(), faults);
-        if site.view().is_spent() {
-            return Err(Failure::told(alloc, RunFault::Socket, "no handle is left"));
+    match Events::with_capacity(alloc, 32) {
+        Ok(mut events) => {
+            for _ in 0..u64::MAX {
+                go_once(alloc, rt, rounds, &mut events, panel, site, faults)?;
+            }
+            Ok(())
         }
-        let now = panel.end().end().now();
-        accept(rt, rounds, now);
-        rounds.clients.serve(site, now);
-        site.view().go_on(panel).map_err(no_memory)?;
-        let wait = if drained && !rounds.clients.has_more() {
-            wait_for(panel, site.view(), now)
-        } else {
-            0
-        };
-        let waited = rounds
-            .poll
-            .poll(&mut events, Some(Duration::from_millis(wait)));
-        waited.map_err(|reason| failed(alloc, reason))?;
-        for event in events.iter() {
-            rounds.clients.note_ready(event.token());
-        }
+        Err(_) => Err(Failure::from(RunFault::NoMemory)),
+    }
+}
+
+/// Does what is to be done, and waits.
+fn go_once<E: End, R: Net + RandomSource, F: Sink>(
+    alloc: Global,
+    rt: &R,
+    rounds: &mut Rounds,
+    events: &mut Events,
+    panel: &mut Panel<Ready<E>>,
+    site: &mut Site,
+    faults: &mut Printer<F>,
+) -> Result<(), Failure> {
+    let drained = turn(panel, site.view()).map_err(no_memory)?;
+    note_link(alloc, rounds, site.view(), faults);
+    if site.view().is_spent() {
+        return Err(Failure::told(alloc, RunFault::Socket, "no handle is left"));
+    }
+    let now = panel.end().end().now();
+    serve_browsers(rt, rounds, site, now);
+    site.view().go_on(panel).map_err(no_memory)?;
+    let wait = if drained {
+        wait_for(rounds, panel, site.view(), now)
+    } else {
+        0
+    };
+    wait_in(alloc, rounds, events, wait)
+}
+
+/// Waits until something can be read or written, at most so many milliseconds.
+fn wait_in(
+    alloc: Global,
+    rounds: &mut Rounds,
+    events: &mut Events,
+    wait: u64,
+) -> Result<(), Failure> {
+    let waited = rounds.poll.poll(events, Some(Duration::from_millis(wait)));
+    waited.map_err(|reason| failed(alloc, reason))?;
+    for event in events.iter() {
+        rounds.clients.note_ready(event.token());
     }
     Ok(())
 }
 
 /// Takes in what came from the device, and sends what is to be sent. Returns whether nothing more is there.
-fn turn<'a, C: Clock>(panel: &mut OwnPanel<'a, C>, view: &mut View) -> Result<bool, NoMemory> {
+fn turn<E: End>(panel: &mut Panel<Ready<E>>, view: &mut View) -> Result<bool, NoMemory> {
     for _ in 0..MOST_TURNS {
         view.note(panel.end().end().now(), panel.end().sent());
         view.take_turn(panel)?;
@@ -252,8 +376,13 @@ fn turn<'a, C: Clock>(panel: &mut OwnPanel<'a, C>, view: &mut View) -> Result<bo
 }
 
 /// How long may be waited, in milliseconds.
-fn wait_for<'a, C: Clock>(panel: &OwnPanel<'a, C>, view: &View, now: u64) -> u64 {
+fn wait_for<E: End>(rounds: &Rounds, panel: &Panel<Ready<E>>, view: &View, now: u64) -> u64 {
     let mut moment = now.saturating_add(LONGEST_WAIT_MS);
+    if rounds.holds(view, now) {
+        moment = rounds.held_until;
+    } else if rounds.clients.has_more() {
+        return 0;
+    }
     if let Some(due) = panel.next_due() {
         moment = moment.min(due);
     }
@@ -261,6 +390,31 @@ fn wait_for<'a, C: Clock>(panel: &OwnPanel<'a, C>, view: &View, now: u64) -> u64
         moment = moment.min(next);
     }
     moment.saturating_sub(now)
+}
+
+impl Rounds {
+    /// Whether the browsers wait for the answer to an order that was taken just now: so that who asks right behind it is
+    /// told how it fared.
+    fn holds(&self, view: &View, now: u64) -> bool {
+        now < self.held_until && view.has_orders()
+    }
+
+    /// Notes an order that was taken.
+    fn note_orders(&mut self, view: &View, now: u64) {
+        if self.ticket != view.next_ticket() {
+            self.ticket = view.next_ticket();
+            self.held_until = now.saturating_add(ANSWER_MS);
+        }
+    }
+}
+
+/// Lets the browsers in that wait, and answers their requests.
+fn serve_browsers<R: RandomSource>(rt: &R, rounds: &mut Rounds, site: &mut Site, now: u64) {
+    if !rounds.holds(site.view(), now) {
+        accept(rt, rounds, now);
+        rounds.clients.serve(site, now);
+        rounds.note_orders(site.view(), now);
+    }
 }
 
 /// Lets the browsers in that wait.

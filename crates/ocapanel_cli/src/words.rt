@@ -44,7 +44,7 @@ pub enum Asked {
 }
 
 const EXAMPLE: &str =
-    "The panel is one of this machine alone: only its own browsers reach it. One process serves at most 8 connections; it ends where it is stopped.
+    "Only browsers on this machine can reach the panel. One process serves at most 8 of their connections at once, and runs until it is stopped.
 
 Example: ocapanel --device 127.0.0.1:65000, and open http://127.0.0.1:8080/";
 
@@ -58,30 +58,61 @@ fn verbose_option<'a>(alloc: Global) -> Arg<'a> {
 
 /// The whole program.
 fn command<'a>(alloc: Global) -> Result<Command<'a>, AllocError> {
+    let device = option(alloc, "device", "A.B.C.D:PORT", "The device's address").required(true);
+    match named(alloc).arg(device) {
+        Ok(command) => with_listen(alloc, command),
+        Err(refused) => Err(refused),
+    }
+}
+
+/// The program's name and what it is for.
+fn named<'a>(alloc: Global) -> Command<'a> {
     Command::new(alloc, "ocapanel")
         .about("A panel in the browser for an OCA (AES70) device over UDP")
         .version(VERSION)
         .after_help(EXAMPLE)
-        .arg(option(alloc, "device", "A.B.C.D:PORT", "The device's address").required(true))?
-        .arg(option(
-            alloc,
-            "listen",
-            "A.B.C.D:PORT",
-            "Where browsers are listened to, an address of 127.0.0.0/8 [127.0.0.1:8080 unless given]; at port 0 the system chooses one",
-        ))?
-        .arg(option(
-            alloc,
-            "span",
-            "S",
-            "How far above the lowest untaken command the next handle may lie, 2 to 32 [16 unless given]; half of it is kept for orders",
-        ))?
-        .arg(option(
-            alloc,
-            "port",
-            "PORT",
-            "The local port of the socket for the device [one of the system's choice unless given]",
-        ))?
-        .arg(verbose_option(alloc))
+}
+
+/// The same with where browsers are listened to, and what follows.
+fn with_listen<'a>(alloc: Global, command: Command<'a>) -> Result<Command<'a>, AllocError> {
+    let listen = option(
+        alloc,
+        "listen",
+        "A.B.C.D:PORT",
+        "The address and port for browsers, an address of 127.0.0.0/8 [127.0.0.1:8080 unless given]; at port 0 the system chooses one",
+    );
+    match command.arg(listen) {
+        Ok(command) => with_span(alloc, command),
+        Err(refused) => Err(refused),
+    }
+}
+
+/// The same with the span, and what follows.
+fn with_span<'a>(alloc: Global, command: Command<'a>) -> Result<Command<'a>, AllocError> {
+    let span = option(
+        alloc,
+        "span",
+        "S",
+        "How far above the oldest command whose answer was not taken the next handle may lie, 2 to 32 [16 unless given]; half of it is kept for what browsers ask to be set",
+    );
+    match command.arg(span) {
+        Ok(command) => with_port(alloc, command),
+        Err(refused) => Err(refused),
+    }
+}
+
+/// The same with the local port, and what follows.
+fn with_port<'a>(alloc: Global, command: Command<'a>) -> Result<Command<'a>, AllocError> {
+    let port = option(
+        alloc,
+        "port",
+        "PORT",
+        "The local port of the socket for the device [one of the system's choice unless given]",
+    );
+    match command.arg(port) {
+        Ok(command) => command.arg(verbose_option(alloc)),
+        Err(refused) => Err(refused),
+    }
 }
 
 /// The words, matched with what the program takes.

@@ -78,75 +78,168 @@ fn script(alloc: Global, failed: usize) -> Result<Vec<Scripted>, NoMemory> {
 }
 
 /// The bench device after serving the script, the report, and how many packets were taken.
-fn served(
+#[derive(Drop)]
+struct Served {
+    device: Device,
+    report: Report,
+    taken: u64,
+}
+
+/// A bench device.
+fn bench_device(alloc: Global) -> Result<Device, NoMemory> {
+    match bench(alloc) {
+        Ok(tree) => Device::new(alloc, tree, Window::default()),
+        Err(_) => Err(NoMemory),
+    }
+}
+
+/// The bench device after the script with a failed receive before the entry of the place `failed`, and with a failed
+/// send of this number, where there are such.
+fn serve_bench(alloc: Global, failed: usize, fail_send: Option<u64>) -> Result<Served, NoMemory> {
+    serve_script(alloc, bench_device(alloc)?, failed, fail_send)
+}
+
+/// The device after that script.
+fn serve_script(
     alloc: Global,
+    device: Device,
     failed: usize,
     fail_send: Option<u64>,
-) -> Result<(Device, Report, u64), NoMemory> {
-    let Ok(tree) = bench(alloc) else {
-        return Err(NoMemory);
-    };
-    let mut device = Device::new(alloc, tree, Window::default())?;
+) -> Result<Served, NoMemory> {
+    let mut device = device;
+    match counted(alloc, &mut device, failed, fail_send) {
+        Ok((report, taken)) => Ok(Served {
+            device,
+            report,
+            taken,
+        }),
+        Err(NoMemory) => Err(NoMemory),
+    }
+}
+
+/// Serves that script, and answers the report and how many packets were taken.
+fn counted(
+    alloc: Global,
+    device: &mut Device,
+    failed: usize,
+    fail_send: Option<u64>,
+) -> Result<(Report, u64), NoMemory> {
     let mut outbox = Outbox::new(alloc)?;
-    let mut end = MemoryEnd::new(alloc, script(alloc, failed)?, 100, fail_send)?;
-    let report = serve(&mut device, &mut end, &mut outbox, 1000);
-    let taken = end.taken().len() as u64;
-    Ok((device, report, taken))
+    serve_end(device, &mut outbox, memory_end(alloc, failed, fail_send))
+}
+
+/// An end with that script.
+fn memory_end(alloc: Global, failed: usize, fail_send: Option<u64>) -> Result<MemoryEnd, NoMemory> {
+    MemoryEnd::new(alloc, script(alloc, failed)?, 100, fail_send)
+}
+
+/// Serves an end, where there is one, and answers the report and how many packets were taken.
+fn serve_end(
+    device: &mut Device,
+    outbox: &mut Outbox,
+    end: Result<MemoryEnd, NoMemory>,
+) -> Result<(Report, u64), NoMemory> {
+    let mut end = end?;
+    let report = serve(device, &mut end, outbox, 1000);
+    Ok((report, end.taken().len() as u64))
+}
+
+/// Whether a device has the objects and sessions of one for which nothing failed, and answers duplicates of all commands
+/// alike.
+fn is_plain(alloc: Global, device: &mut Device) -> Result<bool, NoMemory> {
+    let mut plain = serve_bench(alloc, NOWHERE, None)?;
+    are_alike(alloc, &mut plain.device, device)
 }
 
 /// Whether two devices have the same objects and sessions, and answer duplicates of all commands alike.
 fn are_alike(alloc: Global, a: &mut Device, b: &mut Device) -> Result<bool, NoMemory> {
+    let alike = a.sessions() == b.sessions() && same_objects(a, b);
+    Ok(answer_duplicates_alike(alloc, a, b)? && alike)
+}
+
+/// Whether two devices answer duplicates of all commands alike.
+fn answer_duplicates_alike(
+    alloc: Global,
+    a: &mut Device,
+    b: &mut Device,
+) -> Result<bool, NoMemory> {
     let mut first = Outbox::new(alloc)?;
-    let mut second = Outbox::new(alloc)?;
-    let mut alike = a.sessions() == b.sessions() && same_objects(a, b);
+    match Outbox::new(alloc) {
+        Ok(mut second) => Ok(hear_alike(a, b, &mut first, &mut second)),
+        Err(NoMemory) => Err(NoMemory),
+    }
+}
+
+/// Whether two devices answer duplicates of all commands alike, into these outboxes.
+fn hear_alike(a: &mut Device, b: &mut Device, first: &mut Outbox, second: &mut Outbox) -> bool {
+    let mut alike = true;
     for (place, number) in DATAGRAMS.iter().enumerate() {
         first.clear();
         second.clear();
-        let _ = a.datagram(sender(place), vector(*number), 100, &mut first);
-        let _ = b.datagram(sender(place), vector(*number), 100, &mut second);
-        alike = alike && same_packets(&first, &second);
+        let _ = a.datagram(sender(place), vector(*number), 100, first);
+        let _ = b.datagram(sender(place), vector(*number), 100, second);
+        alike = alike && same_packets(first, second);
     }
-    Ok(alike)
+    alike
 }
 
 /// A failed receive in each place of the script, and each send failing in turn.
 pub fn failing_ends(alloc: Global) -> Result<Tally, NoMemory> {
     let mut tally = Tally::default();
-    let (_, whole, taken) = served(alloc, NOWHERE, None)?;
+    let (whole, taken) = counts(alloc)?;
     for failed in 0..DATAGRAMS.len() + 1 {
-        let (mut plain, _, _) = served(alloc, NOWHERE, None)?;
-        let (mut device, report, _) = served(alloc, failed, None)?;
-        let expected = Report {
-            failed_receives: 1,
-            turns: whole.turns.saturating_add(1),
-            ..whole
-        };
+        let is_good = bears_a_failed_receive(alloc, whole, failed)?;
         tally.receives = tally.receives.saturating_add(1);
-        tally.note(report == expected && are_alike(alloc, &mut plain, &mut device)?);
+        tally.note(is_good);
     }
-    failing_sends(alloc, whole, taken, &mut tally)?;
+    for number in 0..taken {
+        let is_good = bears_a_failed_send(alloc, whole, taken, number)?;
+        tally.sends = tally.sends.saturating_add(1);
+        tally.note(is_good);
+    }
     Ok(tally)
 }
 
-/// Each of so many sends failing in turn.
-fn failing_sends(
+/// The report of serving the script, and how many packets were taken, where nothing fails.
+fn counts(alloc: Global) -> Result<(Report, u64), NoMemory> {
+    let served = serve_bench(alloc, NOWHERE, None)?;
+    Ok((served.report, served.taken))
+}
+
+/// Whether a device that serves a script with a failed receive in this place is the one without, and its report counts
+/// that turn too.
+fn bears_a_failed_receive(alloc: Global, whole: Report, failed: usize) -> Result<bool, NoMemory> {
+    let mut served = serve_bench(alloc, failed, None)?;
+    let expected = Report {
+        failed_receives: 1,
+        turns: whole.turns.saturating_add(1),
+        ..whole
+    };
+    let is_counted = served.report == expected;
+    match is_plain(alloc, &mut served.device) {
+        Ok(is_plain) => Ok(is_counted && is_plain),
+        Err(NoMemory) => Err(NoMemory),
+    }
+}
+
+/// Whether a device of which this send fails is the one of which none does, its report counts the failure, and one packet
+/// fewer was taken.
+fn bears_a_failed_send(
     alloc: Global,
     whole: Report,
     taken: u64,
-    tally: &mut Tally,
-) -> Result<(), NoMemory> {
-    for number in 0..taken {
-        let (mut plain, _, _) = served(alloc, NOWHERE, None)?;
-        let (mut device, report, fewer) = served(alloc, NOWHERE, Some(number))?;
-        let expected = Report {
-            failed_sends: 1,
-            ..whole
-        };
-        let counted = report == expected && fewer.saturating_add(1) == taken;
-        tally.sends = tally.sends.saturating_add(1);
-        tally.note(counted && are_alike(alloc, &mut plain, &mut device)?);
+    number: u64,
+) -> Result<bool, NoMemory> {
+    let mut served = serve_bench(alloc, NOWHERE, Some(number))?;
+    let expected = Report {
+        failed_sends: 1,
+        ..whole
+    };
+    let is_counted = served.report == expected && served.taken.saturating_add(1) == taken;
+    match is_plain(alloc, &mut served.device) {
+        Ok(is_plain) => Ok(is_counted && is_plain),
+        Err(NoMemory) => Err(NoMemory),
     }
-    Ok(())
 }
 
 /// The device's address, for a link.

@@ -13,6 +13,7 @@ use crate::fields::{Fields, LineFault};
 use crate::lines::{
     Full, RunFault, put, put_bytes, put_integer, put_number, put_peer, put_set_fault, put_verdict,
 };
+use crate::world::print_text;
 use oca_device::{Device, Outbox};
 use oca_script::field::{moment, peer};
 use oca_tree::{AddFault, LocalValue, Lock, LockKind, Setting, Tree, bench_with_channels};
@@ -50,41 +51,85 @@ enum Line {
 /// Runs the histories that the text has, and prints what each device is after each event.
 pub fn histories<R: Print + AllocGlobal>(rt: &R, text: &str) -> Result<(), RunFault> {
     let mut present = None;
+    run_lines(rt, text, &mut present)
+}
+
+/// Runs the lines of the text; the history that began last is `present`.
+fn run_lines<R: Print + AllocGlobal>(
+    rt: &R,
+    text: &str,
+    present: &mut Option<History>,
+) -> Result<(), RunFault> {
     let mut count = 0u64;
-    for text in text.lines() {
+    for line in text.lines() {
         count = count.saturating_add(1);
-        if text.is_empty() || text.as_bytes().first() == Some(&b'#') {
+        if line.is_empty() || line.as_bytes().first() == Some(&b'#') {
             continue;
         }
-        match read_line(rt.alloc(), text.as_bytes()) {
-            Ok(Line::Begins(history)) => {
-                printed(rt, present)?;
-                present = Some(history);
-            }
-            Ok(Line::Happens(happens)) => match &mut present {
-                Some(history) => {
-                    if history.take(rt.alloc(), &happens).is_err() {
-                        return Err(RunFault::NoMemory);
-                    }
-                }
-                None => return Err(RunFault::Line(count, LineFault::Form)),
-            },
-            Err(LineFault::NoMemory) => return Err(RunFault::NoMemory),
-            Err(fault) => return Err(RunFault::Line(count, fault)),
-        }
+        run_line(rt, line.as_bytes(), count, present)?;
     }
-    printed(rt, present)
+    print_history(rt, present)
+}
+
+/// Runs the line of this number.
+fn run_line<R: Print + AllocGlobal>(
+    rt: &R,
+    text: &[u8],
+    number: u64,
+    present: &mut Option<History>,
+) -> Result<(), RunFault> {
+    match read_line(rt.alloc(), text) {
+        Ok(line) => take_line(rt, line, number, present),
+        Err(LineFault::NoMemory) => Err(RunFault::NoMemory),
+        Err(fault) => Err(RunFault::Line(number, fault)),
+    }
+}
+
+/// Begins a history, or lets an event of the present one happen.
+fn take_line<R: Print + AllocGlobal>(
+    rt: &R,
+    line: Line,
+    number: u64,
+    present: &mut Option<History>,
+) -> Result<(), RunFault> {
+    match line {
+        Line::Begins(history) => begin(rt, history, present),
+        Line::Happens(happens) => go_on(rt.alloc(), &happens, number, present),
+    }
+}
+
+/// Prints what is known of the present history, and begins another one.
+fn begin<R: Print>(
+    rt: &R,
+    history: History,
+    present: &mut Option<History>,
+) -> Result<(), RunFault> {
+    let printed = print_history(rt, present);
+    *present = Some(history);
+    printed
+}
+
+/// Lets an event of the present history happen.
+fn go_on(
+    alloc: Global,
+    happens: &Happens,
+    number: u64,
+    present: &mut Option<History>,
+) -> Result<(), RunFault> {
+    match present {
+        Some(history) => match history.take(alloc, happens) {
+            Ok(()) => Ok(()),
+            Err(Full) => Err(RunFault::NoMemory),
+        },
+        None => Err(RunFault::Line(number, LineFault::Form)),
+    }
 }
 
 /// Prints what is known of a history, where there is one.
-fn printed<R: Print>(rt: &R, history: Option<History>) -> Result<(), RunFault> {
-    let Some(history) = history else {
-        return Ok(());
-    };
-    let out = history.out;
-    match print!(rt; "{out}") {
-        Ok(()) => Ok(()),
-        Err(_) => Err(RunFault::Write),
+fn print_history<R: Print>(rt: &R, history: &Option<History>) -> Result<(), RunFault> {
+    match history {
+        Some(history) => print_text(rt, history.out.as_str()),
+        None => Ok(()),
     }
 }
 

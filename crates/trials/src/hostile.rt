@@ -54,18 +54,31 @@ struct Bench {
 impl Bench {
     /// Two bench devices with retained replies.
     fn new(alloc: Global) -> Result<Bench, NoMemory> {
-        let mut bench = Bench {
-            tried: device(alloc)?,
-            untouched: device(alloc)?,
-            outbox: Outbox::new(alloc)?,
-            expected: Outbox::new(alloc)?,
-            next_handle: 1,
-            tally: Tally::default(),
-        };
-        for number in [2, 4, 10, 12] {
-            bench.probe(SENDER, vector(number));
-        }
+        let mut bench = Bench::empty(alloc)?;
+        bench.fill();
         Ok(bench)
+    }
+
+    /// Two bench devices that heard nothing.
+    fn empty(alloc: Global) -> Result<Bench, NoMemory> {
+        match (devices(alloc), outboxes(alloc)) {
+            (Ok((tried, untouched)), Ok((outbox, expected))) => Ok(Bench {
+                tried,
+                untouched,
+                outbox,
+                expected,
+                next_handle: 1,
+                tally: Tally::default(),
+            }),
+            _ => Err(NoMemory),
+        }
+    }
+
+    /// Has both devices retain replies.
+    fn fill(&mut self) {
+        for number in [2, 4, 10, 12] {
+            self.probe(SENDER, vector(number));
+        }
     }
 
     /// Both devices hear the datagram of this peer: whether they answer alike.
@@ -147,6 +160,22 @@ fn device(alloc: Global) -> Result<Device, NoMemory> {
         return Err(NoMemory);
     };
     Device::new(alloc, tree, Window::default())
+}
+
+/// Two bench devices.
+fn devices(alloc: Global) -> Result<(Device, Device), NoMemory> {
+    match (device(alloc), device(alloc)) {
+        (Ok(one), Ok(other)) => Ok((one, other)),
+        _ => Err(NoMemory),
+    }
+}
+
+/// Two outboxes.
+fn outboxes(alloc: Global) -> Result<(Outbox, Outbox), NoMemory> {
+    match (Outbox::new(alloc), Outbox::new(alloc)) {
+        (Ok(one), Ok(other)) => Ok((one, other)),
+        _ => Err(NoMemory),
+    }
 }
 
 /// Whether the verdict is this fault.

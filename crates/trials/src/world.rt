@@ -14,42 +14,80 @@ use std::alloc::Global;
 /// `schedule`, why it does not run.
 pub fn worlds<R: Print + AllocGlobal>(rt: &R, text: &str) -> Result<(), RunFault> {
     let mut pending = None;
+    run_lines(rt, text, &mut pending)
+}
+
+/// Runs the lines of the text; the schedule that began last is `pending`.
+fn run_lines<R: Print + AllocGlobal>(
+    rt: &R,
+    text: &str,
+    pending: &mut Option<Schedule>,
+) -> Result<(), RunFault> {
     let mut count = 0u64;
-    for text in text.lines() {
+    for line in text.lines() {
         count = count.saturating_add(1);
-        if text.is_empty() || text.as_bytes().first() == Some(&b'#') {
+        if line.is_empty() || line.as_bytes().first() == Some(&b'#') {
             continue;
         }
-        match read_line(rt.alloc(), text.as_bytes()) {
-            Ok(Line::Begins(schedule)) => {
-                finish(rt, pending)?;
-                pending = Some(schedule);
-            }
-            Ok(Line::Step(step)) => match &mut pending {
-                Some(schedule) => {
-                    if schedule.steps.push(step).is_err() {
-                        return Err(RunFault::NoMemory);
-                    }
-                }
-                None => return Err(RunFault::Line(count, LineFault::Form)),
-            },
+        match read_line(rt.alloc(), line.as_bytes()) {
+            Ok(line) => take_line(rt, line, count, pending)?,
             Err(fault) => return Err(RunFault::Line(count, fault)),
         }
     }
     finish(rt, pending)
 }
 
-/// Runs a schedule, where there is one, and prints what it led to.
-fn finish<R: Print + AllocGlobal>(rt: &R, pending: Option<Schedule>) -> Result<(), RunFault> {
-    let Some(schedule) = pending else {
-        return Ok(());
-    };
-    let mut out = String::new(rt.alloc());
-    let ran = run(rt.alloc(), &schedule);
-    if put_run(rt.alloc(), &mut out, &ran).is_err() {
-        return Err(RunFault::NoMemory);
+/// Begins a schedule, once the pending one was run, or adds a step to that.
+fn take_line<R: Print + AllocGlobal>(
+    rt: &R,
+    line: Line,
+    number: u64,
+    pending: &mut Option<Schedule>,
+) -> Result<(), RunFault> {
+    match line {
+        Line::Begins(schedule) => begin(rt, schedule, pending),
+        Line::Step(step) => match pending {
+            Some(schedule) => match schedule.steps.push(step) {
+                Ok(()) => Ok(()),
+                Err(_) => Err(RunFault::NoMemory),
+            },
+            None => Err(RunFault::Line(number, LineFault::Form)),
+        },
     }
-    match print!(rt; "{out}") {
+}
+
+/// Runs the pending schedule, and begins another one.
+fn begin<R: Print + AllocGlobal>(
+    rt: &R,
+    schedule: Schedule,
+    pending: &mut Option<Schedule>,
+) -> Result<(), RunFault> {
+    let finished = finish(rt, pending);
+    *pending = Some(schedule);
+    finished
+}
+
+/// Runs a schedule, where there is one, and prints what it led to.
+fn finish<R: Print + AllocGlobal>(rt: &R, pending: &Option<Schedule>) -> Result<(), RunFault> {
+    let mut out = String::new(rt.alloc());
+    let put = match pending {
+        Some(schedule) => put_schedule(rt.alloc(), &mut out, schedule),
+        None => Ok(()),
+    };
+    match put {
+        Ok(()) => print_text(rt, out.as_str()),
+        Err(Full) => Err(RunFault::NoMemory),
+    }
+}
+
+/// Runs a schedule, and puts what it led to.
+fn put_schedule(alloc: Global, out: &mut String, schedule: &Schedule) -> Result<(), Full> {
+    put_run(alloc, out, &run(alloc, schedule))
+}
+
+/// Prints a text.
+pub fn print_text<R: Print>(rt: &R, text: &str) -> Result<(), RunFault> {
+    match print!(rt; "{text}") {
         Ok(()) => Ok(()),
         Err(_) => Err(RunFault::Write),
     }

@@ -1,5 +1,5 @@
 //! Objects that are set, over an end in memory.
-use super::{NO_LIMIT, none_wrong};
+use super::NO_LIMIT;
 use oca_control::Link;
 use oca_fakes::ShortWriter;
 use oca_net::{MemoryEnd, Scripted};
@@ -8,7 +8,6 @@ use oca_script::Printer;
 use oca_types::{Handle, Ono, Peer, Span, Text};
 use ocactl_cli::hands::{Pair, set_all};
 use std::alloc::Global;
-use std::process::Abort;
 
 const DEVICE: Peer = Peer {
     ip: 0x7f00_0001,
@@ -74,86 +73,127 @@ fn sent(bytes: Vec<u8>) -> Scripted {
     }
 }
 
-/// The object that the command of a handle asks of is a mute.
-fn is_mute(alloc: Global, handle: u32) -> Option<Scripted> {
+/// Adds that the object that the command of a handle asks of is a mute.
+fn add_class(alloc: Global, script: &mut Vec<Scripted>, handle: u32) -> bool {
     let mut bytes = [0u8; 32];
-    hex::decode_to_slice(CLASS, &mut bytes).ok()?;
+    if hex::decode_to_slice(CLASS, &mut bytes).is_err() {
+        return false;
+    }
     bytes[14..18].copy_from_slice(&handle.to_be_bytes());
-    Some(sent(Vec::from_array(alloc, bytes).ok()?))
+    match Vec::from_array(alloc, bytes) {
+        Ok(bytes) => script.push(sent(bytes)).is_ok(),
+        Err(_) => false,
+    }
 }
 
-/// The command of a handle is answered by a status.
-fn has_status(alloc: Global, handle: u32, status: u8) -> Option<Scripted> {
+/// Adds that the command of a handle is answered by a status.
+fn add_status(alloc: Global, script: &mut Vec<Scripted>, handle: u32, status: u8) -> bool {
     let mut bytes = [0u8; 20];
-    hex::decode_to_slice(DONE, &mut bytes).ok()?;
+    if hex::decode_to_slice(DONE, &mut bytes).is_err() {
+        return false;
+    }
     bytes[14..18].copy_from_slice(&handle.to_be_bytes());
     bytes[18] = status;
-    Some(sent(Vec::from_array(alloc, bytes).ok()?))
+    match Vec::from_array(alloc, bytes) {
+        Ok(bytes) => script.push(sent(bytes)).is_ok(),
+        Err(_) => false,
+    }
 }
 
-/// The objects are mutes.
-fn put_classes(alloc: Global, script: &mut Vec<Scripted>, classes: &[u32]) -> Option<()> {
+/// Adds that the objects are mutes.
+fn add_classes(alloc: Global, script: &mut Vec<Scripted>, classes: &[u32]) -> bool {
     for handle in classes {
-        script.push(is_mute(alloc, *handle)?).ok()?;
+        if !add_class(alloc, script, *handle) {
+            return false;
+        }
     }
-    Some(())
+    true
 }
 
-/// The answers with their statuses.
-fn put_statuses(alloc: Global, script: &mut Vec<Scripted>, statuses: &[(u32, u8)]) -> Option<()> {
+/// Adds the answers with their statuses.
+fn add_statuses(alloc: Global, script: &mut Vec<Scripted>, statuses: &[(u32, u8)]) -> bool {
     for (handle, status) in statuses {
-        script.push(has_status(alloc, *handle, *status)?).ok()?;
+        if !add_status(alloc, script, *handle, *status) {
+            return false;
+        }
     }
-    Some(())
+    true
+}
+
+/// What the device sends in all.
+fn script(alloc: Global, setting: &Setting) -> Option<Vec<Scripted>> {
+    let mut script = Vec::new(alloc);
+    if add_classes(alloc, &mut script, &setting.classes)
+        && add_statuses(alloc, &mut script, setting.statuses)
+    {
+        Some(script)
+    } else {
+        None
+    }
 }
 
 /// A panel over an end that delivers these answers.
 fn panel(alloc: Global, setting: &Setting) -> Option<Panel<MemoryEnd>> {
-    let mut script = Vec::new(alloc);
-    put_classes(alloc, &mut script, &setting.classes)?;
-    put_statuses(alloc, &mut script, setting.statuses)?;
-    let end = MemoryEnd::new(alloc, script, 30, None).ok()?;
+    let script = script(alloc, setting)?;
     let link = Link::new(DEVICE, Handle(setting.classes[0]), 0, Span::default());
-    Some(Panel::new(link, end, 10))
+    match MemoryEnd::new(alloc, script, 30, None) {
+        Ok(end) => Some(Panel::new(link, end, 10)),
+        Err(_) => None,
+    }
+}
+
+/// A mute and the word for its value.
+fn pair(ono: u32, word: &str) -> Option<Pair> {
+    let word = Text::new(word)?;
+    let ono = Ono(ono);
+    Some(Pair { ono, word })
 }
 
 /// Three mutes and the words for their values.
-fn pairs(alloc: Global) -> Option<Vec<Pair>> {
-    let mut pairs = Vec::new(alloc);
-    for (ono, word) in [(4097, "muted"), (4098, "unmuted"), (4099, "muted")] {
-        let word = Text::new(word)?;
-        let ono = Ono(ono);
-        pairs.push(Pair { ono, word }).ok()?;
-    }
-    Some(pairs)
+fn pairs() -> Option<[Pair; 3]> {
+    Some([
+        pair(4097, "muted")?,
+        pair(4098, "unmuted")?,
+        pair(4099, "muted")?,
+    ])
 }
 
-/// Whether the setting ends so, asks each command once, and prints just that.
-fn sets_so(alloc: Global, setting: &Setting) -> Option<bool> {
-    let mut panel = panel(alloc, setting)?;
-    let pairs = pairs(alloc)?;
-    let ahead = Span::new(setting.ahead)?;
+/// Whether the setting ends so over a panel, asks each command once, and prints just that.
+fn sets_over(
+    alloc: Global,
+    panel: &mut Panel<MemoryEnd>,
+    pairs: &[Pair],
+    setting: &Setting,
+) -> bool {
+    let Some(ahead) = Span::new(setting.ahead) else {
+        return false;
+    };
     let mut to = Printer::new(ShortWriter::new(5000, NO_LIMIT));
-    let status = set_all(alloc, &mut panel, pairs.as_slice(), ahead, &mut to).ok()?;
-    Some(
-        status == setting.status
-            && to.sink().taken.as_slice() == setting.output
-            && panel.end().taken().len() == 3 + setting.statuses.len(),
-    )
+    let Ok(status) = set_all(alloc, panel, pairs, ahead, &mut to) else {
+        return false;
+    };
+    status == setting.status
+        && to.sink().taken.as_slice() == setting.output
+        && panel.end().taken().len() == 3 + setting.statuses.len()
+}
+
+/// Whether the setting ends so.
+fn sets_so(alloc: Global, setting: &Setting) -> bool {
+    let Some(pairs) = pairs() else {
+        return false;
+    };
+    match panel(alloc, setting) {
+        Some(mut panel) => sets_over(alloc, &mut panel, &pairs, setting),
+        None => false,
+    }
 }
 
 /// The first setting that ends otherwise.
-fn first_wrong(alloc: Global) -> Option<usize> {
+pub fn first_wrong(alloc: Global) -> Option<usize> {
     for (at, setting) in SETTINGS.iter().enumerate() {
-        if sets_so(alloc, setting) != Some(true) {
+        if !sets_so(alloc, setting) {
             return Some(at);
         }
     }
     None
-}
-
-#[test]
-fn objects_are_set_at_once(rt: HostRuntime) {
-    let wrong = first_wrong(rt.alloc());
-    none_wrong(&rt, wrong);
 }

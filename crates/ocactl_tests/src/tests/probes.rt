@@ -1,11 +1,9 @@
 //! Whether a device answers the commands of a port.
-use super::none_wrong;
 use oca_net::{MemoryEnd, Scripted};
 use oca_types::{Handle, Peer};
 use ocactl_cli::probe::{Found, probe};
 use ocactl_cli::watched::Watched;
 use std::alloc::Global;
-use std::process::Abort;
 
 const DEVICE: Peer = Peer {
     ip: 0x7f00_0001,
@@ -32,46 +30,68 @@ const FOUND: &[(&[(Peer, &str)], Found)] = &[
     (&[(STRANGER, ANSWER), (STRANGER, ALIVE)], Found::Unheard),
 ];
 
-/// A datagram of an end's script.
-fn datagram(alloc: Global, from: Peer, text: &str) -> Option<Scripted> {
+/// The bytes that a text stands for.
+fn bytes(alloc: Global, text: &str) -> Option<Vec<u8>> {
     let mut room = [0u8; 20];
-    let size = text.len() / 2;
-    if size > room.len() {
-        return None;
+    let all = room.get_mut(..text.len() / 2)?;
+    hex::decode_to_slice(text, all).ok()?;
+    all.to_vec(alloc).ok()
+}
+
+/// Adds a datagram to an end's script.
+fn add(alloc: Global, script: &mut Vec<Scripted>, from: Peer, text: &str) -> bool {
+    match bytes(alloc, text) {
+        Some(bytes) => script
+            .push(Scripted::Datagram {
+                from,
+                bytes,
+                now: 10,
+            })
+            .is_ok(),
+        None => false,
     }
-    hex::decode_to_slice(text, &mut room[..size]).ok()?;
-    let mut bytes = Vec::new(alloc);
-    bytes.extend_from_slice(&room[..size]).ok()?;
-    Some(Scripted::Datagram {
-        from,
-        bytes,
-        now: 10,
-    })
+}
+
+/// Adds these datagrams.
+fn add_all(alloc: Global, script: &mut Vec<Scripted>, coming: &[(Peer, &str)]) -> bool {
+    for (from, text) in coming {
+        if !add(alloc, script, *from, text) {
+            return false;
+        }
+    }
+    true
+}
+
+/// The script of these datagrams.
+fn script(alloc: Global, coming: &[(Peer, &str)]) -> Option<Vec<Scripted>> {
+    let mut script = Vec::new(alloc);
+    if add_all(alloc, &mut script, coming) {
+        Some(script)
+    } else {
+        None
+    }
+}
+
+/// What is found over an end.
+fn found_over(end: MemoryEnd) -> Found {
+    probe(&mut Watched::new(end, DEVICE), DEVICE, Handle(7))
 }
 
 /// What is found where this comes.
 fn found(alloc: Global, coming: &[(Peer, &str)]) -> Option<Found> {
-    let mut script = Vec::new(alloc);
-    for (from, text) in coming {
-        script.push(datagram(alloc, *from, text)?).ok()?;
+    let script = script(alloc, coming)?;
+    match MemoryEnd::new(alloc, script, 64, None) {
+        Ok(end) => Some(found_over(end)),
+        Err(_) => None,
     }
-    let end = MemoryEnd::new(alloc, script, 64, None).ok()?;
-    Some(probe(&mut Watched::new(end, DEVICE), DEVICE, Handle(7)))
 }
 
-/// The first row that is otherwise.
-fn first_other_found(alloc: Global) -> Option<usize> {
+/// The first row that is otherwise: what is found of a device, by what comes from it.
+pub fn first_other_found(alloc: Global) -> Option<usize> {
     for (at, (coming, expected)) in FOUND.iter().enumerate() {
         if found(alloc, coming) != Some(*expected) {
             return Some(at);
         }
     }
     None
-}
-
-/// What is found of a device, by what comes from it.
-#[test]
-fn probes(rt: HostRuntime) {
-    let wrong = first_other_found(rt.alloc());
-    none_wrong(&rt, wrong);
 }

@@ -5,7 +5,7 @@ use oca_fakes::{PieceReader, ShortWriter};
 use oca_script::{Printer, ReplayFault};
 use oca_tree::Setting;
 use oca_types::Ono;
-use ocadev_cli::replay::replay;
+use ocadev_replay::replay::replay;
 use std::alloc::Global;
 use std::net::Net;
 use std::rt::{Clock, Files};

@@ -3,7 +3,7 @@ use super::{bench_device, passes};
 use oca_device::{Device, Outbox};
 use oca_fakes::{PieceReader, ShortWriter};
 use oca_script::Printer;
-use ocadev_cli::replay::replay;
+use ocadev_replay::replay::replay;
 use std::alloc::Global;
 
 const FOUND_ROOM: &[u8] = b"served 0 0 0\n> 3b00010000000b0400010001\n";

@@ -1,6 +1,6 @@
 use Rattle.std.proofs.Common.{Some, ap, ◌∙◌}
 use Rattle.std.specs.Option.{option_copied}
-use Rattle.ocactl_cli.proofs.FieldLemmas.{more_than_wait, only-wait}
+use Rattle.ocactl_cli.proofs.WaitLemmas.{more_than_wait, only-wait}
 use Rattle.ocactl_cli.proofs.commands.is_wait.Goals as goal
 
 pub returns-in-Some : goal.returns-in-Some

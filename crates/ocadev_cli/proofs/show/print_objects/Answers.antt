@@ -4,7 +4,7 @@ use Rattle.oca_tree.specs.declared.tree.ObjectInfo.{ObjectInfo}
 use Rattle.oca_tree.specs.Readers.{info_of}
 use Rattle.oca_script.specs.Printing.{PrintsAll, PrintsPart}
 use Rattle.ocadev_cli.specs.Printing.{info_text}
-use Rattle.ocadev_cli.proofs.PacketLemmas.{packets-more, packets-less}
+use Rattle.ocadev_replay.proofs.PacketLemmas.{packets-more, packets-less}
 use Rattle.ocadev_cli.proofs.TreeLemmas.{stands-there}
 use Rattle.ocadev_cli.proofs.show.print_objects.Goals as goal
 

@@ -1,5 +1,0 @@
-//! Tests of oca_control on its public interface: scripts of calls, each with what it must answer.
-#![tactic(auto)]
-
-#[cfg(test)]
-mod tests;

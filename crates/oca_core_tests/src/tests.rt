@@ -1,0 +1,4 @@
+//! A module for each crate.
+mod model;
+mod pdu;
+mod types;

@@ -1,0 +1,166 @@
+//! The messages that are read.
+ghost use Rattle.std.specs.Prelude.{◌≡◌, count_by};
+ghost use Rattle.oca_pdu.specs.Limits.{is_command};
+ghost use Rattle.oca_pdu.specs.Datagrams.{datagram_messages};
+
+use super::examples::*;
+use oca_pdu::{Datagram, Form, Message, check};
+use oca_types::{Command, MethodId};
+
+/// A message, in numbers.
+#[derive(Clone, Copy)]
+enum Read {
+    /// Whether a command asks for a response, its handle, its target, DefLevel and MethodIndex, ParamCount and
+    /// parameters.
+    Command(bool, u32, u32, (u16, u16), u8, &'static [u8]),
+    /// The handle of a response, its status, ParamCount and parameters.
+    Response(u32, u8, u8, &'static [u8]),
+    /// The time of a keep-alive.
+    KeepAlive(Form),
+}
+
+/// The datagrams of the worked examples, and their messages in order.
+const MESSAGES: &[(&[u8], &[Read])] = &[
+    (GET_STATE, &[Read::Command(true, 1, 4097, (4, 1), 0, &[])]),
+    (MUTED, &[Read::Response(1, 0, 1, &[1])]),
+    (SET_STATE, &[Read::Command(true, 2, 4097, (4, 2), 1, &[1])]),
+    (DONE, &[Read::Response(2, 0, 0, &[])]),
+    (
+        SET_SETTING,
+        &[Read::Command(true, 7, 4100, (5, 2), 1, &[0xFD, 0xA8])],
+    ),
+    (
+        SETTING,
+        &[Read::Response(9, 0, 3, &[0xFD, 0xA8, 0xFD, 0xA8, 2, 0x58])],
+    ),
+    (GET_MEMBERS, &[Read::Command(true, 5, 100, (3, 5), 0, &[])]),
+    (
+        MEMBERS,
+        &[Read::Response(
+            5,
+            0,
+            1,
+            &[0, 1, 0, 0, 0x10, 0, 0, 3, 0, 1, 0, 1, 0, 3, 0, 2],
+        )],
+    ),
+    (LOCKED, &[Read::Response(1, 3, 0, &[])]),
+    (
+        ROLE,
+        &[Read::Response(2, 0, 1, &[0, 4, 0x6D, 0x75, 0x74, 0x65])],
+    ),
+    (
+        SET_LABEL,
+        &[Read::Command(
+            true,
+            1,
+            4097,
+            (2, 9),
+            1,
+            &[0, 5, 0x42, 0xC3, 0xBC, 0x68, 0x6E, 0x65],
+        )],
+    ),
+    (
+        LABEL,
+        &[Read::Response(2, 0, 1, &[0, 5, 0x42, 0xC3, 0xBC, 0x68, 0x6E, 0x65])],
+    ),
+    (ONE_SECOND, &[Read::KeepAlive(Form::Seconds(1))]),
+    (MILLISECONDS, &[Read::KeepAlive(Form::Millis(1500))]),
+    (FIVE_SECONDS, &[Read::KeepAlive(Form::Seconds(5))]),
+    (
+        TWO_COMMANDS,
+        &[
+            Read::Command(true, 1, 4097, (4, 1), 0, &[]),
+            Read::Command(true, 2, 4098, (4, 1), 0, &[]),
+        ],
+    ),
+];
+
+/// Whether a command has these numbers.
+fn is_command_of(command: &Command<'_>, handle: u32, target: u32, method: (u16, u16)) -> bool {
+    let id = MethodId {
+        level: method.0,
+        index: method.1,
+    };
+    command.handle.0 == handle && command.target.0 == target && command.method == id
+}
+
+/// Whether a message is this one.
+fn is_read(message: &Message<'_>, read: Read) -> bool {
+    match (*message, read) {
+        (Message::Command { respond, command }, Read::Command(asks, of, target, id, n, bytes)) => {
+            respond == asks
+                && is_command_of(&command, of, target, id)
+                && command.count == n
+                && command.params == bytes
+        }
+        (
+            Message::Response {
+                handle,
+                status,
+                count,
+                params,
+            },
+            Read::Response(of, number, n, bytes),
+        ) => handle.0 == of && status == number && count == n && params == bytes,
+        (Message::KeepAlive { form }, Read::KeepAlive(time)) => form == time,
+        _ => false,
+    }
+}
+
+/// Whether the messages are these, in order.
+fn are_read(datagram: &Datagram<'_>, reads: &[Read]) -> bool {
+    let mut rest = reads;
+    for message in datagram.messages() {
+        let Some((read, others)) = rest.split_first() else {
+            return false;
+        };
+        if !is_read(&message, *read) {
+            return false;
+        }
+        rest = others;
+    }
+    rest.is_empty()
+}
+
+/// Whether the bytes are a datagram of these messages.
+fn is_datagram_of(bytes: &[u8], reads: &[Read]) -> bool {
+    match check(bytes) {
+        Ok(datagram) => are_read(&datagram, reads),
+        Err(_) => false,
+    }
+}
+
+/// The first of the examples that has other messages.
+pub fn first_wrong() -> Option<usize> {
+    for (at, (bytes, reads)) in MESSAGES.iter().enumerate() {
+        if !is_datagram_of(bytes, reads) {
+            return Some(at);
+        }
+    }
+    None
+}
+
+/// How many of the messages are commands: a loop over them whose invariant speaks of those that are left.
+fn commands_in(datagram: &Datagram) -> usize
+    ensures { result ≡ count_by is_command (datagram_messages datagram.now) }
+{
+    let mut count: usize = 0;
+    for message in datagram.messages() {
+        if let Message::Command {
+            respond: _,
+            command: _,
+        } = message
+        {
+            count += 1;
+        }
+    }
+    count
+}
+
+/// How many commands the bytes have, or none where they are refused.
+pub fn commands_of(bytes: &[u8]) -> usize {
+    match check(bytes) {
+        Ok(datagram) => commands_in(&datagram),
+        Err(_) => 0,
+    }
+}

@@ -1,0 +1,115 @@
+//! Numbers and Booleans that are taken.
+use oca_types::{Cursor, ReadFault};
+
+/// What is taken, and what that answers.
+#[derive(Clone, Copy)]
+enum Take {
+    U8(Result<u8, ReadFault>),
+    U16(Result<u16, ReadFault>),
+    U32(Result<u32, ReadFault>),
+    U64(Result<u64, ReadFault>),
+    I8(Result<i8, ReadFault>),
+    I16(Result<i16, ReadFault>),
+    I32(Result<i32, ReadFault>),
+    I64(Result<i64, ReadFault>),
+    Bool(Result<bool, ReadFault>),
+    Finish(Result<(), ReadFault>),
+}
+
+/// Whether a take answers so.
+fn agrees(cursor: &mut Cursor<'_>, take: Take) -> bool {
+    match take {
+        Take::U8(answer) => cursor.take_u8() == answer,
+        Take::U16(answer) => cursor.take_u16() == answer,
+        Take::U32(answer) => cursor.take_u32() == answer,
+        Take::U64(answer) => cursor.take_u64() == answer,
+        Take::I8(answer) => cursor.take_i8() == answer,
+        Take::I16(answer) => cursor.take_i16() == answer,
+        Take::I32(answer) => cursor.take_i32() == answer,
+        Take::I64(answer) => cursor.take_i64() == answer,
+        Take::Bool(answer) => cursor.take_bool() == answer,
+        Take::Finish(answer) => cursor.finish() == answer,
+    }
+}
+
+/// The first of the takes that answers otherwise.
+fn first_wrong(bytes: &[u8], takes: &[Take]) -> Option<usize> {
+    let mut cursor = Cursor::new(bytes);
+    for (at, take) in takes.iter().enumerate() {
+        if !agrees(&mut cursor, *take) {
+            return Some(at);
+        }
+    }
+    None
+}
+
+const UNSIGNED_BYTES: &[u8] = &[
+    255, 255, 254, 1, 2, 3, 4, 255, 255, 255, 255, 255, 255, 255, 255,
+];
+
+const UNSIGNED: &[Take] = &[
+    Take::U8(Ok(255)),
+    Take::U16(Ok(0xFFFE)),
+    Take::U32(Ok(0x01020304)),
+    Take::U64(Ok(u64::MAX)),
+    Take::Finish(Ok(())),
+];
+
+const SIGNED_BYTES: &[u8] = &[
+    0x80, 0xFD, 0xA8, 0xFF, 0xFF, 0xFF, 0xFE, 0x80, 0, 0, 0, 0, 0, 0, 0,
+];
+
+const SIGNED: &[Take] = &[
+    Take::I8(Ok(-128)),
+    Take::I16(Ok(-600)),
+    Take::I32(Ok(-2)),
+    Take::I64(Ok(i64::MIN)),
+    Take::Finish(Ok(())),
+];
+
+const UNSIGNED_CUT: &[Take] = &[
+    Take::U64(Err(ReadFault::Short)),
+    Take::U32(Err(ReadFault::Short)),
+    Take::U16(Ok(0x0102)),
+    Take::U16(Err(ReadFault::Short)),
+    Take::Finish(Err(ReadFault::Trailing)),
+    Take::U8(Ok(3)),
+    Take::U8(Err(ReadFault::Short)),
+];
+
+const SIGNED_CUT: &[Take] = &[
+    Take::I64(Err(ReadFault::Short)),
+    Take::I32(Err(ReadFault::Short)),
+    Take::I16(Ok(-32640)),
+    Take::I16(Err(ReadFault::Short)),
+    Take::I8(Ok(127)),
+    Take::I8(Err(ReadFault::Short)),
+    Take::Bool(Err(ReadFault::Short)),
+];
+
+const BOOLEANS: &[Take] = &[
+    Take::Bool(Ok(false)),
+    Take::Bool(Ok(true)),
+    Take::Bool(Ok(true)),
+    Take::Bool(Ok(true)),
+    Take::Finish(Ok(())),
+];
+
+/// Bytes, and what is taken of them in order.
+const TAKEN: &[(&[u8], &[Take])] = &[
+    (UNSIGNED_BYTES, UNSIGNED),
+    (SIGNED_BYTES, SIGNED),
+    (&[1, 2, 3], UNSIGNED_CUT),
+    (&[0x80, 0x80, 0x7F], SIGNED_CUT),
+    (&[0, 1, 2, 255], BOOLEANS),
+];
+
+/// The first row of which something else is taken.
+pub fn first_wrong_row() -> Option<usize> {
+    for (at, (bytes, takes)) in TAKEN.iter().enumerate() {
+        if first_wrong(bytes, takes).is_some() {
+            return Some(at);
+        }
+    }
+    None
+}

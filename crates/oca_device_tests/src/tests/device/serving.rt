@@ -1,0 +1,315 @@
+//! The loop over an end in memory.
+use super::benches::bench_of;
+use super::parts::{bytes_of, is_of};
+use super::*;
+use oca_device::{Report, serve};
+use oca_net::{MemoryEnd, Scripted};
+use std::alloc::Global;
+
+/// What an end delivers.
+#[derive(Clone, Copy)]
+enum Delivery {
+    /// A datagram of a peer, with its moment.
+    Datagram(u16, u64, &'static [Part]),
+    /// The same datagram at 0 of each peer from the first on and before the second.
+    Peers(u16, u16, &'static [Part]),
+    /// Silence until a moment.
+    Quiet(u64),
+    /// A failed receive.
+    Failed,
+}
+
+use Delivery::*;
+
+/// A run of the loop, or a look at the end, with what it must tell.
+#[derive(Clone, Copy)]
+enum Turn {
+    /// The loop serves for at most so many turns.
+    Serves(u32, Report),
+    /// The end has taken so many datagrams.
+    Taken(usize),
+    /// The first datagram that the end has taken went to this peer and is of these parts.
+    First(u16, &'static [Part]),
+    /// So many receives and sends failed.
+    Failures(u64),
+}
+
+use Turn::*;
+
+/// An end, and what is done with it.
+#[derive(Clone, Copy)]
+struct Play {
+    name: &'static str,
+    /// The device.
+    setup: Setup,
+    /// What the end delivers.
+    deliveries: &'static [Delivery],
+    /// How many datagrams the end takes.
+    room: usize,
+    /// The number of the send that fails.
+    fail_send: Option<u64>,
+    /// What is done.
+    turns: &'static [Turn],
+}
+
+/// Adds a datagram at the end of a script.
+fn add(
+    alloc: Global,
+    script: &mut Vec<Scripted>,
+    port: u16,
+    now: u64,
+    parts: &[Part],
+) -> Option<()> {
+    let bytes = bytes_of(parts).as_slice().to_vec(alloc).ok()?;
+    let from = peer(port);
+    script.push(Scripted::Datagram { from, bytes, now }).ok()
+}
+
+/// Adds a datagram of each of these peers at 0.
+fn add_peers(
+    alloc: Global,
+    script: &mut Vec<Scripted>,
+    first: u16,
+    after: u16,
+    parts: &[Part],
+) -> Option<()> {
+    for port in first..after {
+        add(alloc, script, port, 0, parts)?;
+    }
+    Some(())
+}
+
+/// Adds a delivery.
+fn add_delivery(alloc: Global, script: &mut Vec<Scripted>, delivery: Delivery) -> Option<()> {
+    match delivery {
+        Datagram(port, now, parts) => add(alloc, script, port, now, parts),
+        Peers(first, after, parts) => add_peers(alloc, script, first, after, parts),
+        Quiet(now) => script.push(Scripted::Quiet { now }).ok(),
+        Failed => script.push(Scripted::Failed).ok(),
+    }
+}
+
+/// The script of these deliveries.
+fn script_of(alloc: Global, deliveries: &[Delivery]) -> Option<Vec<Scripted>> {
+    let mut script = Vec::new(alloc);
+    for delivery in deliveries {
+        add_delivery(alloc, &mut script, *delivery)?;
+    }
+    Some(script)
+}
+
+/// The end of a play.
+fn end_of(alloc: Global, play: &Play) -> Option<MemoryEnd> {
+    let script = script_of(alloc, play.deliveries)?;
+    MemoryEnd::new(alloc, script, play.room, play.fail_send).ok()
+}
+
+/// What the loop reports.
+fn report_of(bench: &mut benches::Bench, end: &mut MemoryEnd, turns: u32) -> Report {
+    serve(&mut bench.device, end, &mut bench.outbox, turns)
+}
+
+/// Whether the first datagram that was taken is this one.
+fn is_first(end: &MemoryEnd, port: u16, parts: &[Part]) -> bool {
+    match end.taken().first() {
+        Some((to, packet)) => *to == peer(port) && is_of(packet.as_slice(), parts),
+        None => false,
+    }
+}
+
+/// Whether a turn tells what it must.
+fn agrees(bench: &mut benches::Bench, end: &mut MemoryEnd, turn: Turn) -> bool {
+    match turn {
+        Serves(turns, report) => report_of(bench, end, turns) == report,
+        Taken(count) => end.taken().len() == count,
+        First(port, parts) => is_first(end, port, parts),
+        Failures(count) => end.failures() == count,
+    }
+}
+
+/// The first turn that tells something else.
+fn first_wrong(bench: &mut benches::Bench, end: &mut MemoryEnd, turns: &[Turn]) -> Option<usize> {
+    for (at, turn) in turns.iter().enumerate() {
+        if !agrees(bench, end, *turn) {
+            return Some(at);
+        }
+    }
+    None
+}
+
+/// The first turn of a play with this device that tells something else; the last number where there is no end.
+fn wrong_with(alloc: Global, bench: &mut benches::Bench, play: &Play) -> Option<usize> {
+    match end_of(alloc, play) {
+        Some(mut end) => first_wrong(bench, &mut end, play.turns),
+        None => Some(usize::MAX),
+    }
+}
+
+/// The first turn of a play that tells something else; the last number where there is no device.
+fn wrong_turn(alloc: Global, play: &Play) -> Option<usize> {
+    match bench_of(alloc, play.setup) {
+        Some(mut bench) => wrong_with(alloc, &mut bench, play),
+        None => Some(usize::MAX),
+    }
+}
+
+/// The first play with a turn that tells something else, and that turn.
+fn wrong_play(alloc: Global, plays: &[Play]) -> Option<(&'static str, usize)> {
+    for play in plays {
+        if let Some(at) = wrong_turn(alloc, play) {
+            return Some((play.name, at));
+        }
+    }
+    None
+}
+
+/// No turn.
+const NO_TURN: Report = Report {
+    turns: 0,
+    executed: 0,
+    kept: 0,
+    old: 0,
+    reused: 0,
+    malformed: 0,
+    no_room: 0,
+    oversize: 0,
+    quiet: 0,
+    failed_receives: 0,
+    failed_sends: 0,
+};
+
+/// A turn with a duplicate.
+const ONE_KEPT: Report = Report {
+    turns: 1,
+    kept: 1,
+    ..NO_TURN
+};
+
+/// A turn with a command, one that failed, and one of silence.
+const THREE_TURNS: Report = Report {
+    turns: 3,
+    executed: 1,
+    quiet: 1,
+    failed_receives: 1,
+    ..NO_TURN
+};
+
+/// Over an end with three entries, the fourth receive answers Closed, and there is no other.
+const CLOSED: Play = Play {
+    name: "ends_at_closed",
+    setup: Setup::Window(32),
+    deliveries: &[Datagram(A, 0, &[GET]), Failed, Quiet(10)],
+    room: 4,
+    fail_send: None,
+    turns: &[Serves(9, THREE_TURNS), Taken(1)],
+};
+
+/// GetState from A at 0, a failure, silence at 10, and GetState from A again.
+const DELIVERIES: &[Delivery] = &[
+    Datagram(A, 0, &[GET]),
+    Failed,
+    Quiet(10),
+    Datagram(A, 20, &[GET]),
+];
+
+/// Three turns and then the rest, each reply to its sender.
+const SERVED: Play = Play {
+    name: "serves_an_end",
+    setup: Setup::Window(32),
+    deliveries: DELIVERIES,
+    room: 4,
+    fail_send: None,
+    turns: &[
+        Serves(3, THREE_TURNS),
+        Taken(1),
+        First(A, &[MUTED]),
+        Serves(9, ONE_KEPT),
+        Taken(2),
+        Failures(1),
+    ],
+};
+
+/// What is reported of three turns whose send fails.
+const SEND_FAILED: Report = Report {
+    failed_sends: 1,
+    ..THREE_TURNS
+};
+
+/// A failed send is counted, and the repeated command then gets its reply.
+const GOES_ON: Play = Play {
+    name: "goes_on_after_a_failed_send",
+    setup: Setup::Window(32),
+    deliveries: DELIVERIES,
+    room: 4,
+    fail_send: Some(0),
+    turns: &[
+        Serves(3, SEND_FAILED),
+        Taken(0),
+        Serves(3, ONE_KEPT),
+        Taken(1),
+        First(A, &[MUTED]),
+    ],
+};
+
+/// What is reported of a command whose reply is lost, and its duplicate.
+const ONE_LOST: Report = Report {
+    turns: 2,
+    executed: 1,
+    kept: 1,
+    failed_sends: 1,
+    ..NO_TURN
+};
+
+/// GetState from A at 0 and again at 1, where the first send fails: the second gets the reply that the first got.
+const LOST: Play = Play {
+    name: "a_duplicate_gets_the_reply_that_was_lost",
+    setup: Setup::Window(32),
+    deliveries: &[Datagram(A, 0, &[GET]), Datagram(A, 1, &[GET])],
+    room: 4,
+    fail_send: Some(0),
+    turns: &[Serves(5, ONE_LOST), Taken(1), First(A, &[MUTED])],
+};
+
+/// Two commands of A, the first again, another under the second's handle, no bytes, too many bytes, silence, 15 other
+/// peers, and one more.
+const ALL_THAT_COMES: &[Delivery] = &[
+    Datagram(A, 0, &[Part::GetState(5)]),
+    Datagram(A, 0, &[Part::GetState(6)]),
+    Datagram(A, 0, &[Part::GetState(5)]),
+    Datagram(A, 0, &[Part::SetState(6, 2)]),
+    Datagram(A, 0, &[]),
+    Datagram(A, 0, &[Part::Times(1_473, &[0])]),
+    Quiet(0),
+    Peers(9002, 9018, &[GET]),
+];
+
+/// What is reported of them.
+const ALL_COUNTED: Report = Report {
+    turns: 23,
+    executed: 17,
+    old: 1,
+    reused: 1,
+    malformed: 1,
+    no_room: 1,
+    oversize: 1,
+    quiet: 1,
+    ..NO_TURN
+};
+
+/// With windows of one command everything that comes is counted as what it is.
+const COUNTED: Play = Play {
+    name: "counts_all_that_comes",
+    setup: Setup::Window(1),
+    deliveries: ALL_THAT_COMES,
+    room: 32,
+    fail_send: None,
+    turns: &[Serves(100, ALL_COUNTED), Taken(17)],
+};
+
+/// All plays.
+const PLAYS: &[Play] = &[CLOSED, SERVED, GOES_ON, LOST, COUNTED];
+
+#[test]
+fn plays(rt: HostRuntime) {
+    assert_eq!(rt; wrong_play(rt.alloc(), PLAYS), None);
+}

@@ -1,0 +1,221 @@
+//! What a builder refuses.
+use super::script::Addition::{Many, Nested, One};
+use super::script::Over::Built;
+use super::script::Row::{Holds, Len, Reads};
+use super::script::{Addition, At, Script, Wrong, wrong_script};
+use super::words::*;
+use oca_tree::{AddFault, Kind, Room, Setting, Spec, TreeBuilder};
+use oca_types::Ono;
+use std::alloc::Global;
+
+/// A block without a role.
+const NAMELESS: Spec<'static> = Spec {
+    role: "",
+    lockable: true,
+    kind: Kind::Block,
+};
+
+/// A number whose least setting is above the greatest.
+const WRONG_RANGE: Spec<'static> = Spec {
+    role: "block",
+    lockable: true,
+    kind: Kind::Int16 {
+        setting: 5,
+        least: 5,
+        greatest: 4,
+    },
+};
+
+// Each fault of an addition but want of memory, and what is added after it.
+const FAULTS: &[Addition] = &[
+    One(100, 4095, BLOCK, Err(AddFault::Reserved)),
+    One(100, 100, BLOCK, Err(AddFault::Reserved)),
+    One(100, 4096, BLOCK, Ok(())),
+    One(100, 4096, BLOCK, Err(AddFault::Taken)),
+    One(5000, 4097, BLOCK, Err(AddFault::NoSuchBlock)),
+    Nested(4096, 4102),
+    One(4102, 4103, BLOCK, Err(AddFault::TooDeep)),
+    One(100, 4103, NAMELESS, Err(AddFault::BadText)),
+    One(100, 4103, WRONG_RANGE, Err(AddFault::BadRange)),
+    Many(4103, 4223, BLOCK),
+    One(100, 4095, BLOCK, Err(AddFault::Full)),
+];
+
+const OF_128: &[At] = &[At(100, &[Len(128)])];
+
+/// A switch without positions.
+const OF_NO_NAMES: Spec<'static> = Spec {
+    role: "switch",
+    lockable: true,
+    kind: Kind::Switch {
+        names: &[],
+        position: 0,
+    },
+};
+
+/// A switch whose position is behind its last.
+const BEHIND_THE_LAST: Spec<'static> = Spec {
+    role: "switch",
+    lockable: true,
+    kind: Kind::Switch {
+        names: &["a"],
+        position: 1,
+    },
+};
+
+/// A switch with more positions than there may be.
+const OF_17_NAMES: Spec<'static> = Spec {
+    role: "switch",
+    lockable: true,
+    kind: Kind::Switch {
+        names: &["a"; 17],
+        position: 0,
+    },
+};
+
+/// A switch with a name of 65 bytes, whose position is behind its last too.
+const LONG_NAME: Spec<'static> = Spec {
+    role: "switch",
+    lockable: true,
+    kind: Kind::Switch {
+        names: &[
+            "a",
+            "aaaaaaaaaaaaaaaaaaaaaaaaaaaaaaaaaaaaaaaaaaaaaaaaaaaaaaaaaaaaaaaaa",
+        ],
+        position: 2,
+    },
+};
+
+/// A switch with two positions, of which the last is the current one.
+const OF_TWO_NAMES: Spec<'static> = Spec {
+    role: "switch",
+    lockable: true,
+    kind: Kind::Switch {
+        names: &["", "a"],
+        position: 1,
+    },
+};
+
+// The faults of a switch: its names, their number and the position.
+const SWITCHES: &[Addition] = &[
+    One(100, 4096, OF_NO_NAMES, Err(AddFault::BadRange)),
+    One(100, 4096, BEHIND_THE_LAST, Err(AddFault::BadRange)),
+    One(100, 4096, OF_17_NAMES, Err(AddFault::BadRange)),
+    One(100, 4096, LONG_NAME, Err(AddFault::BadText)),
+    One(100, 4096, OF_TWO_NAMES, Ok(())),
+];
+
+const SWITCH_ROWS: &[At] = &[At(
+    4096,
+    &[
+        Reads(GET_POSITION_NAMES, 1, &[0, 2, 0, 0, 0, 1, 0x61]),
+        Holds(Some(Setting::Position(1))),
+    ],
+)];
+
+// The words of each fault.
+const WORDS: &[(AddFault, &str)] = &[
+    (AddFault::Full, "there is no room for another object"),
+    (AddFault::Reserved, "the number is below 4096"),
+    (AddFault::Taken, "the number is taken"),
+    (
+        AddFault::NoSuchBlock,
+        "the container is no block of the tree",
+    ),
+    (AddFault::TooDeep, "the object would stand at depth 9"),
+    (
+        AddFault::BadText,
+        "a text is empty or has more than 64 bytes",
+    ),
+    (AddFault::BadRange, "the setting is outside its range"),
+    (AddFault::NoMemory, "no memory"),
+];
+
+/// Whether the words of a fault are these.
+fn says(alloc: Global, fault: AddFault, words: &str) -> bool {
+    match fault.to_string(alloc) {
+        Ok(printed) => printed.as_str() == words,
+        Err(_) => false,
+    }
+}
+
+/// The first fault with other words.
+pub fn first_wrong_words(alloc: Global) -> Option<usize> {
+    for (at, (fault, words)) in WORDS.iter().enumerate() {
+        if !says(alloc, *fault, words) {
+            return Some(at);
+        }
+    }
+    None
+}
+
+/// The fault of the first mute that a builder does not take into the root.
+fn fault_of_more(builder: &mut TreeBuilder) -> Option<AddFault> {
+    for ono in 4096..8192u32 {
+        if let Err(fault) = builder.add(Ono(100), Ono(ono), &MUTE) {
+            return Some(fault);
+        }
+    }
+    None
+}
+
+/// How many objects there are once a builder with this room is full, the root counted; none where there is no such room
+/// or another fault.
+fn most_objects(alloc: Global, room: u16) -> Option<usize> {
+    let room = Room::new(room)?;
+    let mut builder = TreeBuilder::with_room(alloc, room).ok()?;
+    match fault_of_more(&mut builder) {
+        Some(AddFault::Full) => Some(builder.finish().len()),
+        _ => None,
+    }
+}
+
+// A tree has as many objects as there is room for, the root counted.
+const ROOMS: &[(u16, Option<usize>)] = &[
+    (0, None),
+    (1, Some(1)),
+    (2, Some(2)),
+    (8, Some(8)),
+    (129, Some(129)),
+    (4096, Some(4096)),
+    (4097, None),
+];
+
+/// The room where none is chosen.
+fn default_room() -> u16 {
+    Room::default().get()
+}
+
+/// The first room that is filled otherwise; the last number where another is the default.
+pub fn first_wrong_room(alloc: Global) -> Option<usize> {
+    if default_room() != 128 {
+        return Some(usize::MAX);
+    }
+    for (at, (room, objects)) in ROOMS.iter().enumerate() {
+        if most_objects(alloc, *room) != *objects
+            || Room::new(*room).is_none() != objects.is_none()
+        {
+            return Some(at);
+        }
+    }
+    None
+}
+
+/// The scripts.
+const SCRIPTS: &[Script] = &[
+    Script {
+        name: "a_builder_refuses",
+        over: Built(FAULTS),
+        parts: OF_128,
+    },
+    Script {
+        name: "a_switch_needs_its_positions",
+        over: Built(SWITCHES),
+        parts: SWITCH_ROWS,
+    },
+];
+
+/// The first script that goes otherwise, and where.
+pub fn wrong(alloc: Global) -> Option<(&'static str, Wrong)> {
+    wrong_script(alloc, SCRIPTS)
+}

@@ -1,0 +1,127 @@
+//! What is read of each object.
+use super::script::Over::{Bench, Channels};
+use super::script::Row::{Ends, Holds, Len, Shows};
+use super::script::{At, Script, Wrong, wrong_script};
+use oca_tree::{Tree, bench, bench_with_channels};
+use oca_types::Class;
+use std::alloc::Global;
+
+/// The fields of the class of blocks.
+const BLOCK_FIELDS: &[u16] = &[1, 1, 3];
+
+// The root and the desk of the bench device, and what is behind the last object and of no object.
+const BENCH: &[At] = &[
+    At(
+        100,
+        &[
+            Len(8),
+            Shows(0, Class::Block, BLOCK_FIELDS, 0, "root"),
+            Holds(None),
+        ],
+    ),
+    At(4096, &[Shows(1, Class::Block, BLOCK_FIELDS, 100, "desk")]),
+    At(4095, &[Ends(8), Holds(None)]),
+];
+
+// What is read of each object on the desk of the bench device.
+const ON_THE_DESK: &[At] = &[
+    At(4097, &[Shows(2, Class::Mute, &[1, 1, 1, 2], 4096, "mute")]),
+    At(
+        4098,
+        &[Shows(3, Class::Polarity, &[1, 1, 1, 3], 4096, "polarity")],
+    ),
+    At(
+        4099,
+        &[Shows(4, Class::Switch, &[1, 1, 1, 4], 4096, "input")],
+    ),
+    At(
+        4100,
+        &[Shows(5, Class::Int16, &[1, 1, 1, 1, 3], 4096, "trim")],
+    ),
+    At(
+        4101,
+        &[Shows(6, Class::Boolean, &[1, 1, 1, 1, 1], 4096, "lamp")],
+    ),
+    At(
+        4102,
+        &[Shows(7, Class::Uint8, &[1, 1, 1, 1, 6], 4096, "dim")],
+    ),
+];
+
+// The strips of channels stand behind the objects of the bench device.
+const NO_STRIPS: &[At] = &[At(100, &[Len(8)])];
+
+const STRIPS: &[At] = &[
+    At(100, &[Len(4096)]),
+    At(
+        4102,
+        &[Shows(7, Class::Uint8, &[1, 1, 1, 1, 6], 4096, "dim")],
+    ),
+    At(4103, &[Shows(8, Class::Block, BLOCK_FIELDS, 100, "strip")]),
+    At(4104, &[Shows(9, Class::Mute, &[1, 1, 1, 2], 4103, "mute")]),
+    At(
+        4105,
+        &[Shows(10, Class::Polarity, &[1, 1, 1, 3], 4103, "polarity")],
+    ),
+    At(
+        4106,
+        &[Shows(11, Class::Int16, &[1, 1, 1, 1, 3], 4103, "trim")],
+    ),
+    At(4107, &[Shows(12, Class::Block, BLOCK_FIELDS, 100, "strip")]),
+    At(
+        8190,
+        &[Shows(4095, Class::Int16, &[1, 1, 1, 1, 3], 8187, "trim")],
+    ),
+];
+
+/// Whether there is no bench device with so many channels.
+pub fn has_no_room_for(alloc: Global, channels: u16) -> bool {
+    bench_with_channels(alloc, channels).is_err()
+}
+
+/// How many objects the iterator gives, where each is what is given by index.
+fn in_order(tree: &Tree) -> Option<usize> {
+    let mut objects = 0;
+    for (at, info) in tree.objects().enumerate() {
+        let same = tree.object_at(at)?;
+        if info.ono != same.ono || info.role.as_str() != same.role.as_str() {
+            return None;
+        }
+        objects = at.saturating_add(1);
+    }
+    Some(objects)
+}
+
+/// How many objects of the bench device the iterator gives in order.
+pub fn in_order_on_bench(alloc: Global) -> Option<usize> {
+    in_order(&bench(alloc).ok()?)
+}
+
+/// The scripts.
+const SCRIPTS: &[Script] = &[
+    Script {
+        name: "the_objects_of_the_bench_device",
+        over: Bench,
+        parts: BENCH,
+    },
+    Script {
+        name: "the_objects_on_the_desk",
+        over: Bench,
+        parts: ON_THE_DESK,
+    },
+    Script {
+        name: "the_bench_device_without_channels",
+        over: Channels(0),
+        parts: NO_STRIPS,
+    },
+    Script {
+        name: "the_bench_device_with_channels",
+        over: Channels(1022),
+        parts: STRIPS,
+    },
+];
+
+/// The first script that goes otherwise, and where.
+pub fn wrong(alloc: Global) -> Option<(&'static str, Wrong)> {
+    wrong_script(alloc, SCRIPTS)
+}

@@ -1,0 +1,317 @@
+//! Trees that are built by a table, and scripts of commands over them.
+use super::words::{A, BLOCK, Called};
+use oca_tree::{
+    AddFault, LocalValue, Lock, Room, SetFault, Setting, Spec, Start, StartFault, Tree,
+    TreeBuilder, bench, bench_with_channels,
+};
+use oca_types::{Class, Command, Handle, MethodId, Ono, Params, Peer, Status, class_fields};
+use std::alloc::Global;
+
+/// What is done at an object, and what comes of it.
+#[derive(Clone, Copy)]
+pub enum Row {
+    /// A calls a method without parameters, which succeeds: ParamCount and parameters of the answer.
+    Reads(Called, u8, &'static [u8]),
+    /// A calls a method without parameters: the status of an answer without parameters.
+    Does(Called, Status),
+    /// A calls a method with this ParamCount and these parameters: the status of an answer without parameters.
+    Sends(Called, u8, &'static [u8], Status),
+    /// A peer calls a method with this ParamCount and these parameters: the whole answer.
+    Calls(Peer, Called, (u8, &'static [u8]), (Status, u8, &'static [u8])),
+    /// A calls a method without parameters: status, ParamCount and how many bytes the parameters have.
+    Measures(Called, Status, u8, usize),
+    /// The object is set at the front.
+    Puts(LocalValue, Result<(), SetFault>),
+    /// How the object is set.
+    Holds(Option<Setting>),
+    /// The lock of the object.
+    Locked(Option<Lock>),
+    /// Every lock of a peer is taken off.
+    Releases(Peer),
+    /// How many objects there are.
+    Len(usize),
+    /// The object is at a place, and has a class with these fields, a container and a role.
+    Shows(usize, Class, &'static [u16], u32, &'static str),
+    /// No object is at a place.
+    Ends(usize),
+}
+
+use Row::*;
+
+/// What is done, row by row, at the object with this number.
+#[derive(Clone, Copy)]
+pub struct At(pub u32, pub &'static [Row]);
+
+/// What is added to a builder, and what it answers.
+#[derive(Clone, Copy)]
+pub enum Addition {
+    /// Into a container, as this number, an object.
+    One(u32, u32, Spec<'static>, Result<(), AddFault>),
+    /// Into a container, as this number, an object with what was stored of it.
+    Stored(u32, u32, Spec<'static>, Start<'static>, Result<(), StartFault>),
+    /// Into a container, as this number, an object with the default of what is stored of one.
+    Unstored(u32, u32, Spec<'static>, Result<(), StartFault>),
+    /// Into the root, as the numbers from one to before another, objects that are all taken.
+    Many(u32, u32, Spec<'static>),
+    /// Into each of the blocks with the numbers from one to before another a block with the next number, all taken.
+    Nested(u32, u32),
+}
+
+use Addition::*;
+
+/// The tree that a script is run over.
+#[derive(Clone, Copy)]
+pub enum Over {
+    /// The bench device.
+    Bench,
+    /// The bench device with so many channels.
+    Channels(u16),
+    /// The tree of these additions.
+    Built(&'static [Addition]),
+    /// The root alone, with this stored of it.
+    Root(Start<'static>),
+}
+
+/// A script by its name.
+pub struct Script {
+    pub name: &'static str,
+    pub over: Over,
+    pub parts: &'static [At],
+}
+
+/// What went otherwise than a table says: of the script's part at an index the row at an index; behind the last part the
+/// addition at an index, or the last number of all where there was no tree.
+pub type Wrong = (usize, usize);
+
+/// What is no part of a script.
+const NO_PART: usize = usize::MAX;
+
+/// There was no tree.
+const NO_TREE: Wrong = (NO_PART, usize::MAX);
+
+/// Parameters with a byte that an answer takes the place of.
+fn used_parameters() -> Params {
+    let mut out = Params::new();
+    let _ = out.try_push(9);
+    out
+}
+
+/// The status and the ParamCount that a command is answered with, and its parameters.
+pub fn call(
+    tree: &mut Tree,
+    peer: Peer,
+    target: u32,
+    method: Called,
+    params: (u8, &[u8]),
+) -> (Status, u8, Params) {
+    let command = Command {
+        handle: Handle(1),
+        target: Ono(target),
+        method: MethodId {
+            level: method.0,
+            index: method.1,
+        },
+        count: params.0,
+        params: params.1,
+    };
+    let mut out = used_parameters();
+    let done = tree.execute(peer, &command, &mut out);
+    (done.status, done.count, out)
+}
+
+/// Whether a command is answered so.
+pub fn gives(
+    tree: &mut Tree,
+    peer: Peer,
+    target: u32,
+    method: Called,
+    params: (u8, &[u8]),
+    want: (Status, u8, &[u8]),
+) -> bool {
+    let (status, count, out) = call(tree, peer, target, method, params);
+    status == want.0 && count == want.1 && out.as_slice() == want.2
+}
+
+/// Whether a call of A without parameters has an answer of this size.
+fn measures(tree: &mut Tree, target: u32, method: Called, want: (Status, u8, usize)) -> bool {
+    let (status, count, out) = call(tree, A, target, method, (0, &[]));
+    status == want.0 && count == want.1 && out.len() == want.2
+}
+
+/// Takes every lock of a peer off.
+fn release(tree: &mut Tree, peer: Peer) -> bool {
+    tree.release(peer);
+    true
+}
+
+/// Whether this is read of the object at a place.
+fn shows(
+    tree: &Tree,
+    place: usize,
+    ono: u32,
+    class: (Class, &[u16]),
+    container: u32,
+    role: &str,
+) -> bool {
+    let Some(info) = tree.object_at(place) else {
+        return false;
+    };
+    info.ono == Ono(ono)
+        && info.class == class.0
+        && class_fields(info.class).as_slice() == class.1
+        && info.container == Ono(container)
+        && info.role.as_str() == role
+}
+
+/// Whether what is done at the object comes out so.
+fn agrees(tree: &mut Tree, ono: u32, row: Row) -> bool {
+    match row {
+        Reads(method, count, answer) => gives(
+            tree,
+            A,
+            ono,
+            method,
+            (0, &[]),
+            (Status::Ok, count, answer),
+        ),
+        Does(method, status) => gives(tree, A, ono, method, (0, &[]), (status, 0, &[])),
+        Sends(method, count, params, status) => {
+            gives(tree, A, ono, method, (count, params), (status, 0, &[]))
+        }
+        Calls(peer, method, params, want) => gives(tree, peer, ono, method, params, want),
+        Measures(method, status, count, size) => {
+            measures(tree, ono, method, (status, count, size))
+        }
+        Puts(value, want) => tree.set(Ono(ono), value) == want,
+        Holds(want) => tree.setting_of(Ono(ono)) == want,
+        Locked(want) => tree.lock_of(Ono(ono)) == want,
+        Releases(peer) => release(tree, peer),
+        Len(count) => tree.len() == count,
+        Shows(place, class, fields, container, role) => {
+            shows(tree, place, ono, (class, fields), container, role)
+        }
+        Ends(place) => tree.object_at(place).is_none(),
+    }
+}
+
+/// The first row that comes out otherwise.
+fn first_wrong_row(tree: &mut Tree, ono: u32, rows: &[Row]) -> Option<usize> {
+    for (at, row) in rows.iter().enumerate() {
+        if !agrees(tree, ono, *row) {
+            return Some(at);
+        }
+    }
+    None
+}
+
+/// The first part of a script with a row that comes out otherwise, and the row.
+fn first_wrong(tree: &mut Tree, script: &[At]) -> Option<Wrong> {
+    for (at, part) in script.iter().enumerate() {
+        if let Some(row) = first_wrong_row(tree, part.0, part.1) {
+            return Some((at, row));
+        }
+    }
+    None
+}
+
+/// Whether a builder takes an object so often, each as the next number.
+fn takes_many(builder: &mut TreeBuilder, first: u32, end: u32, spec: &Spec<'_>) -> bool {
+    for ono in first..end {
+        if builder.add(Ono(100), Ono(ono), spec).is_err() {
+            return false;
+        }
+    }
+    true
+}
+
+/// Whether a builder takes blocks that stand in one another.
+fn takes_nested(builder: &mut TreeBuilder, first: u32, end: u32) -> bool {
+    for ono in first..end {
+        if builder
+            .add(Ono(ono), Ono(ono.saturating_add(1)), &BLOCK)
+            .is_err()
+        {
+            return false;
+        }
+    }
+    true
+}
+
+/// Whether the builder answers an addition so.
+fn adds(builder: &mut TreeBuilder, addition: &Addition) -> bool {
+    match addition {
+        One(container, ono, spec, want) => {
+            builder.add(Ono(*container), Ono(*ono), spec) == *want
+        }
+        Stored(container, ono, spec, start, want) => {
+            builder.add_with(Ono(*container), Ono(*ono), spec, start) == *want
+        }
+        Unstored(container, ono, spec, want) => {
+            builder.add_with(Ono(*container), Ono(*ono), spec, &Start::default()) == *want
+        }
+        Many(first, end, spec) => takes_many(builder, *first, *end, spec),
+        Nested(first, end) => takes_nested(builder, *first, *end),
+    }
+}
+
+/// The first addition that is answered otherwise.
+pub fn first_wrong_addition(builder: &mut TreeBuilder, additions: &[Addition]) -> Option<usize> {
+    for (at, addition) in additions.iter().enumerate() {
+        if !adds(builder, addition) {
+            return Some(at);
+        }
+    }
+    None
+}
+
+/// What goes wrong in a script over a tree.
+fn wrong_over(tree: Result<Tree, AddFault>, parts: &[At]) -> Option<Wrong> {
+    match tree {
+        Ok(mut tree) => first_wrong(&mut tree, parts),
+        Err(_) => Some(NO_TREE),
+    }
+}
+
+/// What goes wrong in the additions to a builder and in a script over its tree.
+fn wrong_with(mut builder: TreeBuilder, additions: &[Addition], parts: &[At]) -> Option<Wrong> {
+    match first_wrong_addition(&mut builder, additions) {
+        Some(at) => Some((NO_PART, at)),
+        None => first_wrong(&mut builder.finish(), parts),
+    }
+}
+
+/// What goes wrong in the additions and in a script over their tree.
+fn wrong_of_built(alloc: Global, additions: &[Addition], parts: &[At]) -> Option<Wrong> {
+    match TreeBuilder::new(alloc) {
+        Ok(builder) => wrong_with(builder, additions, parts),
+        Err(_) => Some(NO_TREE),
+    }
+}
+
+/// What goes wrong in a script over the root alone.
+fn wrong_of_root(alloc: Global, stored: &Start<'_>, parts: &[At]) -> Option<Wrong> {
+    match TreeBuilder::with_root(alloc, Room::default(), stored) {
+        Ok(builder) => wrong_with(builder, &[], parts),
+        Err(_) => Some(NO_TREE),
+    }
+}
+
+/// What goes wrong in a script.
+fn wrong_in(alloc: Global, script: &Script) -> Option<Wrong> {
+    match script.over {
+        Over::Bench => wrong_over(bench(alloc), script.parts),
+        Over::Channels(count) => wrong_over(bench_with_channels(alloc, count), script.parts),
+        Over::Built(additions) => wrong_of_built(alloc, additions, script.parts),
+        Over::Root(stored) => wrong_of_root(alloc, &stored, script.parts),
+    }
+}
+
+/// The first script in which something goes wrong, and what.
+pub fn wrong_script(alloc: Global, scripts: &[Script]) -> Option<(&'static str, Wrong)> {
+    for script in scripts {
+        if let Some(wrong) = wrong_in(alloc, script) {
+            return Some((script.name, wrong));
+        }
+    }
+    None
+}

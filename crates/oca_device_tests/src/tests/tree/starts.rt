@@ -1,0 +1,314 @@
+//! What was stored of an object is there when the device begins again.
+use super::script::Addition::{One, Stored, Unstored};
+use super::script::Over::{Built, Root};
+use super::script::Row::{Len, Reads};
+use super::script::{Addition, At, Script, Wrong, first_wrong_addition, wrong_script};
+use super::words::*;
+use oca_tree::{AddFault, Kind, Room, Spec, Start, StartFault, Tree, TreeBuilder, bench};
+use oca_types::Ono;
+use std::alloc::Global;
+
+/// What nothing stored stands for.
+const NOTHING: Start<'static> = Start {
+    label: "",
+    enabled: true,
+    position_enableds: None,
+};
+
+/// A switch with three positions, of which the last is the current one.
+const INPUT: Spec<'static> = Spec {
+    role: "input",
+    lockable: true,
+    kind: Kind::Switch {
+        names: &["Line", "Mic", "Off"],
+        position: 2,
+    },
+};
+
+// The label, the flag and the flags of positions are what was stored; the current position may be disabled.
+const DISABLED: Start<'static> = Start {
+    label: "Hi",
+    enabled: false,
+    position_enableds: Some(&[true, false, false]),
+};
+
+const STORED: &[Addition] = &[
+    One(100, 4096, BLOCK, Ok(())),
+    Stored(4096, 4097, INPUT, DISABLED, Ok(())),
+];
+
+const STORED_ROWS: &[At] = &[At(
+    4097,
+    &[
+        Reads(GET_LABEL, 1, &[0, 2, 0x48, 0x69]),
+        Reads(GET_ENABLED, 1, &[0]),
+        Reads(GET_POSITION_ENABLEDS, 1, &[0, 3, 1, 0, 0]),
+        Reads(GET_POSITION, 3, &[0, 2, 0, 0, 0, 2]),
+    ],
+)];
+
+// The default is what an object is without it.
+const UNSTORED: &[Addition] = &[
+    One(100, 4096, BLOCK, Ok(())),
+    Unstored(4096, 4097, INPUT, Ok(())),
+];
+
+const UNSTORED_ROWS: &[At] = &[At(
+    4097,
+    &[
+        Reads(GET_LABEL, 1, &[0, 0]),
+        Reads(GET_ENABLED, 1, &[1]),
+        Reads(GET_POSITION_ENABLEDS, 1, &[0, 3, 1, 1, 1]),
+    ],
+)];
+
+// A label of 64 bytes is taken and one of 65 is not; behind it other flags than as many as the positions are refused.
+const LONG: Start<'static> = Start {
+    label: "aaaaaaaaaaaaaaaaaaaaaaaaaaaaaaaaaaaaaaaaaaaaaaaaaaaaaaaaaaaaaaaaa",
+    enabled: true,
+    position_enableds: Some(&[true]),
+};
+
+const FEW: Start<'static> = Start {
+    label: "aaaaaaaaaaaaaaaaaaaaaaaaaaaaaaaaaaaaaaaaaaaaaaaaaaaaaaaaaaaaaaaa",
+    enabled: true,
+    position_enableds: Some(&[true, false]),
+};
+
+const FITS: Start<'static> = Start {
+    position_enableds: Some(&[true, false, true]),
+    ..FEW
+};
+
+const FITTING: &[Addition] = &[
+    One(100, 4096, BLOCK, Ok(())),
+    Stored(4096, 4097, INPUT, LONG, Err(StartFault::BadLabel)),
+    Stored(4096, 4097, INPUT, FEW, Err(StartFault::BadFlags)),
+    Stored(4096, 4097, INPUT, FITS, Ok(())),
+    Stored(
+        4096,
+        4097,
+        INPUT,
+        LONG,
+        Err(StartFault::Add(AddFault::Taken)),
+    ),
+];
+
+const OF_3: &[At] = &[At(100, &[Len(3)])];
+
+// A mute has no positions: no flags fit it but none.
+const ONE_FLAG: Start<'static> = Start {
+    position_enableds: Some(&[true]),
+    ..NOTHING
+};
+
+const NO_FLAGS: Start<'static> = Start {
+    position_enableds: Some(&[]),
+    ..NOTHING
+};
+
+const FLAGS_OF_A_MUTE: &[Addition] = &[
+    One(100, 4096, BLOCK, Ok(())),
+    Stored(4096, 4097, MUTE, ONE_FLAG, Err(StartFault::BadFlags)),
+    Stored(4096, 4097, MUTE, NO_FLAGS, Ok(())),
+];
+
+// The root's label is there again too.
+const GREETING: Start<'static> = Start {
+    label: "Hi",
+    ..NOTHING
+};
+
+const ROOT_ROWS: &[At] = &[At(
+    100,
+    &[
+        Reads(GET_LABEL, 1, &[0, 2, 0x48, 0x69]),
+        Reads(GET_ROLE, 1, &[0, 4, 0x72, 0x6F, 0x6F, 0x74]),
+    ],
+)];
+
+// The words of each fault.
+const WORDS: &[(StartFault, &str)] = &[
+    (StartFault::Add(AddFault::Taken), "the number is taken"),
+    (StartFault::BadLabel, "the label has more than 64 bytes"),
+    (
+        StartFault::BadFlags,
+        "the flags are not as many as the positions",
+    ),
+];
+
+/// Whether the words of a fault are these.
+fn says(alloc: Global, fault: StartFault, words: &str) -> bool {
+    match fault.to_string(alloc) {
+        Ok(printed) => printed.as_str() == words,
+        Err(_) => false,
+    }
+}
+
+/// The first fault with other words.
+pub fn first_wrong_words(alloc: Global) -> Option<usize> {
+    for (at, (fault, words)) in WORDS.iter().enumerate() {
+        if !says(alloc, *fault, words) {
+            return Some(at);
+        }
+    }
+    None
+}
+
+/// What is told of an object: its number, its label, whether it is enabled and can be locked, and the flags and the names
+/// of its positions.
+struct Told {
+    ono: u32,
+    label: &'static str,
+    enabled: bool,
+    lockable: bool,
+    flags: Option<&'static [bool]>,
+    names: &'static [&'static str],
+}
+
+const TOLD: &[Told] = &[
+    Told {
+        ono: 100,
+        label: "Hi",
+        enabled: true,
+        lockable: true,
+        flags: None,
+        names: &[],
+    },
+    Told {
+        ono: 4096,
+        label: "Hi",
+        enabled: false,
+        lockable: true,
+        flags: Some(&[true, false, false]),
+        names: &["Line", "Mic", "Off"],
+    },
+    Told {
+        ono: 4097,
+        label: "",
+        enabled: true,
+        lockable: false,
+        flags: None,
+        names: &[],
+    },
+];
+
+/// A lamp that can't be locked.
+const LAMP: Spec<'static> = Spec {
+    role: "lamp",
+    lockable: false,
+    kind: Kind::Boolean(true),
+};
+
+/// The switch with what was stored of it, and the lamp.
+const SWITCH_AND_LAMP: &[Addition] = &[
+    Stored(100, 4096, INPUT, DISABLED, Ok(())),
+    One(100, 4097, LAMP, Ok(())),
+];
+
+/// The root, the switch with what was stored of both, and the lamp.
+fn stored_tree(alloc: Global) -> Option<Tree> {
+    let mut builder = TreeBuilder::with_root(alloc, Room::default(), &GREETING).ok()?;
+    if first_wrong_addition(&mut builder, SWITCH_AND_LAMP).is_none() {
+        Some(builder.finish())
+    } else {
+        None
+    }
+}
+
+/// Whether these are the names of its positions.
+fn are_names(tree: &Tree, row: &Told) -> bool {
+    let names = tree.position_names_of(Ono(row.ono));
+    names.len() == row.names.len()
+        && names
+            .iter()
+            .zip(row.names.iter())
+            .all(|(name, wanted)| name.as_str() == *wanted)
+}
+
+/// Whether this is told.
+fn is_told(tree: &Tree, row: &Told) -> bool {
+    let Some(start) = tree.start_of(Ono(row.ono)) else {
+        return false;
+    };
+    start.label == row.label
+        && start.enabled == row.enabled
+        && start.position_enableds == row.flags
+        && tree.is_lockable(Ono(row.ono)) == Some(row.lockable)
+        && are_names(tree, row)
+}
+
+/// Whether nothing is told of an object that is not there.
+fn is_untold(tree: &Tree, ono: u32) -> bool {
+    tree.start_of(Ono(ono)).is_none() && tree.is_lockable(Ono(ono)).is_none()
+}
+
+/// The first row that is not told; of no object is anything told.
+fn first_wrong_told(tree: &Tree) -> Option<usize> {
+    for (at, row) in TOLD.iter().enumerate() {
+        if !is_told(tree, row) {
+            return Some(at);
+        }
+    }
+    if is_untold(tree, 4098) {
+        None
+    } else {
+        Some(TOLD.len())
+    }
+}
+
+/// Whether the tree is the same but for locks as itself, and not as the bench.
+fn is_compared(alloc: Global, tree: &Tree) -> bool {
+    match bench(alloc) {
+        Ok(other) => tree.is_but_for_locks(tree) && !tree.is_but_for_locks(&other),
+        Err(_) => false,
+    }
+}
+
+/// The first row that is not told of what was stored; the last number where trees are compared otherwise, or there is none.
+pub fn first_wrong_stored(alloc: Global) -> Option<usize> {
+    match stored_tree(alloc) {
+        Some(tree) => {
+            if is_compared(alloc, &tree) {
+                first_wrong_told(&tree)
+            } else {
+                Some(usize::MAX)
+            }
+        }
+        None => Some(usize::MAX),
+    }
+}
+
+/// The scripts.
+const SCRIPTS: &[Script] = &[
+    Script {
+        name: "a_switch_begins_as_stored",
+        over: Built(STORED),
+        parts: STORED_ROWS,
+    },
+    Script {
+        name: "nothing_stored_is_an_object_as_added",
+        over: Built(UNSTORED),
+        parts: UNSTORED_ROWS,
+    },
+    Script {
+        name: "what_was_stored_must_fit",
+        over: Built(FITTING),
+        parts: OF_3,
+    },
+    Script {
+        name: "a_mute_takes_no_flags",
+        over: Built(FLAGS_OF_A_MUTE),
+        parts: &[],
+    },
+    Script {
+        name: "the_root_begins_as_stored",
+        over: Root(GREETING),
+        parts: ROOT_ROWS,
+    },
+];
+
+/// The first script that goes otherwise, and where.
+pub fn wrong(alloc: Global) -> Option<(&'static str, Wrong)> {
+    wrong_script(alloc, SCRIPTS)
+}

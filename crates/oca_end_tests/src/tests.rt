@@ -1,0 +1,5 @@
+//! A module for each crate.
+mod control;
+mod net;
+mod pair;
+mod panel;

@@ -1,0 +1,251 @@
+//! Commands that are asked over an end in memory.
+use super::ends::Step::*;
+use super::ends::{Delivery, Ending, Fared, QUIET, Script, Step, is_outcome, wrong_script};
+use super::links::Step::{HearsResponse, IsLost, Submits, Takes};
+use super::{ANSWER, COMMAND};
+use oca_control::{ControlFault, DriveReport, Reception, refused};
+
+/// An end that delivers the answer to the handle 1 at 10.
+const ANSWERS: Ending = Ending {
+    quiet: 0,
+    deliveries: &[Delivery::Response(1, 10)],
+    room: 4,
+    fail_send: None,
+};
+
+/// An end that is closed.
+const CLOSED: Ending = Ending {
+    quiet: 0,
+    deliveries: &[],
+    room: 32,
+    fail_send: None,
+};
+
+/// An end that is quiet once.
+const QUIET_ONCE: Ending = Ending {
+    quiet: 1,
+    deliveries: &[],
+    room: 32,
+    fail_send: None,
+};
+
+/// An end that is quiet twice.
+const QUIET_TWICE: Ending = Ending {
+    quiet: 2,
+    deliveries: &[],
+    room: 32,
+    fail_send: None,
+};
+
+use std::alloc::Global;
+
+/// An end that is quiet each 50 ms.
+const EVERY_50_MS: Ending = Ending {
+    quiet: 0,
+    deliveries: &[
+        Delivery::Quiet(50),
+        Delivery::Quiet(100),
+        Delivery::Quiet(150),
+        Delivery::Quiet(200),
+        Delivery::Quiet(250),
+        Delivery::Quiet(300),
+        Delivery::Quiet(350),
+        Delivery::Quiet(400),
+        Delivery::Quiet(450),
+        Delivery::Quiet(500),
+        Delivery::Quiet(550),
+        Delivery::Quiet(600),
+        Delivery::Quiet(650),
+        Delivery::Quiet(700),
+        Delivery::Quiet(750),
+    ],
+    room: 32,
+    fail_send: None,
+};
+
+// A command is sent once, and its answer is taken.
+const ANSWERED: &[Step] = &[
+    Asks(5, Fared::Answered(ANSWER)),
+    Taken(1),
+    Sent(0, &COMMAND),
+    At(Takes(1, None)),
+];
+
+// It is begun at 0, and goes out again at 250, 500 and 750.
+const IN_TIME: &[Step] = &[
+    Asks(5, Fared::Unanswered),
+    Taken(2),
+    Waits(1, 9, Fared::Unanswered),
+    Taken(3),
+    Waits(1, 1, Fared::Unanswered),
+    Taken(4),
+];
+
+const NO_TURN: &[Step] = &[
+    Asks(0, Fared::Unanswered),
+    Taken(1),
+    Delivered(0),
+    Waits(1, 1, Fared::Answered(ANSWER)),
+];
+
+// The answer that comes is to the handle 1, and the command that is asked has 2.
+const ANOTHER: &[Step] = &[
+    At(Submits(0, Ok(1))),
+    Asks(1, Fared::Unanswered),
+    At(Takes(1, Some(ANSWER))),
+];
+
+// The link is lost after 20 sendings, and then the end is asked nothing.
+const LOST: &[Step] = &[
+    Asks(30, Fared::Lost),
+    At(IsLost(true)),
+    Delivered(21),
+    Taken(20),
+    Asks(30, Fared::Lost),
+    Delivered(21),
+];
+
+// What the link refuses asks the end nothing.
+const REFUSED: &[Step] = &[
+    At(Submits(0, Ok(1))),
+    Asks(5, Fared::Refused(ControlFault::SpanFull)),
+    Taken(0),
+    Delivered(0),
+];
+
+const THERE: &[Step] = &[
+    At(Submits(0, Ok(1))),
+    At(HearsResponse(1, 5, Reception::Answered(1))),
+    Waits(1, 9, Fared::Answered(ANSWER)),
+    Delivered(0),
+];
+
+const NOTHING: &[Step] = &[Asks(3, Fared::Unanswered), Taken(1)];
+
+// What is due is given out, and again after 250 ms.
+const ALL: &[Step] = &[
+    At(Submits(0, Ok(1))),
+    At(Submits(0, Ok(2))),
+    GivesOut(0, 2, 0),
+    GivesOut(249, 0, 0),
+    GivesOut(250, 2, 0),
+    Taken(4),
+];
+
+const KEEP_ALIVES: &[Step] = &[GivesOut(2_500, 0, 1)];
+
+const ONE_TURN: &[Step] = &[
+    At(Submits(0, Ok(1))),
+    Drives(
+        1,
+        DriveReport {
+            turns: 1,
+            sent: 1,
+            keep_alives: 0,
+            answered: 0,
+            failed_receives: 0,
+            failed_sends: 0,
+            lost: false,
+        },
+    ),
+    Delivered(1),
+];
+
+/// Why a link refuses a command, and how it fared.
+const REFUSALS: &[(ControlFault, Fared)] = &[
+    (ControlFault::Lost, Fared::Lost),
+    (
+        ControlFault::HandlesSpent,
+        Fared::Refused(ControlFault::HandlesSpent),
+    ),
+    (
+        ControlFault::SpanFull,
+        Fared::Refused(ControlFault::SpanFull),
+    ),
+    (ControlFault::TooLong, Fared::Refused(ControlFault::TooLong)),
+];
+
+/// The first refusal after which a command fared otherwise.
+pub fn first_wrong() -> Option<usize> {
+    for (at, (fault, want)) in REFUSALS.iter().enumerate() {
+        if !is_outcome(&refused(*fault), *want) {
+            return Some(at);
+        }
+    }
+    None
+}
+
+/// The scripts.
+const SCRIPTS: &[Script] = &[
+    Script {
+        name: "a_command_is_answered",
+        span: 16,
+        ending: ANSWERS,
+        steps: ANSWERED,
+    },
+    Script {
+        name: "a_command_goes_out_again_in_time",
+        span: 16,
+        ending: EVERY_50_MS,
+        steps: IN_TIME,
+    },
+    Script {
+        name: "a_command_leaves_before_a_turn",
+        span: 16,
+        ending: ANSWERS,
+        steps: NO_TURN,
+    },
+    Script {
+        name: "another_answer_is_none",
+        span: 16,
+        ending: ANSWERS,
+        steps: ANOTHER,
+    },
+    Script {
+        name: "a_link_is_lost",
+        span: 16,
+        ending: QUIET,
+        steps: LOST,
+    },
+    Script {
+        name: "a_command_is_refused",
+        span: 1,
+        ending: ANSWERS,
+        steps: REFUSED,
+    },
+    Script {
+        name: "an_answer_that_is_there_takes_no_turn",
+        span: 16,
+        ending: QUIET_ONCE,
+        steps: THERE,
+    },
+    Script {
+        name: "a_closed_end_answers_nothing",
+        span: 16,
+        ending: CLOSED,
+        steps: NOTHING,
+    },
+    Script {
+        name: "all_that_is_due_is_given_out",
+        span: 16,
+        ending: CLOSED,
+        steps: ALL,
+    },
+    Script {
+        name: "a_keep_alive_is_given_out",
+        span: 16,
+        ending: CLOSED,
+        steps: KEEP_ALIVES,
+    },
+    Script {
+        name: "one_turn",
+        span: 16,
+        ending: QUIET_TWICE,
+        steps: ONE_TURN,
+    },
+];
+
+/// The first script that goes otherwise, and where.
+pub fn wrong(alloc: Global) -> Option<(&'static str, usize)> {
+    wrong_script(alloc, SCRIPTS)
+}

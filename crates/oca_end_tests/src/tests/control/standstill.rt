@@ -1,0 +1,261 @@
+//! A program that stands still with a command in flight, and an end that keeps time.
+ghost use Rattle.std.specs.Prelude.{[], false, None};
+
+use super::ends::Step::*;
+use super::ends::{Delivery, Ending, Fared, Script, Step, is_outcome, wrong_script};
+use super::links::link;
+use super::{ANSWER, KEEP_ALIVE};
+use arrayvec::ArrayVec;
+use oca_control::{Link, ask};
+use oca_net::{End, Heard};
+use oca_types::{MethodId, Ono, Packet, Peer, Request};
+
+// A copy follows 99.9 and 100.0 seconds after the one before it, and none after 100.001.
+const PAUSES: Ending = Ending {
+    quiet: 0,
+    deliveries: &[
+        Delivery::Quiet(99_900),
+        Delivery::Quiet(199_900),
+        Delivery::Quiet(299_901),
+    ],
+    room: 32,
+    fail_send: None,
+};
+
+const LONGER_AND_LONGER: &[Step] = &[
+    Asks(1, Fared::Unanswered),
+    Taken(2),
+    Waits(1, 1, Fared::Unanswered),
+    Taken(3),
+    Waits(1, 9, Fared::Lost),
+    Taken(3),
+    Delivered(3),
+];
+
+const LONG: Ending = Ending {
+    quiet: 0,
+    deliveries: &[Delivery::Quiet(200_000), Delivery::Response(1, 200_001)],
+    room: 32,
+    fail_send: None,
+};
+
+use std::alloc::Global;
+
+// After 200 seconds the command is lost. An answer that comes all the same is taken.
+const LOST: &[Step] = &[
+    Asks(9, Fared::Lost),
+    Taken(1),
+    Delivered(1),
+    Waits(1, 9, Fared::Answered(ANSWER)),
+    Taken(2),
+    Sent(1, &KEEP_ALIVE),
+];
+
+const WAITING: Ending = Ending {
+    quiet: 0,
+    deliveries: &[Delivery::Response(1, 200_000)],
+    room: 32,
+    fail_send: None,
+};
+
+// A keep-alive follows, since no command is in flight then, and no copy.
+const ANSWERED: &[Step] = &[
+    Asks(9, Fared::Answered(ANSWER)),
+    Taken(2),
+    Sent(1, &KEEP_ALIVE),
+];
+
+const GIVEN: &[Step] = &[
+    Asks(0, Fared::Unanswered),
+    GivesInTime(249, 0, false),
+    GivesInTime(250, 1, false),
+    GivesInTime(100_250, 1, false),
+    GivesInTime(200_251, 0, true),
+    GivesInTime(300_000, 0, true),
+    Taken(3),
+];
+
+/// An end that keeps time: it is quiet until the moment of each receive, stands still once, and notes when it sends.
+#[derive(Drop)]
+struct Timed {
+    now: u64,
+    /// The number of the receive, counted from 1, in which it stands still, and for how many milliseconds.
+    still: (u64, u64),
+    sends: ArrayVec<u64, 32>,
+    receives: u64,
+}
+
+impl End for Timed {
+    ghost state = { λ e. record {
+      tells = false;
+      delivered = [];
+      taken = [];
+      closed = false;
+      failures = 0;
+      receives = e.receives;
+      moment = None;
+    } };
+
+    /// Waits 50 ms.
+    fn receive(&mut self, packet: &mut Packet) -> Heard {
+        let until = self.now.saturating_add(50);
+        self.receive_by(packet, until)
+    }
+
+    /// Waits until this moment.
+    fn receive_by(&mut self, packet: &mut Packet, moment: u64) -> Heard {
+        packet.clear();
+        self.receives = self.receives.saturating_add(1);
+        self.now = self.now.max(moment);
+        if self.receives == self.still.0 {
+            self.now = self.now.saturating_add(self.still.1);
+        }
+        Heard::Quiet { now: self.now }
+    }
+
+    /// The moment.
+    fn now(&self) -> u64 {
+        self.now
+    }
+
+    /// Notes the moment.
+    fn send(&mut self, to: Peer, _bytes: &[u8]) -> bool {
+        let _ = self.sends.try_push(self.now);
+        true
+    }
+}
+
+/// A GetState of the object 4097.
+const GET_STATE: Request = Request {
+    target: Ono(4097),
+    method: MethodId { level: 4, index: 1 },
+    count: 0,
+    params: &[],
+};
+
+/// How a command fares that is asked for at most so many turns.
+type Asked = (u32, Fared);
+
+/// Commands at an end that begins at a moment and stands still so, and when the end sends.
+struct Row {
+    begun: u64,
+    still: (u64, u64),
+    asks: &'static [Asked],
+    moments: &'static [u64],
+}
+
+/// Whether a command fares so.
+fn fares(link: &mut Link, end: &mut Timed, asked: Asked) -> bool {
+    is_outcome(&ask(link, end, GET_STATE, asked.0), asked.1)
+}
+
+/// Whether the commands fare so.
+fn all_fare(link: &mut Link, end: &mut Timed, asks: &[Asked]) -> bool {
+    for asked in asks {
+        if !fares(link, end, *asked) {
+            return false;
+        }
+    }
+    true
+}
+
+/// Whether the row is so over a new link and a new end: the commands fare so, and the end sends at these moments.
+fn is_so(row: &Row) -> bool {
+    let mut end = Timed {
+        now: row.begun,
+        still: row.still,
+        sends: ArrayVec::new(),
+        receives: 0,
+    };
+    match link(1, 16) {
+        Some(mut link) => {
+            all_fare(&mut link, &mut end, row.asks) && end.sends.as_slice() == row.moments
+        }
+        None => false,
+    }
+}
+
+/// The first row that is otherwise.
+pub fn first_wrong() -> Option<usize> {
+    for (at, row) in ROWS.iter().enumerate() {
+        if !is_so(row) {
+            return Some(at);
+        }
+    }
+    None
+}
+
+const ROWS: &[Row] = &[
+    // five turns of 50 ms go by between two copies
+    Row {
+        begun: 0,
+        still: (0, 0),
+        asks: &[(15, Fared::Unanswered)],
+        moments: &[0, 250, 500, 750],
+    },
+    // after an hour without a command the first copy is no repeat
+    Row {
+        begun: 3_600_000,
+        still: (0, 0),
+        asks: &[(4, Fared::Unanswered)],
+        moments: &[3_600_000],
+    },
+    Row {
+        begun: 3_600_000,
+        still: (0, 0),
+        asks: &[(5, Fared::Unanswered)],
+        moments: &[3_600_000, 3_600_250],
+    },
+    // a command that comes behind a standstill is not begun while another is in flight
+    Row {
+        begun: 0,
+        still: (2, 99_900),
+        asks: &[(3, Fared::Unanswered)],
+        moments: &[0, 100_000],
+    },
+    Row {
+        begun: 0,
+        still: (2, 99_901),
+        asks: &[(9, Fared::Lost), (9, Fared::Lost)],
+        moments: &[0],
+    },
+    Row {
+        begun: 0,
+        still: (2, 200_000),
+        asks: &[(9, Fared::Lost), (9, Fared::Lost)],
+        moments: &[0],
+    },
+];
+
+/// The scripts.
+const SCRIPTS: &[Script] = &[
+    Script {
+        name: "a_copy_follows_within_100_seconds_alone",
+        span: 16,
+        ending: PAUSES,
+        steps: LONGER_AND_LONGER,
+    },
+    Script {
+        name: "a_command_is_lost_in_a_standstill",
+        span: 16,
+        ending: LONG,
+        steps: LOST,
+    },
+    Script {
+        name: "an_answer_that_came_in_a_standstill_is_taken",
+        span: 16,
+        ending: WAITING,
+        steps: ANSWERED,
+    },
+    Script {
+        name: "nothing_is_given_out_too_late",
+        span: 16,
+        ending: WAITING,
+        steps: GIVEN,
+    },
+];
+
+/// The first script that goes otherwise, and where.
+pub fn wrong(alloc: Global) -> Option<(&'static str, usize)> {
+    wrong_script(alloc, SCRIPTS)
+}

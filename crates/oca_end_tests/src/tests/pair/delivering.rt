@@ -1,0 +1,139 @@
+//! Commands that come twice, and what is lost.
+use super::rows::Row::*;
+use super::rows::{ANSWERED, EXECUTED, Each, KEPT, Row, Seen};
+use super::schedules::{Case, ONE_LINK, Ran, wrong_case};
+use super::{A, B, DEVICE, GET};
+use oca_control::{ControlFault, Reception};
+use oca_pair::{PairFault, law_answers, law_getting_through, law_never_old, law_round_trip};
+use std::alloc::Global;
+
+/// The laws, whose functions run nothing.
+pub fn laws() {
+    law_answers();
+    law_never_old();
+    law_round_trip();
+    law_getting_through();
+}
+
+/// A command is given out twice, and the two datagrams overtake one another.
+const GIVEN_OUT_TWICE: &[Row] = &[
+    Unmutes(0, Seen::Submitted(1)),
+    Due(0, Seen::Sent(0)),
+    Due(250, Seen::Sent(1)),
+    ToDevice(1, 260, EXECUTED),
+    ToDevice(0, 270, KEPT),
+    ToLink(1, 280, ANSWERED),
+    ToLink(0, 290, Seen::Link(Reception::NothingNew)),
+    Takes(1, Seen::Answer(0, 0, 0)),
+];
+
+/// What it leads to.
+const TWICE: Ran = Ran {
+    wrong: None,
+    to_device: 2,
+    to_links: 2,
+    last_byte: Some(0),
+    sessions: 1,
+};
+
+/// A link that is asked every 250 ms until nothing is left; the first copy and the first response are lost.
+const WITH_LOSSES: &[Row] = &[
+    Unmutes(0, Seen::Submitted(1)),
+    Due(0, Seen::Sent(0)),
+    Due(0, Seen::Nothing),
+    Due(250, Seen::Sent(1)),
+    Due(250, Seen::Nothing),
+    ToDevice(1, 300, EXECUTED),
+    Due(500, Seen::Sent(2)),
+    Due(500, Seen::Nothing),
+    ToDevice(2, 510, KEPT),
+    ToLink(1, 520, ANSWERED),
+    Takes(1, Seen::Answer(0, 0, 0)),
+];
+
+/// Each copy of a command is lost: the link is lost after 20, and has no answer.
+const ALL_LOST: &[Row] = &[
+    Gets(0, Seen::Submitted(1)),
+    All(Each::Repeats, 0, 20),
+    Due(4_999, Seen::Nothing),
+    Due(5_000, Seen::Lost),
+    Takes(1, Seen::NoAnswer),
+    Gets(5_000, Seen::Refused(ControlFault::Lost)),
+];
+
+/// What it leads to where the peer has no link.
+const OF_ANOTHER: Ran = Ran {
+    wrong: None,
+    to_device: 2,
+    to_links: 2,
+    last_byte: Some(0),
+    sessions: 2,
+};
+
+/// The schedules.
+const CASES: &[Case] = &[
+    // A command that comes twice is executed once and answered twice, and its link hears the first answer.
+    Case {
+        name: "a_duplicate_is_answered_once",
+        network: ONE_LINK,
+        parts: &[GIVEN_OUT_TWICE],
+        want: Ok(TWICE),
+    },
+    // What is lost is given out again, and one copy that arrives and one response that comes back are enough.
+    Case {
+        name: "what_is_lost_is_given_out_again",
+        network: ONE_LINK,
+        parts: &[WITH_LOSSES],
+        want: Ok(Ran {
+            wrong: None,
+            to_device: 3,
+            to_links: 2,
+            last_byte: Some(0),
+            sessions: 1,
+        }),
+    },
+    // A link is lost where no copy arrives.
+    Case {
+        name: "a_link_is_lost",
+        network: ONE_LINK,
+        parts: &[ALL_LOST],
+        want: Ok(Ran {
+            wrong: None,
+            to_device: 20,
+            to_links: 0,
+            last_byte: None,
+            sessions: 0,
+        }),
+    },
+    // A step that names a datagram that was never sent is refused by its number.
+    Case {
+        name: "a_datagram_that_is_not_there",
+        network: ONE_LINK,
+        parts: &[GIVEN_OUT_TWICE, &[ToDevice(9, 300, EXECUTED)]],
+        want: Err(PairFault::BadStep(8)),
+    },
+    // Bytes of a peer without a link are served, and those of a link's peer are no such step.
+    Case {
+        name: "bytes_of_a_links_peer",
+        network: ONE_LINK,
+        parts: &[GIVEN_OUT_TWICE, &[Other(A, &GET, 300, EXECUTED)]],
+        want: Err(PairFault::BadStep(8)),
+    },
+    Case {
+        name: "bytes_of_another_peer",
+        network: ONE_LINK,
+        parts: &[GIVEN_OUT_TWICE, &[Other(B, &GET, 300, EXECUTED)]],
+        want: Ok(OF_ANOTHER),
+    },
+    Case {
+        name: "bytes_of_the_devices_peer",
+        network: ONE_LINK,
+        parts: &[GIVEN_OUT_TWICE, &[Other(DEVICE, &GET, 300, EXECUTED)]],
+        want: Ok(OF_ANOTHER),
+    },
+];
+
+/// The first schedule that leads to something else.
+pub fn wrong(alloc: Global) -> Option<&'static str> {
+    wrong_case(alloc, CASES)
+}

@@ -1,0 +1,268 @@
+//! Steps as data, each with what it must lead to.
+use super::KEEP_ALIVE;
+use oca_control::{ControlFault, Reception};
+use oca_device::Verdict;
+use oca_pair::{Outcome, Step};
+use oca_tree::{LocalValue, SetFault};
+use oca_types::{Handle, LOOPBACK, MethodId, Ono, Peer};
+use std::alloc::Global;
+
+/// What a step led to, but for the bytes of an answer's parameters, of which it has the number.
+#[derive(Clone, Copy, PartialEq, Eq)]
+pub enum Seen {
+    Submitted(u32),
+    Refused(ControlFault),
+    Sent(usize),
+    Nothing,
+    Lost,
+    /// The device executed so many commands, and met so many duplicates, old commands and reused handles.
+    Served(u32, u32, u32, u32),
+    /// The device did not serve the datagram.
+    Device(Verdict),
+    Link(Reception),
+    Ticked,
+    Set,
+    NotSet(SetFault),
+    /// Status, ParamCount and the number of parameter bytes.
+    Answer(u8, u8, usize),
+    NoAnswer,
+}
+
+/// Executed as a new command.
+pub const EXECUTED: Seen = Seen::Served(1, 0, 0, 0);
+
+/// Answered as a duplicate.
+pub const KEPT: Seen = Seen::Served(0, 1, 0, 0);
+
+/// A command that is older than the window.
+pub const OLD: Seen = Seen::Served(0, 0, 1, 0);
+
+/// The link has an answer to one command more.
+pub const ANSWERED: Seen = Seen::Link(Reception::Answered(1));
+
+/// A state: status Ok and one parameter, of one byte.
+pub const STATE: Seen = Seen::Answer(0, 1, 1);
+
+/// Steps that differ in a number alone, and lead to the same but for that.
+#[derive(Clone, Copy)]
+pub enum Each {
+    /// The first link submits GetState of 4097 at a moment, under the handle of the number.
+    Gets(u64),
+    /// The first link gives the datagram of the number out at a moment.
+    Sends(u64),
+    /// The first link gives the datagram of the number out at so many times 250 ms.
+    Repeats,
+    /// The device executes the datagram of the number at a moment.
+    Executes(u64),
+    /// The datagram of the number answers a command of its link at a moment.
+    Answers(u64),
+    /// The state is taken under the handle of the number.
+    Takes,
+    /// A keep-alive of the peer at the port 9100 and the number is served at 0.
+    KeepAlives,
+    /// The link of the number submits GetState of 4097 at 0 under the handle 1.
+    Links,
+    /// The clock is read at the moment of the number.
+    Ticks,
+}
+
+/// A step, and what it must lead to. Where no link is named it is the first one; moments are in milliseconds.
+#[derive(Clone, Copy)]
+pub enum Row {
+    /// GetState of 4097 is submitted at a moment.
+    Gets(u64, Seen),
+    /// SetState of 4097 to Unmuted is submitted at a moment.
+    Unmutes(u64, Seen),
+    /// What is due at a moment is sent.
+    Due(u64, Seen),
+    /// A datagram is delivered to the device at a moment.
+    ToDevice(usize, u64, Seen),
+    /// A datagram is delivered to its link at a moment.
+    ToLink(usize, u64, Seen),
+    /// The bytes of a peer are delivered to the device at a moment.
+    Other(Peer, &'static [u8], u64, Seen),
+    /// 4097 is set at the device's own front.
+    Sets(LocalValue, Seen),
+    /// The answer under a handle is taken.
+    Takes(u32, Seen),
+    /// Such steps, with the numbers from the first to below the second.
+    All(Each, u32, u32),
+}
+
+/// What the tests compare of a verdict.
+fn seen_of(verdict: Verdict) -> Seen {
+    match verdict {
+        Verdict::Served {
+            executed,
+            kept,
+            old,
+            reused,
+        } => Seen::Served(executed, kept, old, reused),
+        _ => Seen::Device(verdict),
+    }
+}
+
+/// What the tests compare of an outcome.
+pub fn shown(outcome: &Outcome) -> Seen {
+    match outcome {
+        Outcome::Submitted(handle) => Seen::Submitted(handle.0),
+        Outcome::Refused(fault) => Seen::Refused(*fault),
+        Outcome::Sent(number) => Seen::Sent(*number),
+        Outcome::Nothing => Seen::Nothing,
+        Outcome::Lost => Seen::Lost,
+        Outcome::Device(verdict) => seen_of(*verdict),
+        Outcome::Link(reception) => Seen::Link(*reception),
+        Outcome::Ticked => Seen::Ticked,
+        Outcome::Set => Seen::Set,
+        Outcome::NotSet(fault) => Seen::NotSet(*fault),
+        Outcome::Answer(answer) => Seen::Answer(answer.status, answer.count, answer.params.len()),
+        Outcome::NoAnswer => Seen::NoAnswer,
+    }
+}
+
+/// GetState of 4097 at a link.
+fn get_state(link: usize, now: u64) -> Step<'static> {
+    Step::Submit {
+        link,
+        target: Ono(4097),
+        method: MethodId { level: 4, index: 1 },
+        count: 0,
+        params: &[],
+        now,
+    }
+}
+
+/// SetState of 4097 to Unmuted.
+fn unmute(now: u64) -> Step<'static> {
+    Step::Submit {
+        link: 0,
+        target: Ono(4097),
+        method: MethodId { level: 4, index: 2 },
+        count: 1,
+        params: &[2],
+        now,
+    }
+}
+
+/// The answer under a handle is taken from the first link.
+fn take(handle: u32) -> Step<'static> {
+    Step::Take {
+        link: 0,
+        handle: Handle(handle),
+    }
+}
+
+/// A keep-alive of the peer at the port 9100 and the number.
+fn keep_alive(number: u32) -> Step<'static> {
+    Step::Other {
+        from: Peer {
+            ip: LOOPBACK,
+            port: 9100u16.saturating_add(u16::try_from(number).unwrap_or(0)),
+        },
+        bytes: &KEEP_ALIVE,
+        now: 0,
+    }
+}
+
+/// The step of a number, and what it must lead to.
+fn step_of(each: Each, number: u32) -> (Step<'static>, Seen) {
+    let k = number as usize;
+    match each {
+        Each::Gets(now) => (get_state(0, now), Seen::Submitted(number)),
+        Each::Sends(now) => (Step::Due { link: 0, now }, Seen::Sent(k)),
+        Each::Repeats => (
+            Step::Due {
+                link: 0,
+                now: u64::from(number).saturating_mul(250),
+            },
+            Seen::Sent(k),
+        ),
+        Each::Executes(now) => (Step::ToDevice { k, now }, EXECUTED),
+        Each::Answers(now) => (Step::ToLink { k, now }, ANSWERED),
+        Each::Takes => (take(number), STATE),
+        Each::KeepAlives => (keep_alive(number), Seen::Served(0, 0, 0, 0)),
+        Each::Links => (get_state(k, 0), Seen::Submitted(1)),
+        Each::Ticks => (
+            Step::Tick {
+                now: u64::from(number),
+            },
+            Seen::Ticked,
+        ),
+    }
+}
+
+/// The steps of a schedule, and what each must lead to.
+#[derive(Drop)]
+pub struct Script {
+    pub steps: Vec<Step<'static>>,
+    pub wants: Vec<Seen>,
+}
+
+/// Adds a step.
+fn add(script: &mut Script, step: (Step<'static>, Seen)) -> Option<()> {
+    script.steps.push(step.0).ok()?;
+    script.wants.push(step.1).ok()
+}
+
+/// Adds the steps of these numbers.
+fn add_each(script: &mut Script, each: Each, first: u32, end: u32) -> Option<()> {
+    for number in first..end {
+        add(script, step_of(each, number))?;
+    }
+    Some(())
+}
+
+/// Adds the steps of a row.
+fn add_row(script: &mut Script, row: Row) -> Option<()> {
+    match row {
+        Row::Gets(now, want) => add(script, (get_state(0, now), want)),
+        Row::Unmutes(now, want) => add(script, (unmute(now), want)),
+        Row::Due(now, want) => add(script, (Step::Due { link: 0, now }, want)),
+        Row::ToDevice(k, now, want) => add(script, (Step::ToDevice { k, now }, want)),
+        Row::ToLink(k, now, want) => add(script, (Step::ToLink { k, now }, want)),
+        Row::Other(from, bytes, now, want) => add(script, (Step::Other { from, bytes, now }, want)),
+        Row::Sets(value, want) => add(
+            script,
+            (
+                Step::Local {
+                    ono: Ono(4097),
+                    value,
+                },
+                want,
+            ),
+        ),
+        Row::Takes(handle, want) => add(script, (take(handle), want)),
+        Row::All(each, first, end) => add_each(script, each, first, end),
+    }
+}
+
+/// Adds the steps of the rows.
+fn add_rows(script: &mut Script, rows: &[Row]) -> Option<()> {
+    for row in rows {
+        add_row(script, *row)?;
+    }
+    Some(())
+}
+
+/// Adds the steps of these parts.
+fn add_parts(script: &mut Script, parts: &[&[Row]]) -> bool {
+    for rows in parts {
+        if add_rows(script, rows).is_none() {
+            return false;
+        }
+    }
+    true
+}
+
+/// The steps of these parts.
+pub fn script_of(alloc: Global, parts: &[&[Row]]) -> Option<Script> {
+    let mut script = Script {
+        steps: Vec::new(alloc),
+        wants: Vec::new(alloc),
+    };
+    if add_parts(&mut script, parts) {
+        Some(script)
+    } else {
+        None
+    }
+}

@@ -1,0 +1,189 @@
+//! Networks with the bench device, and what schedules over them led to.
+use super::A_PORT;
+use super::rows::{Row, Script, Seen, script_of, shown};
+use oca_pair::{Outcome, PairFault, Start, Step, Transcript, run_pair, run_pair_with_sizes};
+use oca_tree::{Tree, bench};
+use oca_types::{Handle, LOOPBACK, Peer, Peers, Sizes, Span, Window};
+use std::alloc::Global;
+
+/// The sizes and the links of a network with the bench device.
+#[derive(Clone, Copy)]
+pub struct Network {
+    /// The window, at the device.
+    pub window: u8,
+    /// How many peers have sessions, where that is chosen.
+    pub peers: Option<u8>,
+    /// The span, at the links.
+    pub span: u8,
+    /// Of each link the port at 127.0.0.1 and the first handle.
+    pub starts: &'static [(u16, u32)],
+}
+
+/// A link of A, with the sizes that are chosen where nothing else is.
+pub const ONE_LINK: Network = Network {
+    window: 32,
+    peers: None,
+    span: 16,
+    starts: &[(A_PORT, 1)],
+};
+
+/// What a schedule led to.
+#[derive(Clone, Copy, PartialEq, Eq)]
+pub struct Ran {
+    /// The first step that led to something else.
+    pub wrong: Option<usize>,
+    /// How many datagrams were sent to the device.
+    pub to_device: usize,
+    /// How many datagrams were sent to links.
+    pub to_links: usize,
+    /// The last byte of the last datagram that was sent to a link.
+    pub last_byte: Option<u8>,
+    /// How many sessions the device has.
+    pub sessions: usize,
+}
+
+/// A schedule of these parts by its name, and what it must lead to.
+pub struct Case {
+    pub name: &'static str,
+    pub network: Network,
+    pub parts: &'static [&'static [Row]],
+    pub want: Result<Ran, PairFault>,
+}
+
+/// A start of a link at a port.
+fn start(port: u16, first: u32) -> Start {
+    Start {
+        peer: Peer { ip: LOOPBACK, port },
+        first_handle: Handle(first),
+    }
+}
+
+/// Adds the starts of the links.
+fn add_starts(starts: &mut Vec<Start>, links: &[(u16, u32)]) -> bool {
+    for (port, first) in links {
+        if starts.push(start(*port, *first)).is_err() {
+            return false;
+        }
+    }
+    true
+}
+
+/// The sizes of a network: the window, where it is chosen how many peers have sessions, and the span.
+#[derive(Clone, Copy)]
+struct Chosen {
+    window: Window,
+    peers: Option<Peers>,
+    span: Span,
+}
+
+/// The sizes of a network, where they are sizes.
+fn sizes_of(network: &Network) -> Option<Chosen> {
+    let peers = match network.peers {
+        Some(count) => Some(Peers::new(count)?),
+        None => None,
+    };
+    Some(Chosen {
+        window: Window::new(network.window)?,
+        peers,
+        span: Span::new(network.span)?,
+    })
+}
+
+/// Runs the steps over a device with these objects.
+fn run(
+    alloc: Global,
+    tree: Tree,
+    chosen: Chosen,
+    starts: &[Start],
+    steps: &[Step<'_>],
+) -> Result<Transcript, PairFault> {
+    let window = chosen.window;
+    match chosen.peers {
+        Some(peers) => {
+            let sizes = Sizes { window, peers };
+            run_pair_with_sizes(alloc, tree, sizes, chosen.span, starts, steps)
+        }
+        None => run_pair(alloc, tree, window, chosen.span, starts, steps),
+    }
+}
+
+/// The first step that led to something else.
+fn first_wrong(log: &[Outcome], wants: &[Seen]) -> Option<usize> {
+    for (at, outcome) in log.iter().enumerate() {
+        if wants.get(at) != Some(&shown(outcome)) {
+            return Some(at);
+        }
+    }
+    if log.len() == wants.len() {
+        None
+    } else {
+        Some(log.len())
+    }
+}
+
+/// What is compared of a transcript.
+fn ran_of(transcript: &Transcript, wants: &[Seen]) -> Ran {
+    Ran {
+        wrong: first_wrong(&transcript.log, wants),
+        to_device: transcript.to_device.len(),
+        to_links: transcript.to_links.len(),
+        last_byte: last_byte(transcript),
+        sessions: transcript.device.sessions(),
+    }
+}
+
+/// The last byte of the last datagram that was sent to a link.
+fn last_byte(transcript: &Transcript) -> Option<u8> {
+    let sent = transcript.to_links.last()?;
+    sent.bytes.last().copied()
+}
+
+/// Whether this is what a run leads to.
+fn is_led_to(
+    ran: Result<Transcript, PairFault>,
+    wants: &[Seen],
+    want: Result<Ran, PairFault>,
+) -> bool {
+    match ran {
+        Ok(transcript) => want == Ok(ran_of(&transcript, wants)),
+        Err(fault) => want == Err(fault),
+    }
+}
+
+/// Whether the script leads to what the case says over the bench device.
+fn leads(alloc: Global, case: &Case, starts: &[Start], script: &Script) -> bool {
+    let Some(chosen) = sizes_of(&case.network) else {
+        return false;
+    };
+    match bench(alloc) {
+        Ok(tree) => {
+            let ran = run(alloc, tree, chosen, starts, &script.steps);
+            is_led_to(ran, &script.wants, case.want)
+        }
+        Err(_) => false,
+    }
+}
+
+/// Whether the case is so from these starts.
+fn is_so_from(alloc: Global, case: &Case, starts: &[Start]) -> bool {
+    match script_of(alloc, case.parts) {
+        Some(script) => leads(alloc, case, starts, &script),
+        None => false,
+    }
+}
+
+/// Whether the case is so.
+fn is_so(alloc: Global, case: &Case) -> bool {
+    let mut starts = Vec::new(alloc);
+    add_starts(&mut starts, case.network.starts) && is_so_from(alloc, case, starts.as_slice())
+}
+
+/// The first case that is otherwise.
+pub fn wrong_case(alloc: Global, cases: &[Case]) -> Option<&'static str> {
+    for case in cases {
+        if !is_so(alloc, case) {
+            return Some(case.name);
+        }
+    }
+    None
+}

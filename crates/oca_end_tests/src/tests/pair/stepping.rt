@@ -1,0 +1,76 @@
+//! Changes at the device's front, the clock, and the numbers of faults.
+use super::rows::Row::*;
+use super::rows::{EXECUTED, Each, Row, Seen};
+use super::schedules::{Case, Network, ONE_LINK, Ran, wrong_case};
+use oca_pair::PairFault;
+use oca_tree::{LocalValue, SetFault};
+use std::alloc::Global;
+
+const CHANGES: &[Row] = &[
+    Sets(LocalValue::State(2), Seen::Set),
+    Sets(LocalValue::State(3), Seen::NotSet(SetFault::OutOfRange)),
+    Sets(LocalValue::Truth(true), Seen::NotSet(SetFault::OtherKind)),
+    Gets(0, Seen::Submitted(1)),
+    Due(0, Seen::Sent(0)),
+    ToDevice(0, 1, EXECUTED),
+];
+
+/// A device without links.
+const NO_LINKS: Network = Network {
+    window: 32,
+    peers: None,
+    span: 16,
+    starts: &[],
+};
+
+/// A fault, and its number.
+const FAULTS: &[(PairFault, u8)] = &[
+    (PairFault::NoMemory, 1),
+    (PairFault::BadStep(7), 2),
+    (PairFault::SamePeer, 3),
+];
+
+/// The first fault with another number.
+pub fn first_wrong() -> Option<usize> {
+    for (at, (fault, number)) in FAULTS.iter().enumerate() {
+        if fault.number() != *number {
+            return Some(at);
+        }
+    }
+    None
+}
+
+/// The schedules.
+const CASES: &[Case] = &[
+    // A change at the device's front is seen by the next command, and a refused one changes nothing.
+    Case {
+        name: "a_local_change",
+        network: ONE_LINK,
+        parts: &[CHANGES],
+        want: Ok(Ran {
+            wrong: None,
+            to_device: 1,
+            to_links: 1,
+            last_byte: Some(2),
+            sessions: 1,
+        }),
+    },
+    // Five thousand clock readings run.
+    Case {
+        name: "five_thousand_ticks",
+        network: NO_LINKS,
+        parts: &[&[All(Each::Ticks, 0, 5000)]],
+        want: Ok(Ran {
+            wrong: None,
+            to_device: 0,
+            to_links: 0,
+            last_byte: None,
+            sessions: 0,
+        }),
+    },
+];
+
+/// The first schedule that leads to something else.
+pub fn wrong(alloc: Global) -> Option<&'static str> {
+    wrong_case(alloc, CASES)
+}

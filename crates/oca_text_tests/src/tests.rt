@@ -1,0 +1,4 @@
+//! A module for each crate.
+mod program;
+mod script;
+mod textree;

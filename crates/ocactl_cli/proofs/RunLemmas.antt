@@ -1,0 +1,76 @@
+-- How a run ends, by what its last call gave.
+use Rattle.std.proofs.Common.{◌≡◌, ℕ, List, Bool, Result, Ok, Err, refl, ap, subst}
+use Rattle.std.specs.Prelude.{IfOk, IfErr, OnErr, if◌then◌else◌}
+use Rattle.oca_types.specs.Sizes.{span_size}
+use Rattle.oca_control.specs.Links.{LinkState, new_link}
+use Rattle.oca_panel.specs.Panels.{PanelState}
+use Rattle.oca_script.specs.declared.fault.ReplayFault.{ReplayFault}
+use Rattle.oca_script.specs.declared.fault.WriteFailed.{WriteFailed}
+use Rattle.oca_script.specs.Ends.{Input, Output}
+use Rattle.oca_script.specs.Printing.{WritesOut}
+use Rattle.oca_script.specs.Replaying.{NeverIdles, Outcome}
+use Rattle.oca_program.specs.Faults.{fault_in, run_fault}
+use Rattle.oca_program.specs.declared.fault.Failure.{Failure}
+use Rattle.oca_program.specs.declared.fault.RunFault.{RunFault}
+use Rattle.oca_program.specs.declared.fault.RunFault.TheVariants.{Write}
+use Rattle.ocactl_replay.specs.Requests.{asked_call}
+use Rattle.ocactl_replay.specs.Replaying.{Serves as CallsLink}
+use Rattle.ocactl_cli.specs.Exchanges.{SendsLines, SessionState}
+use Rattle.ocactl_cli.specs.Hands.{GivesUp}
+use Rattle.ocactl_cli.specs.Runs.{AsksOver, IsDone, ReplaysOn, RunsFrom, SendsOne, Tells}
+use Rattle.ocactl_cli.specs.declared.words.Linking.{Linking}
+use Rattle.ocactl_cli.specs.declared.words.Reach.{Reach}
+use Rattle.ocactl_cli.specs.declared.words.Sending.{Sending}
+
+abbrev failed : RunFault → Result ℕ RunFault
+failed why = Err why
+
+abbrev ended : ℕ → Result ℕ RunFault
+ended status = Ok status
+
+pub tells-all : (u : Unit {0}) (text : List ℕ) (was is : Output) → WritesOut (Ok u) was is text → Tells text (Ok 0) was is
+tells-all u text was is h = record { written = Ok tt; ends = refl; writes = h }
+
+pub tells-part : (e : WriteFailed) (why : RunFault) (text : List ℕ) (was is : Output) → why ≡ Write → WritesOut (Err e) was is text → Tells text (Err why) was is
+tells-part e why text was is same h = record { written = Err e; ends = ap failed same; writes = h }
+
+-- a replay on this link
+abbrev Replayed : LinkState → LinkState → Result Unit ReplayFault → Input → Input → Output → Output → Type 0
+Replayed link after replayed had has was is = Outcome asked_call CallsLink NeverIdles link after was is had has replayed
+
+abbrev link_said : Linking → LinkState
+link_said linking = new_link linking.device linking.first_handle 0 (span_size linking.span)
+
+pub replays-all : (linking : Linking) (link after : LinkState) (u : Unit {0}) (had has : Input) (was is : Output)
+    → link ≡ link_said linking → Replayed link after (Ok u) had has was is → ReplaysOn linking (Ok 0) had has was is
+replays-all linking link after u had has was is made h =
+    record { after = after; replayed = Ok u; ends = refl; outcome = subst (λ (l : LinkState). Replayed l after (Ok u) had has was is) made h }
+
+pub replays-part : (linking : Linking) (link after : LinkState) (e : ReplayFault) (why : RunFault) (had has : Input) (was is : Output)
+    → why ≡ run_fault e → link ≡ link_said linking → Replayed link after (Err e) had has was is → ReplaysOn linking (Err why) had has was is
+replays-part linking link after e why had has was is same made h =
+    record { after = after; replayed = Err e; ends = ap failed same; outcome = subst (λ (l : LinkState). Replayed l after (Err e) had has was is) made h }
+
+pub sends-all : (reach : Reach) (sending : Sending) (status : ℕ) (was is : Output) → AsksOver reach sending (Ok status) was is → SendsOne reach sending (Ok status) was is
+sends-all reach sending status was is h = record { sent = Ok status; asks = h; ends = refl }
+
+pub sends-part : (reach : Reach) (sending : Sending) (e : WriteFailed) (why : RunFault) (was is : Output)
+    → why ≡ Write → AsksOver reach sending (Err e) was is → SendsOne reach sending (Err why) was is
+sends-part reach sending e why was is same h = record { sent = Err e; asks = h; ends = ap failed same }
+
+pub runs-all : (session after : SessionState) (u : Unit {0}) (status : ℕ) (had has : Input) (was is : Output)
+    → status ≡ (if after.unanswered then 3 else 0) → SendsLines session after was is had has (Ok u) → RunsFrom session (Ok status) had has was is
+runs-all session after u status had has was is same h = record { after = after; sent = Ok u; sends = h; ends = ap ended same }
+
+pub runs-part : (session after : SessionState) (e : ReplayFault) (why : RunFault) (had has : Input) (was is : Output)
+    → why ≡ run_fault e → SendsLines session after was is had has (Err e) → RunsFrom session (Err why) had has was is
+runs-part session after e why had has was is same h = record { after = after; sent = Err e; sends = h; ends = ap failed same }
+
+-- what was done or given up, as its call says it
+pub done-so : (Done : ℕ → Type 0) (r : Result ℕ Failure) (is : Output) → IfOk r Done → IfErr r (λ failure. GivesUp failure is) → IsDone Done (fault_in r) is
+done-so Done (Ok status) is h k = h
+done-so Done (Err failure) is h k = k
+
+pub on-err : (P : Type 0) (r : Result ℕ Failure) → OnErr r P → OnErr (fault_in r) P
+on-err P (Ok status) h = h
+on-err P (Err failure) h = h

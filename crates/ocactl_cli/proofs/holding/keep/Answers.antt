@@ -1,0 +1,11 @@
+use Rattle.ocactl_cli.specs.Hands.{NoTurn, OneTurn}
+use Rattle.ocactl_cli.proofs.holding.keep.Goals as goal
+
+pub loop-turn-init : goal.loop-turn-init
+loop-turn-init g c = NoTurn
+
+pub loop-turn-preserved : goal.loop-turn-preserved
+loop-turn-preserved g c = OneTurn c.loop-turn.invariant c.turn.ensures
+
+pub returns-then-not-turn : goal.returns-then-not-turn
+returns-then-not-turn g c = OneTurn c.loop-turn.invariant c.turn.ensures

@@ -1,0 +1,239 @@
+-- What a run of the program does, by its words (*profile*).
+use Rattle.std.specs.Prelude.{◌≡◌, ◌⊎◌, ℕ, Bool, true, false, if◌then◌else◌, List, [], map}
+use Rattle.std.specs.Prelude.{Option, None, Some, Result, Ok, Err, OnErr}
+use Rattle.clap.specs.declared.error.kind.ErrorKind.{ErrorKind}
+use Rattle.clap.specs.declared.parser.matches.ArgMatches.{ArgMatches}
+use Rattle.oca_types.specs.Sizes.{span_size}
+use Rattle.oca_net.specs.EndStates.{EndState}
+use Rattle.oca_control.specs.Links.{LinkState, new_link}
+use Rattle.oca_script.specs.declared.fault.ReplayFault.{ReplayFault}
+use Rattle.oca_script.specs.declared.fault.WriteFailed.{WriteFailed}
+use Rattle.oca_script.specs.Ends.{Input, Output}
+use Rattle.oca_script.specs.Printing.{WritesOut}
+use Rattle.oca_script.specs.Replaying.{NeverIdles, Outcome}
+use Rattle.oca_program.specs.Commands.{AreMatchesOf, IsCommand}
+use Rattle.oca_program.specs.Faults.{fault_status, run_fault, words_fault}
+use Rattle.oca_program.specs.declared.fault.RunFault.{RunFault}
+use Rattle.oca_program.specs.declared.fault.RunFault.TheVariants as fault
+use Rattle.oca_panel.specs.Panels.{PanelState}
+use Rattle.ocactl_replay.specs.Requests.{asked_call}
+use Rattle.ocactl_replay.specs.Replaying.{Serves as CallsLink}
+use Rattle.ocactl_cli.specs.Asked.{AsksFor, IsRefusal}
+use Rattle.ocactl_cli.specs.Exchanges.{AsksOnce, SendsLines, SessionState}
+use Rattle.ocactl_cli.specs.Hands.{AsksAll, HoldsAll, Gets, Locks, SetsAll, SetsNoneUnfound}
+use Rattle.ocactl_cli.specs.PrivateHands.{number_of, pair_of}
+use Rattle.ocactl_cli.specs.Sockets.{IsLinkTo, IsUnreached}
+use Rattle.ocactl_cli.specs.Trees.{PrintsTree}
+use Rattle.ocactl_cli.specs.Words.{sending_fields}
+use Rattle.ocactl_cli.specs.declared.told.Told.{Told}
+use Rattle.ocactl_cli.specs.declared.tasks.Task.{Task}
+use Rattle.ocactl_cli.specs.declared.tasks.Task.TheVariants as task
+use Rattle.ocactl_cli.specs.declared.words.Asked.{Asked}
+use Rattle.ocactl_cli.specs.declared.words.Asked.TheVariants as asked
+use Rattle.ocactl_cli.specs.declared.words.Linking.{Linking}
+use Rattle.ocactl_cli.specs.declared.words.Reach.{Reach}
+use Rattle.ocactl_cli.specs.declared.words.Sending.{Sending}
+
+-- ---- how a run ends
+
+-- with a status, or with this fault
+abbrev pub exit_status : Result ℕ RunFault → ℕ
+exit_status (Ok status) = status
+exit_status (Err why) = fault_status why
+
+-- by what was written last
+abbrev pub when_written : Result Unit WriteFailed → Result ℕ RunFault
+when_written (Ok done) = Ok 0
+when_written (Err e) = Err fault.Write
+
+-- by how the replay ended
+abbrev pub when_replayed : Result Unit ReplayFault → Result ℕ RunFault
+when_replayed (Ok done) = Ok 0
+when_replayed (Err e) = Err (run_fault e)
+
+-- by what was written of the one command that was sent, whose status is that of how it fared
+abbrev pub when_sent : Result ℕ WriteFailed → Result ℕ RunFault
+when_sent (Ok status) = Ok status
+when_sent (Err e) = Err fault.Write
+
+-- by how the lines of commands ended: 3 where one of them got no answer
+abbrev pub when_run : Bool → Result Unit ReplayFault → Result ℕ RunFault
+when_run unanswered (Ok done) = Ok (if unanswered then 3 else 0)
+when_run unanswered (Err e) = Err (run_fault e)
+
+-- with this fault, and nothing was written
+pub record FailsWith (why : RunFault) (ended : Result ℕ RunFault) (was is : Output) : Type 0 where
+  pub ends : ended ≡ Err why
+  pub writes : is ≡ was
+
+-- nothing was read or written, and it failed with this fault
+abbrev pub Stops : RunFault → Result ℕ RunFault → Input → Input → Output → Output → Type 0
+Stops why ended had has was is = FailsWith why ended was is × (has ≡ had)
+
+-- the text was written, as far as the writes went
+pub record Tells (text : List ℕ) (ended : Result ℕ RunFault) (was is : Output) : Type 0 where
+  pub written : Result Unit WriteFailed
+  pub ends : ended ≡ when_written written
+  pub writes : WritesOut written was is text
+
+-- ---- replay
+
+-- THE SCRIPT on standard input was replayed on a new link, which is as the words say.
+pub record ReplaysOn (linking : Linking) (ended : Result ℕ RunFault) (had has : Input) (was is : Output) : Type 0 where
+  pub after : LinkState
+  pub replayed : Result Unit ReplayFault
+  pub ends : ended ≡ when_replayed replayed
+  pub outcome : Outcome asked_call CallsLink NeverIdles (new_link linking.device linking.first_handle 0 (span_size linking.span)) after was is had has replayed
+
+-- ---- one command
+
+-- It was asked over a new link, for as many turns as were said, and how it fared was written.
+pub record AsksOver (reach : Reach) (sending : Sending) (sent : Result ℕ WriteFailed) (was is : Output) : Type 0 where
+  pub link : LinkState
+  pub after : LinkState
+  pub before : EndState
+  pub behind : EndState
+  pub reaches : IsLinkTo reach link
+  pub asks : AsksOnce (sending_fields sending).command sending.turns link after before behind sent was is
+
+-- The status is that of how it fared.
+pub record SendsOne (reach : Reach) (sending : Sending) (ended : Result ℕ RunFault) (was is : Output) : Type 0 where
+  pub sent : Result ℕ WriteFailed
+  pub asks : AsksOver reach sending sent was is
+  pub ends : ended ≡ when_sent sent
+
+-- ONE COMMAND was sent, or the device was not reached.
+abbrev pub SendsAt : Reach → Sending → Result ℕ RunFault → Output → Output → Type 0
+SendsAt reach sending ended was is =
+    SendsOne reach sending ended was is ⊎ ((why : RunFault) × IsUnreached why × FailsWith why ended was is)
+
+-- ---- commands of lines
+
+-- a session over a new link, in which as many commands may be under way
+abbrev pub new_session : LinkState → EndState → ℕ → SessionState
+new_session link end_state ahead =
+    record { link = link; end_state = end_state; under_way = []; ahead = ahead; unanswered = false }
+
+-- The commands on standard input were sent over this session; the status is 3 where one of them got no answer.
+pub record RunsFrom (session : SessionState) (ended : Result ℕ RunFault) (had has : Input) (was is : Output) : Type 0 where
+  pub after : SessionState
+  pub sent : Result Unit ReplayFault
+  pub sends : SendsLines session after was is had has sent
+  pub ends : ended ≡ when_run after.unanswered sent
+
+-- over a new link, up to as many at once as were said
+pub record RunsLines (reach : Reach) (ahead : ℕ) (ended : Result ℕ RunFault) (had has : Input) (was is : Output) : Type 0 where
+  pub link : LinkState
+  pub end_state : EndState
+  pub reaches : IsLinkTo reach link
+  pub runs : RunsFrom (new_session link end_state ahead) ended had has was is
+
+-- nothing was read or written, since the device was not reached
+abbrev pub Unreached : Result ℕ RunFault → Input → Input → Output → Output → Type 0
+Unreached ended had has was is = (why : RunFault) × IsUnreached why × Stops why ended had has was is
+
+-- THE COMMANDS of standard input were sent, or the device was not reached.
+abbrev pub RunsAt : Reach → ℕ → Result ℕ RunFault → Input → Input → Output → Output → Type 0
+RunsAt reach ahead ended had has was is = RunsLines reach ahead ended had has was is ⊎ Unreached ended had has was is
+
+-- ---- objects
+
+-- the sink failed, or memory was refused
+abbrev pub IsGivenUp : RunFault → Output → Type 0
+IsGivenUp why is = ((why ≡ fault.Write) × (is.failed ≡ true)) ⊎ (why ≡ fault.NoMemory)
+
+-- It was done, with this status; or it was given up.
+abbrev pub IsDone : (ℕ → Type 0) → Result ℕ RunFault → Output → Type 0
+IsDone Done (Ok status) is = Done status
+IsDone Done (Err why) is = IsGivenUp why is
+
+-- of each of these objects this was asked
+abbrev pub AsksEach : (ℕ → PanelState → PanelState → Told → Type 0) → List ℕ → PanelState → PanelState → Result ℕ RunFault → Output → Output → Type 0
+AsksEach One targets old new ended was is = IsDone (λ status. AsksAll One targets old new status was is) ended is
+
+-- they were set, so many at once, or none was
+abbrev pub SetsObjects : ℕ → List (ℕ × List ℕ) → PanelState → PanelState → Result ℕ RunFault → Output → Output → Type 0
+SetsObjects ahead pairs old new ended was is =
+    IsDone (λ status. SetsAll ahead pairs old new status was is) ended is × OnErr ended (SetsNoneUnfound pairs old new)
+
+-- they were locked, and kept so until the input ended
+abbrev pub HoldsObjects : List ℕ → PanelState → PanelState → Result ℕ RunFault → Output → Output → Type 0
+HoldsObjects targets old new ended was is = IsDone (λ status. HoldsAll targets old new status was is) ended is
+
+-- all were printed as a tree
+abbrev pub PrintsObjects : PanelState → PanelState → Result ℕ RunFault → Output → Output → Type 0
+PrintsObjects old new ended was is = IsDone (λ status. PrintsTree old new status was is) ended is
+
+-- A TASK was done over a panel. All but the keeping of locks leaves standard input as it is.
+abbrev pub DoesTask : Task → PanelState → PanelState → Result ℕ RunFault → Input → Input → Output → Output → Type 0
+DoesTask (task.Get onos) old new ended had has was is =
+    AsksEach Gets (map number_of onos.items) old new ended was is × (has ≡ had)
+DoesTask (task.Set ahead pairs) old new ended had has was is =
+    SetsObjects (span_size ahead) (map pair_of pairs.items) old new ended was is × (has ≡ had)
+DoesTask (task.Lock onos) old new ended had has was is =
+    AsksEach (Locks true) (map number_of onos.items) old new ended was is × (has ≡ had)
+DoesTask (task.Hold onos) old new ended had has was is = HoldsObjects (map number_of onos.items) old new ended was is
+DoesTask (task.Unlock onos) old new ended had has was is =
+    AsksEach (Locks false) (map number_of onos.items) old new ended was is × (has ≡ had)
+DoesTask task.Tree old new ended had has was is = PrintsObjects old new ended was is × (has ≡ had)
+
+-- a panel over a new link, each of whose commands waits so many turns
+abbrev pub new_panel : LinkState → EndState → ℕ → PanelState
+new_panel link end_state turns = record { link = link; end_state = end_state; turns = turns; unanswered = false }
+
+-- It was done over a new link, whose commands wait as many turns as were said.
+pub record DoesOver (reach : Reach) (turns : ℕ) (what : Task) (ended : Result ℕ RunFault) (had has : Input) (was is : Output) : Type 0 where
+  pub link : LinkState
+  pub end_state : EndState
+  pub after : PanelState
+  pub reaches : IsLinkTo reach link
+  pub does : DoesTask what (new_panel link end_state turns) after ended had has was is
+
+-- THE TASK was done, or the device was not reached.
+abbrev pub DoesAt : Reach → ℕ → Task → Result ℕ RunFault → Input → Input → Output → Output → Type 0
+DoesAt reach turns what ended had has was is =
+    DoesOver reach turns what ended had has was is ⊎ Unreached ended had has was is
+
+-- ---- the whole run
+
+-- WHAT WAS ASKED FOR WAS DONE.
+abbrev pub Does : Asked → Result ℕ RunFault → Input → Input → Output → Output → Type 0
+Does (asked.Replay linking) ended had has was is = ReplaysOn linking ended had has was is
+Does (asked.Send reach sending) ended had has was is = SendsAt reach sending ended was is × (has ≡ had)
+Does (asked.Run reach ahead) ended had has was is = RunsAt reach (span_size ahead) ended had has was is
+Does (asked.Do reach turns what) ended had has was is = DoesAt reach turns what ended had has was is
+
+-- what a command with these options asks for
+pub record DoesIt (name : List ℕ) (options : ArgMatches) (ended : Result ℕ RunFault) (had has : Input) (was is : Output) : Type 0 where
+  pub asked : Asked
+  pub asks : AsksFor name options asked
+  pub does : Does asked ended had has was is
+
+-- nothing was read or written, since the words ask for nothing, or there was no memory
+abbrev pub Refused : Result ℕ RunFault → Input → Input → Output → Output → Type 0
+Refused ended had has was is = (why : RunFault) × IsRefusal why × Stops why ended had has was is
+
+abbrev pub DoesAsked : List ℕ → ArgMatches → Result ℕ RunFault → Input → Input → Output → Output → Type 0
+DoesAsked name options ended had has was is = DoesIt name options ended had has was is ⊎ Refused ended had has was is
+
+abbrev pub DoesCommand : Option (List ℕ × ArgMatches) → Result ℕ RunFault → Input → Input → Output → Output → Type 0
+DoesCommand None ended had has was is = Stops fault.BadWords ended had has was is
+DoesCommand (Some (name, options)) ended had has was is = DoesAsked name options ended had has was is
+
+-- The command that matched words name was done, with its options.
+pub record Obeys (words : ArgMatches) (ended : Result ℕ RunFault) (had has : Input) (was is : Output) : Type 0 where
+  pub command : Option (List ℕ × ArgMatches)
+  pub names : IsCommand words command
+  pub does : DoesCommand command ended had has was is
+
+-- Words that were not matched: a text of clap's is told, as of `--help`, or the run fails.
+abbrev pub Helps : ErrorKind → Result ℕ RunFault → Output → Output → Type 0
+Helps kind ended was is = ((text : List ℕ) × Tells text ended was is) ⊎ FailsWith (words_fault kind) ended was is
+
+-- THE PROGRAM'S RUN on these words: they were matched, and the command that they name was done; or they were not. The
+-- exit status is that of how it ended.
+pub record RunsOn (words : List (List ℕ)) (status : ℕ) (had has : Input) (was is : Output) : Type 0 where
+  pub ended : Result ℕ RunFault
+  pub ends : status ≡ exit_status ended
+  pub does : ((matches : ArgMatches) × AreMatchesOf words matches × Obeys matches ended had has was is)
+      ⊎ ((kind : ErrorKind) × Helps kind ended was is × (has ≡ had))

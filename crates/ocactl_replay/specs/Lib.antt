@@ -1,0 +1,5 @@
+pub mod Requests
+pub mod Printing
+pub mod Replaying
+pub mod PrivateRequests
+pub mod PrivateLines

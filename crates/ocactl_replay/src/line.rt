@@ -1,0 +1,139 @@
+//! The lines that are printed.
+ghost use Rattle.std.specs.Prelude.{◌≡◌, ◌+◌, ◌++◌, ◌≤◌, codes, length, decimal};
+ghost use Rattle.oca_script.specs.Fields.{hex_text};
+ghost use Rattle.oca_control.specs.Answers.{answer_fields};
+ghost use Rattle.oca_script.specs.Ends.{output};
+ghost use Rattle.oca_script.specs.Printing.{Prints};
+ghost use Rattle.ocactl_replay.specs.Printing.{refusal_text, submission_text, due_text, reception_text, answer_text};
+ghost use Rattle.ocactl_replay.specs.PrivateLines.{line_text, LineWithin};
+
+use oca_control::{Answer, ControlFault, Due, Reception};
+use oca_script::{Printer, Sink, WriteFailed};
+use oca_types::Handle;
+
+/// Room for a line.
+const LINE_ROOM: usize = 3000;
+
+/// A line that is printed: what a call of the link answered.
+#[derive(Clone, Copy)]
+pub enum Line<'a> {
+    /// What became of a command that was to be submitted.
+    Submission(Result<Handle, ControlFault>),
+    /// What was given out, with its bytes.
+    Due(Due, &'a [u8]),
+    /// What became of a datagram.
+    Reception(Reception),
+    /// An answer that was taken.
+    Answer(&'a Answer),
+    /// No answer was there to be taken.
+    NoAnswer,
+}
+
+/// Prints a line.
+pub fn print_line<W: Sink>(printer: &mut Printer<W>, line: Line<'_>) -> Result<(), WriteFailed>
+    requires { LineWithin line }
+    ensures { Prints result printer.old printer.new (line_text line.entry) }
+{
+    printer.make_room(LINE_ROOM)?;
+    put_line(printer, line);
+    Ok(())
+}
+
+/// Holds a line.
+fn put_line<W: Sink>(printer: &mut Printer<W>, line: Line<'_>)
+    requires bytes { LineWithin line }
+    requires room { length printer.old.held + 3000 ≤ 8192 }
+    ensures { printer.new ≡ output printer.old.contents (printer.old.held ++ line_text line.entry) printer.old.failed }
+{
+    match line {
+        Line::Submission(answer) => put_submission(printer, answer),
+        Line::Due(due, bytes) => put_due(printer, due, bytes),
+        Line::Reception(reception) => put_reception(printer, reception),
+        Line::Answer(answer) => put_answer(printer, answer),
+        Line::NoAnswer => printer.put(b"none\n"),
+    }
+}
+
+/// Why a command is not submitted.
+fn refusal(fault: ControlFault) -> &'static [u8]
+    ensures { result.now ≡ refusal_text fault }
+{
+    match fault {
+        ControlFault::Lost => b"refused 1 lost\n",
+        ControlFault::HandlesSpent => b"refused 2 handles-spent\n",
+        ControlFault::SpanFull => b"refused 3 span-full\n",
+        ControlFault::TooLong => b"refused 4 too-long\n",
+    }
+}
+
+/// Holds what became of a command that was to be submitted.
+fn put_submission<W: Sink>(printer: &mut Printer<W>, answer: Result<Handle, ControlFault>)
+    requires { length printer.old.held + 3000 ≤ 8192 }
+    ensures { printer.new ≡ output printer.old.contents (printer.old.held ++ submission_text answer) printer.old.failed }
+{
+    match answer {
+        Ok(handle) => {
+            printer.put(b"handle ");
+            printer.put_number(handle.0 as u64);
+            printer.put(b"\n");
+        }
+        Err(fault) => printer.put(refusal(fault)),
+    }
+}
+
+/// Holds what was given out.
+fn put_due<W: Sink>(printer: &mut Printer<W>, due: Due, bytes: &[u8])
+    requires few { length bytes.now ≤ 1472 }
+    requires room { length printer.old.held + 3000 ≤ 8192 }
+    ensures { printer.new ≡ output printer.old.contents (printer.old.held ++ due_text due bytes.now) printer.old.failed }
+{
+    match due {
+        Due::Send(_) => put_bytes(printer, b"send ", bytes),
+        Due::KeepAlive => put_bytes(printer, b"keep-alive ", bytes),
+        Due::Nothing => printer.put(b"nothing\n"),
+        Due::Lost => printer.put(b"lost\n"),
+    }
+}
+
+/// Holds a word, bytes in hexadecimal, and the end of the line.
+fn put_bytes<W: Sink>(printer: &mut Printer<W>, word: &[u8], bytes: &[u8])
+    requires short { length word.now ≤ 20 }
+    requires few { length bytes.now ≤ 1472 }
+    requires room { length printer.old.held + 3000 ≤ 8192 }
+    ensures { printer.new ≡ output printer.old.contents (printer.old.held ++ (word.now ++ hex_text bytes.now ++ codes "\n")) printer.old.failed }
+{
+    printer.put(word);
+    printer.put_hex(bytes);
+    printer.put(b"\n");
+}
+
+/// Holds what became of a datagram.
+fn put_reception<W: Sink>(printer: &mut Printer<W>, reception: Reception)
+    requires { length printer.old.held + 3000 ≤ 8192 }
+    ensures { printer.new ≡ output printer.old.contents (printer.old.held ++ reception_text reception) printer.old.failed }
+{
+    match reception {
+        Reception::Answered(count) => {
+            printer.put(b"answered ");
+            printer.put_number(count as u64);
+            printer.put(b"\n");
+        }
+        Reception::Stranger => printer.put(b"stranger\n"),
+        Reception::Malformed => printer.put(b"malformed\n"),
+        Reception::NothingNew => printer.put(b"nothing new\n"),
+    }
+}
+
+/// Holds an answer.
+fn put_answer<W: Sink>(printer: &mut Printer<W>, answer: &Answer)
+    requires { length printer.old.held + 3000 ≤ 8192 }
+    ensures { printer.new ≡ output printer.old.contents (printer.old.held ++ answer_text (answer_fields answer.now)) printer.old.failed }
+{
+    printer.put(b"answer ");
+    printer.put_number(answer.status as u64);
+    printer.put(b" ");
+    printer.put_number(answer.count as u64);
+    printer.put(b" ");
+    printer.put_hex(answer.params.as_slice());
+    printer.put(b"\n");
+}

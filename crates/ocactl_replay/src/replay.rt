@@ -1,0 +1,175 @@
+//! The replay of a script on a link.
+ghost use Rattle.std.specs.Prelude.{◌≡◌, IfSome};
+ghost use Rattle.oca_types.specs.Peers.{request_of};
+ghost use Rattle.oca_script.specs.Ends.{input};
+ghost use Rattle.oca_script.specs.Replaying.{NeverIdles, Outcome, Replays};
+ghost use Rattle.ocactl_replay.specs.Requests.{LinkCall, Submit as SubmitCall, Due as DueCall, Datagram as DatagramCall, Take as TakeCall, asked_call};
+ghost use Rattle.ocactl_replay.specs.Replaying.{Serves, ServesAndPrints};
+ghost use Rattle.ocactl_replay.specs.PrivateRequests.{call_in};
+
+use super::line::{Line, print_line};
+use super::request::{Call, PARAMS_ROOM, call_by};
+use oca_control::Link;
+use oca_script::lines::serve_lines;
+use oca_script::{Language, Printer, ReplayFault, Sink, Source, Stop, WriteFailed};
+use oca_types::{Handle, Packet, Peer, Request};
+
+/// The language of the controller's scripts: a line is a call of the link.
+pub struct LinkScript;
+
+/// Room for what the link gives out, and for the bytes of a field.
+#[derive(Drop)]
+pub struct LinkRoom {
+    packet: Packet,
+    bytes: [u8; PARAMS_ROOM],
+}
+
+impl LinkRoom {
+    /// Empty room.
+    pub fn new() -> LinkRoom {
+        LinkRoom {
+            packet: Packet::new(),
+            bytes: [0; PARAMS_ROOM],
+        }
+    }
+}
+
+impl Language for LinkScript {
+    type State = Link;
+
+    type Room = LinkRoom;
+
+    ghost Request = { LinkCall };
+
+    ghost asked = { asked_call };
+
+    ghost serves = { Serves };
+
+    /// Reads the call of the line, makes it, and prints what it returns.
+    fn serve_line<W: Sink>(
+        link: &mut Link,
+        room: &mut LinkRoom,
+        line: &[u8],
+        printer: &mut Printer<W>,
+    ) -> Result<(), Stop> {
+        match call_by(line, &mut room.bytes) {
+            Err(fault) => Err(Stop::Line(fault)),
+            Ok(call) => match serve(link, &mut room.packet, call, printer) {
+                Ok(()) => Ok(()),
+                Err(WriteFailed) => Err(Stop::Write),
+            },
+        }
+    }
+
+    /// Does nothing: no request is under way behind its line.
+    fn before_read<R: Source, W: Sink>(
+        _link: &mut Link,
+        _reader: &mut R,
+        _printer: &mut Printer<W>,
+    ) -> Result<(), WriteFailed> {
+        Ok(())
+    }
+}
+
+/// Calls the link, and prints what it returns.
+fn serve<W: Sink>(
+    link: &mut Link,
+    packet: &mut Packet,
+    call: Call<'_>,
+    printer: &mut Printer<W>,
+) -> Result<(), WriteFailed>
+    ensures { ServesAndPrints link.old (call_in call.entry) link.new result printer.old printer.new }
+{
+    match call {
+        Call::Submit { now, command } => submit(link, now, command, printer),
+        Call::Due { now } => due(link, packet, now, printer),
+        Call::Datagram { now, from, bytes } => datagram(link, now, from, bytes, printer),
+        Call::Take { handle } => take(link, handle, printer),
+    }
+}
+
+/// Submits a command, and prints its handle or why it is refused.
+fn submit<W: Sink>(
+    link: &mut Link,
+    now: u64,
+    command: Request<'_>,
+    printer: &mut Printer<W>,
+) -> Result<(), WriteFailed>
+    ensures { ServesAndPrints link.old (SubmitCall now (request_of command.entry)) link.new result printer.old printer.new }
+{
+    let answer = link.submit(
+        command.target,
+        command.method,
+        command.count,
+        command.params,
+        now,
+    );
+    print_line(printer, Line::Submission(answer))
+}
+
+/// Prints what is due.
+fn due<W: Sink>(
+    link: &mut Link,
+    packet: &mut Packet,
+    now: u64,
+    printer: &mut Printer<W>,
+) -> Result<(), WriteFailed>
+    ensures { ServesAndPrints link.old (DueCall now) link.new result printer.old printer.new }
+{
+    let due = link.due(now, packet);
+    print_line(printer, Line::Due(due, packet.as_slice()))
+}
+
+/// Hands a datagram to the link, and prints what became of it.
+fn datagram<W: Sink>(
+    link: &mut Link,
+    now: u64,
+    from: Peer,
+    bytes: &[u8],
+    printer: &mut Printer<W>,
+) -> Result<(), WriteFailed>
+    ensures { ServesAndPrints link.old (DatagramCall now from bytes.now) link.new result printer.old printer.new }
+{
+    let reception = link.datagram(from, bytes, now);
+    print_line(printer, Line::Reception(reception))
+}
+
+/// Takes an answer, and prints it.
+fn take<W: Sink>(
+    link: &mut Link,
+    handle: Handle,
+    printer: &mut Printer<W>,
+) -> Result<(), WriteFailed>
+    ensures { ServesAndPrints link.old (TakeCall handle.0) link.new result printer.old printer.new }
+{
+    match link.take(handle) {
+        Some(answer) => print_line(printer, Line::Answer(&answer)),
+        None => print_line(printer, Line::NoAnswer),
+    }
+}
+
+/// Replays the script that the source has to give on the link, and writes what that prints.
+///
+/// Moments N are in milliseconds. A line `N submit ONO LEVEL INDEX COUNT HEX` submits a command, and prints its handle or
+/// why it is refused; `N due` prints what is to be given out; `N from P HEX` is a datagram of the peer P, and prints what
+/// became of it; `take H` takes the answer under the handle H, and prints it. Faults: `Line` with the number of the first bad
+/// line, counted from 1; `TooMuch` beyond 16,777,216 bytes; `Read` and `Write` where a read or a write of ends that had not
+/// failed before failed in this call, and nowhere else. What the lines before printed is written in each case, as far as the
+/// writes went. (The script's form is the profile's.)
+pub fn replay<R: Source, W: Sink>(
+    link: &mut Link,
+    reader: &mut R,
+    printer: &mut Printer<W>,
+) -> Result<(), ReplayFault>
+    // Where the bytes that the source had are known, their script was replayed: each line is a call of the link, and its answer
+    // was printed.
+    ensures known { IfSome (R.remaining reader.old) (λ given.
+        Replays asked_call Serves NeverIdles link.old link.new printer.old printer.new result given) }
+    // Whatever source: there are bytes, those that it gave where it tells them, and the rest of what it had, and their script was
+    // replayed.
+    ensures reads { Outcome asked_call Serves NeverIdles link.old link.new printer.old printer.new
+        (input (R.remaining reader.old) (R.failed reader.old)) (input (R.remaining reader.new) (R.failed reader.new)) result }
+{
+    let mut room = LinkRoom::new();
+    serve_lines::<LinkScript, R, W>(link, &mut room, reader, printer)
+}

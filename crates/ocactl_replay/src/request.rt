@@ -1,0 +1,238 @@
+//! What a line of a script asks the link for.
+ghost use Rattle.std.specs.Prelude.{◌≡◌, ◌≤◌, ◌*◌, IfSome, length};
+ghost use Rattle.std.specs.Option.{option_copied};
+ghost use Rattle.oca_script.specs.Fields.{fields, fields_after};
+ghost use Rattle.ocactl_replay.specs.Requests.{one_text, two_texts, command_texts, command_of, submit_of, due_of, datagram_of, from_of, take_of, timed_of, asked_call, asked_command};
+ghost use Rattle.ocactl_replay.specs.PrivateRequests.{text_given, pair_given, texts_in, texts_given, request_asked, call_asked};
+
+use oca_program::field::{moment, u8_in, u16_in, u32_in};
+use oca_script::LineFault;
+use oca_script::field::{first_field, hex_bytes, peer};
+use oca_types::{Handle, MethodId, Ono, Peer, Request};
+
+/// Room for the bytes of a field.
+pub const PARAMS_ROOM: usize = 2048;
+
+/// What a line asks for. Moments are in milliseconds.
+#[derive(Clone, Copy)]
+pub enum Call<'a> {
+    Submit {
+        now: u64,
+        command: Request<'a>,
+    },
+    Due {
+        now: u64,
+    },
+    Datagram {
+        now: u64,
+        from: Peer,
+        bytes: &'a [u8],
+    },
+    Take {
+        handle: Handle,
+    },
+}
+
+/// The fields of a command.
+#[derive(Clone, Copy)]
+pub struct Texts<'a> {
+    pub target: &'a [u8],
+    pub level: &'a [u8],
+    pub index: &'a [u8],
+    pub count: &'a [u8],
+    pub params: &'a [u8],
+}
+
+/// The one field that is left.
+fn one_field(rest: Option<&[u8]>) -> Option<&[u8]>
+    ensures { text_given result ≡ one_text (fields_after (option_copied rest.entry)) }
+{
+    let (text, rest) = first_field(rest?);
+    match rest {
+        None => Some(text),
+        Some(_) => None,
+    }
+}
+
+/// The two fields that are left.
+fn two_fields(rest: Option<&[u8]>) -> Option<(&[u8], &[u8])>
+    ensures value { pair_given result ≡ two_texts (fields_after (option_copied rest.entry)) }
+    ensures within { IfSome result (λ p. IfSome rest.entry (λ text. length p.1.now ≤ length text.now)) }
+{
+    let (first, rest) = first_field(rest?);
+    let (second, rest) = first_field(rest?);
+    match rest {
+        None => Some((first, second)),
+        Some(_) => None,
+    }
+}
+
+/// The five fields of a command that are left.
+fn command_fields(rest: Option<&[u8]>) -> Option<Texts<'_>>
+    ensures value { texts_given result ≡ command_texts (fields_after (option_copied rest.entry)) }
+    ensures within { IfSome result (λ t. IfSome rest.entry (λ text. length t.params.now ≤ length text.now)) }
+{
+    let (target, rest) = first_field(rest?);
+    let (level, rest) = first_field(rest?);
+    let (index, rest) = first_field(rest?);
+    let (count, rest) = first_field(rest?);
+    let (params, rest) = first_field(rest?);
+    match rest {
+        None => Some(Texts {
+            target,
+            level,
+            index,
+            count,
+            params,
+        }),
+        Some(_) => None,
+    }
+}
+
+/// The command of these fields. The bytes of its parameters are put into `room`.
+#[tactic(auto, unfolding(crate::specs::Requests::command_of))]
+fn command_in<'a>(texts: Texts<'_>, room: &'a mut [u8]) -> Result<Request<'a>, LineFault>
+    requires { length texts.params.now ≤ 2 * length room.old }
+    ensures { request_asked result ≡ command_of (texts_in texts.entry) }
+{
+    let target = u32_in(texts.target)?;
+    let level = u16_in(texts.level)?;
+    let index = u16_in(texts.index)?;
+    let count = u8_in(texts.count)?;
+    let Some(params) = hex_bytes(texts.params, room) else {
+        return Err(LineFault::Hex);
+    };
+    Ok(Request {
+        target: Ono(target),
+        method: MethodId { level, index },
+        count,
+        params,
+    })
+}
+
+/// A command that is submitted: its moment, and the fields after the keyword.
+fn submit<'a>(
+    now: &[u8],
+    rest: Option<&[u8]>,
+    room: &'a mut [u8; PARAMS_ROOM],
+) -> Result<Call<'a>, LineFault>
+    requires { IfSome rest (λ text. length text.now ≤ 4096) }
+    ensures { call_asked result ≡ submit_of now.now (fields_after (option_copied rest.entry)) }
+{
+    let Some(texts) = command_fields(rest) else {
+        return Err(LineFault::Form);
+    };
+    let now = moment(now)?;
+    match command_in(texts, room) {
+        Ok(command) => Ok(Call::Submit { now, command }),
+        Err(fault) => Err(fault),
+    }
+}
+
+/// A moment at which what is due is given out.
+fn due<'a>(now: &[u8], rest: Option<&[u8]>) -> Result<Call<'a>, LineFault>
+    ensures { call_asked result ≡ due_of now.now (fields_after (option_copied rest.entry)) }
+{
+    match rest {
+        Some(_) => Err(LineFault::Form),
+        None => Ok(Call::Due { now: moment(now)? }),
+    }
+}
+
+/// A datagram: its moment, its sender and its bytes.
+#[tactic(auto, unfolding(crate::specs::Requests::datagram_of))]
+fn datagram<'a>(
+    now: &[u8],
+    sender: &[u8],
+    text: &[u8],
+    room: &'a mut [u8],
+) -> Result<Call<'a>, LineFault>
+    requires { length text.now ≤ 2 * length room.old }
+    ensures { call_asked result ≡ datagram_of now.now (sender.now, text.now) }
+{
+    let now = moment(now)?;
+    let from = peer(sender).ok_or(LineFault::Peer)?;
+    let Some(bytes) = hex_bytes(text, room) else {
+        return Err(LineFault::Hex);
+    };
+    Ok(Call::Datagram { now, from, bytes })
+}
+
+/// A datagram that came: its moment, and the fields after the keyword.
+fn from<'a>(
+    now: &[u8],
+    rest: Option<&[u8]>,
+    room: &'a mut [u8; PARAMS_ROOM],
+) -> Result<Call<'a>, LineFault>
+    requires { IfSome rest (λ text. length text.now ≤ 4096) }
+    ensures { call_asked result ≡ from_of now.now (fields_after (option_copied rest.entry)) }
+{
+    let Some((sender, text)) = two_fields(rest) else {
+        return Err(LineFault::Form);
+    };
+    datagram(now, sender, text, room)
+}
+
+/// The handle whose answer is taken.
+fn take<'a>(rest: Option<&[u8]>) -> Result<Call<'a>, LineFault>
+    ensures { call_asked result ≡ take_of (fields_after (option_copied rest.entry)) }
+{
+    let Some(text) = one_field(rest) else {
+        return Err(LineFault::Form);
+    };
+    let handle = u32_in(text)?;
+    Ok(Call::Take {
+        handle: Handle(handle),
+    })
+}
+
+/// What a line asks for that begins with a moment.
+fn timed<'a>(
+    now: &[u8],
+    rest: Option<&[u8]>,
+    room: &'a mut [u8; PARAMS_ROOM],
+) -> Result<Call<'a>, LineFault>
+    requires { IfSome rest (λ text. length text.now ≤ 4096) }
+    ensures { call_asked result ≡ timed_of now.now (fields_after (option_copied rest.entry)) }
+{
+    let Some(rest) = rest else {
+        return Err(LineFault::Form);
+    };
+    let (word, rest) = first_field(rest);
+    if word == b"submit".as_slice() {
+        return submit(now, rest, room);
+    }
+    if word == b"due".as_slice() {
+        return due(now, rest);
+    }
+    if word == b"from".as_slice() {
+        return from(now, rest, room);
+    }
+    Err(LineFault::Form)
+}
+
+/// What the fields of the line ask for. Bytes are put into `room`.
+pub fn call_by<'a>(line: &[u8], room: &'a mut [u8; PARAMS_ROOM]) -> Result<Call<'a>, LineFault>
+    requires { length line.now ≤ 4096 }
+    ensures { call_asked result ≡ asked_call (fields line.now) }
+{
+    let (first, rest) = first_field(line);
+    if first == b"take".as_slice() {
+        return take(rest);
+    }
+    timed(first, rest, room)
+}
+
+/// What the fields of the line of a command ask for. The bytes of its parameters are put into `room`.
+pub fn command_by<'a>(
+    line: &[u8],
+    room: &'a mut [u8; PARAMS_ROOM],
+) -> Result<Request<'a>, LineFault>
+    requires { length line.now ≤ 4096 }
+    ensures { request_asked result ≡ asked_command (fields line.now) }
+{
+    let Some(texts) = command_fields(Some(line)) else {
+        return Err(LineFault::Form);
+    };
+    command_in(texts, room)
+}

@@ -1,0 +1,4 @@
+pub mod Requests
+pub mod Printing
+pub mod Replaying
+pub mod PrivateRequests

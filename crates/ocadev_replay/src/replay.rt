@@ -1,0 +1,146 @@
+//! The replay of a script on a device.
+ghost use Rattle.std.specs.Prelude.{◌≡◌, ℕ, List, [], IfSome, OnOk, false};
+ghost use Rattle.oca_types.specs.Sizes.{DeviceSizes};
+ghost use Rattle.oca_tree.specs.declared.object.Object.{Object};
+ghost use Rattle.oca_device.specs.Devices.{Represents};
+ghost use Rattle.oca_device.specs.Events.{Event, Datagram as DatagramEvent};
+ghost use Rattle.oca_script.specs.Ends.{input};
+ghost use Rattle.oca_script.specs.Replaying.{Awaited, NeverIdles};
+ghost use Rattle.ocadev_replay.specs.Requests.{asked_event};
+ghost use Rattle.ocadev_replay.specs.Replaying.{Serves, ServesAndPrints, Outcome, Replays};
+ghost use Rattle.ocadev_replay.specs.PrivateRequests.{event_of};
+
+use super::answer::{print_packets, print_verdict};
+use super::request::{DATAGRAM_ROOM, ScriptEvent, asked_by};
+use oca_device::{Device, Outbox};
+use oca_script::lines::serve_lines;
+use oca_script::{Language, Printer, ReplayFault, Sink, Source, Stop, WriteFailed};
+use oca_types::Peer;
+
+/// The language of the device's scripts, in which a line is a datagram or a clock reading, and the room for serving
+/// one.
+pub struct DeviceScript<'a> {
+    outbox: &'a mut Outbox,
+    bytes: [u8; DATAGRAM_ROOM],
+}
+
+impl Drop for DeviceScript<'_> {
+    /// Lets the outbox and the room go.
+    fn drop(self) {
+        let DeviceScript {
+            outbox: _,
+            bytes: _,
+        } = self;
+    }
+}
+
+impl<'a> Language for DeviceScript<'a> {
+    type State = Device;
+
+    type Room = DeviceScript<'a>;
+
+    ghost Request = { Event };
+
+    ghost asked = { asked_event };
+
+    ghost serves = { Serves };
+
+    /// Reads what the line asks for, serves it, and prints what that gives.
+    fn serve_line<W: Sink>(
+        device: &mut Device,
+        room: &mut DeviceScript<'a>,
+        line: &[u8],
+        printer: &mut Printer<W>,
+    ) -> Result<(), Stop> {
+        match asked_by(line, &mut room.bytes) {
+            Err(fault) => Err(Stop::Line(fault)),
+            Ok(request) => match serve(device, room.outbox, request, printer) {
+                Ok(()) => Ok(()),
+                Err(WriteFailed) => Err(Stop::Write),
+            },
+        }
+    }
+
+    /// Does nothing: no request is under way behind its line.
+    fn before_read<R: Source, W: Sink>(
+        _device: &mut Device,
+        _reader: &mut R,
+        _printer: &mut Printer<W>,
+    ) -> Result<(), WriteFailed>
+        requires { _printer.old.held ≡ [] }
+        ensures awaited { Awaited NeverIdles _device.old _device.new result _printer.old _printer.new }
+        ensures empty { OnOk result (_printer.new.held ≡ []) }
+        ensures source { input (R.remaining _reader.new) (R.failed _reader.new) ≡ input (R.remaining _reader.old) (R.failed _reader.old) }
+        ensures rests { OnOk result (R.ready _reader.new ≡ false → Unit {0}) }
+    {
+        Ok(())
+    }
+}
+
+/// Serves a request, and prints what that gives.
+fn serve<W: Sink>(
+    device: &mut Device,
+    outbox: &mut Outbox,
+    request: ScriptEvent<'_>,
+    printer: &mut Printer<W>,
+) -> Result<(), WriteFailed>
+    ensures { ServesAndPrints device.old (event_of request.entry) device.new result printer.old printer.new }
+{
+    match request {
+        ScriptEvent::Tick { now } => {
+            device.tick(now);
+            printer.print(b"quiet\n")
+        }
+        ScriptEvent::Datagram { now, from, bytes } => {
+            datagram(device, outbox, from, bytes, now, printer)
+        }
+    }
+}
+
+/// Hands a datagram to the device, and prints what became of it and the packets that answer it.
+fn datagram<W: Sink>(
+    device: &mut Device,
+    outbox: &mut Outbox,
+    from: Peer,
+    bytes: &[u8],
+    now: u64,
+    printer: &mut Printer<W>,
+) -> Result<(), WriteFailed>
+    ensures { ServesAndPrints device.old (DatagramEvent from bytes.now now) device.new result printer.old printer.new }
+{
+    outbox.clear();
+    let verdict = device.datagram(from, bytes, now, outbox);
+    print_verdict(verdict, printer)?;
+    print_packets(outbox, printer)
+}
+
+/// Replays the script that the source has to give on the device, and writes what that prints, after what the printer
+/// held.
+///
+/// A line `N P HEX` is a datagram of the peer P at the moment N in milliseconds, and a line `N quiet` a clock reading.
+/// The outbox is emptied before each datagram, and what it held at first does not matter. Faults: `Line` with the
+/// number of the first bad line, counted from 1; `TooMuch` beyond 16,777,216 bytes; `Read` and `Write` where a read or
+/// a write of ends that had not failed before failed in this call, and nowhere else. What the lines before printed is
+/// written in each case, as far as the writes went. Takes no memory. (The script's form is the profile's.)
+pub fn replay<R: Source, W: Sink>(
+    device: &mut Device,
+    outbox: &mut Outbox,
+    reader: &mut R,
+    printer: &mut Printer<W>,
+) -> Result<(), ReplayFault>
+    // Where the bytes that the source had are known, their script was replayed, from whatever the device represented.
+    ensures known { (w : DeviceSizes) (tree : List Object) (events : List Event) → Represents w device.old tree events →
+        IfSome (R.remaining reader.old) (λ given.
+        Replays w tree events device.new printer.old printer.new result given) }
+    // Whatever source: there are bytes, those that it gave where it tells them, and the rest of what it had, and their
+    // script was replayed.
+    ensures reads { (w : DeviceSizes) (tree : List Object) (events : List Event) → Represents w device.old tree events →
+        Outcome w tree events device.new printer.old printer.new
+        (input (R.remaining reader.old) (R.failed reader.old)) (input (R.remaining reader.new) (R.failed reader.new)) result }
+{
+    let mut room = DeviceScript {
+        outbox,
+        bytes: [0; DATAGRAM_ROOM],
+    };
+    serve_lines::<DeviceScript<'_>, R, W>(device, &mut room, reader, printer)
+}

@@ -1,0 +1,174 @@
+//! What a line of a script asks the device for.
+ghost use Rattle.std.specs.Prelude.{◌≡◌, ℕ, ◌≤◌, ◌*◌, IfSome, length, None, Err};
+ghost use Rattle.oca_types.specs.declared.words.Peer.{Peer as PeerFields};
+ghost use Rattle.oca_script.specs.Fields.{fields, hex_of};
+ghost use Rattle.oca_script.specs.Script.{longest_line};
+ghost use Rattle.ocadev_replay.specs.Requests.{is_quiet as quiet_word, tick_of, datagram_of, asked_event};
+ghost use Rattle.ocadev_replay.specs.PrivateRequests.{AreFields, FieldsWithin, begun, moment_and_peer_of, datagram_after, event_asked};
+
+use oca_program::field::moment;
+use oca_script::LineFault;
+use oca_script::field::{first_field, hex_bytes, number_before, peer, peer_before, split_at_byte};
+use oca_types::Peer;
+
+/// Room for the bytes of a datagram in a script.
+pub const DATAGRAM_ROOM: usize = 2048;
+
+/// What a line asks for.
+#[derive(Clone, Copy)]
+pub enum ScriptEvent<'a> {
+    Tick {
+        now: u64,
+    },
+    Datagram {
+        now: u64,
+        from: Peer,
+        bytes: &'a [u8],
+    },
+}
+
+/// The fields of a line, where there are two or three.
+#[derive(Clone, Copy)]
+pub enum Fields<'a> {
+    Two(&'a [u8], &'a [u8]),
+    Three(&'a [u8], &'a [u8], &'a [u8]),
+    Other,
+}
+
+/// The fields of a line.
+fn fields_of(line: &[u8]) -> Fields<'_>
+    ensures value { AreFields result (fields line.now) }
+    ensures within { FieldsWithin result (length line.now) }
+{
+    let (first, rest) = first_field(line);
+    let Some(rest) = rest else {
+        return Fields::Other;
+    };
+    let (second, rest) = first_field(rest);
+    let Some(rest) = rest else {
+        return Fields::Two(first, second);
+    };
+    let (third, rest) = first_field(rest);
+    match rest {
+        None => Fields::Three(first, second, third),
+        Some(_) => Fields::Other,
+    }
+}
+
+/// Whether the word is `quiet`, which makes a line a clock reading.
+fn is_quiet(word: &[u8]) -> bool
+    ensures { result ≡ quiet_word word.now }
+{
+    word == b"quiet".as_slice()
+}
+
+/// A clock reading at this moment.
+#[tactic(auto, unfolding(crate::specs::Requests::tick_of))]
+fn tick<'a>(now: &[u8]) -> Result<ScriptEvent<'a>, LineFault>
+    ensures { event_asked result ≡ tick_of now.now }
+{
+    let now = moment(now)?;
+    Ok(ScriptEvent::Tick { now })
+}
+
+/// A datagram: its moment, its sender and its bytes, looked at in this order.
+#[tactic(auto, unfolding(crate::specs::Requests::datagram_of))]
+fn datagram<'a>(
+    now: &[u8],
+    sender: &[u8],
+    text: &[u8],
+    room: &'a mut [u8],
+) -> Result<ScriptEvent<'a>, LineFault>
+    requires { length text.now ≤ 2 * length room.old }
+    ensures { event_asked result ≡ datagram_of now.now sender.now text.now }
+{
+    let now = moment(now)?;
+    let from = peer(sender).ok_or(LineFault::Peer)?;
+    let Some(bytes) = hex_bytes(text, room) else {
+        return Err(LineFault::Hex);
+    };
+    Ok(ScriptEvent::Datagram { now, from, bytes })
+}
+
+/// The moment and the peer of a datagram's line, and what stands after them, read in one pass. `None` where the line
+/// does not begin with both, each before a space.
+fn moment_and_peer(line: &[u8]) -> Option<(u64, Peer, &[u8])>
+    ensures read { begun result ≡ moment_and_peer_of line.now }
+    ensures value { IfSome result (λ p. asked_event (fields line.now) ≡ datagram_after p.0 p.1 (fields p.2.now)) }
+    ensures within { IfSome result (λ p. length p.2.now ≤ length line.now) }
+{
+    let (now, rest) = number_before(line, b' ', 20, u64::MAX)?;
+    let (from, rest) = peer_before(rest)?;
+    Some((now, from, rest))
+}
+
+/// The datagram of which the moment and the peer are read: its bytes are the one field that is left. Bytes that can be
+/// read are one field, so only a line with a fault is searched for a space.
+fn bytes_after<'a>(
+    now: u64,
+    from: Peer,
+    rest: &[u8],
+    room: &'a mut [u8],
+) -> Result<ScriptEvent<'a>, LineFault>
+    requires { length rest.now ≤ 2 * length room.old }
+    ensures { event_asked result ≡ datagram_after now from (fields rest.now) }
+{
+    match hex_bytes(rest, room) {
+        Some(bytes) => Ok(ScriptEvent::Datagram { now, from, bytes }),
+        None => Err(fault_after_peer(rest)),
+    }
+}
+
+/// The fault of what follows the peer, where that is not one field of bytes.
+#[tactic(auto, using(crate::proofs::RequestLemmas::left_rules))]
+fn fault_after_peer(rest: &[u8]) -> LineFault
+    requires { hex_of rest.now ≡ None }
+    ensures { (now : ℕ) (from : PeerFields) → datagram_after now from (fields rest.now) ≡ Err result }
+{
+    match split_at_byte(rest, b' ') {
+        Some(_) => LineFault::Form,
+        None => LineFault::Hex,
+    }
+}
+
+/// What the fields of the line ask for. The bytes of a datagram are put into `room`.
+pub fn asked_by<'a>(
+    line: &[u8],
+    room: &'a mut [u8; DATAGRAM_ROOM],
+) -> Result<ScriptEvent<'a>, LineFault>
+    requires { length line.now ≤ longest_line }
+    ensures { event_asked result ≡ asked_event (fields line.now) }
+{
+    match moment_and_peer(line) {
+        Some((now, from, rest)) => bytes_after(now, from, rest, room),
+        None => asked_by_fields(line, room),
+    }
+}
+
+/// The same field by field, for clock readings and for lines with a fault.
+#[inline(never)]
+fn asked_by_fields<'a>(
+    line: &[u8],
+    room: &'a mut [u8; DATAGRAM_ROOM],
+) -> Result<ScriptEvent<'a>, LineFault>
+    requires { length line.now ≤ longest_line }
+    ensures { event_asked result ≡ asked_event (fields line.now) }
+{
+    match fields_of(line) {
+        Fields::Two(now, second) => {
+            if is_quiet(second) {
+                tick(now)
+            } else {
+                Err(LineFault::Form)
+            }
+        }
+        Fields::Three(now, second, third) => {
+            if is_quiet(second) {
+                Err(LineFault::Form)
+            } else {
+                datagram(now, second, third, room)
+            }
+        }
+        Fields::Other => Err(LineFault::Form),
+    }
+}
