@@ -450,6 +450,25 @@ static void hostile(void) {
     oca_panel_close(&panel);
 }
 
+/* The number of each class, by the fields of its identifier, and those that are none. */
+static void classes(void) {
+    static struct network network;
+    static const uint8_t fields[][7] = {{3, 1, 1, 3}, {4, 1, 1, 1, 2}, {4, 1, 1, 1, 3}, {4, 1, 1, 1, 4}, {5, 1, 1, 1, 1, 1}, {5, 1, 1, 1, 1, 2}, {5, 1, 1, 1, 1, 3},
+        {5, 1, 1, 1, 1, 4}, {5, 1, 1, 1, 1, 5}, {5, 1, 1, 1, 1, 6}, {5, 1, 1, 1, 1, 7}, {5, 1, 1, 1, 1, 8}, {5, 1, 1, 1, 1, 9},
+        {0}, {2, 1, 1}, {3, 1, 1, 2}, {3, 1, 1, 4}, {4, 1, 1, 1, 1}, {4, 1, 1, 1, 5}, {4, 1, 1, 3, 1}, {5, 1, 1, 1, 1, 0}, {5, 1, 1, 1, 1, 10}, {5, 1, 1, 1, 2, 1},
+        {5, 1, 2, 1, 1, 1}, {6, 1, 1, 1, 1, 1, 1}};
+    struct oca_panel panel = OCA_PANEL_INIT;
+    struct oca_class_id id = {0, {0}, 0};
+    begins_network(&network, &panel);
+    for (uint32_t k = 0; k < sizeof fields / sizeof *fields; k++) {
+        uint8_t bytes[20] = {0, fields[k][0]};
+        for (uint32_t i = 0; i < fields[k][0]; i++) bytes[3 + 2 * i] = fields[k][i + 1];
+        answer_is(&network, 1, bytes, 4 + 2 * (uint32_t)fields[k][0]);
+        same("class", oca_panel_class(&panel, 4097, &id).asked == OCA_ASKED_DONE && id.class_number == (k < 13 ? k + 1 : 0) && id.count == fields[k][0], 1);
+    }
+    oca_panel_close(&panel);
+}
+
 /* No answer in time, and one that comes after all; a program that stood still; a socket of another size. */
 static void waits(void) {
     static struct network network;
@@ -547,6 +566,7 @@ int main(int count, char **words) {
     for (uint32_t seed = 0; seed < 20; seed++) at_device(seed, 20, 20, 30);
     walks_all();
     hostile();
+    classes();
     waits();
     printf("%d passed, %d failed\n", passed, failed);
     return failed != 0;
