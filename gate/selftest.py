@@ -30,6 +30,7 @@ CASES = [
     ("a step that crashes", "1 1 python3 -c 'raise SystemError'", False, "0 passed, 1 failed"),
     ("a step that is killed", "1 1 kill -9 $$", False, "0 passed, 1 failed"),
     ("a step that prints more behind its count", "3 1 echo '3 passed, 0 failed'; echo 'and died'", False, "1 passed, 1 failed"),
+    ("a step whose last line has a count and more", "3 1 echo 'of 3 passed, 0 failed: crashed'", False, "1 passed, 1 failed"),
     ("a step that hangs", "1 0.01 sleep 600", False, "0 passed, 1 failed"),
     ("a step that hangs behind a good count", "3 0.02 echo '3 passed, 0 failed'; sleep 600", False, "0 passed, 1 failed"),
     ("a command that is not there", "1 1 ./no-such-command", False, "0 passed, 1 failed"),

@@ -4,4 +4,5 @@ pub mod Commands
 pub mod Totals
 pub mod Makings
 pub mod Keeping
+pub mod Telling
 pub mod Runs

@@ -15,6 +15,7 @@ use oca_tree::Tree;
 use std::alloc::Global;
 use std::fs::OpenFile;
 use std::io::ErrorKind;
+use std::path::Path;
 use std::rt::Files;
 use std::{fs, io};
 
@@ -141,11 +142,22 @@ impl<'a, L: Files> Keeping<'a, L> {
     }
 }
 
-/// Writes the objects to a new file, which is then on the disk, and puts it in the place of the old one.
+/// Writes the objects to a new file, which is then on the disk, puts it in the place of the old one, and brings the
+/// folder to the disk, where the system lets it: the file is kept whether or not it does.
 fn write_over<F: Files>(files: &F, tree: &Tree, fresh: &str, path: &str) -> io::Result<()> {
     write_new(files, tree, fresh)?;
     sync(files, fresh)?;
-    fs::rename(files, fresh, path)
+    fs::rename(files, fresh, path)?;
+    let _ = sync(files, folder_of(path));
+    Ok(())
+}
+
+/// The folder in which a file stands.
+fn folder_of(path: &str) -> &str {
+    match Path::new(path).parent() {
+        Some(folder) if !folder.as_str().is_empty() => folder.as_str(),
+        _ => ".",
+    }
 }
 
 /// Writes the objects to a new file.
@@ -157,7 +169,7 @@ fn write_new<F: Files>(files: &F, tree: &Tree, path: &str) -> io::Result<()> {
     }
 }
 
-/// Waits until a file is on the disk.
+/// Waits until a file, or a folder, is on the disk.
 fn sync<F: Files>(files: &F, path: &str) -> io::Result<()> {
     fs::open(files, path)?.sync_all()
 }

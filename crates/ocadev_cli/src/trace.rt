@@ -1,16 +1,18 @@
 //! What is told of each datagram.
 use super::report::{print_count, print_peer};
+use super::told::{keep_statuses, print_deeds};
 use oca_device::Report;
 use oca_net::{End, Heard};
 use oca_pdu::check;
 use oca_script::{Printer, Sink, WriteFailed};
 use oca_types::{Ono, Packet, Peer};
 
-/// An end that remembers what it heard last.
+/// An end that remembers what it heard last, and the statuses of the responses that it was handed behind it.
 pub struct Watched<E> {
     pub end: E,
     heard: Heard,
     packet: Packet,
+    statuses: Packet,
 }
 
 impl<E: Drop> Drop for Watched<E> {
@@ -20,6 +22,7 @@ impl<E: Drop> Drop for Watched<E> {
             end: _,
             heard: _,
             packet: _,
+            statuses: _,
         } = self;
     }
 }
@@ -35,6 +38,7 @@ impl<E: End> Watched<E> {
             end,
             heard: Heard::Closed,
             packet: Packet::new(),
+            statuses: Packet::new(),
         }
     }
 }
@@ -47,6 +51,7 @@ impl<E: End> End for Watched<E> {
         let heard = self.end.receive(packet);
         self.heard = heard;
         self.packet.clear();
+        self.statuses.clear();
         let _ = self.packet.try_extend_from_slice(packet.as_slice());
         heard
     }
@@ -56,14 +61,15 @@ impl<E: End> End for Watched<E> {
         self.end.now()
     }
 
-    /// Sends as the end does.
+    /// Sends as the end does, and remembers the statuses of the responses.
     fn send(&mut self, to: Peer, bytes: &[u8]) -> bool {
+        keep_statuses(&mut self.statuses, bytes);
         self.end.send(to, bytes)
     }
 }
 
 /// Prints a line for the datagram of a turn, where one came: its sender, what became of it, the objects that it wrote
-/// to, and how many answers could not be sent.
+/// to, how many answers could not be sent, and what its commands locked, unlocked and were refused.
 pub fn print_turn<E: End, F: Sink>(
     watched: &Watched<E>,
     turn: &Report,
@@ -78,6 +84,12 @@ pub fn print_turn<E: End, F: Sink>(
             if turn.failed_sends != 0 {
                 print_count(b" failed-sends ", turn.failed_sends, faults)?;
             }
+            print_deeds(
+                turn,
+                watched.packet.as_slice(),
+                watched.statuses.as_slice(),
+                faults,
+            )?;
         }
         Heard::Oversize { .. } => faults.print(b"oversize")?,
         _ => return Ok(()),

@@ -164,7 +164,7 @@ fn with_verbose<'a>(command: Command<'a>, alloc: Global) -> Result<Command<'a>, 
     let verbose = Arg::new(alloc, "verbose")
         .long("verbose")
         .help(
-            "Prints a line for each datagram on standard error: its sender, what became of it, and the objects it wrote to",
+            "Prints a line for each datagram on standard error: its sender, what became of it, the objects it wrote to, and what was locked, unlocked and refused",
         )
         .action(ArgAction::SetTrue);
     command.arg(verbose)
