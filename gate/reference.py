@@ -15,7 +15,9 @@ CALL = r"^(?:static inline )?(?:(?:enum|struct) oca_\w+|const char|u?int\d+_t|si
 
 # On each page anyway; and what the header's own functions call, which has no page.
 NAMED_ANYWAY = ("struct oca_device", "struct oca_link", "enum oca_result")
-HELPERS = {"oca_device_close_any", "oca_link_close_any"}
+HELPERS = {"oca_device_close_any", "oca_link_close_any", "oca_outcome_of", "oca_panel_give_out", "oca_panel_refused", "oca_panel_text",
+           "oca_reader_of", "oca_reader_take", "oca_reader_end", "oca_reader_name", "oca_reader_class", "oca_scalar_size", "oca_class_with",
+           "oca_walk_put"}
 
 
 def comment_in(text):

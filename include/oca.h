@@ -38,7 +38,7 @@ extern "C" {
 
 /* The version of this header: 65,536 for each major one, 256 for each minor one, 1 for each patch. A library of the same major
  * version and at least this minor one keeps what this header says. */
-#define OCA_VERSION 0x010300u
+#define OCA_VERSION 0x010400u
 uint32_t oca_version(void);
 
 enum oca_result {
@@ -416,6 +416,411 @@ enum oca_result oca_link_is_late(struct oca_link *link, uint64_t now, bool *late
 
 /* Takes the answer to a command: its status and ParamCount, and its parameters. `out` has room for 1,452 bytes. */
 enum oca_result oca_link_take(struct oca_link *link, uint32_t handle, uint32_t *status, uint32_t *count, uint8_t *out, size_t out_len, size_t *len) OCA_NONNULL;
+
+/* ---- the panel ---- */
+
+/* The caller's socket, by which a panel reaches its device: the size of the struct first, what the three functions are handed, and they.
+ * `now` reads the clock. `send` hands a datagram to the device; what is not sent is as if lost. `receive` waits for a datagram until that
+ * moment at most, puts it into room for `out_len` bytes with its length and its sender, and answers whether there was one: one that is
+ * longer than the room has that length or more, and is dropped. It may answer sooner that there is none. */
+struct oca_end {
+    size_t size;
+    void *context;
+    uint64_t (*now)(void *context);
+    void (*send)(void *context, const uint8_t *bytes, size_t len);
+    bool (*receive)(void *context, uint64_t until, uint8_t *out, size_t out_len, size_t *len, uint32_t *ip, uint16_t *port);
+};
+
+/* A panel: a link to one device, driven over the caller's socket. A closed one: struct oca_panel panel = OCA_PANEL_INIT; */
+struct oca_panel { struct oca_link link; struct oca_end end; uint32_t turns; };
+#define OCA_PANEL_INIT {OCA_LINK_INIT, {0, NULL, NULL, NULL, NULL}, 0}
+
+/* What became of what was asked. OCA_ASKED_DONE: the device did it. OCA_ASKED_REFUSED: it refused, with a status of enum oca_status.
+ * OCA_ASKED_UNREADABLE: its answer is none to what was asked. OCA_ASKED_NO_VALUE: nothing of the object's class can be asked so, or there
+ * is no such value; it was not sent. OCA_ASKED_NOT_SENT: the link did not take it, with a result of enum oca_result. OCA_ASKED_LOST and
+ * OCA_ASKED_LATE: the link is lost, or stood still too long, and sends nothing any more: it may have been carried out, or not, and a new
+ * panel is to be opened. OCA_ASKED_UNANSWERED: no answer came in the panel's turns; it stays in flight. */
+enum oca_asked {
+    OCA_ASKED_DONE = 0, OCA_ASKED_REFUSED = 1, OCA_ASKED_UNREADABLE = 2, OCA_ASKED_NO_VALUE = 3, OCA_ASKED_NOT_SENT = 4, OCA_ASKED_LOST = 5,
+    OCA_ASKED_LATE = 6, OCA_ASKED_UNANSWERED = 7
+};
+struct oca_outcome { uint32_t asked, status, result; };
+
+/* An outcome in words, for a log: the name of a status, why it was not sent, or what else became of it. */
+static inline const char *oca_outcome_text(struct oca_outcome outcome) {
+    static const char *const texts[] = {"done", "a status of a later version", "unreadable answer", "no value", "not sent", "lost", "late", "no answer"};
+    if (outcome.asked == OCA_ASKED_REFUSED && oca_status_text(outcome.status)) return oca_status_text(outcome.status);
+    if (outcome.asked == OCA_ASKED_NOT_SENT) return oca_result_text(outcome.result);
+    return outcome.asked < sizeof texts / sizeof *texts ? texts[outcome.asked] : "an outcome of a later version";
+}
+static inline struct oca_outcome oca_outcome_of(uint32_t asked, uint32_t status, uint32_t result) {
+    struct oca_outcome outcome = {asked, status, result};
+    return outcome;
+}
+
+/* Opens a panel for the device at this address, over a socket of the caller's, which is copied. Its first command gets this handle: on a
+ * port that the device heard before, one above all that were used there in the last two minutes. The span is that of oca_link_open. A
+ * command waits for its answer for so many turns, of at most 50 ms each; where a device is silent the link is lost after some 5 seconds.
+ * OCA_OPEN where the panel is open; OCA_BAD_SIZE also for a struct of another size. */
+static inline enum oca_result oca_panel_open(struct oca_panel *panel, const struct oca_end *end, uint32_t ip, uint16_t port, uint32_t first_handle, uint8_t span, uint32_t turns) {
+    if (panel->link.is_open) return OCA_OPEN;
+    if (end->size != sizeof *end) return OCA_BAD_SIZE;
+    panel->end = *end;
+    panel->turns = turns;
+    return oca_link_open(&panel->link, ip, port, first_handle, end->now(end->context), span);
+}
+
+/* Closes a panel and gives its memory back; a closed one stays closed, and at a null pointer nothing is done. */
+static inline void oca_panel_close(struct oca_panel *panel) {
+    if (panel) oca_link_close_any(&panel->link);
+}
+
+/* Whether the panel can go on: OCA_ASKED_DONE, or OCA_ASKED_LOST or OCA_ASKED_LATE; OCA_ASKED_NOT_SENT with OCA_CLOSED where it is closed. */
+static inline struct oca_outcome oca_panel_state(struct oca_panel *panel) {
+    bool lost = false, late = false;
+    if (!panel->link.is_open) return oca_outcome_of(OCA_ASKED_NOT_SENT, 0, OCA_CLOSED);
+    const enum oca_result found = oca_link_is_lost(&panel->link, &lost);
+    if (found != OCA_DONE) return oca_outcome_of(OCA_ASKED_NOT_SENT, 0, found);
+    if (lost) return oca_outcome_of(OCA_ASKED_LOST, 0, 0);
+    (void)oca_link_is_late(&panel->link, panel->end.now(panel->end.context), &late);
+    return oca_outcome_of(late ? OCA_ASKED_LATE : OCA_ASKED_DONE, 0, 0);
+}
+static inline struct oca_outcome oca_panel_give_out(struct oca_panel *panel) {
+    uint8_t bytes[OCA_MOST_BYTES] = {0};
+    uint32_t due = OCA_DUE_NOTHING, handle = 0;
+    size_t len = 0;
+    struct oca_outcome state = oca_panel_state(panel);
+    const uint64_t now = state.asked == OCA_ASKED_DONE ? panel->end.now(panel->end.context) : 0;
+    while (state.asked == OCA_ASKED_DONE) {
+        const enum oca_result found = oca_link_due(&panel->link, now, bytes, sizeof bytes, &len, &due, &handle);
+        if (found != OCA_DONE) return oca_outcome_of(OCA_ASKED_NOT_SENT, 0, found);
+        if (due == OCA_DUE_LOST) return oca_outcome_of(OCA_ASKED_LOST, 0, 0);
+        if (due == OCA_DUE_NOTHING) return state;
+        panel->end.send(panel->end.context, bytes, len);
+    }
+    return state;
+}
+
+/* Takes one turn: receives once, for at most 50 ms and until something is due, and sends what is due, keep-alives too. Tells what
+ * oca_panel_state does. */
+static inline struct oca_outcome oca_panel_turn(struct oca_panel *panel) {
+    uint8_t bytes[OCA_MOST_BYTES + 1] = {0};
+    size_t len = 0;
+    uint32_t ip = 0, reception = 0, answered = 0;
+    uint16_t port = 0;
+    uint64_t until = 0, due = 0;
+    if (!panel->link.is_open) return oca_panel_state(panel);
+    const uint64_t now = panel->end.now(panel->end.context);
+    until = now > UINT64_MAX - 50 ? UINT64_MAX : now + 50;
+    if (oca_link_next_due(&panel->link, &due) == OCA_DONE && due < until) until = due;
+    if (panel->end.receive(panel->end.context, until, bytes, sizeof bytes, &len, &ip, &port) && len <= OCA_MOST_BYTES)
+        (void)oca_link_datagram(&panel->link, ip, port, bytes, len, panel->end.now(panel->end.context), &reception, &answered);
+    return oca_panel_give_out(panel);
+}
+
+/* Submits a command by a method of enum oca_method, or one that sets or reads an object by its value, sends it at once and tells its handle:
+ * several can be in flight, in the order in which they were begun. What the link refuses, or what has no value, changes nothing; of a link
+ * that is late it is OCA_LOST. */
+static inline enum oca_result oca_panel_begin(struct oca_panel *panel, uint32_t ono, uint32_t method, uint8_t count, const uint8_t *params, size_t params_len, uint32_t *handle) {
+    const struct oca_outcome state = oca_panel_state(panel);
+    if (state.asked == OCA_ASKED_LATE) return OCA_LOST;
+    if (!panel->link.is_open) return OCA_CLOSED;
+    const enum oca_result taken = oca_link_call(&panel->link, ono, method, count, params, params_len, panel->end.now(panel->end.context), handle);
+    if (taken == OCA_DONE) (void)oca_panel_give_out(panel);
+    return taken;
+}
+static inline enum oca_result oca_panel_begin_set(struct oca_panel *panel, uint32_t ono, struct oca_value value, uint32_t *handle) {
+    struct oca_request request = {0, 0, 0, 0, {0}};
+    const enum oca_result found = oca_set_request(&value, &request);
+    if (found != OCA_DONE) return found;
+    return oca_panel_begin(panel, ono, (uint32_t)request.level << 16 | request.index, request.count, request.params, request.size, handle);
+}
+static inline enum oca_result oca_panel_begin_get(struct oca_panel *panel, uint32_t ono, uint32_t class_number, uint32_t *handle) {
+    struct oca_request request = {0, 0, 0, 0, {0}};
+    const enum oca_result found = oca_get_request(class_number, &request);
+    if (found != OCA_DONE) return found;
+    return oca_panel_begin(panel, ono, (uint32_t)request.level << 16 | request.index, request.count, request.params, request.size, handle);
+}
+
+/* An answer: ParamCount, and its parameters. */
+struct oca_answer { uint32_t count; size_t params_len; uint8_t params[OCA_MOST_ANSWER]; };
+
+/* How a command that was begun fared, where that is known without a turn, and then its answer is taken; else OCA_ASKED_UNANSWERED, which
+ * changes nothing. */
+static inline struct oca_outcome oca_panel_try_finish(struct oca_panel *panel, uint32_t handle, struct oca_answer *answer) {
+    uint32_t status = 0;
+    const enum oca_result taken = oca_link_take(&panel->link, handle, &status, &answer->count, answer->params, sizeof answer->params, &answer->params_len);
+    if (taken == OCA_DONE) return oca_outcome_of(status == OCA_STATUS_OK ? OCA_ASKED_DONE : OCA_ASKED_REFUSED, status, 0);
+    const struct oca_outcome state = oca_panel_state(panel);
+    return state.asked == OCA_ASKED_DONE ? oca_outcome_of(OCA_ASKED_UNANSWERED, 0, 0) : state;
+}
+
+/* Waits for a command that was begun, and takes its answer. After OCA_ASKED_UNANSWERED it can be waited for again. */
+static inline struct oca_outcome oca_panel_finish(struct oca_panel *panel, uint32_t handle, struct oca_answer *answer) {
+    struct oca_outcome outcome = oca_panel_try_finish(panel, handle, answer);
+    for (uint32_t turn = 0; turn < panel->turns && outcome.asked == OCA_ASKED_UNANSWERED; turn++) {
+        (void)oca_panel_turn(panel);
+        outcome = oca_panel_try_finish(panel, handle, answer);
+    }
+    return outcome;
+}
+
+/* Asks for a command by a method of enum oca_method, and waits for its answer. */
+static inline struct oca_outcome oca_panel_refused(enum oca_result result) {
+    if (result == OCA_LOST) return oca_outcome_of(OCA_ASKED_LOST, 0, 0);
+    return result == OCA_NO_VALUE ? oca_outcome_of(OCA_ASKED_NO_VALUE, 0, 0) : oca_outcome_of(OCA_ASKED_NOT_SENT, 0, result);
+}
+static inline struct oca_outcome oca_panel_ask(struct oca_panel *panel, uint32_t ono, uint32_t method, uint8_t count, const uint8_t *params, size_t params_len, struct oca_answer *answer) {
+    uint32_t handle = 0;
+    const enum oca_result begun = oca_panel_begin(panel, ono, method, count, params, params_len, &handle);
+    return begun == OCA_DONE ? oca_panel_finish(panel, handle, answer) : oca_panel_refused(begun);
+}
+static inline struct oca_outcome oca_panel_read(struct oca_panel *panel, uint32_t ono, uint32_t method, struct oca_answer *answer) {
+    static const uint8_t none[1] = {0};
+    return oca_panel_ask(panel, ono, method, 0, none, 0, answer);
+}
+
+/* Waits for a command that was begun to set an object, or to read one of the class, whose reading it tells. */
+static inline struct oca_outcome oca_panel_finish_set(struct oca_panel *panel, uint32_t handle) {
+    struct oca_answer answer = {0, 0, {0}};
+    return oca_panel_finish(panel, handle, &answer);
+}
+static inline struct oca_outcome oca_panel_finish_get(struct oca_panel *panel, uint32_t handle, uint32_t class_number, struct oca_reading *reading) {
+    struct oca_answer answer = {0, 0, {0}};
+    const struct oca_outcome outcome = oca_panel_finish(panel, handle, &answer);
+    if (outcome.asked != OCA_ASKED_DONE) return outcome;
+    return oca_outcome_of(oca_value_read(class_number, answer.params, answer.params_len, reading) == OCA_DONE ? OCA_ASKED_DONE : OCA_ASKED_UNREADABLE, 0, 0);
+}
+
+/* Sets an object to a value, by the set method of the value's class. */
+static inline struct oca_outcome oca_panel_set(struct oca_panel *panel, uint32_t ono, struct oca_value value) {
+    uint32_t handle = 0;
+    const enum oca_result begun = oca_panel_begin_set(panel, ono, value, &handle);
+    return begun == OCA_DONE ? oca_panel_finish_set(panel, handle) : oca_panel_refused(begun);
+}
+
+/* The reading of an object of this class, which is not asked: the value, with the least and the greatest of a position and of an integer.
+ * OCA_ASKED_NO_VALUE for a block. */
+static inline struct oca_outcome oca_panel_get_of(struct oca_panel *panel, uint32_t ono, uint32_t class_number, struct oca_reading *reading) {
+    uint32_t handle = 0;
+    const enum oca_result begun = oca_panel_begin_get(panel, ono, class_number, &handle);
+    return begun == OCA_DONE ? oca_panel_finish_get(panel, handle, class_number, reading) : oca_panel_refused(begun);
+}
+
+/* Parameters of an answer as they are read, one after another: where the next one stands, and whether all that was read was there. */
+struct oca_reader { const uint8_t *bytes; size_t len, at; bool good; };
+static inline uint32_t oca_reader_take(struct oca_reader *reader, size_t size) {
+    uint32_t number = 0;
+    if (!reader->good || reader->len - reader->at < size) {
+        reader->good = false;
+        return 0;
+    }
+    for (size_t i = 0; i < size; i++) number = number << 8 | reader->bytes[reader->at++];
+    return number;
+}
+static inline struct oca_reader oca_reader_of(const struct oca_answer *answer) {
+    struct oca_reader reader = {answer->params, answer->params_len, 0, true};
+    return reader;
+}
+static inline struct oca_outcome oca_reader_end(const struct oca_reader *reader) {
+    return oca_outcome_of(reader->good && reader->at == reader->len ? OCA_ASKED_DONE : OCA_ASKED_UNREADABLE, 0, 0);
+}
+static inline size_t oca_scalar_size(const uint8_t *bytes, size_t len) {
+    const uint8_t first = bytes[0];
+    const size_t size = first < 0x80 ? 1 : first < 0xc2 ? 0 : first < 0xe0 ? 2 : first < 0xf0 ? 3 : first < 0xf5 ? 4 : 0;
+    if (size == 0 || size > len) return 0;
+    for (size_t i = 1; i < size; i++)
+        if ((bytes[i] & 0xc0) != 0x80) return 0;
+    if ((first == 0xe0 && bytes[1] < 0xa0) || (first == 0xed && bytes[1] > 0x9f) || (first == 0xf0 && bytes[1] < 0x90) || (first == 0xf4 && bytes[1] > 0x8f)) return 0;
+    return size;
+}
+static inline void oca_reader_name(struct oca_reader *reader, struct oca_name *name) {
+    struct oca_name found = {0, {0}};
+    const uint32_t scalars = oca_reader_take(reader, 2);
+    for (uint32_t i = 0; i < scalars && reader->good; i++) {
+        const size_t size = reader->at < reader->len ? oca_scalar_size(reader->bytes + reader->at, reader->len - reader->at) : 0;
+        if (size == 0 || found.size + size > sizeof found.text) reader->good = false;
+        for (size_t j = 0; j < size && reader->good; j++) found.text[found.size++] = reader->bytes[reader->at++];
+    }
+    if (reader->good) *name = found;
+}
+static inline struct oca_outcome oca_panel_text(const struct oca_answer *answer, struct oca_outcome outcome, struct oca_name *name) {
+    struct oca_name found = {0, {0}};
+    struct oca_reader reader = oca_reader_of(answer);
+    if (outcome.asked != OCA_ASKED_DONE) return outcome;
+    oca_reader_name(&reader, &found);
+    if (oca_reader_end(&reader).asked == OCA_ASKED_DONE) *name = found;
+    return oca_reader_end(&reader);
+}
+
+/* The identifier of a class (OcaClassID): how many fields it has, at most 16, and they; and the number in enum oca_class of the class, 0
+ * for one that is not of this profile. */
+struct oca_class_id { uint16_t count, fields[16]; uint32_t class_number; };
+static inline uint32_t oca_class_with(const uint16_t *fields, size_t count) {
+    if (count == 3 && fields[0] == 1 && fields[1] == 1 && fields[2] == 3) return OCA_CLASS_BLOCK;
+    if (count < 4 || fields[0] != 1 || fields[1] != 1 || fields[2] != 1) return 0;
+    if (count == 4 && fields[3] >= 2 && fields[3] <= 4) return (uint32_t)(OCA_CLASS_MUTE + fields[3] - 2);
+    return count == 5 && fields[3] == 1 && fields[4] >= 1 && fields[4] <= 9 ? (uint32_t)(OCA_CLASS_BOOLEAN + fields[4] - 1) : 0;
+}
+static inline void oca_reader_class(struct oca_reader *reader, struct oca_class_id *id) {
+    const uint32_t count = oca_reader_take(reader, 2);
+    if (count > 16) reader->good = false;
+    for (uint32_t i = 0; i < count && reader->good; i++) id->fields[i] = (uint16_t)oca_reader_take(reader, 2);
+    (void)oca_reader_take(reader, 2);
+    if (!reader->good) return;
+    id->count = (uint16_t)count;
+    id->class_number = oca_class_with(id->fields, count);
+}
+
+/* The class of an object, by GetClassIdentification; of a class that is not of this profile the class number is 0. */
+static inline struct oca_outcome oca_panel_class(struct oca_panel *panel, uint32_t ono, struct oca_class_id *id) {
+    struct oca_answer answer = {0, 0, {0}};
+    struct oca_class_id found = {0, {0}, 0};
+    const struct oca_outcome outcome = oca_panel_read(panel, ono, OCA_GET_CLASS_IDENTIFICATION, &answer);
+    struct oca_reader reader = oca_reader_of(&answer);
+    if (outcome.asked != OCA_ASKED_DONE) return outcome;
+    oca_reader_class(&reader, &found);
+    if (oca_reader_end(&reader).asked == OCA_ASKED_DONE) *id = found;
+    return oca_reader_end(&reader);
+}
+
+/* The reading of an object: its class is asked first, and then what oca_panel_get_of asks. */
+static inline struct oca_outcome oca_panel_get(struct oca_panel *panel, uint32_t ono, struct oca_reading *reading) {
+    struct oca_class_id id = {0, {0}, 0};
+    const struct oca_outcome outcome = oca_panel_class(panel, ono, &id);
+    return outcome.asked == OCA_ASKED_DONE ? oca_panel_get_of(panel, ono, id.class_number, reading) : outcome;
+}
+
+/* Keeps other controllers from reading and setting an object, by LockTotal; and takes this panel's lock off it. */
+static inline struct oca_outcome oca_panel_lock(struct oca_panel *panel, uint32_t ono) {
+    struct oca_answer answer = {0, 0, {0}};
+    return oca_panel_read(panel, ono, OCA_LOCK_TOTAL, &answer);
+}
+static inline struct oca_outcome oca_panel_unlock(struct oca_panel *panel, uint32_t ono) {
+    struct oca_answer answer = {0, 0, {0}};
+    return oca_panel_read(panel, ono, OCA_UNLOCK, &answer);
+}
+
+/* The role of an object, which its maker gave it, and its label. */
+static inline struct oca_outcome oca_panel_role(struct oca_panel *panel, uint32_t ono, struct oca_name *role) {
+    struct oca_answer answer = {0, 0, {0}};
+    const struct oca_outcome outcome = oca_panel_read(panel, ono, OCA_GET_ROLE, &answer);
+    return oca_panel_text(&answer, outcome, role);
+}
+static inline struct oca_outcome oca_panel_label(struct oca_panel *panel, uint32_t ono, struct oca_name *label) {
+    struct oca_answer answer = {0, 0, {0}};
+    const struct oca_outcome outcome = oca_panel_read(panel, ono, OCA_GET_LABEL, &answer);
+    return oca_panel_text(&answer, outcome, label);
+}
+
+/* Gives an object a label. OCA_ASKED_NO_VALUE for one above 64 bytes, or that is no UTF-8. */
+static inline struct oca_outcome oca_panel_set_label(struct oca_panel *panel, uint32_t ono, const struct oca_name *label) {
+    uint8_t params[66] = {0};
+    struct oca_answer answer = {0, 0, {0}};
+    size_t at = 0;
+    if (label->size > sizeof label->text) return oca_outcome_of(OCA_ASKED_NO_VALUE, 0, 0);
+    while (at < label->size) {
+        const size_t size = oca_scalar_size(label->text + at, label->size - at);
+        if (size == 0) return oca_outcome_of(OCA_ASKED_NO_VALUE, 0, 0);
+        for (size_t i = 0; i < size; i++) params[2 + at + i] = label->text[at + i];
+        at += size;
+        params[1]++;
+    }
+    return oca_panel_ask(panel, ono, OCA_SET_LABEL, 1, params, 2 + at, &answer);
+}
+
+/* The name of a switch's position, which is counted from 0. */
+static inline struct oca_outcome oca_panel_position_name(struct oca_panel *panel, uint32_t ono, uint16_t position, struct oca_name *name) {
+    const uint8_t params[2] = {(uint8_t)(position >> 8), (uint8_t)position};
+    struct oca_answer answer = {0, 0, {0}};
+    const struct oca_outcome outcome = oca_panel_ask(panel, ono, OCA_GET_POSITION_NAME, 1, params, sizeof params, &answer);
+    return oca_panel_text(&answer, outcome, name);
+}
+
+/* The names of a switch's positions, in their order, at most 16. */
+struct oca_names { uint32_t count; struct oca_name names[16]; };
+static inline struct oca_outcome oca_panel_position_names(struct oca_panel *panel, uint32_t ono, struct oca_names *names) {
+    struct oca_answer answer = {0, 0, {0}};
+    const struct oca_outcome outcome = oca_panel_read(panel, ono, OCA_GET_POSITION_NAMES, &answer);
+    struct oca_reader reader = oca_reader_of(&answer);
+    if (outcome.asked != OCA_ASKED_DONE) return outcome;
+    names->count = 0;
+    const uint32_t count = oca_reader_take(&reader, 2);
+    if (count > 16) reader.good = false;
+    for (uint32_t i = 0; i < count && reader.good; i++) oca_reader_name(&reader, &names->names[i]);
+    if (oca_reader_end(&reader).asked == OCA_ASKED_DONE) names->count = count;
+    return oca_reader_end(&reader);
+}
+
+/* The numbers of a block's members, in their order, at most 181. OCA_ASKED_REFUSED with OCA_STATUS_BUFFER_OVERFLOW where there are more
+ * than a response has room for, some 90. */
+struct oca_members { uint32_t count, onos[181]; };
+static inline struct oca_outcome oca_panel_members(struct oca_panel *panel, uint32_t ono, struct oca_members *members) {
+    struct oca_answer answer = {0, 0, {0}};
+    struct oca_class_id id = {0, {0}, 0};
+    const struct oca_outcome outcome = oca_panel_read(panel, ono, OCA_GET_MEMBERS, &answer);
+    struct oca_reader reader = oca_reader_of(&answer);
+    if (outcome.asked != OCA_ASKED_DONE) return outcome;
+    members->count = 0;
+    const uint32_t count = oca_reader_take(&reader, 2);
+    if (count > 181) reader.good = false;
+    for (uint32_t i = 0; i < count && reader.good; i++) {
+        members->onos[i] = oca_reader_take(&reader, 4);
+        oca_reader_class(&reader, &id);
+    }
+    if (oca_reader_end(&reader).asked == OCA_ASKED_DONE) members->count = count;
+    return oca_reader_end(&reader);
+}
+
+/* What a walk finds of an object: its number, that of the block that lists it (0 of the root), what became of the question for its class
+ * and its role, they where it is OCA_ASKED_DONE, and of a block what became of the question for its members. */
+struct oca_visit { uint32_t ono, container; struct oca_outcome described; struct oca_class_id id; struct oca_name role; struct oca_outcome listed; };
+
+/* The place of a walk, of the caller's: the numbers of objects that were visited at the front, and those that wait at the back. */
+struct oca_place { uint32_t ono, container; };
+struct oca_walk { uint32_t visited, waiting; struct oca_place places[4096]; };
+static inline void oca_walk_put(struct oca_walk *walk, uint32_t ono, uint32_t container) {
+    uint32_t first = 4096 - walk->waiting, at = first;
+    for (uint32_t i = 0; i < walk->visited; i++)
+        if (walk->places[i].ono == ono) return;
+    while (at < 4096 && walk->places[at].ono != ono) at++;
+    if (at == 4096) {
+        if (walk->visited + walk->waiting == 4096) return;
+        walk->waiting++;
+        at = --first;
+    }
+    for (; at > first; at--) walk->places[at] = walk->places[at - 1];
+    walk->places[first].ono = ono;
+    walk->places[first].container = container;
+}
+
+/* What a walk calls at each object, with what the caller gave for it: it goes on where this answers true. */
+typedef bool (*oca_visitor)(void *context, const struct oca_visit *visit);
+
+/* Visits the objects of the device from the root on, each block's members behind it in their order: each object once, at most 4,096, in the
+ * place of a walk that the caller has for it. Each is asked for its class and its role, and a block for its members; nothing is set.
+ * OCA_ASKED_DONE where all were visited, or the visitor ended it; else why it could not go on. */
+static inline struct oca_outcome oca_panel_walk(struct oca_panel *panel, struct oca_walk *walk, oca_visitor visit, void *context) {
+    struct oca_members members = {0, {0}};
+    walk->visited = walk->waiting = 0;
+    oca_walk_put(walk, 100, 0);
+    while (walk->waiting > 0) {
+        const uint32_t next = 4096 - walk->waiting--;
+        struct oca_visit found = {walk->places[next].ono, walk->places[next].container, {0, 0, 0}, {0, {0}, 0}, {0, {0}}, {0, 0, 0}};
+        walk->places[walk->visited].ono = found.ono;
+        walk->places[walk->visited++].container = found.container;
+        found.described = oca_panel_class(panel, found.ono, &found.id);
+        if (found.described.asked == OCA_ASKED_DONE) found.described = oca_panel_role(panel, found.ono, &found.role);
+        if (found.described.asked == OCA_ASKED_DONE && found.id.class_number == OCA_CLASS_BLOCK) {
+            found.listed = oca_panel_members(panel, found.ono, &members);
+            for (uint32_t i = found.listed.asked == OCA_ASKED_DONE ? members.count : 0; i > 0; i--) oca_walk_put(walk, members.onos[i - 1], found.ono);
+        }
+        const struct oca_outcome state = oca_panel_state(panel);
+        if (state.asked != OCA_ASKED_DONE) return state;
+        if (!visit(context, &found)) break;
+    }
+    return oca_outcome_of(OCA_ASKED_DONE, 0, 0);
+}
 
 #ifdef __cplusplus
 }

@@ -7,7 +7,8 @@ Device and panel of examples/c are compiled as C11 and as C++17 with -Wall -Wext
 flags of oca.pc (the former with the shared library, the latter with the static one) and by CMake, and run against each other and
 against `ocadev` and `ocactl`, also under valgrind, for AArch64 under emulation, and on an emulated x86-64 of the first kind; what
 is not installed here is named as NOT TRIED. The mixer is killed and started anew behind a network that loses one datagram of five, as
-it is and under the sanitizers. Each call is tried on a closed handle and at its limits (c_library.c). Each request
+it is and under the sanitizers. Each call is tried on a closed handle and at its limits (c_library.c), and the panel that the header
+writes over a network that loses, doubles and delays, and at peers that answer wrongly (c_library_panel.c). Each request
 for memory is refused in turn. Header and library name the same functions, and the library needs what EMBEDDING names. What is
 installed lies below its folder, also with a space in its name or a relative one, and `make uninstall` leaves nothing of it. The
 last line is 'N passed, M failed'."""
@@ -111,6 +112,28 @@ def against_the_programs(checks, made, folder):
     for language in LANGUAGES:
         checks.same(f"the panel ({language}) at `ocadev`", said_by([made / f"panel-{language}", port, 4097, 4100]), (PANEL, 0))
     run.kill()
+
+
+def panels(checks, made, prefix, folder):
+    """The panel of the header over a network of its own, strictly compiled, as it is and under the sanitizers, and at `ocadev`: it finds the
+    objects that `ocactl` finds."""
+    for language, compiler in LANGUAGES.items():
+        for name, more in ((f"network-{language}", []), (f"network-{language}-sanitized", SANITIZED)):
+            subprocess.run([*compiler, *STRICT, "-Wconversion", *more, f"-I{prefix}/include", "-o", made / name, TOP / "tools/c_library_panel.c",
+                            "-x", "none", prefix / "lib/liboca.a"], check=True)
+            out, status = said_by([made / name])
+            counts = re.search(r"(\d+) passed, (\d+) failed\n$", out)
+            checks.same(f"the panel of the header ({name})", (counts and counts[2], status), ("0", 0))
+            checks.passed += int(counts[1]) if counts else 0
+            print(out, end="") if status else None
+    for words in ([], ["--tree", TOP / "examples/stagebox.tree"]):
+        run, port = serving([f"{folder}/ocadev", "serve", "--port", 0, "--turns", 100000, *words])
+        told = said_by([f"{folder}/ocactl", "tree", "--device", f"127.0.0.1:{port}"])
+        checks.same(f"`ocactl` finds objects {words}", (told[0].startswith("100 1.1.3 0 root\n"), told[0].count("\n") > 5, told[1]), (True, True, 0))
+        for language in LANGUAGES:
+            checks.same(f"the walk ({language}) at `ocadev` {words}", said_by([made / f"network-{language}-sanitized", port]), told)
+        run.kill()
+        checks.same(f"the walk of a device that is gone {words}", said_by([made / "network-c11-sanitized", port]), ("lost\n", 1))
 
 
 def full_datagram(checks, made):
@@ -289,7 +312,7 @@ def arenas(checks, made):
 
 
 INSTALLED = ["include/oca.h", "lib/cmake/oca/oca-config-version.cmake", "lib/cmake/oca/oca-config.cmake", "lib/liboca.a", "lib/liboca.so",
-             "lib/liboca.so.1", "lib/liboca.so.1.3.0", "lib/liboca_c.a", "lib/pkgconfig/oca.pc",
+             "lib/liboca.so.1", "lib/liboca.so.1.4.0", "lib/liboca_c.a", "lib/pkgconfig/oca.pc",
              "share/man/man3/oca_*.3"]
 
 
@@ -423,6 +446,7 @@ def main():
             print(out, end="") if status else None
         against_each_other(checks, made)
         against_the_programs(checks, made, folder)
+        panels(checks, made, prefix, folder)
         full_datagram(checks, made)
         mixers(checks, made, prefix)
         refused_memory(checks, made)
@@ -430,6 +454,7 @@ def main():
             careful = ["valgrind", "-q", "--error-exitcode=99", "--leak-check=full"]
             out, status = said_by([*careful, made / "calls-c11"])
             checks.same("each call under valgrind", status, 0)
+            checks.same("the panel of the header under valgrind", said_by([*careful, made / "network-c11"])[1], 0)
             run, port = serving([*careful, made / "device-c11", 0, 8])
             checks.same("the panel under valgrind", said_by([*careful, made / "panel-c11", port]), (PANEL, 0))
             checks.same("the device under valgrind", (run.communicate(timeout=120)[0], run.returncode), (AMPLIFIER, 0))
