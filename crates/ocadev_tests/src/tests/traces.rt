@@ -1,6 +1,6 @@
 //! A device that is served until its end is closed, and what is told of each datagram.
 use super::{bench_device, passes};
-use oca_device::{Outbox, Report};
+use oca_device::{Device, Outbox, Report};
 use oca_fakes::ShortWriter;
 use oca_net::{MemoryEnd, Scripted};
 use oca_script::Printer;
@@ -22,6 +22,14 @@ const GET: &[u8] =
 /// SetState of 4097 under 40 and of 4098 under 50.
 const TWO_SETS: &[u8] =
     b"\x3b\x00\x01\x00\x00\x00\x2d\x01\x00\x02\x00\x00\x00\x12\x00\x00\x00\x28\x00\x00\x10\x01\x00\x04\x00\x02\x01\x01\x00\x00\x00\x12\x00\x00\x00\x32\x00\x00\x10\x02\x00\x04\x00\x02\x01\x01";
+
+/// LockTotal of 4098 under handle 60 and of 4099 under 61.
+const TWO_LOCKS: &[u8] =
+    b"\x3b\x00\x01\x00\x00\x00\x2b\x01\x00\x02\x00\x00\x00\x11\x00\x00\x00\x3c\x00\x00\x10\x02\x00\x01\x00\x03\x00\x00\x00\x00\x11\x00\x00\x00\x3d\x00\x00\x10\x03\x00\x01\x00\x03\x00";
+
+/// Unlock of 4098 under handle 70.
+const UNLOCK: &[u8] =
+    b"\x3b\x00\x01\x00\x00\x00\x1a\x01\x00\x01\x00\x00\x00\x11\x00\x00\x00\x46\x00\x00\x10\x02\x00\x01\x00\x04\x00";
 
 /// What a receive gives.
 #[derive(Clone, Copy)]
@@ -45,6 +53,10 @@ const SCRIPT: &[Receive] = &[
     Oversize,
     Fails,
     Silence,
+    From(9001, TWO_LOCKS),
+    From(9001, TWO_LOCKS),
+    From(9003, UNLOCK),
+    From(9001, UNLOCK),
 ];
 
 /// The entry of a script for a receive.
@@ -79,9 +91,9 @@ fn end(alloc: Global) -> Option<MemoryEnd> {
 }
 
 const REPORT: Report = Report {
-    turns: 8,
-    executed: 3,
-    kept: 1,
+    turns: 12,
+    executed: 7,
+    kept: 3,
     old: 0,
     reused: 1,
     malformed: 1,
@@ -106,7 +118,7 @@ fn serves_to_the_close(rt: HostRuntime) {
     let served = served(rt.alloc());
     passes(
         &rt,
-        if served == Some((REPORT, 2)) {
+        if served == Some((REPORT, 6)) {
             None
         } else {
             Some(0)
@@ -121,26 +133,66 @@ const TRACE: &[u8] = b"10.0.0.1:9001 served 1 0 0 wrote 4097
 10.0.0.1:9001 served 2 0 0 wrote 4097 4098 failed-sends 1
 10.0.0.1:9002 malformed 9 at 1
 oversize
+10.0.0.1:9001 served 2 0 0 locked 4098 locked 4099
+10.0.0.1:9001 served 0 2 0
+10.0.0.1:9003 served 1 0 0 refused 4098 Locked
+10.0.0.1:9001 served 1 0 0 unlocked 4098
 ";
 
 /// What a bench device reports of the script, and whether it is traced by that.
 fn traced<L: Files>(alloc: Global, files: &L, trace: &[u8]) -> Option<(Report, bool)> {
     let mut device = bench_device(alloc)?;
+    traced_of(alloc, files, &mut device, trace)
+}
+
+/// What a device reports of the script, and whether it is traced by that.
+fn traced_of<L: Files>(
+    alloc: Global,
+    files: &L,
+    device: &mut Device,
+    trace: &[u8],
+) -> Option<(Report, bool)> {
     let mut outbox = Outbox::new(alloc).ok()?;
+    traced_in(alloc, files, device, &mut outbox, trace)
+}
+
+/// The same with an outbox.
+fn traced_in<L: Files>(
+    alloc: Global,
+    files: &L,
+    device: &mut Device,
+    outbox: &mut Outbox,
+    trace: &[u8],
+) -> Option<(Report, bool)> {
     let mut end = Watched::new(end(alloc)?);
+    traced_at(alloc, files, device, outbox, &mut end, trace)
+}
+
+/// The same at an end that gives the script.
+fn traced_at<L: Files>(
+    alloc: Global,
+    files: &L,
+    device: &mut Device,
+    outbox: &mut Outbox,
+    end: &mut Watched<MemoryEnd>,
+    trace: &[u8],
+) -> Option<(Report, bool)> {
+    let mut keeping = Keeping::new(alloc, files, None).ok()?;
+    Some(told_turns(device, outbox, end, &mut keeping, trace))
+}
+
+/// What a device reports of the turns of an end, and whether it is traced by that.
+fn told_turns<L: Files>(
+    device: &mut Device,
+    outbox: &mut Outbox,
+    end: &mut Watched<MemoryEnd>,
+    keeping: &mut Keeping<'_, L>,
+    trace: &[u8],
+) -> (Report, bool) {
     let mut faults = Printer::new(ShortWriter::new(7, usize::MAX));
     let telling = Telling::new(true, None);
-    let mut keeping = Keeping::new(alloc, files, None).ok()?;
-    let report = serve_traced(
-        &mut device,
-        &mut end,
-        &mut outbox,
-        u64::MAX,
-        telling,
-        &mut keeping,
-        &mut faults,
-    );
-    Some((report, faults.sink().taken.as_slice() == trace))
+    let report = serve_traced(device, end, outbox, u64::MAX, telling, keeping, &mut faults);
+    (report, faults.sink().taken.as_slice() == trace)
 }
 
 #[test]
