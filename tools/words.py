@@ -539,6 +539,47 @@ def serves_until_stopped(checks):
         checks.same(f"serve --verbose --turns {turns}", (out.split()[:2], out.split()[16:18], len(told)),
                     (["turns", str(turns)], ["quiet", str(turns)], 1))
     tells_stats(checks)
+    tells_locks(checks)
+
+
+def tells_locks(checks):
+    """`serve --verbose`: what was locked, unlocked and refused, by the statuses that answered; nothing of commands that were not
+    executed, nor of those that ask for no response; a lock that lapsed."""
+    run = checks.start("ocadev", "serve", "--port", 0, "--verbose")
+    device = ("127.0.0.1", int(run.stderr.readline().split(":")[1]))
+    grants.read_note(run)
+
+    def told(peer, data):
+        peer.sendto(data, device)
+        return run.stderr.readline().split(" ", 1)[-1]
+
+    def lock(handle, target, index=3):
+        return oca.Command(handle, target, 1, index, 0, b"").body()
+
+    def put(handle, target):
+        return oca.Command(handle, target, 4, 2, 1, b"\1").body()
+
+    with bound() as first, bound() as second:
+        for what, peer, kind, commands, said in (
+                ("a lock", first, 1, [lock(1, 4098)], "served 1 0 0 locked 4098\n"),
+                ("a set under it", second, 1, [put(1, 4098)], "served 1 0 0 refused 4098 Locked\n"),
+                ("an unlock by another peer", second, 1, [lock(2, 4098, 4)], "served 1 0 0 refused 4098 Locked\n"),
+                ("a duplicate of the lock", first, 1, [lock(1, 4098)], "served 0 1 0\n"),
+                ("a duplicate of a refused set", second, 1, [put(1, 4098)], "served 0 1 0\n"),
+                ("a handle used again", second, 1, [lock(2, 4097)], "served 0 0 0 reused 1\n"),
+                ("two locks", first, 1, [lock(2, 4097), lock(3, 4099, 6)], "served 2 0 0 locked 4097 locked 4099\n"),
+                ("two unlocks", first, 1, [lock(4, 4098, 4), lock(5, 4098, 4)],
+                 "served 2 0 0 unlocked 4098 refused 4098 InvalidRequest\n"),
+                ("a set that is done and one that is refused", second, 1, [put(3, 4098), put(4, 4097)],
+                 "served 2 0 0 wrote 4098 refused 4097 Locked\n"),
+                ("no such object", second, 1, [put(5, 5000)], "served 1 0 0 refused 5000 BadONo\n"),
+                ("a duplicate beside a lock", first, 1, [lock(2, 4097), lock(6, 4098)], "served 1 1 0\n"),
+                ("no response asked for", first, 0, [lock(7, 4098, 4)], "served 1 0 0\n"),
+                ("a heartbeat of a second", first, 4, [(1).to_bytes(2, "big")], "served 0 0 0\n")):
+            checks.same(f"serve --verbose: {what}", told(peer, oca.pdu(kind, commands)), said)
+        time.sleep(3.5)
+        checks.same("serve --verbose: a set after the locks lapsed", told(second, oca.pdu(1, [put(6, 4097)])), "served 1 0 0 wrote 4097\n")
+    run.kill()
 
 
 def tells_stats(checks):
