@@ -539,6 +539,18 @@ static void refuses_specs(struct oca_device *d) {
     same("one too many", spec_added(d, s), OCA_BAD_RANGE);
 }
 
+/* A value alone is its own limits, of each class. */
+static void alone(void) {
+    const struct oca_value values[] = {oca_mute(true), oca_polarity(false), oca_boolean(true), oca_position(7), oca_int8(-128), oca_int16(-600),
+        oca_int32(INT32_MIN), oca_int64(INT64_MIN), oca_uint8(255), oca_uint16(0xfedc), oca_uint32(UINT32_MAX), oca_uint64(UINT64_MAX)};
+    for (size_t i = 0; i < sizeof values / sizeof *values; i++) {
+        const struct oca_reading reading = oca_alone(values[i]);
+        same("a value alone", memcmp(&reading.value, &values[i], sizeof values[i]) == 0, 1);
+        same("its least", memcmp(&reading.least, &values[i], sizeof values[i]) == 0, 1);
+        same("its greatest", memcmp(&reading.greatest, &values[i], sizeof values[i]) == 0, 1);
+    }
+}
+
 /* An object of each class, whose setting and limits differ. */
 static size_t specs_of_each_class(struct oca_spec *specs) {
     const struct oca_reading readings[] = {oca_alone(oca_mute(false)), oca_alone(oca_polarity(true)), oca_alone(oca_boolean(true)),
@@ -656,7 +668,14 @@ static void numbers(void) {
 
 /* Texts of results and statuses. */
 static void texts(void) {
-    for (uint32_t i = 0; i <= OCA_NO_VALUE; i++) same("a text", strlen(oca_result_text(i)) > 3 && strcmp(oca_result_text(i), oca_result_text(99)) != 0, 1);
+    static const char *const results[] = {"done", "there is no room for another object", "the number is below 4096", "the number is taken",
+        "the container is no block of the tree", "the object would stand at depth 9", "a text is empty or has more than 64 bytes",
+        "the setting is outside its range", "no memory", "the struct is closed", "the struct is open", "the device is not started",
+        "the device is started", "there is nothing", "there is no room for all", "a size is outside its range", "there is no such object",
+        "a block has no setting", "the object is set by another kind of value", "the value is out of range", "the link is lost",
+        "no handle is left", "the next handle is not below the lowest untaken one plus the span", "the parameters have more than 1,445 bytes",
+        "there is no such value", "a result of a later version"};
+    for (uint32_t i = 0; i < sizeof results / sizeof *results; i++) same("the text of a result", (uint32_t)strcmp(oca_result_text(i), results[i]), 0);
     same("status 3", (uint32_t)strcmp(oca_status_text(OCA_STATUS_LOCKED), "Locked"), 0);
     same("status 14", (uint32_t)strcmp(oca_status_text(14), "BufferOverflow"), 0);
     same("no status 15", oca_status_text(15) == NULL, 1);
@@ -781,6 +800,7 @@ int main(void) {
     sets_values();
     objects_by_struct();
     numbers();
+    alone();
     texts();
     link();
     asks();

@@ -101,13 +101,14 @@ def against_each_other(checks, made, before=(), seconds="3"):
 
 def against_the_programs(checks, made, folder):
     """`ocactl` mutes the amplifier, and the panel opens the mute and sets the trim of the bench device."""
-    run, port = serving([made / "device-c11", 0, 4])
-    for handle, channel, state, printed in ((1, 4097, "02", "answer 0 0 -\n"), (2, 4113, "02", "answer 0 0 -\n"), (3, 4113, "01", "answer 0 0 -\n")):
-        words = ["send", "--device", f"127.0.0.1:{port}", "--first-handle", handle, "--target", channel, "--level", 4, "--index", 2, "--count", 1,
-                 "--params", state]
-        checks.same(f"`ocactl` sets {channel}", said_by([f"{folder}/ocactl", *words]), (printed, 0))
+    run, port = serving([made / "device-c11", 0, 6])
+    for handle, (target, level, params) in enumerate(((4097, 4, "02"), (4113, 4, "02"), (4113, 4, "01"), (4114, 5, "0007"), (4098, 5, "fff6")), 1):
+        words = ["send", "--device", f"127.0.0.1:{port}", "--first-handle", handle, "--target", target, "--level", level, "--index", 2, "--count", 1,
+                 "--params", params]
+        checks.same(f"`ocactl` sets {target}", said_by([f"{folder}/ocactl", *words]), ("answer 0 0 -\n", 0))
     checks.same("the device that `ocactl` set", run.communicate(timeout=120)[0],
-                "1: open 0 dB/10, 2: muted 0 dB/10\n1: open 0 dB/10, 2: open 0 dB/10\n1: open 0 dB/10, 2: muted 0 dB/10\n")
+                "1: open 0 dB/10, 2: muted 0 dB/10\n1: open 0 dB/10, 2: open 0 dB/10\n1: open 0 dB/10, 2: muted 0 dB/10\n"
+                "1: open 0 dB/10, 2: muted 7 dB/10\n1: open -10 dB/10, 2: muted 7 dB/10\n")
     run, port = serving([f"{folder}/ocadev", "serve", "--port", 0, "--turns", 100000])
     for language in LANGUAGES:
         checks.same(f"the panel ({language}) at `ocadev`", said_by([made / f"panel-{language}", port, 4097, 4100]), (PANEL, 0))
@@ -272,6 +273,26 @@ def a_mixer(checks, made, name, before=()):
         checks.same(f"{name}: and it stays", kept.read_bytes() == bad, True)
 
 
+def kept_safely(checks, made):
+    """What the mixer keeps is on the disk before it takes the place of the file before it, and so is the folder then."""
+    layer, kept, calls = made / "calls.so", made / "kept safely", made / "calls of the mixer"
+    subprocess.run(["cc", "-O1", "-Wall", "-shared", "-fPIC", "-o", layer, HERE / "unreliable.c", "-ldl"], check=True)
+    run = subprocess.Popen([made / "mixer-plain", kept, "0", "600"], stdin=subprocess.PIPE, stdout=subprocess.PIPE, stderr=subprocess.PIPE, text=True,
+                           env=dict(os.environ, LD_PRELOAD=str(layer), CALLS=str(calls)))
+    listening(run)
+    run.stdin.write("gain 7 -30\n")
+    run.stdin.flush()
+    made_so_far = lambda: calls.read_text().split() if calls.exists() else []
+    for _ in range(400):
+        if len(made_so_far()) >= 3:
+            break
+        time.sleep(0.05)
+    said = made_so_far()
+    run.kill()
+    run.communicate()
+    checks.same("the mixer's file: what is called", (len(said) >= 3, said), (True, (["fsync", "rename", "fsync"] * len(said))[:len(said)]))
+
+
 def mixers(checks, made, prefix):
     """The mixer as it is, over addresses and undefined behaviour, over threads, and under valgrind; and as C++."""
     subprocess.run(["c++", "-x", "c++", "-std=c++17", *STRICT, f"-I{prefix}/include", "-c", "-o", made / "mixer.o", TOP / "examples/c/mixer.c"], check=True)
@@ -279,6 +300,7 @@ def mixers(checks, made, prefix):
         subprocess.run(["cc", "-std=c11", *STRICT[1:], "-Wpedantic", *more, f"-I{prefix}/include", "-o", made / f"mixer-{name}", TOP / "examples/c/mixer.c",
                         f"{prefix}/lib/liboca.a", "-pthread"], check=True)
         a_mixer(checks, made, name)
+    kept_safely(checks, made)
     if shutil.which("valgrind"):
         shutil.copy(made / "mixer-plain", made / "mixer-valgrind")
         a_mixer(checks, made, "valgrind", ["valgrind", "-q", "--error-exitcode=99", "--leak-check=full"])

@@ -326,7 +326,7 @@ def kept_safely(checks):
         for handle, state in ((1, b"\2"), (2, b"\1")):
             peer.sendto(oca.pdu(1, [oca.Command(handle, 4097, 4, 2, 1, state).body()]), ("127.0.0.1", port))
             checks.same(f"--keep: the answer to {handle}", peer.recv(2000), oca.pdu(3, [oca.response_body(handle, 0, 0, b"")]))
-            until, wanted = time.monotonic() + 30, ["fsync", "rename"] * handle
+            until, wanted = time.monotonic() + 30, ["fsync", "rename", "fsync"] * handle
             while time.monotonic() < until and (said := calls_in(room)) != wanted:
                 time.sleep(0.01)
             checks.same(f"--keep: what is called for {handle}", said, wanted)

@@ -481,9 +481,33 @@ def rest(folder):
         print(f"from an order to its answer: {1000 * sorted(times)[50]:.1f} ms at the 50th, {1000 * sorted(times)[90]:.1f} ms at the 90th of 100")
 
 
+def asked_at_once(folder, *given):
+    """How many commands are in flight at a device that answers none, by their handles."""
+    with socket.socket(socket.AF_INET, socket.SOCK_DGRAM) as silent:
+        silent.bind(("127.0.0.1", 0))
+        silent.settimeout(0.2)
+        handles, until = set(), time.monotonic() + 2
+        with Panel(folder, silent.getsockname()[1], *given):
+            while time.monotonic() < until:
+                with contextlib.suppress(TimeoutError):
+                    datagram, at = silent.recv(2000), 10
+                    while datagram[7] <= 1 and at + 8 <= len(datagram):
+                        handles.add(datagram[at + 4:at + 8])
+                        at += int.from_bytes(datagram[at:at + 4], "big")
+    return len(handles)
+
+
+def spans(folder):
+    """Half of the span is for what the panel asks by itself; of a device that says nothing it asks five things."""
+    for given, most in ((["--span", "2"], 1), (["--span", "4"], 2), (["--span", "8"], 4), ([], 5)):
+        got = asked_at_once(folder, *given)
+        check(got == most, f"{given}: {got} commands in flight in place of {most}")
+
+
 def main():
     folder = sys.argv[1]
     words(folder)
+    spans(folder)
     with Device(folder) as device, Panel(folder, device.port) as panel:
         page(panel)
         objects(folder, device, panel)
