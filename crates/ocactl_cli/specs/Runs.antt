@@ -226,12 +226,12 @@ pub record Obeys (words : ArgMatches) (ended : Result ℕ RunFault) (had has : I
   pub names : IsCommand words command
   pub does : DoesCommand command ended had has was is
 
--- Words that were not matched: a text of clap's is told, as of `--help`, or the run fails.
+-- As words that were not matched: some text is told, as that of `--help`, or the run fails.
 abbrev pub Helps : ErrorKind → Result ℕ RunFault → Output → Output → Type 0
 Helps kind ended was is = ((text : List ℕ) × Tells text ended was is) ⊎ FailsWith (words_fault kind) ended was is
 
--- THE PROGRAM'S RUN on these words: they were matched, and the command that they name was done; or they were not. The
--- exit status is that of how it ended.
+-- THE PROGRAM'S RUN on these words: they were matched, and the command that they name was done; or it ended as one whose
+-- words were not matched (which words are, clap decides). The exit status is that of how it ended.
 pub record RunsOn (words : List (List ℕ)) (status : ℕ) (had has : Input) (was is : Output) : Type 0 where
   pub ended : Result ℕ RunFault
   pub ends : status ≡ exit_status ended

@@ -23,8 +23,8 @@ IsBoundFor None ip own own_alone local is_own = IsBoundByChoice ip own own_alone
 abbrev pub IsUnreached : RunFault → Type 0
 IsUnreached why = (why ≡ fault.Socket) ⊎ (why ≡ fault.NoMemory)
 
--- A NEW LINK to the device that was said, with the span that was said and the first handle that was said, or one by the
--- clock where none was.
+-- A NEW LINK to the device that was said, with the span that was said and the first handle that was said, or some other
+-- one where none was.
 pub record IsLinkTo (reach : Reach) (link : LinkState) : Type 0 where
   pub first : ℕ
   pub now : ℕ
