@@ -171,7 +171,7 @@ def main(words):
     for line in wrong:
         print(f"gate: FAILED: {line}", flush=True)
     if not words:
-        print(f"gate: every proof from nothing, then {len(steps)} steps: some two hours on four processors. "
+        print(f"gate: every proof from nothing, then {len(steps)} steps: an hour or two on four processors. "
               "Each crate and each step is shown as it ends.", flush=True)
         counts.append(watched("rt ci", least_of_ci()))
         print(f"gate: {processor_minutes():.1f} processor minutes for rt ci", flush=True)
