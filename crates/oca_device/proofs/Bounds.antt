@@ -1,5 +1,5 @@
 -- How many answers messages have at most, and how long their commands are.
-use Rattle.std.proofs.Common.{◌≡◌, ℕ, ◌+◌, ◌≤◌, Bool, cond, List, [], ◌∷◌, ◌++◌, length, refl, sym, ap, ◌∙◌, arith, subst}
+use Rattle.std.proofs.Common.{◌≡◌, ℕ, ◌+◌, ◌≤◌, Bool, true, false, cond, List, [], ◌∷◌, ◌++◌, length, refl, sym, ap, ◌∙◌, arith, subst}
 use Rattle.std.proofs.lemmas.List.{length-append}
 use Rattle.std.specs.List.{flat_map, AllByRecursion}
 use Rattle.std.specs.Prelude.{map}
@@ -9,6 +9,14 @@ use Rattle.oca_types.specs.Peers.{CommandFields}
 use Rattle.oca_pdu.specs.Messages.{ResponseFields, Msg, Command, Response, KeepAlive, Pdu, Commands, Responses, OneKeepAlive, messages_of}
 use Rattle.oca_pdu.specs.Encoding.{command_encoding, command_type, pdu_frame, pdu_encoding, IsDatagram}
 use Rattle.oca_pdu.specs.Limits.{is_command, is_response}
+use Rattle.std.specs.Prelude.{nat_le, Ok}
+use Rattle.oca_types.specs.declared.words.Peer.{Peer}
+use Rattle.oca_types.specs.Sizes.{DeviceSizes}
+use Rattle.oca_session.specs.Accepted.{Judgement, Fresh, Duplicate, Reused, Old}
+use Rattle.oca_device.specs.Notes.{Admitted}
+use Rattle.oca_device.specs.States.{State, noted, admits, judged_in, after_message}
+use Rattle.oca_device.specs.Groups.{last_with, from_with, with_answer, with_answers, encodings}
+use Rattle.oca_device.specs.Answers.{answer_to_command, answer_to, answers_to_messages, answers_to_reading, packets_of}
 use Rattle.oca_device.specs.PrivateServing.{IsShort, may_answer, most_answers, commands_of, all_commands}
 
 abbrev counted : Msg → ℕ
@@ -71,3 +79,60 @@ pdus_short (p ∷ ps) n h few =
 
 pub all_short : (ps : List Pdu) (bytes : List ℕ) → IsDatagram ps bytes → AllByRecursion IsShort (flat_map messages_of ps)
 all_short ps bytes h = pdus_short ps (length bytes) (omega (arith, ap length h.bytes_are)) h.within_limit
+
+-- ---- a datagram is answered with at most as many packets as it has messages that are answered
+
+last_grows : (p : Pdu) (m : Msg) → length (encodings (last_with p m)) ≤ 2
+last_grows (Responses rs) (Response r) = by (nat_le (length (pdu_encoding (Responses (rs ++ r ∷ [])))) 1472)
+  where
+    by : (b : Bool) → length (encodings (cond b (Responses (rs ++ r ∷ []) ∷ []) (Responses rs ∷ Responses (r ∷ []) ∷ []))) ≤ 2
+    by true = omega arith
+    by false = omega arith
+last_grows (Responses rs) (KeepAlive form) = omega arith
+last_grows (Responses rs) (Command respond c) = omega arith
+last_grows (OneKeepAlive form) m = omega arith
+last_grows (Commands respond cs) m = omega arith
+
+from_grows : (p : Pdu) (groups : List Pdu) (m : Msg) → length (encodings (from_with p groups m)) ≤ 2 + length (encodings groups)
+from_grows p [] m = last_grows p m
+from_grows p (q ∷ groups) m = omega (arith, from_grows q groups m)
+
+answer_grows : (groups : List Pdu) (m : Msg) → length (encodings (with_answer groups m)) ≤ 1 + length (encodings groups)
+answer_grows [] m = omega arith
+answer_grows (p ∷ groups) m = omega (arith, from_grows p groups m)
+
+answers_grow : (groups : List Pdu) (ms : List Msg) → length (encodings (with_answers groups ms)) ≤ length ms + length (encodings groups)
+answers_grow groups [] = omega arith
+answers_grow groups (m ∷ ms) = omega (arith, answers_grow (with_answer groups m) ms, answer_grows groups m)
+
+command_answers : (j : Judgement) (p : Peer) (c : CommandFields) (s : State) → length (answer_to_command j p c s) ≤ 1
+command_answers Fresh p c s = omega arith
+command_answers (Duplicate reply) p c s = omega arith
+command_answers Reused p c s = omega arith
+command_answers Old p c s = omega arith
+
+message_answers : (w : DeviceSizes) (p : Peer) (m : Msg) (s : State) → length (answer_to w p m s) ≤ may_answer m
+message_answers w p (Command respond c) s = by respond
+  where
+    by : (b : Bool) → length (cond b (answer_to_command (judged_in w s p c) p c s) []) ≤ 1
+    by true = command_answers (judged_in w s p c) p c s
+    by false = omega arith
+message_answers w p (KeepAlive form) s = omega arith
+message_answers w p (Response r) s = omega arith
+
+all_answers : (w : DeviceSizes) (p : Peer) (ms : List Msg) (s : State) → length (answers_to_messages w p ms s) ≤ most_answers ms
+all_answers w p [] s = omega arith
+all_answers w p (m ∷ ms) s =
+    omega (arith, length-append (answer_to w p m s) (answers_to_messages w p ms (after_message w p m s)), message_answers w p m s, all_answers w p ms (after_message w p m s))
+
+pub few_packets : (w : DeviceSizes) (p : Peer) (ms : List Msg) (s : State) (n : ℕ) → most_answers ms ≤ n → length (packets_of (answers_to_reading w p (Ok ms) s)) ≤ n
+few_packets w p ms s n few = by (admits w s p)
+  where
+    by : (b : Bool) → length (packets_of (cond b (answers_to_messages w p ms (noted p (Admitted ms) s)) [])) ≤ n
+    by true = omega (arith, few, answers_grow [] (answers_to_messages w p ms (noted p (Admitted ms) s)), all_answers w p ms (noted p (Admitted ms) s))
+    by false = omega arith
+
+-- a datagram that is not admitted is not answered
+pub no_packets : (w : DeviceSizes) (p : Peer) (ms : List Msg) (s : State) (n : ℕ) → admits w s p ≡ false → length (packets_of (answers_to_reading w p (Ok ms) s)) ≤ n
+no_packets w p ms s n out =
+    subst (λ (b : Bool). length (packets_of (cond b (answers_to_messages w p ms (noted p (Admitted ms) s)) [])) ≤ n) (sym out) (omega arith)

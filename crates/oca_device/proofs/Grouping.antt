@@ -1,17 +1,17 @@
 -- Groups of answers, and their packets.
-use Rattle.std.proofs.Common.{◌≡◌, ℕ, ◌+◌, ◌≤◌, ◌<◌, Bool, true, false, cond, List, [], ◌∷◌, ◌++◌, length, refl, sym, ap, ◌∙◌, subst, arith}
-use Rattle.std.specs.Prelude.{map, nat_le, ◌-◌, ◌↔◌, slice_index_or, slice_set, take, Result, Ok, Err, IsOk, OnOk, OnErr, is_ok}
-use Rattle.std.proofs.lemmas.Bool.{le-leb, leb-true}
-use Rattle.std.proofs.lemmas.List.{append_assoc, take_more, length-append, map-append}
+use Rattle.std.proofs.Common.{◌≡◌, ℕ, zero, suc, ◌+◌, ◌≤◌, ◌<◌, Bool, true, false, cond, List, [], ◌∷◌, ◌++◌, length, refl, sym, ap, ◌∙◌, arith}
+use Rattle.std.specs.Prelude.{nat_le, ◌-◌, ◌↔◌, slice_index_or, slice_set, take, Result, Ok, Err, IsOk, OnOk, OnErr, is_ok}
+use Rattle.std.proofs.lemmas.Bool.{le-leb, leb-true, lt-ltb, le-ltb, ltb-true, ltb-false}
+use Rattle.std.proofs.lemmas.List.{append_assoc, take_more, take_all, take-append-le, length-take-le, length-map, length-append, map-append}
 use Rattle.std.proofs.lemmas.Grind.{take-set_at}
 use Rattle.oca_pdu.specs.declared.message.Form.{Form}
 use Rattle.oca_pdu.specs.Messages.{ResponseFields, Msg, Command, Response, KeepAlive, Pdu, Commands, Responses, OneKeepAlive}
 use Rattle.oca_pdu.specs.Encoding.{pdu_encoding}
 use Rattle.arrayvec.specs.ArrayVec.{ArrayVec}
 use Rattle.oca_pdu.specs.Writing.{IsResponses, responses_size}
-use Rattle.oca_device.specs.Outboxes.{bytes_of_packets}
-use Rattle.oca_device.specs.PrivateServing.{AreGrouped, IsGrouped, Joins, JoinsLast}
-use Rattle.oca_device.specs.Groups.{pdu_of, with_response, last_with, from_with, with_answer, with_answers, encodings}
+use Rattle.oca_device.specs.Outboxes.{bytes_of_packets, KeptPackets, first_packets}
+use Rattle.oca_device.specs.PrivateServing.{AreEncodings, AreGrouped, IsGrouped, Joins, JoinsLast}
+use Rattle.oca_device.specs.Groups.{pdu_of, last_with, from_with, with_answer, with_answers, encodings}
 
 pub answers_both : (groups : List Pdu) (xs ys : List Msg) → with_answers groups (xs ++ ys) ≡ with_answers (with_answers groups xs) ys
 answers_both groups [] ys = refl
@@ -108,7 +108,7 @@ pub set_bytes : (xs : List (ArrayVec ℕ)) (i n : ℕ) (y : ArrayVec ℕ) → n 
     bytes_of_packets (take n (slice_set xs i y)) ≡ bytes_of_packets (take i xs) ++ y.items ∷ []
 set_bytes xs i n y e h = ap bytes_of_packets (take-set_at xs i n y e h) ∙ map-append (λ (p : ArrayVec ℕ). p.items) (take i xs) (y ∷ [])
 
-pub joins_last : (b : Bool) (m : Msg) (xs : List (List ℕ)) (x x' : List ℕ) → AreGrouped (xs ++ x ∷ []) → ((p : Pdu) → x ≡ pdu_encoding p → Joins b p m x x') →
+pub joins_last : (b : Bool) (m : Msg) (xs : List (List ℕ)) (x x' : List ℕ) → AreEncodings (xs ++ x ∷ []) → ((p : Pdu) → x ≡ pdu_encoding p → Joins b p m x x') →
     JoinsLast b m (xs ++ x ∷ []) (xs ++ x' ∷ [])
 joins_last true m xs x x' some h = (
   omega (arith, length-append xs (x ∷ []), length-append xs (x' ∷ [])),
@@ -135,23 +135,154 @@ pub none_before : (m : Msg) (groups : List Pdu) → [] ≡ encodings groups → 
 none_before m [] e = refl
 none_before m (p ∷ groups) e = absurd cc
 
-pub joined_so : (m : Msg) (before after : List (List ℕ)) → AreGrouped before → JoinsLast true m before after → IsGrouped m before after
-joined_so m before after some h = record {
-  groups = h.1;
-  still = (with_answer some.0 m, h.1 some.0 some.1);
-  most = omega (arith, h.0);
+-- ---- what is kept of packets
+
+abbrev pub kept : List (List ℕ) → ℕ → Bool → KeptPackets
+kept packets room is_cut = record { packets = packets; room = room; is_cut = is_cut }
+
+take_none : (room : ℕ) → let none : List (List ℕ) = [] in take room none ≡ none
+take_none zero = refl
+take_none (suc n) = refl
+
+-- so many packets are as many
+pub count_is : (count : ℕ) (xs : List (ArrayVec ℕ)) → count ≤ length xs → length (bytes_of_packets (take count xs)) ≡ count
+count_is count xs h = length-map (take count xs) (λ (p : ArrayVec ℕ). p.items) ∙ length-take-le count xs h
+
+-- nothing is kept of nothing
+pub none_kept : (room : ℕ) → kept [] room false ≡ first_packets room []
+none_kept room = ap (λ (ps : List (List ℕ)). kept ps room false) (sym (take_none room)) ∙ ap (kept (take room []) room) (sym (le-ltb room 0 (omega arith)))
+
+-- where none was left out, all are kept
+pub whole_kept : (room : ℕ) (ps : List (List ℕ)) → length ps ≤ room → kept ps room false ≡ first_packets room ps
+whole_kept room ps h = ap (λ (xs : List (List ℕ)). kept xs room false) (sym (take_all room ps h)) ∙ ap (kept (take room ps) room) (sym (le-ltb room (length ps) h))
+
+cut_kept : (room : ℕ) (ps qs : List (List ℕ)) → qs ≡ take room ps → room < length ps → kept qs room true ≡ first_packets room ps
+cut_kept room ps qs e h = ap (λ (xs : List (List ℕ)). kept xs room true) e ∙ ap (kept (take room ps) room) (sym (lt-ltb room (length ps) h))
+
+-- of no more packets than there is room for, all are kept
+pub all_kept : (k : KeptPackets) (room : ℕ) (ps : List (List ℕ)) → k ≡ first_packets room ps → length ps ≤ room → k.packets ≡ ps
+all_kept k room ps e h = ap (λ (x : KeptPackets). x.packets) e ∙ take_all room ps h
+
+-- what is known where the packets are the first of some
+record WasWhole (bs : List (List ℕ)) (r room : ℕ) (ps : List (List ℕ)) : Type 0 where
+  pub room_is : r ≡ room
+  pub all : bs ≡ ps
+
+was_whole : (bs : List (List ℕ)) (r room : ℕ) (ps : List (List ℕ)) → kept bs r false ≡ first_packets room ps → WasWhole bs r room ps
+was_whole bs r room ps e =
+    let few : length ps ≤ room = ltb-false room (length ps) (sym (ap (λ (k : KeptPackets). k.is_cut) e)) in
+    record {
+      room_is = ap (λ (k : KeptPackets). k.room) e;
+      all = ap (λ (k : KeptPackets). k.packets) e ∙ take_all room ps few;
+    }
+
+record WasCut (bs : List (List ℕ)) (r room : ℕ) (ps : List (List ℕ)) : Type 0 where
+  pub room_is : r ≡ room
+  pub first : bs ≡ take room ps
+  pub more : room < length ps
+
+was_cut : (bs : List (List ℕ)) (r room : ℕ) (ps : List (List ℕ)) → kept bs r true ≡ first_packets room ps → WasCut bs r room ps
+was_cut bs r room ps e = record {
+  room_is = ap (λ (k : KeptPackets). k.room) e;
+  first = ap (λ (k : KeptPackets). k.packets) e;
+  more = ltb-true room (length ps) (sym (ap (λ (k : KeptPackets). k.is_cut) e));
 }
 
-pub alone_so : (m : Msg) (before after : List (List ℕ)) → AreGrouped before → ((groups : List Pdu) → before ≡ encodings groups → with_answer groups m ≡ groups ++ pdu_of m ∷ []) →
-    after ≡ before ++ pdu_encoding (pdu_of m) ∷ [] → IsGrouped m before after
-alone_so m before after some h e =
-    let grown : (groups : List Pdu) → before ≡ encodings groups → after ≡ encodings (with_answer groups m) = λ groups is.
-    e ∙ ap (λ (ys : List (List ℕ)). ys ++ pdu_encoding (pdu_of m) ∷ []) is ∙ sym (map-append pdu_encoding groups (pdu_of m ∷ [])) ∙ ap encodings (sym (h groups is)) in
+-- the packets of groups, where none was left out
+pub encoded_so : (bs : List (List ℕ)) (r : ℕ) → AreGrouped (kept bs r false) → AreEncodings bs
+encoded_so bs r some = (some.0, (was_whole bs r r (encodings some.0) some.1).all)
+
+-- an answer joined the last packet
+pub joined_so : (m : Msg) (before after : List (List ℕ)) (r : ℕ) → length before ≤ r → AreGrouped (kept before r false) → JoinsLast true m before after →
+    IsGrouped m (kept before r false) (kept after r false)
+joined_so m before after r fits some h =
+    let grown : (room : ℕ) (groups : List Pdu) → kept before r false ≡ first_packets room (encodings groups) → kept after r false ≡ first_packets room (encodings (with_answer groups m)) = λ room groups is.
+    let was = was_whole before r room (encodings groups) is in
+    let all : after ≡ encodings (with_answer groups m) = h.1 groups was.all in
+    ap (λ (ps : List (List ℕ)). kept ps r false) all ∙ ap (λ (n : ℕ). kept (encodings (with_answer groups m)) n false) was.room_is
+    ∙ whole_kept room (encodings (with_answer groups m)) (omega (arith, fits, h.0, ap length all, was.room_is)) in
     record {
       groups = grown;
-      still = (with_answer some.0 m, grown some.0 some.1);
-      most = omega (arith, ap length e, length-append before (pdu_encoding (pdu_of m) ∷ []));
+      still = (with_answer some.0 m, grown r some.0 some.1);
+      room = refl;
     }
+
+-- an answer begins a packet, for which there is room
+pub alone_so : (m : Msg) (before after : List (List ℕ)) (r : ℕ) → length before < r → AreGrouped (kept before r false) →
+    ((groups : List Pdu) → before ≡ encodings groups → with_answer groups m ≡ groups ++ pdu_of m ∷ []) →
+    after ≡ before ++ pdu_encoding (pdu_of m) ∷ [] → IsGrouped m (kept before r false) (kept after r false)
+alone_so m before after r fits some h e =
+    let grown : (room : ℕ) (groups : List Pdu) → kept before r false ≡ first_packets room (encodings groups) → kept after r false ≡ first_packets room (encodings (with_answer groups m)) = λ room groups is.
+    let was = was_whole before r room (encodings groups) is in
+    let all : after ≡ encodings (with_answer groups m) =
+    e ∙ ap (λ (ys : List (List ℕ)). ys ++ pdu_encoding (pdu_of m) ∷ []) was.all ∙ sym (map-append pdu_encoding groups (pdu_of m ∷ [])) ∙ ap encodings (sym (h groups was.all)) in
+    ap (λ (ps : List (List ℕ)). kept ps r false) all ∙ ap (λ (n : ℕ). kept (encodings (with_answer groups m)) n false) was.room_is
+    ∙ whole_kept room (encodings (with_answer groups m))
+    (omega (arith, fits, ap length e, length-append before (pdu_encoding (pdu_of m) ∷ []), ap length all, was.room_is)) in
+    record {
+      groups = grown;
+      still = (with_answer some.0 m, grown r some.0 some.1);
+      room = refl;
+    }
+
+-- an answer begins a packet, for which there is no room
+pub left_out_so : (m : Msg) (before : List (List ℕ)) (r : ℕ) → length before ≡ r → AreGrouped (kept before r false) →
+    ((groups : List Pdu) → before ≡ encodings groups → with_answer groups m ≡ groups ++ pdu_of m ∷ []) →
+    IsGrouped m (kept before r false) (kept before r true)
+left_out_so m before r full some h =
+    let grown : (room : ℕ) (groups : List Pdu) → kept before r false ≡ first_packets room (encodings groups) → kept before r true ≡ first_packets room (encodings (with_answer groups m)) = λ room groups is.
+    let was = was_whole before r room (encodings groups) is in
+    let all : encodings (with_answer groups m) ≡ before ++ pdu_encoding (pdu_of m) ∷ [] =
+    ap encodings (h groups was.all) ∙ map-append pdu_encoding groups (pdu_of m ∷ []) ∙ ap (λ (ys : List (List ℕ)). ys ++ pdu_encoding (pdu_of m) ∷ []) (sym was.all) in
+    let first : before ≡ take room (encodings (with_answer groups m)) =
+    sym (take_all room before (omega (arith, full, was.room_is))) ∙ sym (take-append-le room before (pdu_encoding (pdu_of m) ∷ []) (omega (arith, full, was.room_is))) ∙ ap (take room) (sym all) in
+    ap (λ (n : ℕ). kept before n true) was.room_is
+    ∙ cut_kept room (encodings (with_answer groups m)) before first
+    (omega (arith, full, was.room_is, ap length all, length-append before (pdu_encoding (pdu_of m) ∷ []))) in
+    record {
+      groups = grown;
+      still = (with_answer some.0 m, grown r some.0 some.1);
+      room = refl;
+    }
+
+one_or_two : (p : Pdu) (m : Msg) → 0 < length (encodings (last_with p m))
+one_or_two (Responses rs) (Response r) = by (nat_le (length (pdu_encoding (Responses (rs ++ r ∷ [])))) 1472)
+  where
+    by : (b : Bool) → 0 < length (encodings (cond b (Responses (rs ++ r ∷ []) ∷ []) (Responses rs ∷ Responses (r ∷ []) ∷ [])))
+    by true = omega arith
+    by false = omega arith
+one_or_two (Responses rs) (KeepAlive form) = omega arith
+one_or_two (Responses rs) (Command respond c) = omega arith
+one_or_two (OneKeepAlive form) m = omega arith
+one_or_two (Commands respond cs) m = omega arith
+
+-- one more answer leaves the packets before the last as they are, and makes none fewer
+front_same : (room : ℕ) (p : Pdu) (groups : List Pdu) (m : Msg) → room ≤ length (encodings groups) →
+    take room (encodings (p ∷ groups)) ≡ take room (encodings (from_with p groups m))
+front_same zero p groups m h = refl
+front_same (suc n) p [] m h = absurd (omega (arith, h))
+front_same (suc n) p (q ∷ groups) m h = ap (λ (ps : List (List ℕ)). pdu_encoding p ∷ ps) (front_same n q groups m (omega (arith, h)))
+
+not_fewer : (p : Pdu) (groups : List Pdu) (m : Msg) → length (encodings groups) < length (encodings (from_with p groups m))
+not_fewer p [] m = one_or_two p m
+not_fewer p (q ∷ groups) m = omega (arith, not_fewer q groups m)
+
+-- an answer behind one that was left out is left out
+pub cut_so : (m : Msg) (before : List (List ℕ)) (r : ℕ) → AreGrouped (kept before r true) → IsGrouped m (kept before r true) (kept before r true)
+cut_so m before r some =
+    let grown : (room : ℕ) (groups : List Pdu) → kept before r true ≡ first_packets room (encodings groups) → kept before r true ≡ first_packets room (encodings (with_answer groups m)) =
+    λ room groups is. by room groups (was_cut before r room (encodings groups) is) in
+    record {
+      groups = grown;
+      still = (with_answer some.0 m, grown r some.0 some.1);
+      room = refl;
+    }
+  where
+    by : (room : ℕ) (groups : List Pdu) → WasCut before r room (encodings groups) → kept before r true ≡ first_packets room (encodings (with_answer groups m))
+    by room [] was = absurd (omega (arith, was.more))
+    by room (p ∷ groups) was =
+        ap (λ (n : ℕ). kept before n true) was.room_is
+        ∙ cut_kept room (encodings (from_with p groups m)) before (was.first ∙ front_same room p groups m (omega (arith, was.more))) (omega (arith, was.more, not_fewer p groups m))
 
 alive_last : (p : Pdu) (form : Form) → last_with p (KeepAlive form) ≡ p ∷ OneKeepAlive form ∷ []
 alive_last (Responses rs) form = refl

@@ -2,7 +2,7 @@
 use Rattle.std.proofs.Common.{◌≡◌, ℕ, ◌+◌, ◌≤◌, ◌<◌, Bool, true, false, cond, List, [], ◌∷◌, ◌++◌, length, refl, sym, ap, ◌∙◌, subst, arith}
 use Rattle.std.specs.Prelude.{min, max, nat_lt, ◌||◌, IfSome, Option, Some, None, IsSome, Result, Ok}
 use Rattle.std.proofs.lemmas.Bool.{lt-ltb, le-ltb}
-use Rattle.std.proofs.lemmas.List.{append_assoc, append-nil, length-map, map-append}
+use Rattle.std.proofs.lemmas.List.{append_assoc, append-nil, length-map}
 use Rattle.oca_types.specs.declared.words.Peer.{Peer}
 use Rattle.oca_types.specs.Sizes.{DeviceSizes}
 use Rattle.oca_pdu.specs.Messages.{Msg, Command, Response, KeepAlive, Pdu}
@@ -19,6 +19,7 @@ use Rattle.oca_device.specs.Groups.{with_answers, encodings}
 use Rattle.oca_device.specs.Answers.{counts, plus, answer_to, answers_to_messages, packets_of, count_of, counts_of_messages, answers_to_reading, verdict_of_reading, served}
 use Rattle.oca_tree.specs.declared.object.Object.{Object}
 use Rattle.oca_device.specs.Events.{Event}
+use Rattle.oca_device.specs.Outboxes.{KeptPackets, first_packets}
 use Rattle.oca_device.specs.Written.{written_by_message, written_by_messages, written_by_reading}
 use Rattle.oca_device.specs.Devices.{DeviceState, session_for, table_of, IsIn, Represents}
 use Rattle.oca_device.specs.PrivateServing.{ServesMessage, ServesMessages, TakesDatagram}
@@ -204,13 +205,13 @@ pub one_reused : (n : Counts) → counts n.executed n.kept n.old (n.reused + 1) 
 one_reused n = sums _ _ _ _ _ _ _ _ (omega arith) (omega arith) (omega arith) (omega arith)
 
 -- Part of the messages was served: the device is in a state from which the rest leads to where all lead from the first.
-pub record IsHalfway (w : DeviceSizes) (p : Peer) (d : DeviceState) (rest ms : List Msg) (s : State) (before out : List (List ℕ)) (n : Counts) : Type 0 where
+pub record IsHalfway (w : DeviceSizes) (p : Peer) (d : DeviceState) (rest ms : List Msg) (s : State) (before out : KeptPackets) (n : Counts) : Type 0 where
   pub mid : State
   pub device : IsIn w d mid
   pub now : last_moment (run p mid.notes) ≡ mid.moment
   pub state_is : after_messages w p rest mid ≡ after_messages w p ms s
-  pub packets_are : (groups : List Pdu) → before ≡ encodings groups →
-      (so_far : List Pdu) × (out ≡ encodings so_far) × (with_answers so_far (answers_to_messages w p rest mid) ≡ with_answers groups (answers_to_messages w p ms s))
+  pub packets_are : (room : ℕ) (groups : List Pdu) → before ≡ first_packets room (encodings groups) →
+      (so_far : List Pdu) × (out ≡ first_packets room (encodings so_far)) × (with_answers so_far (answers_to_messages w p rest mid) ≡ with_answers groups (answers_to_messages w p ms s))
   pub counts_are : plus n (counts_of_messages w p rest mid) ≡ counts_of_messages w p ms s
   pub written_are : d.written ++ written_by_messages w p rest mid ≡ written_by_messages w p ms s
 
@@ -218,31 +219,31 @@ no_counts : (n : Counts) → plus (counts 0 0 0 0) n ≡ n
 no_counts n = sums _ _ _ _ _ _ _ _ (omega arith) (omega arith) (omega arith) (omega arith)
 
 -- before the first message
-pub none_served : (w : DeviceSizes) (p : Peer) (d : DeviceState) (ms : List Msg) (s : State) (before : List (List ℕ)) → IsIn w d s → last_moment (run p s.notes) ≡ s.moment → d.written ≡ [] →
+pub none_served : (w : DeviceSizes) (p : Peer) (d : DeviceState) (ms : List Msg) (s : State) (before : KeptPackets) → IsIn w d s → last_moment (run p s.notes) ≡ s.moment → d.written ≡ [] →
     IsHalfway w p d ms ms s before before (counts 0 0 0 0)
 none_served w p d ms s before h now none = record {
   mid = s;
   device = h;
   now = now;
   state_is = refl;
-  packets_are = λ groups is. (groups, is, refl);
+  packets_are = λ room groups is. (groups, is, refl);
   counts_are = no_counts (counts_of_messages w p ms s);
   written_are = ap (λ (xs : List ℕ). xs ++ written_by_messages w p ms s) none;
 }
 
 -- after the last
-pub all_served : (w : DeviceSizes) (p : Peer) (d : DeviceState) (rest ms : List Msg) (s : State) (before out : List (List ℕ)) (n : Counts) → rest ≡ [] →
+pub all_served : (w : DeviceSizes) (p : Peer) (d : DeviceState) (rest ms : List Msg) (s : State) (before out : KeptPackets) (n : Counts) → rest ≡ [] →
     IsHalfway w p d rest ms s before out n → ServesMessages w d p ms s before out n
 all_served w p d rest ms s before out n over h = record {
   device = subst (λ (x : State). IsIn w d x) (sym (ap (λ xs. after_messages w p xs h.mid) over) ∙ h.state_is) h.device;
   written = sym (append-nil d.written) ∙ sym (ap (λ xs. d.written ++ written_by_messages w p xs h.mid) over) ∙ h.written_are;
-  packets = λ groups is.
-      let x = h.packets_are groups is in
-      x.1 ∙ ap encodings (sym (ap (λ xs. with_answers x.0 (answers_to_messages w p xs h.mid)) over) ∙ x.2);
+  packets = λ room groups is.
+      let x = h.packets_are room groups is in
+      x.1 ∙ ap (λ (ps : List Pdu). first_packets room (encodings ps)) (sym (ap (λ xs. with_answers x.0 (answers_to_messages w p xs h.mid)) over) ∙ x.2);
   counts = none_more n ∙ sym (ap (λ xs. plus n (counts_of_messages w p xs h.mid)) over) ∙ h.counts_are;
 }
 
-pub one_further : (w : DeviceSizes) (p : Peer) (d d' : DeviceState) (m : Msg) (rest rest' ms : List Msg) (s : State) (before out out' : List (List ℕ)) (n n' : Counts) →
+pub one_further : (w : DeviceSizes) (p : Peer) (d d' : DeviceState) (m : Msg) (rest rest' ms : List Msg) (s : State) (before out out' : KeptPackets) (n n' : Counts) →
     (h : IsHalfway w p d rest ms s before out n) → rest ≡ m ∷ rest' → IsSome (session_of p d.sessions.sessions) →
     ServesMessage w d d' p m h.mid out out' n n' →
     IsHalfway w p d' rest' ms s before out' n'
@@ -254,11 +255,11 @@ one_further w p d d' m rest rest' ms s before out out' n n' h step has t =
       device = t.device;
       now = message_now w h.mid p m known h.now;
       state_is = sym (ap (λ xs. after_messages w p xs h.mid) step) ∙ h.state_is;
-      packets_are = λ groups is.
-          let x = h.packets_are groups is in
+      packets_are = λ room groups is.
+          let x = h.packets_are room groups is in
           let here = answer_to w p m h.mid in (
             with_answers x.0 here,
-            t.packets x.0 x.1,
+            t.packets room x.0 x.1,
             sym (answers_both x.0 here (answers_to_messages w p rest' next))
                 ∙ sym (ap (λ xs. with_answers x.0 (answers_to_messages w p xs h.mid)) step)
                 ∙ x.2,
@@ -280,32 +281,32 @@ one_further w p d d' m rest rest' ms s before out out' n n' h step has t =
 abbrev admitted_state : Peer → List Msg → State → State
 admitted_state p ms s = noted p (Admitted ms) s
 
-pub refused_whole : (w : DeviceSizes) (d : DeviceState) (p : Peer) (bytes : List ℕ) (ms : List Msg) (s : State) (after : List (List ℕ)) →
-    read_datagram bytes ≡ Ok ms → admits w s p ≡ false → IsIn w d s → d.written ≡ [] → after ≡ [] → TakesDatagram w d p bytes s after verdicts.NoRoom
-refused_whole w d p bytes ms s after reads out h unwritten none =
+pub refused_whole : (w : DeviceSizes) (d : DeviceState) (p : Peer) (bytes : List ℕ) (ms : List Msg) (s : State) (room : ℕ) (after : KeptPackets) →
+    read_datagram bytes ≡ Ok ms → admits w s p ≡ false → IsIn w d s → d.written ≡ [] → after ≡ first_packets room [] → TakesDatagram w d p bytes s room after verdicts.NoRoom
+refused_whole w d p bytes ms s room after reads out h unwritten none =
     record {
       written = unwritten ∙ sym (ap (λ (r : Result (List Msg) PduFault). written_by_reading w p r s) reads
           ∙ ap (λ (b : Bool). cond b (written_by_messages w p ms (admitted_state p ms s)) []) out);
       device = subst (λ (r : Result (List Msg) PduFault). IsIn w d (after_reading w p r s)) (sym reads)
           (subst (λ (b : Bool). IsIn w d (cond b (after_messages w p ms (admitted_state p ms s)) s)) (sym out) h);
-      packets = none ∙ sym (ap packets_of (ap (λ (r : Result (List Msg) PduFault). answers_to_reading w p r s) reads
+      packets = none ∙ sym (ap (λ (xs : List Msg). first_packets room (packets_of xs)) (ap (λ (r : Result (List Msg) PduFault). answers_to_reading w p r s) reads
           ∙ ap (λ (b : Bool). cond b (answers_to_messages w p ms (admitted_state p ms s)) []) out));
       verdict_is = sym (ap (λ (r : Result (List Msg) PduFault). verdict_of_reading w p r s) reads
           ∙ ap (λ (b : Bool). cond b (served (counts_of_messages w p ms (admitted_state p ms s))) verdicts.NoRoom) out);
     }
 
-pub taken_whole : (w : DeviceSizes) (d : DeviceState) (p : Peer) (bytes : List ℕ) (ms : List Msg) (s : State) (before after : List (List ℕ)) (n : Counts) →
-    read_datagram bytes ≡ Ok ms → admits w s p ≡ true → before ≡ [] → ServesMessages w d p ms (admitted_state p ms s) before after n →
-    TakesDatagram w d p bytes s after (verdicts.Served n.executed n.kept n.old n.reused)
-taken_whole w d p bytes ms s before after n reads let_in none t =
+pub taken_whole : (w : DeviceSizes) (d : DeviceState) (p : Peer) (bytes : List ℕ) (ms : List Msg) (s : State) (room : ℕ) (before after : KeptPackets) (n : Counts) →
+    read_datagram bytes ≡ Ok ms → admits w s p ≡ true → before ≡ first_packets room [] → ServesMessages w d p ms (admitted_state p ms s) before after n →
+    TakesDatagram w d p bytes s room after (verdicts.Served n.executed n.kept n.old n.reused)
+taken_whole w d p bytes ms s room before after n reads let_in none t =
     let all = admitted_state p ms s in
     record {
       written = t.written ∙ sym (ap (λ (r : Result (List Msg) PduFault). written_by_reading w p r s) reads
           ∙ ap (λ (b : Bool). cond b (written_by_messages w p ms all) []) let_in);
       device = subst (λ (r : Result (List Msg) PduFault). IsIn w d (after_reading w p r s)) (sym reads)
           (subst (λ (b : Bool). IsIn w d (cond b (after_messages w p ms all) s)) (sym let_in) t.device);
-      packets = t.packets [] none
-          ∙ sym (ap packets_of (ap (λ (r : Result (List Msg) PduFault). answers_to_reading w p r s) reads
+      packets = t.packets room [] none
+          ∙ sym (ap (λ (xs : List Msg). first_packets room (packets_of xs)) (ap (λ (r : Result (List Msg) PduFault). answers_to_reading w p r s) reads
           ∙ ap (λ (b : Bool). cond b (answers_to_messages w p ms all) []) let_in));
       verdict_is = ap served t.counts ∙ sym (ap (λ (r : Result (List Msg) PduFault). verdict_of_reading w p r s) reads
           ∙ ap (λ (b : Bool). cond b (served (counts_of_messages w p ms all)) verdicts.NoRoom) let_in);

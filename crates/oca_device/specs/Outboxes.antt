@@ -1,6 +1,16 @@
--- The packets of an outbox, as their bytes.
-use Rattle.std.specs.Prelude.{ℕ, List, map}
+-- The packets of an outbox, as their bytes; and what an outbox keeps that has room for some of them only (profile).
+use Rattle.std.specs.Prelude.{ℕ, nat_lt, Bool, List, map, take, length}
 use Rattle.arrayvec.specs.ArrayVec.{ArrayVec}
 
 abbrev pub bytes_of_packets : List (ArrayVec ℕ) → List (List ℕ)
 bytes_of_packets packets = map (λ p. p.items) packets
+
+-- The packets that are kept, for how many there is room, and whether some were left out.
+pub record KeptPackets : Type 0 where
+  pub packets : List (List ℕ)
+  pub room : ℕ
+  pub is_cut : Bool
+
+-- Of packets the first ones are kept, as many as there is room for. Some were left out where there are more.
+abbrev pub first_packets : ℕ → List (List ℕ) → KeptPackets
+first_packets room packets = record { packets = take room packets; room = room; is_cut = nat_lt room (length packets) }

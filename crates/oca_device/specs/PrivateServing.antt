@@ -3,7 +3,7 @@
 use Rattle.std.specs.Prelude.{◌≡◌, ℕ, ◌+◌, ◌≤◌, Bool, true, false, ⊤, List, [], ◌∷◌, ◌++◌, length}
 use Rattle.oca_types.specs.declared.words.Peer.{Peer}
 use Rattle.oca_types.specs.Sizes.{DeviceSizes, most_command_parameter_bytes}
-use Rattle.oca_pdu.specs.Messages.{Msg, Command, Response, KeepAlive, Pdu, Commands, Responses, OneKeepAlive}
+use Rattle.oca_pdu.specs.Messages.{Msg, Command, Response, KeepAlive, Pdu}
 use Rattle.oca_pdu.specs.Encoding.{pdu_encoding}
 use Rattle.oca_pdu.specs.Reading.{read_datagram}
 use Rattle.oca_device.specs.declared.counts.Counts.{Counts}
@@ -11,18 +11,24 @@ use Rattle.oca_device.specs.declared.verdict.Verdict.{Verdict}
 use Rattle.oca_device.specs.Groups.{pdu_of, last_with, with_answer, with_answers, encodings}
 use Rattle.oca_device.specs.States.{State, after_message, after_messages, after_reading}
 use Rattle.oca_device.specs.Answers.{answer_to, answers_to_messages, answers_to_reading, packets_of, plus, count_of, counts_of_messages, verdict_of_reading}
+use Rattle.oca_device.specs.Outboxes.{KeptPackets, first_packets}
 use Rattle.oca_device.specs.Written.{written_by_message, written_by_messages, written_by_reading}
 use Rattle.oca_device.specs.Devices.{DeviceState, IsIn}
 
 -- the packets are those of some groups
-abbrev pub AreGrouped : List (List ℕ) → Type 0
-AreGrouped packets = (groups : List Pdu) × (packets ≡ encodings groups)
+abbrev pub AreEncodings : List (List ℕ) → Type 0
+AreEncodings packets = (groups : List Pdu) × (packets ≡ encodings groups)
 
--- The packets of groups became those of the groups with one more answer, which are one more at most.
-pub record IsGrouped (m : Msg) (before after : List (List ℕ)) : Type 0 where
-  pub groups : (groups : List Pdu) → before ≡ encodings groups → after ≡ encodings (with_answer groups m)
+-- the packets that are kept are the first ones of some groups
+abbrev pub AreGrouped : KeptPackets → Type 0
+AreGrouped kept = (groups : List Pdu) × (kept ≡ first_packets kept.room (encodings groups))
+
+-- What was kept of the packets of groups became what is kept of those of the groups with one more answer.
+pub record IsGrouped (m : Msg) (before after : KeptPackets) : Type 0 where
+  pub groups : (room : ℕ) (groups : List Pdu) → before ≡ first_packets room (encodings groups) →
+      after ≡ first_packets room (encodings (with_answer groups m))
   pub still : AreGrouped after
-  pub most : length after ≤ length before + 1
+  pub room : after.room ≡ before.room
 
 -- An answer joined a packet's PDU, or it begins a packet of its own and that one is as before.
 abbrev pub Joins : Bool → Pdu → Msg → List ℕ → List ℕ → Type 0
@@ -56,24 +62,26 @@ abbrev pub commands_in : Counts → ℕ
 commands_in n = n.executed + n.kept + n.old + n.reused
 
 -- one message, where so many commands were counted before
-pub record ServesMessage (w : DeviceSizes) (old new : DeviceState) (p : Peer) (m : Msg) (s : State) (before after : List (List ℕ)) (so_far n : Counts) : Type 0 where
+pub record ServesMessage (w : DeviceSizes) (old new : DeviceState) (p : Peer) (m : Msg) (s : State) (before after : KeptPackets) (so_far n : Counts) : Type 0 where
   pub device : IsIn w new (after_message w p m s)
   pub written : new.written ≡ old.written ++ written_by_message w p m s
-  pub packets : (groups : List Pdu) → before ≡ encodings groups → after ≡ encodings (with_answers groups (answer_to w p m s))
+  pub packets : (room : ℕ) (groups : List Pdu) → before ≡ first_packets room (encodings groups) →
+      after ≡ first_packets room (encodings (with_answers groups (answer_to w p m s)))
   pub counts : n ≡ plus so_far (count_of w p m s)
 
 -- several messages, where nothing was written before
-pub record ServesMessages (w : DeviceSizes) (new : DeviceState) (p : Peer) (ms : List Msg) (s : State) (before after : List (List ℕ)) (n : Counts) : Type 0 where
+pub record ServesMessages (w : DeviceSizes) (new : DeviceState) (p : Peer) (ms : List Msg) (s : State) (before after : KeptPackets) (n : Counts) : Type 0 where
   pub device : IsIn w new (after_messages w p ms s)
   pub written : new.written ≡ written_by_messages w p ms s
-  pub packets : (groups : List Pdu) → before ≡ encodings groups → after ≡ encodings (with_answers groups (answers_to_messages w p ms s))
+  pub packets : (room : ℕ) (groups : List Pdu) → before ≡ first_packets room (encodings groups) →
+      after ≡ first_packets room (encodings (with_answers groups (answers_to_messages w p ms s)))
   pub counts : n ≡ counts_of_messages w p ms s
 
--- a datagram, when the clock has moved and nothing is written
-pub record TakesDatagram (w : DeviceSizes) (new : DeviceState) (p : Peer) (bytes : List ℕ) (s : State) (after : List (List ℕ)) (verdict : Verdict) : Type 0 where
+-- a datagram, when the clock has moved, nothing is written and there is room for so many packets
+pub record TakesDatagram (w : DeviceSizes) (new : DeviceState) (p : Peer) (bytes : List ℕ) (s : State) (room : ℕ) (after : KeptPackets) (verdict : Verdict) : Type 0 where
   pub device : IsIn w new (after_reading w p (read_datagram bytes) s)
   pub written : new.written ≡ written_by_reading w p (read_datagram bytes) s
-  pub packets : after ≡ packets_of (answers_to_reading w p (read_datagram bytes) s)
+  pub packets : after ≡ first_packets room (packets_of (answers_to_reading w p (read_datagram bytes) s))
   pub verdict_is : verdict ≡ verdict_of_reading w p (read_datagram bytes) s
 
 -- a message has one answer at most, and a response none

@@ -14,9 +14,12 @@ ghost use Rattle.oca_device.specs.States.{State, state_after, known_after, noted
 ghost use Rattle.oca_tree.specs.Execution.{execution};
 ghost use Rattle.oca_tree.specs.Settings.{set_fault};
 ghost use Rattle.std.specs.Result.{result_err};
-ghost use Rattle.oca_device.specs.Answers.{packets, verdict};
+ghost use Rattle.oca_device.specs.Answers.{packets, packets_of, verdict, answers_to_reading};
+ghost use Rattle.oca_device.specs.Outboxes.{first_packets};
+ghost use Rattle.oca_pdu.specs.Reading.{read_datagram};
 ghost use Rattle.oca_device.specs.Written.{numbers_of, written, written_by_execution};
 
+use crate::bounded::BoundedOutbox;
 use crate::counts::{Counts, NONE};
 use crate::lapse::released_from;
 use crate::outbox::Outbox;
@@ -64,7 +67,7 @@ impl Model for Device {
 impl Device {
     ghost use Rattle.oca_device.specs.Devices.{Represents, IsIn};
     ghost use Rattle.oca_device.specs.Lapses.{IsNextLapse, NeverLapses};
-    ghost use Rattle.oca_device.specs.PrivateServing.{ServesMessage, ServesMessages, TakesDatagram, AreGrouped, IsShort, may_answer, most_answers, commands_in, commands_of, all_commands};
+    ghost use Rattle.oca_device.specs.PrivateServing.{ServesMessage, ServesMessages, TakesDatagram, AreGrouped, IsShort, commands_in, commands_of, all_commands};
 
     /// A device of these objects, with reply windows of this size and sessions of at most 16 peers, before any event.
     /// Takes all the memory that its sessions will need. Refusal: `NoMemory`.
@@ -118,6 +121,30 @@ impl Device {
             outbox.new ≡ packets w T E (DatagramEvent from bytes.now now) }
         ensures verdict { (w : DeviceSizes) (T : List Object) (E : List Event) → Represents w self.old T E →
             result ≡ verdict w T E from bytes.now now }
+    {
+        self.datagram_within(from, bytes, now, &mut outbox.first)
+    }
+
+    /// Takes a datagram as [`Device::datagram`] does, with an outbox that has room for some packets only: it then holds
+    /// the first of the answers, as many as there is room for, and tells whether others were left out. All commands
+    /// are executed, answered or not; who repeats one whose answer was left out gets the retained reply, as after a
+    /// loss. There are never more packets than messages in the datagram, and never more than 122.
+    pub fn datagram_within(
+        &mut self,
+        from: Peer,
+        bytes: &[u8],
+        now: u64,
+        outbox: &mut BoundedOutbox,
+    ) -> Verdict
+        ensures represents { (w : DeviceSizes) (T : List Object) (E : List Event) → Represents w self.old T E →
+            Represents w self.new T (DatagramEvent from bytes.now now ∷ E) }
+        ensures packets { (w : DeviceSizes) (T : List Object) (E : List Event) → Represents w self.old T E →
+            outbox.new ≡ first_packets outbox.old.room (packets w T E (DatagramEvent from bytes.now now)) }
+        ensures verdict { (w : DeviceSizes) (T : List Object) (E : List Event) → Represents w self.old T E →
+            result ≡ verdict w T E from bytes.now now }
+        ensures few { (w : DeviceSizes) (T : List Object) (E : List Event) → Represents w self.old T E →
+            length (packets w T E (DatagramEvent from bytes.now now)) ≤ most_answered }
+        ensures room { outbox.new.room ≡ outbox.old.room }
     {
         outbox.clear();
         self.begin_datagram();
@@ -215,11 +242,15 @@ impl Device {
 
     /// Takes the datagram, once the clock has moved on to its moment: `now` is not after the present moment, so
     /// it moves nothing here.
-    fn receive(&mut self, from: Peer, bytes: &[u8], now: u64, outbox: &mut Outbox) -> Verdict
+    fn receive(&mut self, from: Peer, bytes: &[u8], now: u64, outbox: &mut BoundedOutbox) -> Verdict
         requires moment { now ≤ self.old.sessions.moment }
-        requires empty { outbox.old ≡ [] }
+        requires empty { outbox.old ≡ first_packets outbox.old.room [] }
         requires none { self.old.written ≡ [] }
-        ensures { (w : DeviceSizes) (s : State) → IsIn w self.old s → TakesDatagram w self.new from bytes.now s outbox.new result }
+        ensures takes { (w : DeviceSizes) (s : State) → IsIn w self.old s →
+            TakesDatagram w self.new from bytes.now s outbox.old.room outbox.new result }
+        ensures few { (w : DeviceSizes) (s : State) → IsIn w self.old s →
+            length (packets_of (answers_to_reading w from (read_datagram bytes.now) s)) ≤ most_answered }
+        ensures room { outbox.new.room ≡ outbox.old.room }
     {
         match check(bytes) {
             Ok(datagram) => {
@@ -256,15 +287,20 @@ impl Device {
     }
 
     /// Serves the messages of a peer that was let in, in order.
-    fn serve_messages(&mut self, from: Peer, messages: Messages<'_>, outbox: &mut Outbox) -> Counts
+    fn serve_messages(
+        &mut self,
+        from: Peer,
+        messages: Messages<'_>,
+        outbox: &mut BoundedOutbox,
+    ) -> Counts
         requires known { IsSome (session_of from self.old.sessions.sessions) }
-        requires room { length outbox.old + most_answers (messages_left messages) ≤ most_answered }
         requires groups { AreGrouped outbox.old }
         requires short { AllByRecursion IsShort (messages_left messages) }
         requires few { all_commands (messages_left messages) ≤ most_commands }
         requires none { self.old.written ≡ [] }
-        ensures { (w : DeviceSizes) (s : State) → IsIn w self.old s → last_moment (run from s.notes) ≡ s.moment →
+        ensures serves { (w : DeviceSizes) (s : State) → IsIn w self.old s → last_moment (run from s.notes) ≡ s.moment →
             ServesMessages w self.new from (messages_left messages.entry) s outbox.old outbox.new result }
+        ensures room { outbox.new.room ≡ outbox.old.room }
     {
         let mut counts = NONE;
         for message in messages {
@@ -274,9 +310,14 @@ impl Device {
     }
 
     /// Serves a message of a peer that was let in, and counts it.
-    fn serve(&mut self, from: Peer, message: Message<'_>, outbox: &mut Outbox, counts: &mut Counts)
+    fn serve(
+        &mut self,
+        from: Peer,
+        message: Message<'_>,
+        outbox: &mut BoundedOutbox,
+        counts: &mut Counts,
+    )
         requires known { IsSome (session_of from self.old.sessions.sessions) }
-        requires room { length outbox.old + may_answer (msg_of message) ≤ most_answered }
         requires groups { AreGrouped outbox.old }
         requires short { IsShort (msg_of message) }
         requires few { commands_in counts.now + commands_of (msg_of message) ≤ most_commands }
@@ -284,7 +325,7 @@ impl Device {
         ensures serves { (w : DeviceSizes) (s : State) → IsIn w self.old s → last_moment (run from s.notes) ≡ s.moment →
             ServesMessage w self.old self.new from (msg_of message.entry) s outbox.old outbox.new counts.entry.now counts.exit.now }
         ensures known { IsSome (session_of from self.new.sessions.sessions) }
-        ensures packets { length outbox.new ≤ length outbox.old + may_answer (msg_of message.entry) }
+        ensures room { outbox.new.room ≡ outbox.old.room }
         ensures groups { AreGrouped outbox.new }
         ensures few { commands_in counts.exit.now ≤ commands_in counts.entry.now + commands_of (msg_of message.entry) }
         ensures within { length self.new.written ≤ commands_in counts.exit.now }
@@ -307,11 +348,10 @@ impl Device {
         from: Peer,
         respond: bool,
         command: &Command,
-        outbox: &mut Outbox,
+        outbox: &mut BoundedOutbox,
         counts: &mut Counts,
     )
         requires known { IsSome (session_of from self.old.sessions.sessions) }
-        requires room { length outbox.old < most_answered }
         requires groups { AreGrouped outbox.old }
         requires short { length command.now.params.now ≤ most_command_parameter_bytes }
         requires few { commands_in counts.now < most_commands }
@@ -319,7 +359,7 @@ impl Device {
         ensures serves { (w : DeviceSizes) (s : State) → IsIn w self.old s → last_moment (run from s.notes) ≡ s.moment →
             ServesMessage w self.old self.new from (Commands respond (fields_of command.now)) s outbox.old outbox.new counts.entry.now counts.exit.now }
         ensures known { IsSome (session_of from self.new.sessions.sessions) }
-        ensures packets { length outbox.new ≤ length outbox.old + 1 }
+        ensures room { outbox.new.room ≡ outbox.old.room }
         ensures groups { AreGrouped outbox.new }
         ensures few { commands_in counts.exit.now ≡ commands_in counts.entry.now + 1 }
         ensures within { length self.new.written ≤ commands_in counts.exit.now }

@@ -8,6 +8,7 @@
 //! `Outbox::new`.
 #![tactic(auto)]
 
+mod bounded;
 mod counts;
 mod device;
 mod electronics;
@@ -18,6 +19,7 @@ mod report;
 mod serving;
 mod verdict;
 
+pub use bounded::BoundedOutbox;
 pub use device::Device;
 pub use electronics::{Electronics, NoElectronics};
 pub use law::{law_by_events, law_of_groups};

@@ -1,18 +1,17 @@
-use Rattle.std.proofs.Common.{Bool, cond, List, [], length, arith, ap, ◌∙◌, sym, subst}
+use Rattle.std.proofs.Common.{Bool, cond, List, [], length, ◌≤◌, arith, ◌∙◌, sym, subst}
 use Rattle.std.specs.List.{AllByRecursion}
 use Rattle.oca_pdu.specs.Messages.{Msg}
 use Rattle.oca_pdu.specs.Datagrams.{datagram_messages, messages_left}
 use Rattle.oca_device.specs.Notes.{Admitted}
 use Rattle.oca_device.specs.States.{noted}
+use Rattle.oca_device.specs.Answers.{packets_of, answers_to_reading}
 use Rattle.oca_device.specs.Devices.{IsIn}
-use Rattle.oca_device.specs.PrivateServing.{ServesMessages, IsShort}
-use Rattle.oca_device.proofs.Bounds.{answers_counted, commands_counted, all_short}
+use Rattle.oca_pdu.specs.declared.fault.PduFault.{PduFault}
+use Rattle.std.specs.Prelude.{Result}
+use Rattle.oca_device.specs.PrivateServing.{ServesMessages, IsShort, most_answers}
+use Rattle.oca_device.proofs.Bounds.{answers_counted, commands_counted, all_short, few_packets, no_packets}
 use Rattle.oca_device.proofs.Steps.{refused_whole, taken_whole, admitted_now}
 use Rattle.oca_device.proofs.device.Device.receive.Goals as goal
-
-pub serve_messages-counts-requires-clause-room : goal.serve_messages-counts-requires-clause-room
-serve_messages-counts-requires-clause-room c =
-    omega (arith, answers_counted (messages_left c.messages.result), c.messages.ensures.limits.no_responses, ap length c.requires.empty)
 
 pub serve_messages-counts-requires-clause-groups : goal.serve_messages-counts-requires-clause-groups
 serve_messages-counts-requires-clause-groups c = ([], c.requires.empty)
@@ -28,21 +27,37 @@ serve_messages-counts-requires-clause-short c =
     let found = c.in-Ok.ensures.found in
     subst (λ (ms : List Msg). AllByRecursion IsShort ms) (sym (c.messages.ensures.all ∙ found.2)) (all_short found.0 c.args.bytes.now found.1)
 
-pub returns-else-admit : goal.returns-else-admit
-returns-else-admit c = λ w s h.
+pub returns-else-admit-clause-takes : goal.returns-else-admit-clause-takes
+returns-else-admit-clause-takes c = λ w s h.
     let ms = datagram_messages c.in-Ok.datagram in
     let out = sym (c.admit.ensures.admits w s h) ∙ c.if-admit.false in
     let same = subst (λ (b : Bool). IsIn w c.admit.new.self (cond b (noted c.args.from (Admitted ms) s) s)) c.if-admit.false (c.admit.ensures.noted w s ms h) in
-    refused_whole w c.admit.new.self c.args.from c.args.bytes.now ms s c.args.outbox.now c.in-Ok.ensures.reads out same (c.admit.ensures.written ∙ c.requires.none) c.requires.empty
+    refused_whole w c.admit.new.self c.args.from c.args.bytes.now ms s c.args.outbox.now.room c.args.outbox.now c.in-Ok.ensures.reads out same (c.admit.ensures.written ∙ c.requires.none) c.requires.empty
 
-pub returns-then-admit : goal.returns-then-admit
-returns-then-admit c = λ w s h.
+pub returns-then-admit-clause-takes : goal.returns-then-admit-clause-takes
+returns-then-admit-clause-takes c = λ w s h.
     let p = c.args.from in
     let ms = datagram_messages c.in-Ok.datagram in
     let let_in = sym (c.admit.ensures.admits w s h) ∙ c.if-admit.true in
     let inside = subst (λ (b : Bool). IsIn w c.admit.new.self (cond b (noted p (Admitted ms) s) s)) c.if-admit.true (c.admit.ensures.noted w s ms h) in
-    let serves = c.serve_messages-counts.ensures w (noted p (Admitted ms) s) inside (admitted_now s p ms) in
-    taken_whole w c.serve_messages-counts.new.self p c.args.bytes.now ms s c.args.outbox.now c.serve_messages-counts.new.outbox c.serve_messages-counts.result
+    let serves = c.serve_messages-counts.ensures.serves w (noted p (Admitted ms) s) inside (admitted_now s p ms) in
+    taken_whole w c.serve_messages-counts.new.self p c.args.bytes.now ms s c.args.outbox.now.room c.args.outbox.now c.serve_messages-counts.new.outbox c.serve_messages-counts.result
     c.in-Ok.ensures.reads let_in c.requires.empty
     (subst (λ (xs : List Msg). ServesMessages w c.serve_messages-counts.new.self p xs (noted p (Admitted ms) s) c.args.outbox.now c.serve_messages-counts.new.outbox c.serve_messages-counts.result)
     c.messages.ensures.all serves)
+
+pub returns-else-admit-clause-few : goal.returns-else-admit-clause-few
+returns-else-admit-clause-few c = λ w s h.
+    let ms = datagram_messages c.in-Ok.datagram in
+    let out = sym (c.admit.ensures.admits w s h) ∙ c.if-admit.false in
+    subst (λ (r : Result (List Msg) PduFault). length (packets_of (answers_to_reading w c.args.from r s)) ≤ 122) (sym c.in-Ok.ensures.reads)
+    (no_packets w c.args.from ms s 122 out)
+
+pub returns-then-admit-clause-few : goal.returns-then-admit-clause-few
+returns-then-admit-clause-few c = λ w s h.
+    let ms = datagram_messages c.in-Ok.datagram in
+    let few : most_answers ms ≤ 122 =
+    subst (λ (xs : List Msg). most_answers xs ≤ 122) c.messages.ensures.all
+    (omega (arith, answers_counted (messages_left c.messages.result), c.messages.ensures.limits.no_responses)) in
+    subst (λ (r : Result (List Msg) PduFault). length (packets_of (answers_to_reading w c.args.from r s)) ≤ 122) (sym c.in-Ok.ensures.reads)
+    (few_packets w c.args.from ms s 122 few)

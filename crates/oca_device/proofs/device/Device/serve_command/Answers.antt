@@ -1,5 +1,5 @@
-use Rattle.std.proofs.Common.{◌≡◌, ℕ, ◌+◌, List, [], ◌∷◌, ◌++◌, length, Bool, true, false, cond, ap, ◌∙◌, refl, sym, subst, arith}
-use Rattle.std.specs.Prelude.{IsSome, map}
+use Rattle.std.proofs.Common.{◌≡◌, ℕ, List, [], ◌∷◌, ◌++◌, length, Bool, true, false, cond, ap, ◌∙◌, refl, sym, subst, arith}
+use Rattle.std.specs.Prelude.{IsSome}
 use Rattle.std.proofs.lemmas.List.{append-nil, length-map}
 use Rattle.oca_types.specs.declared.words.Ono.{Ono}
 use Rattle.oca_types.specs.declared.words.Peer.{Peer}
@@ -15,7 +15,8 @@ use Rattle.oca_session.specs.Accepted.{Entry, Judgement, Fresh, Duplicate, Reuse
 use Rattle.oca_session.specs.Table.{session_of, with_sessions, changed, with_accepted, AgreesAt, Table}
 use Rattle.oca_device.specs.Notes.{Executed, accepted, run, is_known, last_moment}
 use Rattle.oca_device.specs.States.{State, judged_in, after_command, reply_of}
-use Rattle.oca_device.specs.Answers.{response, answer_to_command, counts, plus, count_of_command}
+use Rattle.oca_device.specs.Answers.{response, answer_to_command, plus, count_of_command}
+use Rattle.oca_device.specs.Outboxes.{KeptPackets, first_packets}
 use Rattle.oca_device.specs.Written.{numbers_of, written_by_execution, written_by_command}
 use Rattle.oca_device.specs.Devices.{DeviceState, IsIn}
 use Rattle.oca_device.specs.PrivateServing.{ServesMessage}
@@ -24,17 +25,17 @@ use Rattle.oca_device.proofs.Steps.{executed_there, agrees_there, known_there, o
 use Rattle.oca_device.proofs.device.Device.serve_command.Goals as goal
 
 -- the packets of groups became those of the groups with these answers
-abbrev Answered : List (List ℕ) → List (List ℕ) → List Msg → Type 0
-Answered before after ms = (groups : List Pdu) → before ≡ encodings groups → after ≡ encodings (with_answers groups ms)
+abbrev Answered : KeptPackets → KeptPackets → List Msg → Type 0
+Answered before after ms = (room : ℕ) (groups : List Pdu) → before ≡ first_packets room (encodings groups) → after ≡ first_packets room (encodings (with_answers groups ms))
 
 -- what is answered to a command, whether it asks for a response or not
-answered : (b : Bool) (before after : List (List ℕ)) (ms : List Msg) → (b ≡ true → Answered before after ms) → (b ≡ false → after ≡ before) →
+answered : (b : Bool) (before after : KeptPackets) (ms : List Msg) → (b ≡ true → Answered before after ms) → (b ≡ false → after ≡ before) →
     Answered before after (cond b ms [])
 answered true before after ms h k = h refl
-answered false before after ms h k = λ groups is. k refl ∙ is
+answered false before after ms h k = λ room groups is. k refl ∙ is
 
 -- a command is served as it is judged
-by_judgement : (w : DeviceSizes) (s : State) (p : Peer) (command : CommandFields) (respond : Bool) (old new : DeviceState) (before after : List (List ℕ)) (n m : Counts)
+by_judgement : (w : DeviceSizes) (s : State) (p : Peer) (command : CommandFields) (respond : Bool) (old new : DeviceState) (before after : KeptPackets) (n m : Counts)
     (j : Judgement) → j ≡ judged_in w s p command → IsIn w new (after_command j p command s) → new.written ≡ old.written ++ written_by_command j p command s →
     (respond ≡ true → Answered before after (answer_to_command j p command s)) → (respond ≡ false → after ≡ before) →
     m ≡ plus n (count_of_command j) → ServesMessage w old new p (Command respond command) s before after n m
@@ -103,7 +104,7 @@ returns-then-respond-clause-serves c = λ w s h now.
     (c.in-Fresh.ensures.accepted w.window A agreed)
     (fresh_served w s p command tree old c.execute.new.tree c.keep.new.self c.execute.new.reply was known now c.execute.ensures.tree reply (c.keep.ensures.accepted w.window A agreed))
     (more_written p command s (numbers_of c.self.inside.written.items) (numbers_of c.execute.new.written.items) c.self.view_is was.tree c.execute.ensures.written)
-    (λ _ groups is. c.respond.ensures.groups groups is ∙ ap (λ (r : Reply). encodings (with_answer groups (response command.handle r))) reply)
+    (λ _ room groups is. c.respond.ensures.groups room groups is ∙ ap (λ (r : Reply). first_packets room (encodings (with_answer groups (response command.handle r)))) reply)
     (λ q. cc)
     (one_executed c.args.counts.now)
 
@@ -135,7 +136,7 @@ returns-then-respond-2-clause-serves c = λ w s h now.
     (c.in-Kept.ensures.accepted w.window (accepted (run p s.notes)) (agreed_in w s p c.self.inside.tree c.self.inside.sessions c.args.self.now c.self.view_is h c.requires.known))
     h
     (sym (append-nil c.args.self.now.written))
-    (λ _ groups is. c.respond-then-respond-2.ensures.groups groups is)
+    (λ _ room groups is. c.respond-then-respond-2.ensures.groups room groups is)
     (λ q. cc)
     (one_kept c.args.counts.now)
 
@@ -159,7 +160,7 @@ returns-in-Reused-clause-serves c = λ w s h now.
     (c.in-Reused.ensures.accepted w.window (accepted (run p s.notes)) (agreed_in w s p c.self.inside.tree c.self.inside.sessions c.args.self.now c.self.view_is h c.requires.known))
     h
     (sym (append-nil c.args.self.now.written))
-    (λ _ groups is. is)
+    (λ _ room groups is. is)
     (λ _. refl)
     (one_reused c.args.counts.now)
 
@@ -171,6 +172,6 @@ returns-in-Old-clause-serves c = λ w s h now.
     (c.in-Old.ensures.accepted w.window (accepted (run p s.notes)) (agreed_in w s p c.self.inside.tree c.self.inside.sessions c.args.self.now c.self.view_is h c.requires.known))
     h
     (sym (append-nil c.args.self.now.written))
-    (λ _ groups is. is)
+    (λ _ room groups is. is)
     (λ _. refl)
     (one_old c.args.counts.now)

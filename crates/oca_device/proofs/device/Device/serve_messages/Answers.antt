@@ -1,7 +1,7 @@
-use Rattle.std.proofs.Common.{rules, ◌≡◌, ◌+◌, ◌≤◌, List, ◌∷◌, length, sym, ap, arith, subst}
+use Rattle.std.proofs.Common.{rules, ◌≡◌, List, ◌∷◌, length, refl, ◌∙◌, sym, ap, arith, subst}
 use Rattle.std.specs.List.{AllByRecursion}
 use Rattle.oca_pdu.specs.Messages.{Msg}
-use Rattle.oca_device.specs.PrivateServing.{IsShort, most_answers, all_commands}
+use Rattle.oca_device.specs.PrivateServing.{IsShort, all_commands}
 use Rattle.oca_pdu.specs.Datagrams.{messages_left}
 use Rattle.oca_device.specs.Answers.{counts}
 use Rattle.oca_device.proofs.Steps.{IsHalfway, one_further, none_served, all_served}
@@ -16,7 +16,7 @@ loop-message-init c =
     let left : messages_left c.into_iter-message-iterator.result ≡ messages_left c.args.messages = ap messages_left same in
     record {
       known = c.requires.known;
-      room = subst (λ (xs : List Msg). length c.args.outbox.now + most_answers xs ≤ 122) (sym left) c.requires.room;
+      room = refl;
       groups = c.requires.groups;
       short = subst (λ (xs : List Msg). AllByRecursion IsShort xs) (sym left) c.requires.short;
       few = omega (arith, c.requires.few, ap all_commands left);
@@ -29,8 +29,8 @@ loop-message-init c =
 pub serve-requires-clause-few : goal.serve-requires-clause-few
 serve-requires-clause-few c = omega (arith, c.loop-message.invariant.few, ap all_commands c.in-Some.ensures.steps)
 
-pub returns : goal.returns
-returns c = λ w s h now. all_served w c.args.from c.loop-message.self _ _ s c.args.outbox.now c.loop-message.outbox c.loop-message.counts c.in-None.ensures.steps.0 (c.loop-message.invariant.served w s h now)
+pub returns-clause-serves : goal.returns-clause-serves
+returns-clause-serves c = λ w s h now. all_served w c.args.from c.loop-message.self _ _ s c.args.outbox.now c.loop-message.outbox c.loop-message.counts c.in-None.ensures.steps.0 (c.loop-message.invariant.served w s h now)
 
 pub serve-requires-clause-short : goal.serve-requires-clause-short
 serve-requires-clause-short c = (first_short _ _ _ c.in-Some.ensures.steps c.loop-message.invariant.short).0
@@ -39,11 +39,10 @@ pub loop-message-preserved : goal.loop-message-preserved
 loop-message-preserved c =
     let inv = c.loop-message.invariant in
     let step = c.in-Some.ensures.steps in
-    let fewer = ap most_answers step in
     let commands = ap all_commands step in
     record {
       known = c.serve.ensures.known;
-      room = omega (arith, inv.room, c.serve.ensures.packets, fewer);
+      room = c.serve.ensures.room ∙ inv.room;
       groups = c.serve.ensures.groups;
       short = (first_short _ _ _ step inv.short).1;
       few = omega (arith, inv.few, c.serve.ensures.few, commands);

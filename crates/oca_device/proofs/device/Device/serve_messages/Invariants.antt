@@ -1,4 +1,4 @@
-use Rattle.std.proofs.Common.{◌≡◌, ℕ, ◌+◌, ◌≤◌, length}
+use Rattle.std.proofs.Common.{◌≡◌, ◌+◌, ◌≤◌, length}
 use Rattle.std.specs.Prelude.{IsSome}
 use Rattle.std.specs.List.{AllByRecursion}
 use Rattle.oca_types.specs.Sizes.{DeviceSizes}
@@ -7,7 +7,7 @@ use Rattle.oca_session.specs.Table.{session_of}
 use Rattle.oca_device.specs.Notes.{run, last_moment}
 use Rattle.oca_device.specs.States.{State}
 use Rattle.oca_device.specs.Devices.{IsIn}
-use Rattle.oca_device.specs.PrivateServing.{AreGrouped, IsShort, most_answers, all_commands}
+use Rattle.oca_device.specs.PrivateServing.{AreGrouped, IsShort, all_commands}
 use Rattle.oca_device.proofs.Steps.{IsHalfway}
 use Rattle.oca_device.proofs.device.Device.serve_messages.Given as goal
 
@@ -16,7 +16,7 @@ invariant-loop-message l =
     let rest = messages_left l.message-iterator in
     record {
       known : IsSome (session_of l.from l.self.sessions.sessions);
-      room : length l.outbox + most_answers rest ≤ 122;
+      room : l.outbox.room ≡ l.fn.outbox.room;
       groups : AreGrouped l.outbox;
       short : AllByRecursion IsShort rest;
       few : l.counts.executed + l.counts.kept + l.counts.old + l.counts.reused + all_commands rest ≤ 86;

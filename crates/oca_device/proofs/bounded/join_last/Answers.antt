@@ -1,11 +1,11 @@
 use Rattle.std.proofs.Common.{◌≡◌, ℕ, ◌+◌, ◌-◌, ◌<◌, List, [], ◌∷◌, ◌++◌, length, arith, ap, ◌∙◌, sym, subst}
-use Rattle.std.specs.Prelude.{Bool, take, slice_set}
+use Rattle.std.specs.Prelude.{take, slice_set}
 use Rattle.arrayvec.specs.ArrayVec.{ArrayVec}
 use Rattle.oca_device.specs.Outboxes.{bytes_of_packets}
 use Rattle.oca_device.specs.Answers.{response}
 use Rattle.oca_device.specs.PrivateServing.{JoinsLast}
 use Rattle.oca_device.proofs.Grouping.{ended, last_bytes, set_bytes, joins_last}
-use Rattle.oca_device.proofs.outbox.join_last.Goals as goal
+use Rattle.oca_device.proofs.bounded.join_last.Goals as goal
 
 pub join-requires : goal.join-requires
 join-requires c =

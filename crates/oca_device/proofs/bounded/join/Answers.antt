@@ -1,13 +1,12 @@
-use Rattle.std.proofs.Common.{◌≡◌, List, Bool, true, false, ap, ◌∙◌, sym, subst}
-use Rattle.arrayvec.specs.ArrayVec.{ArrayVec}
-use Rattle.std.specs.Prelude.{ℕ, OnErr}
+use Rattle.std.proofs.Common.{◌≡◌, List, Bool, true, sym, subst}
+use Rattle.std.specs.Prelude.{ℕ}
 use Rattle.oca_pdu.specs.Messages.{Pdu, Commands, Responses, OneKeepAlive, response_with}
 use Rattle.oca_pdu.specs.Encoding.{pdu_encoding}
 use Rattle.oca_device.specs.Answers.{response}
 use Rattle.oca_pdu.specs.Writing.{is_of_responses}
 use Rattle.oca_device.specs.PrivateServing.{Joins}
 use Rattle.oca_device.proofs.Grouping.{extended, items_kept}
-use Rattle.oca_device.proofs.outbox.join.Goals as goal
+use Rattle.oca_device.proofs.bounded.join.Goals as goal
 
 pub returns-then-holds_responses : goal.returns-then-holds_responses
 returns-then-holds_responses c = λ p e. by p e (c.if-holds_responses.ensures p e)

@@ -1,0 +1,184 @@
+//! An outbox with room for so many packets as its maker chose.
+ghost use Rattle.std.specs.Prelude.{◌≡◌, ℕ, ◌+◌, ◌<◌, ◌≤◌, List, [], ◌∷◌, ◌++◌, length, take, IfOk, slice_get, ◌==◌, vec_capacity, false, true};
+ghost use Rattle.std.specs.Option.{option_map};
+ghost use Rattle.oca_pdu.specs.Messages.{Msg, KeepAlive, Pdu};
+ghost use Rattle.oca_pdu.specs.Encoding.{pdu_encoding};
+ghost use Rattle.oca_device.specs.Groups.{pdu_of, with_answer, encodings};
+ghost use Rattle.oca_device.specs.Answers.{response};
+ghost use Rattle.oca_device.specs.Outboxes.{bytes_of_packets, first_packets};
+ghost use Rattle.oca_device.specs.PrivateServing.{AreGrouped, AreEncodings, IsGrouped, Joins, JoinsLast};
+
+use oca_pdu::{Form, extend_response, holds_responses, replace_response, write_keepalive};
+use oca_types::{Handle, NoMemory, Packet, Reply};
+use std::alloc::Global;
+use std::fmt;
+use std::marker::Model;
+
+/// The first packets that answer a datagram, in order, for the peer that sent it: as many as there is room for. The
+/// others are left out, and are for the peer as if the network had lost them.
+#[derive(Drop)]
+pub struct BoundedOutbox {
+    count: usize,
+    room: usize,
+    is_cut: bool,
+    places: Vec<Packet>,
+}
+
+impl Model for BoundedOutbox {
+    ghost use Rattle.std.specs.Prelude.{◌≤◌, length, take, vec_capacity};
+    ghost use Rattle.oca_device.specs.Outboxes.{bytes_of_packets, KeptPackets};
+
+    ghost Value = { KeptPackets };
+
+    ghost view = { λ a. record { packets = bytes_of_packets (take a.count a.places.items); room = a.room; is_cut = a.is_cut } };
+
+    ghost invariant = { λ a. (a.count ≤ length a.places.items) × (length a.places.items ≤ a.room) × (a.room ≤ vec_capacity a.places) };
+}
+
+impl BoundedOutbox {
+    ghost use Rattle.oca_device.specs.Outboxes.{bytes_of_packets, first_packets};
+
+    /// An empty outbox, with room for so many packets of 1,472 bytes. Refusal: `NoMemory`.
+    pub fn with_room(alloc: Global, room: usize) -> Result<BoundedOutbox, NoMemory>
+        ensures { IfOk result (λ outbox. outbox ≡ first_packets room []) }
+    {
+        match Vec::with_capacity(alloc, room) {
+            Ok(places) => Ok(BoundedOutbox {
+                count: 0,
+                room,
+                is_cut: false,
+                places,
+            }),
+            Err(_) => Err(NoMemory),
+        }
+    }
+
+    /// For how many packets there is room.
+    pub fn room(&self) -> usize
+        ensures { result ≡ self.now.room }
+    {
+        self.room
+    }
+
+    /// Whether packets were left out, since there was no room for them.
+    pub fn is_cut(&self) -> bool
+        ensures { result ≡ self.now.is_cut }
+    {
+        self.is_cut
+    }
+
+    /// Takes all packets out.
+    pub fn clear(&mut self)
+        ensures { self.new ≡ first_packets self.old.room [] }
+    {
+        self.count = 0;
+        self.is_cut = false;
+    }
+
+    /// The packets, in order.
+    pub fn packets(&self) -> &[Packet]
+        ensures packets { bytes_of_packets result.now ≡ self.now.packets }
+        ensures most { length result.now ≤ self.now.room }
+    {
+        &self.places[..self.count]
+    }
+
+    /// Adds a response: to the last packet where that holds responses and has room for it, and else in a packet of its
+    /// own. Where there is no room for that, or a packet was left out already, it is left out.
+    #[inline(always)]
+    pub(crate) fn respond(&mut self, handle: Handle, reply: &Reply)
+        requires groups { AreGrouped self.old }
+        ensures { IsGrouped (response handle.0 reply.now) self.old self.new }
+    {
+        if self.is_cut {
+            return;
+        }
+        if join_last(&mut self.places, self.count, handle, reply) {
+            return;
+        }
+        if self.count == self.room {
+            self.is_cut = true;
+            return;
+        }
+        make_place(&mut self.places, self.count, self.room);
+        replace_response(&mut self.places[self.count], handle, reply);
+        self.count += 1;
+    }
+
+    /// Adds the packet of a keep-alive, where there is room for it.
+    pub(crate) fn return_keepalive(&mut self, form: Form)
+        requires groups { AreGrouped self.old }
+        ensures { IsGrouped (KeepAlive form) self.old self.new }
+    {
+        if self.is_cut || self.count == self.room {
+            self.is_cut = true;
+            return;
+        }
+        make_place(&mut self.places, self.count, self.room);
+        put_keepalive(&mut self.places[self.count], form);
+        self.count += 1;
+    }
+}
+
+impl fmt::Debug for BoundedOutbox {
+    /// The number of packets, and for how many there is room.
+    fn fmt<W: fmt::Write>(&self, f: &mut fmt::Formatter<W>) -> fmt::Result {
+        f.debug_struct("BoundedOutbox")
+            .field("packets", &self.count)
+            .field("room", &self.room)
+            .finish()
+    }
+}
+
+/// Adds a response to the last of the first `count` packets where that holds responses and has room for it, and returns
+/// whether it did.
+#[inline(always)]
+fn join_last(places: &mut Vec<Packet>, count: usize, handle: Handle, reply: &Reply) -> bool
+    requires within { count ≤ length places.old.items }
+    requires groups { AreEncodings (bytes_of_packets (take count places.old.items)) }
+    ensures joins { JoinsLast result (response handle.0 reply.now) (bytes_of_packets (take count places.old.items)) (bytes_of_packets (take count places.new.items)) }
+    ensures length { length places.new.items ≡ length places.old.items }
+    ensures room { vec_capacity places.new ≡ vec_capacity places.old }
+{
+    if count == 0 {
+        return false;
+    }
+    join(&mut places[count - 1], handle, reply)
+}
+
+/// Adds a response to the PDU of a packet where that is of responses and has room for it, and returns whether it did.
+#[inline(always)]
+fn join(packet: &mut Packet, handle: Handle, reply: &Reply) -> bool
+    requires { (p : Pdu) × (packet.old.items ≡ pdu_encoding p) }
+    ensures { (p : Pdu) → packet.old.items ≡ pdu_encoding p → Joins result p (response handle.0 reply.now) packet.old.items packet.new.items }
+{
+    holds_responses(packet) && extend_response(packet, handle, reply).is_ok()
+}
+
+/// Makes a place for one more packet after these, where none is left from earlier datagrams. It lies in memory that was
+/// taken at first.
+fn make_place(places: &mut Vec<Packet>, count: usize, room: usize)
+    requires within { count ≤ length places.old.items }
+    requires few { count < room }
+    requires most { length places.old.items ≤ room }
+    requires room { room ≤ vec_capacity places.old }
+    ensures there { count < length places.new.items }
+    ensures most { length places.new.items ≤ room }
+    ensures room { room ≤ vec_capacity places.new }
+    ensures same { take count places.new.items ≡ take count places.old.items }
+{
+    if count == places.len() {
+        places.push_reserved(Packet::new());
+    }
+}
+
+/// Writes a keep-alive in the place of what the packet held.
+fn put_keepalive(packet: &mut Packet, form: Form)
+    ensures { packet.new.items ≡ pdu_encoding (pdu_of (KeepAlive form)) }
+{
+    packet.clear();
+    match write_keepalive(packet, form) {
+        Ok(()) => {}
+        Err(_) => unreachable!(),
+    }
+}
