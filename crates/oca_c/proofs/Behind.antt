@@ -24,15 +24,15 @@ adds_behind old new u u' number answer By o n e k B h =
     let r = k B (rw o at h) in (r.0, rw n r.1, answer, e, r.2)
 
 -- a start
-pub starts_behind : (old new : Option DeviceBehind) (u u' : DeviceBehind) (number : ℕ) (answer : Answer) (window peers : ℕ)
+pub starts_behind : (old new : Option DeviceBehind) (u u' : DeviceBehind) (number : ℕ) (answer : Answer) (window peers packets : ℕ)
     → old ≡ Some u → new ≡ Some u' → number ≡ answer_number answer
-    → ((B : Store) → Builds u B → Starts answer u u' window peers B.list)
-    → (B : Store) → HandleBuilds old B → HandleStarts number old new window peers B.list
-starts_behind old new u u' number answer window peers o n e k B h = rw (o, n, e) (told (k B (rw o at h)))
+    → ((B : Store) → Builds u B → Starts answer u u' window peers packets B.list)
+    → (B : Store) → HandleBuilds old B → HandleStarts number old new window peers packets B.list
+starts_behind old new u u' number answer window peers packets o n e k B h = rw (o, n, e) (told (k B (rw o at h)))
   where
-    told : Starts answer u u' window peers B.list → HandleStarts (answer_number answer) (Some u) (Some u') window peers B.list
-    told (inl (is, w, p, runs)) = inl (rw is refl, w, p, runs)
-    told (inr (inl (is, w, p, spent))) = inr (inl (rw is refl, w, p, spent))
+    told : Starts answer u u' window peers packets B.list → HandleStarts (answer_number answer) (Some u) (Some u') window peers packets B.list
+    told (inl (is, w, p, r, runs, none)) = inl (rw is refl, w, p, r, runs, none)
+    told (inr (inl (is, w, p, r, spent))) = inr (inl (rw is refl, w, p, r, spent))
     told (inr (inr (is, bad, same))) = inr (inr (rw is refl, bad, rw same refl))
 
 -- an addition of a switch, once its names were read

@@ -19,6 +19,7 @@ use Rattle.oca_tree.specs.Objects.{Store}
 use Rattle.oca_tree.specs.Settings.{set_fault}
 use Rattle.oca_device.specs.Devices.{Represents}
 use Rattle.oca_device.specs.Events.{Event, Local}
+use Rattle.oca_device.specs.Outboxes.{KeptPackets, first_packets}
 use Rattle.oca_device.specs.States.{state_after}
 use Rattle.oca_c.specs.declared.answer.Answer.{Answer}
 use Rattle.oca_c.specs.declared.answer.Answer.TheVariants as answers
@@ -43,17 +44,22 @@ HandleBuilds behind built = IsSomeAnd behind (λ b. Builds b built)
 abbrev pub HandleRuns : DeviceSizes → Option DeviceBehind → List Object → List Event → Type 0
 HandleRuns w behind tree events = IsSomeAnd behind (λ b. Runs w b tree events)
 
--- behind an open handle these packets wait
-abbrev pub HasPackets : Option DeviceBehind → List (List ℕ) → Type 0
-HasPackets behind packets = IsSomeAnd behind (λ b. b.outbox ≡ packets)
+-- behind an open handle this is kept of the packets that answer
+abbrev pub HasPackets : Option DeviceBehind → KeptPackets → Type 0
+HasPackets behind kept = IsSomeAnd behind (λ b. b.outbox ≡ kept)
 
--- behind an open handle there is a device, and these packets wait
-abbrev pub AnsweredWith : Option DeviceBehind → List (List ℕ) → Type 0
-AnsweredWith behind packets = IsSomeAnd behind (λ b. IsSome b.device × (b.outbox ≡ packets))
+-- behind an open handle there is a device, and this is kept of the packets that answer
+abbrev pub AnsweredWith : Option DeviceBehind → KeptPackets → Type 0
+AnsweredWith behind kept = IsSomeAnd behind (λ b. IsSome b.device × (b.outbox ≡ kept))
 
--- the packets that wait stay
+-- what is kept of the packets stays
 abbrev pub KeepsPackets : Option DeviceBehind → Option DeviceBehind → Type 0
-KeepsPackets old new = (packets : List (List ℕ)) → HasPackets old packets → HasPackets new packets
+KeepsPackets old new = (kept : KeptPackets) → HasPackets old kept → HasPackets new kept
+
+-- Of the packets that answer a datagram the first are kept, as many as there is room for; there are never more than 122.
+abbrev pub KeepsFirst : Option DeviceBehind → Option DeviceBehind → List (List ℕ) → Type 0
+KeepsFirst old new packets =
+    ((kept : KeptPackets) → HasPackets old kept → HasPackets new (first_packets kept.room packets)) × (length packets ≤ 122)
 
 -- ---- refusals
 
@@ -89,24 +95,30 @@ Opens number new room =
 abbrev pub IsSize : ℕ → Type 0
 IsSize size = (1 ≤ size) × (size ≤ 64)
 
+-- a room for packets that answer a datagram
+abbrev pub IsPacketRoom : ℕ → Type 0
+IsPacketRoom packets = (1 ≤ packets) × (packets ≤ 122)
+
 -- the objects are gone, and there is no device: neither is there before the struct is closed and opened again
 abbrev pub IsSpent : DeviceBehind → Type 0
 IsSpent behind = (behind.builder ≡ None) × (behind.device ≡ None)
 
--- A device is started with the objects; or not, for want of memory, which loses them, or where a size is none, which
--- changes nothing.
-abbrev pub Starts : Answer → DeviceBehind → DeviceBehind → ℕ → ℕ → List Object → Type 0
-Starts answer old new window peers tree =
-    ((answer ≡ answers.Done) × IsSize window × IsSize peers × Runs (record { window = window; peers = peers }) new tree [])
-    ⊎ (((answer ≡ answers.NoMemory) × IsSize window × IsSize peers × IsSpent new)
-    ⊎ ((answer ≡ answers.BadSize) × (IsSize window → IsSize peers → ⊥) × (new ≡ old)))
+-- A device is started with the objects, and no packet waits; or not, for want of memory, which loses the objects, or
+-- where a size is none, which changes nothing.
+abbrev pub Starts : Answer → DeviceBehind → DeviceBehind → ℕ → ℕ → ℕ → List Object → Type 0
+Starts answer old new window peers packets tree =
+    ((answer ≡ answers.Done) × IsSize window × IsSize peers × IsPacketRoom packets
+    × Runs (record { window = window; peers = peers }) new tree [] × (new.outbox ≡ first_packets packets []))
+    ⊎ (((answer ≡ answers.NoMemory) × IsSize window × IsSize peers × IsPacketRoom packets × IsSpent new)
+    ⊎ ((answer ≡ answers.BadSize) × (IsSize window → IsSize peers → IsPacketRoom packets → ⊥) × (new ≡ old)))
 
 -- the same behind an open handle
-abbrev pub HandleStarts : ℕ → Option DeviceBehind → Option DeviceBehind → ℕ → ℕ → List Object → Type 0
-HandleStarts number old new window peers tree =
-    ((number ≡ 0) × IsSize window × IsSize peers × HandleRuns (record { window = window; peers = peers }) new tree [])
-    ⊎ (((number ≡ 8) × IsSize window × IsSize peers × IsSomeAnd new IsSpent)
-    ⊎ ((number ≡ 15) × (IsSize window → IsSize peers → ⊥) × (new ≡ old)))
+abbrev pub HandleStarts : ℕ → Option DeviceBehind → Option DeviceBehind → ℕ → ℕ → ℕ → List Object → Type 0
+HandleStarts number old new window peers packets tree =
+    ((number ≡ 0) × IsSize window × IsSize peers × IsPacketRoom packets
+    × HandleRuns (record { window = window; peers = peers }) new tree [] × HasPackets new (first_packets packets []))
+    ⊎ (((number ≡ 8) × IsSize window × IsSize peers × IsPacketRoom packets × IsSomeAnd new IsSpent)
+    ⊎ ((number ≡ 15) × (IsSize window → IsSize peers → IsPacketRoom packets → ⊥) × (new ≡ old)))
 
 -- ---- additions
 

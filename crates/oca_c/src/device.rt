@@ -1,5 +1,5 @@
 //! What is behind an open handle of a device.
-ghost use Rattle.std.specs.Prelude.{◌≡◌, ◌≤◌, ◌<◌, ◌∷◌, List, Option, Some, None, IfSome, IfNone, IsSome, length, take, slice_get};
+ghost use Rattle.std.specs.Prelude.{◌≡◌, ◌≤◌, ◌<◌, ◌∷◌, [], List, Option, Some, None, IfSome, IfNone, IsSome, length, take, slice_get};
 ghost use Rattle.oca_types.specs.Sizes.{DeviceSizes};
 ghost use Rattle.oca_tree.specs.Room.{room_size};
 ghost use Rattle.oca_tree.specs.declared.object.Object.{Object};
@@ -9,6 +9,7 @@ ghost use Rattle.oca_tree.specs.Settings.{set_fault};
 ghost use Rattle.oca_device.specs.States.{state_after};
 ghost use Rattle.oca_device.specs.Events.{Event, Datagram as DatagramEvent, Tick, Local};
 ghost use Rattle.oca_device.specs.Answers.{packets, verdict};
+ghost use Rattle.oca_device.specs.Outboxes.{first_packets};
 ghost use Rattle.oca_device.specs.Written.{written};
 ghost use Rattle.oca_c.specs.declared.answer.Answer.TheVariants.{Done, NotStarted, Nothing, Started, TooSmall, BadSize, NoMemory};
 ghost use Rattle.oca_c.specs.Numbers.{answer_number};
@@ -26,18 +27,21 @@ use crate::spec_telling::tell_spec;
 use crate::spec_words::SpecWords;
 use crate::value_words::{ValueWords, local_of};
 use crate::words::{lock_number, object_words, put_numbers, put_words, words_of};
-use oca_device::{Device, Outbox};
+use oca_device::{BoundedOutbox, Device};
 use oca_tree::{AddFault, Kind, LocalValue, Room, Spec, TreeBuilder};
 use oca_types::{Ono, Peer, Peers, Sizes, Window};
 use std::alloc::Global;
 use std::str;
+
+/// The most packets that a datagram is answered with.
+pub const MOST_PACKETS: usize = 122;
 
 /// The objects of a device before its start, the device after it, and where it puts its answers.
 #[derive(Drop)]
 pub struct DeviceBehind {
     builder: Option<TreeBuilder>,
     device: Option<Device>,
-    outbox: Outbox,
+    outbox: BoundedOutbox,
 }
 
 impl DeviceBehind {
@@ -55,14 +59,11 @@ impl DeviceBehind {
     pub fn over(alloc: Global, builder: TreeBuilder) -> Option<DeviceBehind>
         ensures { IfSome result (λ behind. Builds behind builder) }
     {
-        match Outbox::new(alloc) {
-            Ok(outbox) => Some(DeviceBehind {
-                builder: Some(builder),
-                device: None,
-                outbox,
-            }),
-            Err(_) => None,
-        }
+        Some(DeviceBehind {
+            builder: Some(builder),
+            device: None,
+            outbox: room_for(alloc, 0)?,
+        })
     }
 
     /// Adds an object, before the start.
@@ -132,11 +133,11 @@ impl DeviceBehind {
         add_spec(builder, container, ono, words)
     }
 
-    /// Makes the device of the objects, with reply windows of this size and sessions of so many peers.
-    pub fn start(&mut self, alloc: Global, window: u8, peers: u8) -> Answer
-        ensures starts { (B : Store) → Builds self.old B → Starts result self.old self.new window peers B.list }
+    /// Makes the device of the objects, with reply windows of this size and sessions of so many peers, and with room for
+    /// so many packets that answer a datagram.
+    pub fn start(&mut self, alloc: Global, window: u8, peers: u8, packets: usize) -> Answer
+        ensures starts { (B : Store) → Builds self.old B → Starts result self.old self.new window peers packets B.list }
         ensures started { self.old.builder ≡ None → (result ≡ Started) × (self.new ≡ self.old) }
-        ensures packets { self.new.outbox ≡ self.old.outbox }
     {
         if self.builder.is_none() {
             return Answer::Started;
@@ -147,12 +148,19 @@ impl DeviceBehind {
         let Some(peers) = Peers::new(peers) else {
             return Answer::BadSize;
         };
+        if packets < 1 || packets > MOST_PACKETS {
+            return Answer::BadSize;
+        }
         let Some(builder) = self.builder.take() else {
             return Answer::Started;
+        };
+        let Some(outbox) = room_for(alloc, packets) else {
+            return Answer::NoMemory;
         };
         match Device::with_sizes(alloc, builder.finish(), Sizes { window, peers }) {
             Ok(device) => {
                 self.device = Some(device);
+                self.outbox = outbox;
                 Answer::Done
             }
             Err(_) => Answer::NoMemory,
@@ -163,7 +171,8 @@ impl DeviceBehind {
     pub fn datagram(&mut self, from: Peer, bytes: &[u8], now: u64, told: &mut [u32]) -> Answer
         ensures serves { (w : DeviceSizes) (T : List Object) (E : List Event) → Runs w self.old T E →
             Runs w self.new T (DatagramEvent from bytes.now now ∷ E)
-            × (self.new.outbox ≡ packets w T E (DatagramEvent from bytes.now now))
+            × (self.new.outbox ≡ first_packets self.old.outbox.room (packets w T E (DatagramEvent from bytes.now now)))
+            × (length (packets w T E (DatagramEvent from bytes.now now)) ≤ 122)
             × (told.new ≡ put_words (verdict_words (verdict w T E from bytes.now now)) told.old)
             × (result ≡ Done) }
         ensures building { self.old.device ≡ None → (result ≡ NotStarted) × (self.new ≡ self.old) }
@@ -171,8 +180,7 @@ impl DeviceBehind {
         let Some(device) = &mut self.device else {
             return Answer::NotStarted;
         };
-        self.outbox.clear();
-        let verdict = device.datagram(from, bytes, now, &mut self.outbox);
+        let verdict = device.datagram_within(from, bytes, now, &mut self.outbox);
         put_words(&words_of(verdict), told);
         Answer::Done
     }
@@ -242,24 +250,36 @@ impl DeviceBehind {
         self.set(ono, local_of(value))
     }
 
-    /// Tells how many packets the last datagram was answered with.
+    /// Tells how many packets there are that answer the last datagram.
     pub fn packets(&self, count: &mut usize) -> Answer
-        ensures told { IsSome self.now.device → (result ≡ Done) × (count.new ≡ length self.now.outbox) }
+        ensures told { IsSome self.now.device → (result ≡ Done) × (count.new ≡ length self.now.outbox.packets) }
         ensures building { self.now.device ≡ None → (result ≡ NotStarted) × (count.new ≡ count.old) }
     {
         if self.device.is_none() {
             return Answer::NotStarted;
         }
-        *count = self.outbox.len();
+        *count = self.outbox.packets().len();
+        Answer::Done
+    }
+
+    /// Tells whether packets that answer the last datagram were left out, since there was no room for them.
+    pub fn left_out(&self, left_out: &mut bool) -> Answer
+        ensures told { IsSome self.now.device → (result ≡ Done) × (left_out.new ≡ self.now.outbox.is_cut) }
+        ensures building { self.now.device ≡ None → (result ≡ NotStarted) × (left_out.new ≡ left_out.old) }
+    {
+        if self.device.is_none() {
+            return Answer::NotStarted;
+        }
+        *left_out = self.outbox.is_cut();
         Answer::Done
     }
 
     /// Copies a packet to the front of `out`.
     pub fn packet(&self, i: usize, out: &mut [u8], len: &mut usize) -> Answer
-        ensures nothing { IsSome self.now.device → IfNone (slice_get self.now.outbox i) (result ≡ Nothing) }
-        ensures packet { IsSome self.now.device → IfSome (slice_get self.now.outbox i) (λ p. length p ≤ length out.old →
+        ensures nothing { IsSome self.now.device → IfNone (slice_get self.now.outbox.packets i) (result ≡ Nothing) }
+        ensures packet { IsSome self.now.device → IfSome (slice_get self.now.outbox.packets i) (λ p. length p ≤ length out.old →
             (result ≡ Done) × (len.new ≡ length p) × (take (length p) out.new ≡ p)) }
-        ensures small { IsSome self.now.device → IfSome (slice_get self.now.outbox i) (λ p. length out.old < length p →
+        ensures small { IsSome self.now.device → IfSome (slice_get self.now.outbox.packets i) (λ p. length out.old < length p →
             (result ≡ TooSmall) × (len.new ≡ length p) × (out.new ≡ out.old)) }
         ensures building { self.now.device ≡ None → result ≡ NotStarted }
     {
@@ -376,6 +396,16 @@ impl DeviceBehind {
         };
         *reading = told;
         Answer::Done
+    }
+}
+
+/// An empty outbox with room for so many packets; nothing where memory was refused.
+fn room_for(alloc: Global, packets: usize) -> Option<BoundedOutbox>
+    ensures { IfSome result (λ outbox. outbox ≡ first_packets packets []) }
+{
+    match BoundedOutbox::with_room(alloc, packets) {
+        Ok(outbox) => Some(outbox),
+        Err(_) => None,
     }
 }
 

@@ -6,12 +6,13 @@ ghost use Rattle.oca_tree.specs.Objects.{Store};
 ghost use Rattle.oca_device.specs.Events.{Event, Datagram as DatagramEvent, Tick};
 ghost use Rattle.oca_device.specs.States.{state_after};
 ghost use Rattle.oca_device.specs.Answers.{packets, verdict};
+ghost use Rattle.oca_device.specs.Outboxes.{KeptPackets};
 ghost use Rattle.oca_device.specs.Written.{written};
-ghost use Rattle.oca_c.specs.Calls.{HandleBuilds, HandleRuns, HandleStarts, AnsweredWith, HasPackets, KeepsPackets, Opens, RefusesBuilding, RefusesClosed, RefusesRunning};
+ghost use Rattle.oca_c.specs.Calls.{HandleBuilds, HandleRuns, HandleStarts, AnsweredWith, KeepsFirst, KeepsPackets, Opens, RefusesBuilding, RefusesClosed, RefusesRunning};
 ghost use Rattle.oca_c.specs.Told.{TellsNextLapse, TellsWords, put_words, verdict_words};
 
 use crate::answer::Answer;
-use crate::device::DeviceBehind;
+use crate::device::{DeviceBehind, MOST_PACKETS};
 use crate::device_handle::DeviceHandle;
 use oca_tree::Room;
 use oca_types::Peer;
@@ -59,13 +60,30 @@ pub extern "C" fn oca_device_start(
 ) -> u32
     ensures closed { RefusesClosed handle.old.slot.inner handle.new.slot.inner result }
     ensures started { RefusesRunning handle.old.slot.inner handle.new.slot.inner result }
-    ensures packets { KeepsPackets handle.old.slot.inner handle.new.slot.inner }
-    ensures starts { (B : Store) → HandleBuilds handle.old.slot.inner B → HandleStarts result handle.old.slot.inner handle.new.slot.inner window peers B.list }
+    ensures starts { (B : Store) → HandleBuilds handle.old.slot.inner B →
+        HandleStarts result handle.old.slot.inner handle.new.slot.inner window peers 122 B.list }
+{
+    oca_device_start_within(alloc, handle, window, peers, MOST_PACKETS)
+}
+
+/// Starts the device as `oca_device_start` does, with room for so many packets that answer a datagram.
+#[unsafe(no_mangle)]
+pub extern "C" fn oca_device_start_within(
+    alloc: Global,
+    handle: &mut DeviceHandle,
+    window: u8,
+    peers: u8,
+    packets: usize,
+) -> u32
+    ensures closed { RefusesClosed handle.old.slot.inner handle.new.slot.inner result }
+    ensures started { RefusesRunning handle.old.slot.inner handle.new.slot.inner result }
+    ensures starts { (B : Store) → HandleBuilds handle.old.slot.inner B →
+        HandleStarts result handle.old.slot.inner handle.new.slot.inner window peers packets B.list }
 {
     let Some(mut behind) = handle.take(alloc) else {
         return Answer::Closed.number();
     };
-    let answer = behind.start(alloc, window, peers);
+    let answer = behind.start(alloc, window, peers, packets);
     handle.put(behind);
     answer.number()
 }
@@ -85,7 +103,7 @@ pub extern "C" fn oca_device_datagram_words(
     ensures building { RefusesBuilding handle.old.slot.inner handle.new.slot.inner result }
     ensures serves { (w : DeviceSizes) (T : List Object) (E : List Event) → HandleRuns w handle.old.slot.inner T E →
         HandleRuns w handle.new.slot.inner T (DatagramEvent (record { ip = ip; port = port }) bytes.now now ∷ E)
-        × HasPackets handle.new.slot.inner (packets w T E (DatagramEvent (record { ip = ip; port = port }) bytes.now now))
+        × KeepsFirst handle.old.slot.inner handle.new.slot.inner (packets w T E (DatagramEvent (record { ip = ip; port = port }) bytes.now now))
         × (told.new ≡ put_words (verdict_words (verdict w T E (record { ip = ip; port = port }) bytes.now now)) told.old)
         × (result ≡ 0) }
 {
@@ -136,7 +154,7 @@ pub extern "C" fn oca_device_next_lapse(
     answer.number()
 }
 
-/// How many packets the last datagram was answered with.
+/// How many packets there are that answer the last datagram.
 #[unsafe(no_mangle)]
 pub extern "C" fn oca_device_packets(
     alloc: Global,
@@ -146,12 +164,32 @@ pub extern "C" fn oca_device_packets(
     ensures closed { RefusesClosed handle.old.slot.inner handle.new.slot.inner result }
     ensures kept { handle.new.slot.inner ≡ handle.old.slot.inner }
     ensures building { RefusesBuilding handle.old.slot.inner handle.new.slot.inner result }
-    ensures count { (P : List (List ℕ)) → AnsweredWith handle.old.slot.inner P → (result ≡ 0) × (count.new ≡ length P) }
+    ensures count { (K : KeptPackets) → AnsweredWith handle.old.slot.inner K → (result ≡ 0) × (count.new ≡ length K.packets) }
 {
     let Some(behind) = handle.take(alloc) else {
         return Answer::Closed.number();
     };
     let answer = behind.packets(count);
+    handle.put(behind);
+    answer.number()
+}
+
+/// Whether packets that answer the last datagram were left out, since there was no room for them.
+#[unsafe(no_mangle)]
+pub extern "C" fn oca_device_left_out(
+    alloc: Global,
+    handle: &mut DeviceHandle,
+    left_out: &mut bool,
+) -> u32
+    ensures closed { RefusesClosed handle.old.slot.inner handle.new.slot.inner result }
+    ensures kept { handle.new.slot.inner ≡ handle.old.slot.inner }
+    ensures building { RefusesBuilding handle.old.slot.inner handle.new.slot.inner result }
+    ensures told { (K : KeptPackets) → AnsweredWith handle.old.slot.inner K → (result ≡ 0) × (left_out.new ≡ K.is_cut) }
+{
+    let Some(behind) = handle.take(alloc) else {
+        return Answer::Closed.number();
+    };
+    let answer = behind.left_out(left_out);
     handle.put(behind);
     answer.number()
 }
@@ -168,10 +206,10 @@ pub extern "C" fn oca_device_packet(
     ensures closed { RefusesClosed handle.old.slot.inner handle.new.slot.inner result }
     ensures kept { handle.new.slot.inner ≡ handle.old.slot.inner }
     ensures building { RefusesBuilding handle.old.slot.inner handle.new.slot.inner result }
-    ensures nothing { (P : List (List ℕ)) → AnsweredWith handle.old.slot.inner P → IfNone (slice_get P i) (result ≡ 13) }
-    ensures packet { (P : List (List ℕ)) → AnsweredWith handle.old.slot.inner P → IfSome (slice_get P i) (λ p. length p ≤ length out.old →
+    ensures nothing { (K : KeptPackets) → AnsweredWith handle.old.slot.inner K → IfNone (slice_get K.packets i) (result ≡ 13) }
+    ensures packet { (K : KeptPackets) → AnsweredWith handle.old.slot.inner K → IfSome (slice_get K.packets i) (λ p. length p ≤ length out.old →
         (result ≡ 0) × (len.new ≡ length p) × (take (length p) out.new ≡ p)) }
-    ensures small { (P : List (List ℕ)) → AnsweredWith handle.old.slot.inner P → IfSome (slice_get P i) (λ p. length out.old < length p →
+    ensures small { (K : KeptPackets) → AnsweredWith handle.old.slot.inner K → IfSome (slice_get K.packets i) (λ p. length out.old < length p →
         (result ≡ 14) × (len.new ≡ length p) × (out.new ≡ out.old)) }
 {
     let Some(behind) = handle.take(alloc) else {

@@ -83,6 +83,13 @@ impl BoundedOutbox {
         &self.places[..self.count]
     }
 
+    /// The packet number `i`, counted from 0, where there is one.
+    pub fn get(&self, i: usize) -> Option<&Packet>
+        ensures { option_map (λ p. p.now.items) result ≡ slice_get self.now.packets i }
+    {
+        self.packets().get(i)
+    }
+
     /// Adds a response: to the last packet where that holds responses and has room for it, and else in a packet of its
     /// own. Where there is no room for that, or a packet was left out already, it is left out.
     #[inline(always)]

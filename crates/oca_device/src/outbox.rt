@@ -61,7 +61,7 @@ impl Outbox {
     pub fn get(&self, i: usize) -> Option<&Packet>
         ensures { option_map (λ p. p.now.items) result ≡ slice_get self.now i }
     {
-        self.packets().get(i)
+        self.first.get(i)
     }
 
     /// Takes all packets out.
