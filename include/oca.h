@@ -291,6 +291,13 @@ enum oca_result oca_device_add_switch(struct oca_device *device, uint32_t contai
  * anew. */
 enum oca_result oca_device_start(struct oca_device *device, uint8_t window, uint8_t peers) OCA_CHECKED;
 
+/* The same for a small device: with room for so many packets that answer a datagram (1 to 122), of some 1,480 bytes each. oca_device_start
+ * has room for 122, as many as a datagram can ask for. All commands of a datagram are executed, whatever the room; the first packets are
+ * kept, and the others are left out, as if the network had lost them: a controller that sends such a command again gets the retained
+ * reply. A datagram is never answered with more packets than it has commands and keep-alives, so nothing is left out of what answers a
+ * controller that has fewer commands in flight than there is room for packets. */
+enum oca_result oca_device_start_within(struct oca_device *device, uint8_t window, uint8_t peers, size_t packets) OCA_CHECKED;
+
 /* What became of a datagram. `kind` is 0 for one that was served, with how many of its commands were executed, were duplicates, were
  * too old and asked something else under a known handle; 1 for a malformed one, with its first fault (1 to 9) and where it lies; 2
  * where there was no room for its sender. A later version may have further fields: each is a word. */
@@ -306,6 +313,9 @@ static inline enum oca_result oca_device_datagram(struct oca_device *device, uin
  * behind the last. */
 enum oca_result oca_device_packets(struct oca_device *device, size_t *count) OCA_NONNULL;
 enum oca_result oca_device_packet(struct oca_device *device, size_t i, uint8_t *out, size_t out_len, size_t *len) OCA_NONNULL;
+
+/* Whether packets that answer the last datagram were left out, since there was no room for them (oca_device_start_within). */
+enum oca_result oca_device_left_out(struct oca_device *device, bool *left_out) OCA_NONNULL;
 
 /* The numbers of the objects that the last datagram wrote to, in order, each as often as it was; none before the first datagram. Clock
  * readings and settings at the front leave them. `count` is how many there are; where `out` has room for fewer it gets the first of

@@ -9,19 +9,22 @@
 #include <stdlib.h>
 struct tried { bool ok; void *at; };
 static long blocks;
+static size_t asked; /* bytes, in all */
 struct tried rattle_alloc(size_t size, size_t align) {
     struct tried given = {true, malloc(size > align ? size : align)};
-    blocks++;
+    blocks++, asked += size;
     return given;
 }
 struct tried rattle_realloc(void *old, size_t kept, size_t size, size_t align) {
     (void)kept;
     struct tried given = {true, realloc(old, size > align ? size : align)};
+    asked += size;
     return given;
 }
 void rattle_dealloc(void *at) { free(at), blocks--; }
 #else
 static const long blocks = 0;
+static const size_t asked = 0;
 #endif
 
 static int passed, failed;
@@ -38,6 +41,60 @@ static const uint8_t muted[] = {0x3b, 0, 1, 0, 0, 0, 0x14, 3, 0, 1, 0, 0, 0, 0x0
 
 static const struct oca_name positions[] = {{3, "off"}, {3, "low"}, {4, "high"}};
 static const struct oca_name bad_name[] = {{1, {0xff}}}, long_name[] = {{65, "off"}};
+
+static const uint8_t keep_alive[] = {0x3b, 0, 1, 0, 0, 0, 0x0b, 4, 0, 1, 0, 5};
+static const uint8_t unmute[] = {0x3b, 0, 1, 0, 0, 0, 0x1b, 1, 0, 1, 0, 0, 0, 0x12, 0, 0, 0, 2, 0, 0, 0x10, 1, 0, 4, 0, 2, 1, 2};
+static const uint8_t done[] = {0x3b, 0, 1, 0, 0, 0, 0x13, 3, 0, 1, 0, 0, 0, 0x0a, 0, 0, 0, 2, 0, 0};
+
+/* So many keep-alives, and then an unmute, as one datagram. */
+static size_t keep_alives(uint8_t *out, size_t count, bool with_unmute) {
+    size_t at = 0;
+    for (; count > 0; count--, at += sizeof keep_alive) memcpy(out + at, keep_alive, sizeof keep_alive);
+    if (with_unmute) memcpy(out + at, unmute, sizeof unmute), at += sizeof unmute;
+    return at;
+}
+
+/* A device with room for four packets of answers: it is small, it executes all, and the first four packets are there. */
+static void small_device(void) {
+    struct oca_device d = OCA_DEVICE_INIT;
+    struct oca_verdict v = {9, 9, 9, 9, 9, 9, 9};
+    struct oca_setting s = {0, 0, 0};
+    uint8_t bytes[OCA_MOST_BYTES], out[OCA_MOST_BYTES];
+    size_t size = 99, before = asked;
+    bool left_out = true;
+    same("small: start, closed", oca_device_start_within(&d, 1, 1, 4), OCA_CLOSED);
+    same("small: left out, closed", oca_device_left_out(&d, &left_out), OCA_CLOSED);
+    same("small: open", oca_device_open(&d, 2), OCA_DONE);
+    same("small: a mute", oca_device_add_mute(&d, 100, 4097, text("mute"), 4, true, true), OCA_DONE);
+    same("small: left out before the start", oca_device_left_out(&d, &left_out) == OCA_NOT_STARTED && left_out, 1);
+    same("small: room for none", oca_device_start_within(&d, 1, 1, 0), OCA_BAD_SIZE);
+    same("small: room for 123", oca_device_start_within(&d, 1, 1, 123), OCA_BAD_SIZE);
+    same("small: a window of 0", oca_device_start_within(&d, 0, 1, 4), OCA_BAD_SIZE);
+    same("small: no peers", oca_device_start_within(&d, 1, 0, 4), OCA_BAD_SIZE);
+    same("small: start", oca_device_start_within(&d, 1, 1, 4), OCA_DONE);
+    same("small: start again", oca_device_start_within(&d, 1, 1, 4), OCA_STARTED);
+    same("small: nothing is left out yet", oca_device_left_out(&d, &left_out) == OCA_DONE && !left_out, 1);
+    same("small: 122 keep-alives", oca_device_datagram(&d, 1, 2, bytes, keep_alives(bytes, 122, false), 0, &v), OCA_DONE);
+    same("small: four packets", oca_device_packets(&d, &size) == OCA_DONE && size == 4, 1);
+    same("small: others are left out", oca_device_left_out(&d, &left_out) == OCA_DONE && left_out, 1);
+    same("small: the fourth", oca_device_packet(&d, 3, out, sizeof out, &size) == OCA_DONE && size == sizeof keep_alive, 1);
+    same("small: its bytes", (uint32_t)memcmp(out, keep_alive, sizeof keep_alive), 0);
+    same("small: no fifth", oca_device_packet(&d, 4, out, sizeof out, &size), OCA_NOTHING);
+    same("small: four keep-alives", oca_device_datagram(&d, 1, 2, bytes, keep_alives(bytes, 4, false), 1, &v), OCA_DONE);
+    same("small: four packets again", oca_device_packets(&d, &size) == OCA_DONE && size == 4, 1);
+    same("small: none is left out", oca_device_left_out(&d, &left_out) == OCA_DONE && !left_out, 1);
+    same("small: an unmute behind them", oca_device_datagram(&d, 1, 2, bytes, keep_alives(bytes, 4, true), 2, &v), OCA_DONE);
+    same("small: it is executed", v.executed, 1);
+    same("small: its response is left out", oca_device_left_out(&d, &left_out) == OCA_DONE && left_out, 1);
+    same("small: it is unmuted", oca_device_setting(&d, 4097, &s) == OCA_DONE && s.magnitude == 2, 1);
+    same("small: the unmute again", oca_device_datagram(&d, 1, 2, unmute, sizeof unmute, 3, &v), OCA_DONE);
+    same("small: a duplicate", v.executed == 0 && v.kept == 1, 1);
+    same("small: its response", oca_device_packet(&d, 0, out, sizeof out, &size) == OCA_DONE && size == sizeof done, 1);
+    same("small: that it was done", (uint32_t)memcmp(out, done, sizeof done), 0);
+    same("small: all is there", oca_device_left_out(&d, &left_out) == OCA_DONE && !left_out, 1);
+    same("small: at most 50 kB", asked - before <= 50000, 1);
+    oca_device_close(&d);
+}
 
 static void closed_device(struct oca_device *d) {
     uint8_t bytes[OCA_MOST_BYTES] = {0};
@@ -794,6 +851,7 @@ static void asks(void) {
 int main(void) {
     same("version", oca_version(), OCA_VERSION);
     device();
+    small_device();
     differing_neighbours();
     depths();
     values();

@@ -204,7 +204,7 @@ def differences(header):
 # Headers that are wrong: the text, and what stands there in its place.
 WRONG = [
     ("bool lockable, bool muted", "bool muted, bool lockable"),
-    ("uint8_t window, uint8_t peers", "uint8_t peers, uint8_t window"),
+    ("uint8_t window, uint8_t peers) OCA_CHECKED", "uint8_t peers, uint8_t window) OCA_CHECKED"),
     ("OCA_CLASS_MUTE = 2, OCA_CLASS_POLARITY = 3", "OCA_CLASS_POLARITY = 2, OCA_CLASS_MUTE = 3"),
     ("executed, kept, old, reused, fault", "executed, kept, reused, old, fault"),
     ("OCA_FULL = 1, OCA_RESERVED = 2, OCA_TAKEN = 3, OCA_NO_SUCH_BLOCK = 4, OCA_TOO_DEEP = 5", "OCA_TOO_DEEP = 1, OCA_RESERVED = 2, OCA_TAKEN = 3, OCA_NO_SUCH_BLOCK = 4, OCA_FULL = 5"),

@@ -1,6 +1,9 @@
 -- The packets of an outbox, as their bytes; and what an outbox keeps that has room for some of them only (profile).
-use Rattle.std.specs.Prelude.{ℕ, nat_lt, Bool, List, map, take, length}
+use Rattle.std.specs.Prelude.{ℕ, nat_lt, Bool, not, List, map, take, length, count_by}
 use Rattle.arrayvec.specs.ArrayVec.{ArrayVec}
+use Rattle.oca_pdu.specs.Limits.{is_response}
+use Rattle.oca_pdu.specs.Reading.{read_datagram}
+use Rattle.oca_pdu.specs.Datagrams.{read_or_none}
 
 abbrev pub bytes_of_packets : List (ArrayVec ℕ) → List (List ℕ)
 bytes_of_packets packets = map (λ p. p.items) packets
@@ -14,3 +17,7 @@ pub record KeptPackets : Type 0 where
 -- Of packets the first ones are kept, as many as there is room for. Some were left out where there are more.
 abbrev pub first_packets : ℕ → List (List ℕ) → KeptPackets
 first_packets room packets = record { packets = take room packets; room = room; is_cut = nat_lt room (length packets) }
+
+-- How many packets may answer a datagram: one for each of its messages but responses.
+abbrev pub may_be_answered : List ℕ → ℕ
+may_be_answered bytes = count_by (λ m. not (is_response m)) (read_or_none (read_datagram bytes))

@@ -15,7 +15,7 @@ ghost use Rattle.oca_tree.specs.Execution.{execution};
 ghost use Rattle.oca_tree.specs.Settings.{set_fault};
 ghost use Rattle.std.specs.Result.{result_err};
 ghost use Rattle.oca_device.specs.Answers.{packets, packets_of, verdict, answers_to_reading};
-ghost use Rattle.oca_device.specs.Outboxes.{first_packets};
+ghost use Rattle.oca_device.specs.Outboxes.{first_packets, may_be_answered};
 ghost use Rattle.oca_pdu.specs.Reading.{read_datagram};
 ghost use Rattle.oca_device.specs.Written.{numbers_of, written, written_by_execution};
 
@@ -128,7 +128,7 @@ impl Device {
     /// Takes a datagram as [`Device::datagram`] does, with an outbox that has room for some packets only: it then holds
     /// the first of the answers, as many as there is room for, and tells whether others were left out. All commands
     /// are executed, answered or not; who repeats one whose answer was left out gets the retained reply, as after a
-    /// loss. There are never more packets than messages in the datagram, and never more than 122.
+    /// loss. There are never more packets than the datagram has commands and keep-alives, and never more than 122.
     pub fn datagram_within(
         &mut self,
         from: Peer,
@@ -144,6 +144,8 @@ impl Device {
             result ≡ verdict w T E from bytes.now now }
         ensures few { (w : DeviceSizes) (T : List Object) (E : List Event) → Represents w self.old T E →
             length (packets w T E (DatagramEvent from bytes.now now)) ≤ most_answered }
+        ensures each { (w : DeviceSizes) (T : List Object) (E : List Event) → Represents w self.old T E →
+            length (packets w T E (DatagramEvent from bytes.now now)) ≤ may_be_answered bytes.now }
         ensures room { outbox.new.room ≡ outbox.old.room }
     {
         outbox.clear();
@@ -250,6 +252,8 @@ impl Device {
             TakesDatagram w self.new from bytes.now s outbox.old.room outbox.new result }
         ensures few { (w : DeviceSizes) (s : State) → IsIn w self.old s →
             length (packets_of (answers_to_reading w from (read_datagram bytes.now) s)) ≤ most_answered }
+        ensures each { (w : DeviceSizes) (s : State) → IsIn w self.old s →
+            length (packets_of (answers_to_reading w from (read_datagram bytes.now) s)) ≤ may_be_answered bytes.now }
         ensures room { outbox.new.room ≡ outbox.old.room }
     {
         match check(bytes) {

@@ -25,3 +25,6 @@ returns-clause-room c = c.receive.ensures.room ∙ ap (λ (k : KeptPackets). k.r
 
 pub returns-clause-verdict : goal.returns-clause-verdict
 returns-clause-verdict c = λ w T E h. (c.receive.ensures.takes w _ (c.move_clock.ensures.moved w _ (c.begin_datagram.ensures.same w _ h.state))).verdict_is
+
+pub returns-clause-each : goal.returns-clause-each
+returns-clause-each c = λ w T E h. c.receive.ensures.each w _ (c.move_clock.ensures.moved w _ (c.begin_datagram.ensures.same w _ h.state))

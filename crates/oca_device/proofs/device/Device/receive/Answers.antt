@@ -1,7 +1,9 @@
 use Rattle.std.proofs.Common.{Bool, cond, List, [], length, ◌≤◌, arith, ◌∙◌, sym, subst}
 use Rattle.std.specs.List.{AllByRecursion}
 use Rattle.oca_pdu.specs.Messages.{Msg}
-use Rattle.oca_pdu.specs.Datagrams.{datagram_messages, messages_left}
+use Rattle.oca_pdu.specs.Datagrams.{datagram_messages, messages_left, read_or_none}
+use Rattle.oca_pdu.specs.Limits.{is_response}
+use Rattle.std.specs.Prelude.{not, count_by}
 use Rattle.oca_device.specs.Notes.{Admitted}
 use Rattle.oca_device.specs.States.{noted}
 use Rattle.oca_device.specs.Answers.{packets_of, answers_to_reading}
@@ -61,3 +63,16 @@ returns-then-admit-clause-few c = λ w s h.
     (omega (arith, answers_counted (messages_left c.messages.result), c.messages.ensures.limits.no_responses)) in
     subst (λ (r : Result (List Msg) PduFault). length (packets_of (answers_to_reading w c.args.from r s)) ≤ 122) (sym c.in-Ok.ensures.reads)
     (few_packets w c.args.from ms s 122 few)
+
+pub returns-else-admit-clause-each : goal.returns-else-admit-clause-each
+returns-else-admit-clause-each c = λ w s h.
+    let ms = datagram_messages c.in-Ok.datagram in
+    let out = sym (c.admit.ensures.admits w s h) ∙ c.if-admit.false in
+    subst (λ (r : Result (List Msg) PduFault). length (packets_of (answers_to_reading w c.args.from r s)) ≤ count_by (λ m. not (is_response m)) (read_or_none r)) (sym c.in-Ok.ensures.reads)
+    (no_packets w c.args.from ms s (count_by (λ m. not (is_response m)) ms) out)
+
+pub returns-then-admit-clause-each : goal.returns-then-admit-clause-each
+returns-then-admit-clause-each c = λ w s h.
+    let ms = datagram_messages c.in-Ok.datagram in
+    subst (λ (r : Result (List Msg) PduFault). length (packets_of (answers_to_reading w c.args.from r s)) ≤ count_by (λ m. not (is_response m)) (read_or_none r)) (sym c.in-Ok.ensures.reads)
+    (few_packets w c.args.from ms s (count_by (λ m. not (is_response m)) ms) (omega (arith, answers_counted ms)))
