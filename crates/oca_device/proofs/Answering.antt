@@ -1,7 +1,6 @@
 -- The answers to messages are the replies of executions.
 use Rattle.std.proofs.Common.{◌≡◌, ℕ, ◌-◌, Bool, true, false, cond, List, [], ◌∷◌, ◌++◌, length, refl, sym, ap, ◌∙◌, subst}
 use Rattle.std.specs.Prelude.{map, nat_eq, ◌&&◌, ◌||◌, Option, Some, None}
-use Rattle.std.specs.List.{list_any}
 use Rattle.std.proofs.lemmas.List.{append_assoc, append-nil}
 use Rattle.oca_types.specs.declared.words.Peer.{Peer}
 use Rattle.oca_types.specs.Peers.{same_peer, CommandFields}
@@ -11,8 +10,8 @@ use Rattle.oca_tree.specs.declared.object.Object.{Object}
 use Rattle.oca_tree.specs.Execution.{execution}
 use Rattle.oca_tree.specs.Locks.{released}
 use Rattle.oca_tree.specs.Settings.{after_set}
-use Rattle.oca_session.specs.Accepted.{Entry, Judgement, Fresh, Duplicate, Reused, Old, judge_unaccepted, accepts, entry_under, window, asks_the_same, has_handle}
-use Rattle.oca_device.specs.Notes.{Note, run, is_noted, accepted}
+use Rattle.oca_session.specs.Accepted.{Entry, Fresh, Duplicate, Reused, judge_unaccepted, accepts, entry_under, window, asks_the_same}
+use Rattle.oca_device.specs.Notes.{run, is_noted, accepted}
 use Rattle.oca_device.specs.States.{State, judged_in, reply_of, after_command, after_messages, time_of}
 use Rattle.oca_device.specs.Answers.{response, answer_to_command, answers_to_messages}
 use Rattle.oca_device.specs.LawByEvents.{accepts_handle, accepted_of, is_duplicate, Change, Executes, Releases, Sets, objects, reply, replies}

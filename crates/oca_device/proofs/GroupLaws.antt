@@ -1,5 +1,5 @@
 -- The groups of answers are there, and they are the only ones.
-use Rattle.std.proofs.Common.{◌≡◌, ℕ, ◌+◌, ◌≤◌, ◌<◌, Bool, true, false, cond, List, [], ◌∷◌, ◌++◌, length, refl, sym, ap, ◌∙◌, subst, arith, inl, inr}
+use Rattle.std.proofs.Common.{◌≡◌, ℕ, ◌+◌, ◌≤◌, ◌<◌, Bool, true, false, cond, List, [], ◌∷◌, ◌++◌, length, refl, sym, ap, ◌∙◌, subst, arith}
 use Rattle.std.specs.Prelude.{map, nat_le, ⊤}
 use Rattle.std.specs.List.{flat_map, AllByRecursion}
 use Rattle.std.proofs.lemmas.Bool.Decides.{nat_tests}
@@ -7,7 +7,7 @@ use Rattle.std.proofs.lemmas.Grind.{flat_map-append}
 use Rattle.std.proofs.lemmas.List.{append_assoc, append-nil, length-append, map-append}
 use Rattle.oca_pdu.specs.Messages.{ResponseFields, Msg, Command, Response, KeepAlive, Pdu, Commands, Responses, OneKeepAlive, messages_of}
 use Rattle.oca_pdu.specs.Encoding.{response_encoding, pdu_encoding}
-use Rattle.oca_device.specs.Groups.{IsGroup, HasNoRoom, IsFullBefore, AreGroups, IsAnswerMessage, pdu_of, with_response, last_with, from_with, with_answer, with_answers, groups_of}
+use Rattle.oca_device.specs.Groups.{IsGroup, IsFullBefore, AreGroups, IsAnswerMessage, pdu_of, with_response, last_with, from_with, with_answer, with_answers, groups_of}
 
 -- ---- the size of a PDU of responses
 

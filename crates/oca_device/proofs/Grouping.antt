@@ -1,17 +1,17 @@
 -- Groups of answers, and their packets.
-use Rattle.std.proofs.Common.{◌≡◌, ℕ, ◌+◌, ◌≤◌, ◌<◌, Bool, true, false, cond, List, [], ◌∷◌, ◌++◌, length, refl, sym, ap, ◌∙◌, subst, arith}
-use Rattle.std.specs.Prelude.{map, nat_le, ◌-◌, ◌↔◌, slice_index_or, slice_set, take, Result, Ok, Err, IsOk, OnOk, OnErr, is_ok}
+use Rattle.std.proofs.Common.{◌≡◌, ℕ, ◌+◌, ◌≤◌, ◌<◌, Bool, true, false, cond, List, [], ◌∷◌, ◌++◌, length, refl, sym, ap, ◌∙◌, arith}
+use Rattle.std.specs.Prelude.{nat_le, ◌-◌, ◌↔◌, slice_index_or, slice_set, take, Result, Ok, Err, IsOk, OnOk, OnErr, is_ok}
 use Rattle.std.proofs.lemmas.Bool.{le-leb, leb-true}
 use Rattle.std.proofs.lemmas.List.{append_assoc, take_more, length-append, map-append}
 use Rattle.std.proofs.lemmas.Grind.{take-set_at}
 use Rattle.oca_pdu.specs.declared.message.Form.{Form}
-use Rattle.oca_pdu.specs.Messages.{ResponseFields, Msg, Command, Response, KeepAlive, Pdu, Commands, Responses, OneKeepAlive}
+use Rattle.oca_pdu.specs.Messages.{ResponseFields, Msg, Response, KeepAlive, Pdu, Commands, Responses, OneKeepAlive}
 use Rattle.oca_pdu.specs.Encoding.{pdu_encoding}
 use Rattle.arrayvec.specs.ArrayVec.{ArrayVec}
 use Rattle.oca_pdu.specs.Writing.{IsResponses, responses_size}
 use Rattle.oca_device.specs.Outboxes.{bytes_of_packets}
 use Rattle.oca_device.specs.PrivateServing.{AreGrouped, IsGrouped, Joins, JoinsLast}
-use Rattle.oca_device.specs.Groups.{pdu_of, with_response, last_with, from_with, with_answer, with_answers, encodings}
+use Rattle.oca_device.specs.Groups.{pdu_of, last_with, from_with, with_answer, with_answers, encodings}
 
 pub answers_both : (groups : List Pdu) (xs ys : List Msg) → with_answers groups (xs ++ ys) ≡ with_answers (with_answers groups xs) ys
 answers_both groups [] ys = refl

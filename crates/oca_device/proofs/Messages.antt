@@ -1,23 +1,21 @@
 -- What the messages of a known peer make of a state, by the law's words.
 use Rattle.std.proofs.Common.{◌≡◌, ℕ, ◌+◌, Bool, true, false, cond, List, [], ◌∷◌, ◌++◌, refl, sym, ap, ◌∙◌, subst, arith}
-use Rattle.std.specs.Prelude.{map, max, min, not, nat_eq, ◌*◌, ◌&&◌, ◌||◌, Option, Some, None, length}
+use Rattle.std.specs.Prelude.{map, max, min, not, ◌*◌, Option, Some, None}
 use Rattle.std.proofs.lemmas.List.{append_assoc, append-nil, map-append}
 use Rattle.oca_types.specs.declared.words.Peer.{Peer}
 use Rattle.oca_types.specs.Peers.{same_peer, CommandFields}
 use Rattle.oca_types.specs.Sizes.{DeviceSizes}
-use Rattle.oca_pdu.specs.declared.message.Form.{Form}
 use Rattle.oca_pdu.specs.declared.message.Form.TheVariants.{Seconds, Millis}
 use Rattle.oca_pdu.specs.Messages.{Msg, Command, Response, KeepAlive}
-use Rattle.oca_tree.specs.declared.object.Object.{Object}
 use Rattle.oca_tree.specs.Execution.{execution}
-use Rattle.oca_session.specs.Accepted.{Entry, Judgement, Fresh, Duplicate, Reused, Old, judge_unaccepted, duplicate_or_reused, accepts, entry_under, window, asks_the_same, has_handle}
+use Rattle.oca_session.specs.Accepted.{Entry, Fresh, Duplicate, Reused, judge_unaccepted, accepts, entry_under, window, asks_the_same}
 use Rattle.oca_device.specs.declared.counts.Counts.{Counts}
-use Rattle.oca_device.specs.Notes.{Noted, Admitted, Heartbeat, Executed, Note, notes_of, unbroken, run, is_noted, accepted, heartbeat_noted}
+use Rattle.oca_device.specs.Notes.{Heartbeat, Executed, Note, notes_of, run, is_noted, accepted, heartbeat_noted}
 use Rattle.oca_device.specs.States.{State, noted, judged_in, reply_of, after_command, after_messages, time_of}
-use Rattle.oca_device.specs.Answers.{response, answer_to_command, answers_to_messages, counts, plus, count_of_command, counts_of_messages}
-use Rattle.oca_device.specs.LawByEvents.{accepts_handle, accepted_of, is_duplicate, is_reuse, with_command, Executes, objects, replies, heartbeat, counted_command, all_counted}
-use Rattle.oca_device.proofs.Runs.{run_goes_on, run_begins, known_now}
-use Rattle.oca_device.proofs.Acceptance.{commands_of, AreDistinct, accepts_same, found_in_front, found_last, found_after, new_where_accepted, distinct_after, duplicate_is, reuse_is, asks_so}
+use Rattle.oca_device.specs.Answers.{counts, plus, count_of_command, counts_of_messages}
+use Rattle.oca_device.specs.LawByEvents.{accepts_handle, accepted_of, is_duplicate, Executes, objects, heartbeat, counted_command, all_counted}
+use Rattle.oca_device.proofs.Runs.{run_goes_on, known_now}
+use Rattle.oca_device.proofs.Acceptance.{commands_of, AreDistinct, accepts_same, distinct_after, duplicate_is, reuse_is, asks_so}
 
 -- the commands that were executed in the peer's latest session
 abbrev pub executed_of : Peer → List Note → List CommandFields

@@ -1,20 +1,19 @@
 -- The notes of a peer and its admitted datagrams say the same of its session.
 use Rattle.std.proofs.Common.{◌≡◌, ℕ, Bool, true, false, cond, List, [], ◌∷◌, ◌++◌, length, refl, sym, ap, ◌∙◌, subst}
-use Rattle.std.specs.Prelude.{map, filter, not, ◌&&◌, ◌||◌, ◌-◌, ◌*◌, nat_le, nat_lt, if◌then◌else◌}
-use Rattle.std.proofs.lemmas.List.{append-nil}
+use Rattle.std.specs.Prelude.{filter, not, ◌&&◌, ◌||◌, ◌-◌, ◌*◌, nat_le, nat_lt, if◌then◌else◌}
 use Rattle.oca_types.specs.declared.words.Peer.{Peer}
 use Rattle.oca_types.specs.Peers.{same_peer, CommandFields}
 use Rattle.oca_types.specs.Sizes.{DeviceSizes}
 use Rattle.oca_pdu.specs.Messages.{Msg, Command, Response, KeepAlive}
 use Rattle.oca_device.specs.Notes.{Noted, Admitted, Heartbeat, Executed, Note, notes_of, is_within, unbroken, run, is_noted, peers_except, noted_order, noted_peers, accepted, heartbeat_noted, last_noted, has_lapsed}
-use Rattle.oca_device.specs.States.{State, noted, admits, judged_in, reply_of, after_command, after_messages, time_of, lapsed_at}
+use Rattle.oca_device.specs.States.{State, noted, admits, reply_of, after_messages, time_of, lapsed_at}
 use Rattle.oca_device.specs.LawByEvents.{Arrival, Happening, session, is_open, messages_in, heartbeat, accepted_of, accepts_handle, admitted, clock, session_has_lapsed, lapsed_peers, has_room}
 use Rattle.oca_device.specs.LawByEvents as law
 use Rattle.oca_device.proofs.Lists.{filter_same, filter_both}
-use Rattle.oca_device.proofs.Peers.{same_self, same_is, same_turned}
+use Rattle.oca_device.proofs.Peers.{same_self, same_is}
 use Rattle.oca_device.proofs.Runs.{run_goes_on, run_begins, known_now}
 use Rattle.oca_device.proofs.Acceptance.{commands_of, accepted_both}
-use Rattle.oca_device.proofs.Messages.{executed_of, fresh_state, fresh_known, fresh_note, after_judged, kept_alive, alive_known, messages_executed, messages_heartbeat, messages_other, heartbeat_both, other_note}
+use Rattle.oca_device.proofs.Messages.{executed_of, fresh_state, fresh_known, after_judged, kept_alive, alive_known, messages_executed, messages_heartbeat, messages_other, heartbeat_both, other_note}
 
 -- the session of a peer's last datagram, at whatever moment one looks
 abbrev pub latest : Peer → List Arrival → List Arrival

@@ -16,9 +16,6 @@ use Rattle.oca_tree.specs.declared.object.Object.{Object}
 use Rattle.oca_tree.specs.Locks.{released}
 use Rattle.oca_tree.specs.Settings.{after_set}
 use Rattle.oca_model.specs.declared.value.Value.{Value}
-use Rattle.oca_session.specs.Accepted.{Entry}
-use Rattle.oca_device.specs.declared.counts.Counts.{Counts}
-use Rattle.oca_device.specs.declared.verdict.Verdict.{Verdict}
 use Rattle.oca_device.specs.declared.verdict.Verdict.TheVariants as verdicts
 use Rattle.oca_device.specs.Events.{Event, Datagram, Tick, Local}
 use Rattle.oca_device.specs.Notes.{Note, notes_of, unbroken, run, is_noted, accepted}
@@ -30,11 +27,11 @@ use Rattle.oca_device.specs.LawByEvents.{Execution, executions, executions_noted
 use Rattle.oca_device.specs.LawByEvents as law
 use Rattle.oca_device.proofs.Peers.{same_is}
 use Rattle.oca_device.proofs.Runs.{run_goes_on, run_begins}
-use Rattle.oca_device.proofs.Acceptance.{commands_of, AreDistinct, distinct_none, distinct_of}
+use Rattle.oca_device.proofs.Acceptance.{AreDistinct, distinct_none, distinct_of}
 use Rattle.oca_device.proofs.Messages.{executed_of, messages_tree, messages_moment, messages_other, messages_counted, other_note}
-use Rattle.oca_device.proofs.Answering.{AnswersUnder, messages_answered, objects_both, reply_both, reply_released, reply_other, Replied, messages_replied}
+use Rattle.oca_device.proofs.Answering.{messages_answered, objects_both, reply_both, reply_released, reply_other, Replied, messages_replied}
 use Rattle.oca_device.proofs.Effects.{messages_written, executions_both, executions_released, messages_noted}
-use Rattle.oca_device.proofs.Sessions.{Bridged, none_bridged, latest, AllBridged, same_known, same_room, same_lapsed, arrival, let_in, let_in_note, let_in_known, let_in_executed, let_in_bridged}
+use Rattle.oca_device.proofs.Sessions.{none_bridged, AllBridged, same_room, same_lapsed, arrival, let_in, let_in_note, let_in_known, let_in_executed, let_in_bridged}
 
 -- ---- what is read of bytes
 

@@ -1,6 +1,6 @@
 -- What a device knows of its peers is what the events say of them.
-use Rattle.std.proofs.Common.{◌≡◌, ℕ, ◌-◌, Bool, true, false, cond, List, [], ◌∷◌, length, drop, refl, sym, ap, ◌∙◌, subst}
-use Rattle.std.specs.Prelude.{map, filter, Option, Some, None}
+use Rattle.std.proofs.Common.{◌≡◌, ℕ, ◌-◌, Bool, true, false, cond, List, [], ◌∷◌, length, refl, sym, ap, ◌∙◌, subst}
+use Rattle.std.specs.Prelude.{map, filter, Option, Some}
 use Rattle.std.specs.List.{IsDistinct}
 use Rattle.oca_types.specs.declared.words.Peer.{Peer}
 use Rattle.oca_types.specs.Peers.{CommandFields}
@@ -8,8 +8,7 @@ use Rattle.oca_types.specs.Sizes.{DeviceSizes}
 use Rattle.oca_tree.specs.declared.object.Object.{Object}
 use Rattle.oca_pdu.specs.Messages.{Msg}
 use Rattle.oca_session.specs.Accepted.{Entry, window, outside, entry_under, greatest, higher_of}
-use Rattle.oca_session.specs.Table.{Session}
-use Rattle.oca_device.specs.Notes.{run, is_noted, noted_peers, noted_order, accepted, heartbeat_noted, last_noted}
+use Rattle.oca_device.specs.Notes.{run, is_noted, noted_peers, noted_order, accepted, heartbeat_noted}
 use Rattle.oca_device.specs.States.{State}
 use Rattle.oca_device.specs.Devices.{session_for, table_of}
 use Rattle.oca_device.specs.Answers.{response}

@@ -1,6 +1,6 @@
 -- What a device answers to a datagram, and how it counts the datagram's commands (AES70-3; the profile's window
 -- decides).
-use Rattle.std.specs.Prelude.{ℕ, ◌+◌, max, if◌then◌else◌, List, [], ◌∷◌, ◌++◌, map, Result, Ok, Err}
+use Rattle.std.specs.Prelude.{ℕ, ◌+◌, max, if◌then◌else◌, List, [], ◌∷◌, ◌++◌, Result, Ok, Err}
 use Rattle.oca_types.specs.declared.words.Peer.{Peer}
 use Rattle.oca_types.specs.declared.words.Reply.{Reply}
 use Rattle.oca_types.specs.Status.{status_number}

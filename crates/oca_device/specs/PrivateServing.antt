@@ -3,7 +3,7 @@
 use Rattle.std.specs.Prelude.{◌≡◌, ℕ, ◌+◌, ◌≤◌, Bool, true, false, ⊤, List, [], ◌∷◌, ◌++◌, length}
 use Rattle.oca_types.specs.declared.words.Peer.{Peer}
 use Rattle.oca_types.specs.Sizes.{DeviceSizes, most_command_parameter_bytes}
-use Rattle.oca_pdu.specs.Messages.{Msg, Command, Response, KeepAlive, Pdu, Commands, Responses, OneKeepAlive}
+use Rattle.oca_pdu.specs.Messages.{Msg, Command, Response, KeepAlive, Pdu}
 use Rattle.oca_pdu.specs.Encoding.{pdu_encoding}
 use Rattle.oca_pdu.specs.Reading.{read_datagram}
 use Rattle.oca_device.specs.declared.counts.Counts.{Counts}

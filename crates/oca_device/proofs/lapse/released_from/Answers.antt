@@ -1,6 +1,5 @@
-use Rattle.std.proofs.Common.{◌≡◌, ◌<◌, length, sym, ◌∙◌, take, arith, subst}
+use Rattle.std.proofs.Common.{◌≡◌, ◌<◌, length, sym, ◌∙◌, take, arith}
 use Rattle.oca_tree.specs.Locks.{lock_count}
-use Rattle.oca_types.specs.Moments.{HoldsFrom}
 use Rattle.oca_session.specs.Lapses.{lapses}
 use Rattle.oca_device.specs.PrivateLapses.{releases}
 use Rattle.oca_device.proofs.Lapses.{releases_none, lock_there, no_lock_there}

@@ -1,6 +1,6 @@
-use Rattle.std.proofs.Common.{◌≡◌, ℕ, List, sym, ap, ◌∙◌}
+use Rattle.std.proofs.Common.{ap, ◌∙◌}
 use Rattle.std.specs.Prelude.{map}
-use Rattle.oca_session.specs.Table.{Session, Table}
+use Rattle.oca_session.specs.Table.{Table}
 use Rattle.oca_device.specs.States.{state_after}
 use Rattle.oca_device.specs.Groups.{groups_of}
 use Rattle.oca_device.specs.LawByEvents.{summary_of, answers_by_events}

@@ -1,6 +1,5 @@
-use Rattle.std.proofs.Common.{◌≡◌, List, Bool, true, false, ap, ◌∙◌, sym, subst}
-use Rattle.arrayvec.specs.ArrayVec.{ArrayVec}
-use Rattle.std.specs.Prelude.{ℕ, OnErr}
+use Rattle.std.proofs.Common.{◌≡◌, List, Bool, true, sym, subst}
+use Rattle.std.specs.Prelude.{ℕ}
 use Rattle.oca_pdu.specs.Messages.{Pdu, Commands, Responses, OneKeepAlive, response_with}
 use Rattle.oca_pdu.specs.Encoding.{pdu_encoding}
 use Rattle.oca_device.specs.Answers.{response}

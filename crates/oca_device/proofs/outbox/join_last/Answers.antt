@@ -1,5 +1,5 @@
 use Rattle.std.proofs.Common.{◌≡◌, ℕ, ◌+◌, ◌-◌, ◌<◌, List, [], ◌∷◌, ◌++◌, length, arith, ap, ◌∙◌, sym, subst}
-use Rattle.std.specs.Prelude.{Bool, take, slice_set}
+use Rattle.std.specs.Prelude.{take, slice_set}
 use Rattle.arrayvec.specs.ArrayVec.{ArrayVec}
 use Rattle.oca_device.specs.Outboxes.{bytes_of_packets}
 use Rattle.oca_device.specs.Answers.{response}

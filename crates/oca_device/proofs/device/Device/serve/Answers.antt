@@ -1,4 +1,4 @@
-use Rattle.std.proofs.Common.{ℕ, length, arith, ap, ◌∙◌, sym, refl, subst}
+use Rattle.std.proofs.Common.{ℕ, length, arith, ap, ◌∙◌, sym, subst}
 use Rattle.std.specs.Prelude.{IsSome}
 use Rattle.oca_session.specs.Table.{session_of, with_sessions, changed, with_heartbeat}
 use Rattle.oca_device.specs.Devices.{DeviceState}

@@ -1,5 +1,5 @@
-use Rattle.std.proofs.Common.{◌≡◌, ℕ, ◌+◌, List, [], ◌∷◌, ◌++◌, length, Bool, true, false, cond, ap, ◌∙◌, refl, sym, subst, arith}
-use Rattle.std.specs.Prelude.{IsSome, map}
+use Rattle.std.proofs.Common.{◌≡◌, ℕ, List, [], ◌∷◌, ◌++◌, length, Bool, true, false, cond, ap, ◌∙◌, refl, sym, subst, arith}
+use Rattle.std.specs.Prelude.{IsSome}
 use Rattle.std.proofs.lemmas.List.{append-nil, length-map}
 use Rattle.oca_types.specs.declared.words.Ono.{Ono}
 use Rattle.oca_types.specs.declared.words.Peer.{Peer}
@@ -15,7 +15,7 @@ use Rattle.oca_session.specs.Accepted.{Entry, Judgement, Fresh, Duplicate, Reuse
 use Rattle.oca_session.specs.Table.{session_of, with_sessions, changed, with_accepted, AgreesAt, Table}
 use Rattle.oca_device.specs.Notes.{Executed, accepted, run, is_noted, last_noted}
 use Rattle.oca_device.specs.States.{State, judged_in, after_command, reply_of}
-use Rattle.oca_device.specs.Answers.{response, answer_to_command, counts, plus, count_of_command}
+use Rattle.oca_device.specs.Answers.{response, answer_to_command, plus, count_of_command}
 use Rattle.oca_device.specs.Written.{numbers_of, written_by_execution, written_by_command}
 use Rattle.oca_device.specs.Devices.{DeviceState, IsIn}
 use Rattle.oca_device.specs.PrivateServing.{ServesMessage}
