@@ -22,7 +22,7 @@ STRUCTS = {"Name": "struct oca_name", "Reading": "struct oca_setting", "ValueWor
            "RequestWords": "struct oca_request", "SpecWords": "struct oca_spec"}
 # A parameter that the header calls otherwise, by its call.
 RENAMED = {
-    ("oca_device_datagram_words", "told"): "verdict", ("oca_device_object_words", "told"): "object", ("oca_device_setting", "reading"): "setting",
+    ("oca_device_datagram_words", "out"): "verdict", ("oca_device_object_words", "out"): "object", ("oca_device_setting", "reading"): "setting",
     ("oca_link_submit", "command"): "handle", ("oca_link_due", "kind"): "due", ("oca_link_due", "command"): "handle",
     ("oca_link_datagram", "kind"): "reception", ("oca_link_take", "command"): "handle", ("oca_link_answered", "command"): "handle",
     ("oca_link_next_handle", "command"): "handle",
