@@ -31,12 +31,12 @@ pub starts_behind : (old new : Option DeviceBehind) (u u' : DeviceBehind) (numbe
     → old ≡ Some u → new ≡ Some u' → number ≡ answer_number answer
     → ((B : Store) → Builds u B → Starts answer u u' window peers B.list)
     → (B : Store) → HandleBuilds old B → HandleStarts number old new window peers B.list
-starts_behind old new u u' number answer window peers o n e k B h = rw (o, n, e) (same (k B (rw o at h)))
+starts_behind old new u u' number answer window peers o n e k B h = rw (o, n, e) (here (k B (rw o at h)))
   where
-    same : Starts answer u u' window peers B.list → HandleStarts (answer_number answer) (Some u) (Some u') window peers B.list
-    same (inl (is, w, p, runs)) = inl (rw is refl, w, p, runs)
-    same (inr (inl (is, w, p, spent))) = inr (inl (rw is refl, w, p, spent))
-    same (inr (inr (is, bad, same))) = inr (inr (rw is refl, bad, rw same refl))
+    here : Starts answer u u' window peers B.list → HandleStarts (answer_number answer) (Some u) (Some u') window peers B.list
+    here (inl (is, w, p, runs)) = inl (rw is refl, w, p, runs)
+    here (inr (inl (is, w, p, spent))) = inr (inl (rw is refl, w, p, spent))
+    here (inr (inr (is, bad, same))) = inr (inr (rw is refl, bad, rw same refl))
 
 -- an addition of a switch, once its names were read
 pub added_switch : (u : DeviceBehind) (answer : Answer) (B : Store) (container ono : ℕ) (role : List ℕ) (lockable : Bool) (names : List Name) (position : ℕ) (kind : Kind)

@@ -97,7 +97,8 @@ pub extern "C" fn oca_device_add_polarity(
     ensures closed { RefusesClosed handle.old.slot.inner handle.new.slot.inner result }
     ensures started { RefusesRunning handle.old.slot.inner handle.new.slot.inner result }
     ensures adds { (B : Store) → HandleBuilds handle.old.slot.inner B →
-        HandleAdds result handle.new.slot.inner B container ono role.now lockable (kinds.Polarity (inverted_state inverted)) }
+        HandleAdds result handle.new.slot.inner B container ono role.now lockable
+        (kinds.Polarity (inverted_state inverted)) }
 {
     let state = if inverted {
         PolarityState::Inverted
@@ -313,7 +314,8 @@ pub extern "C" fn oca_device_add_uint16(
     ensures closed { RefusesClosed handle.old.slot.inner handle.new.slot.inner result }
     ensures started { RefusesRunning handle.old.slot.inner handle.new.slot.inner result }
     ensures adds { (B : Store) → HandleBuilds handle.old.slot.inner B →
-        HandleAdds result handle.new.slot.inner B container ono role.now lockable (kinds.Uint16 setting least greatest) }
+        HandleAdds result handle.new.slot.inner B container ono role.now lockable
+        (kinds.Uint16 setting least greatest) }
 {
     let kind = Kind::Uint16 {
         setting,
@@ -339,7 +341,8 @@ pub extern "C" fn oca_device_add_uint32(
     ensures closed { RefusesClosed handle.old.slot.inner handle.new.slot.inner result }
     ensures started { RefusesRunning handle.old.slot.inner handle.new.slot.inner result }
     ensures adds { (B : Store) → HandleBuilds handle.old.slot.inner B →
-        HandleAdds result handle.new.slot.inner B container ono role.now lockable (kinds.Uint32 setting least greatest) }
+        HandleAdds result handle.new.slot.inner B container ono role.now lockable
+        (kinds.Uint32 setting least greatest) }
 {
     let kind = Kind::Uint32 {
         setting,
@@ -365,7 +368,8 @@ pub extern "C" fn oca_device_add_uint64(
     ensures closed { RefusesClosed handle.old.slot.inner handle.new.slot.inner result }
     ensures started { RefusesRunning handle.old.slot.inner handle.new.slot.inner result }
     ensures adds { (B : Store) → HandleBuilds handle.old.slot.inner B →
-        HandleAdds result handle.new.slot.inner B container ono role.now lockable (kinds.Uint64 setting least greatest) }
+        HandleAdds result handle.new.slot.inner B container ono role.now lockable
+        (kinds.Uint64 setting least greatest) }
 {
     let kind = Kind::Uint64 {
         setting,

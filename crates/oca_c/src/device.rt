@@ -106,7 +106,8 @@ impl DeviceBehind {
         position: u16,
     ) -> Answer
         ensures adds { (B : Store) → Builds self.old B →
-            (B' : Store) × Builds self.new B' × SwitchAddedBy result B B' container ono role.now lockable names.now position }
+            (B' : Store) × Builds self.new B'
+            × SwitchAddedBy result B B' container ono role.now lockable names.now position }
         ensures started { self.old.builder ≡ None → (result ≡ Started) × (self.new ≡ self.old) }
     {
         if self.builder.is_none() {
@@ -361,7 +362,8 @@ impl DeviceBehind {
     /// Tells what the object at this index is, and its role.
     pub fn object(&self, index: usize, out: &mut [u32], role: &mut [u8]) -> Answer
         ensures writes { (w : DeviceSizes) (T : List Object) (E : List Event) → Runs w self.now T E →
-            WritesObject (info_at (state_after w T E).tree index) out.old out.new role.old role.new (answer_number result) }
+            WritesObject (info_at (state_after w T E).tree index) out.old out.new role.old role.new
+            (answer_number result) }
         ensures building { self.now.device ≡ None → result ≡ NotStarted }
     {
         let Some(device) = &self.device else {
@@ -378,7 +380,8 @@ impl DeviceBehind {
     /// Tells of the object at this index all that an addition makes of it.
     pub fn spec(&self, index: usize, out: &mut SpecWords) -> Answer
         ensures writes { (w : DeviceSizes) (T : List Object) (E : List Event) → Runs w self.now T E →
-            WritesSpec (state_after w T E).tree (info_at (state_after w T E).tree index) out.old out.new (answer_number result) }
+            WritesSpec (state_after w T E).tree (info_at (state_after w T E).tree index) out.old out.new
+            (answer_number result) }
         ensures building { self.now.device ≡ None → (result ≡ NotStarted) × (out.new ≡ out.old) }
     {
         let Some(device) = &self.device else {

@@ -87,7 +87,10 @@ pub extern "C" fn oca_device_datagram_words(
     ensures building { RefusesBuilding handle.old.slot.inner handle.new.slot.inner result }
     ensures serves { (w : DeviceSizes) (T : List Object) (E : List Event) → HandleRuns w handle.old.slot.inner T E →
         HandleRuns w handle.new.slot.inner T (DatagramEvent (record { ip = ip; port = port }) bytes.now now ∷ E)
-        × HasPackets handle.new.slot.inner (packets w T E (DatagramEvent (record { ip = ip; port = port }) bytes.now now))
+        × HasPackets handle.new.slot.inner (packets w T E (DatagramEvent (record {
+          ip = ip;
+          port = port;
+        }) bytes.now now))
         × (out.new ≡ put_words (verdict_words (verdict w T E (record { ip = ip; port = port }) bytes.now now)) out.old)
         × (result ≡ 0) }
 {

@@ -194,7 +194,8 @@ pub extern "C" fn oca_link_answered(
 ) -> u32
     ensures closed { RefusesClosed handle.old.slot.inner handle.new.slot.inner result }
     ensures kept { handle.new.slot.inner ≡ handle.old.slot.inner }
-    ensures writes { IfSome handle.old.slot.inner (λ b. WritesNumber result command.new (first_answered b.link.untaken)) }
+    ensures writes { IfSome handle.old.slot.inner (λ b.
+        WritesNumber result command.new (first_answered b.link.untaken)) }
 {
     let Some(behind) = handle.take(alloc) else {
         return Answer::Closed.number();
