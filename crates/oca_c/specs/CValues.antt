@@ -1,5 +1,5 @@
 -- Values, readings and requests, as C has them.
-use Rattle.std.specs.Prelude.{◌≡◌, ℕ, ℤ, pos, List, [], ◌∷◌, Option, Some, None}
+use Rattle.std.specs.Prelude.{◌≡◌, ℕ, ℤ, List, [], Option, Some, None}
 use Rattle.std.specs.Int.{w64, cast_unsigned, from_bool}
 use Rattle.oca_types.specs.declared.class.Class.{Class}
 use Rattle.oca_types.specs.declared.class.Method.{Method}
