@@ -15,9 +15,8 @@ CALL = r"^(?:static inline )?(?:(?:enum|struct) oca_\w+|const char|u?int\d+_t|si
 
 # On each page anyway; and what the header's own functions call, which has no page.
 NAMED_ANYWAY = ("struct oca_device", "struct oca_link", "enum oca_result")
-HELPERS = {"oca_device_close_any", "oca_link_close_any", "oca_outcome_of", "oca_panel_give_out", "oca_panel_refused", "oca_panel_text",
-           "oca_reader_of", "oca_reader_take", "oca_reader_end", "oca_reader_name", "oca_reader_class", "oca_scalar_size", "oca_class_with",
-           "oca_walk_put"}
+HELPERS = {"oca_device_close_any", "oca_link_close_any", "oca_outcome_of", "oca_panel_give_out", "oca_panel_refused", "oca_panel_was_read",
+           "oca_panel_text", "oca_walk_put"}
 
 
 def comment_in(text):
@@ -27,9 +26,11 @@ def comment_in(text):
 
 
 def declarations(text):
-    """The calls that a paragraph of the header declares, each with its declaration, and its enums and structs by name."""
+    """The calls that a paragraph of the header declares, each with its declaration, and its enums, structs and types of
+    functions by name."""
     calls = {found[1]: found[0] + ";" for found in re.finditer(CALL, text, re.M) if found[1] not in HELPERS}
     types = {found[1]: found[0] for found in re.finditer(r"^((?:struct|enum) oca_\w+) \{[^}]*\};", text, re.M)}
+    types.update({found[1]: found[0] for found in re.finditer(r"^typedef \w+ \(\*(oca_\w+)\)\([^)]*\);", text, re.M)})
     return calls, types
 
 
@@ -51,7 +52,8 @@ def pages(header):
     found = {}
     for said, calls, _ in read:
         for name, declared in calls.items():
-            named = [types[it] for it in types if re.search(rf"\b{it}\b", declared) and it not in NAMED_ANYWAY]
+            of_functions = " ".join(of for it, (_, of) in types.items() if of.startswith("typedef") and re.search(rf"\b{it}\b", declared))
+            named = [types[it] for it in types if re.search(rf"\b{it}\b", declared + of_functions) and it not in NAMED_ANYWAY]
             more = [about for about, _ in named if about != said]
             found[name] = ("\n.PP\n".join(map(roff, [said, *more])), declared, [of for _, of in named])
     return found, general, types["enum oca_result"][1]

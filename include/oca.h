@@ -38,7 +38,7 @@ extern "C" {
 
 /* The version of this header: 65,536 for each major one, 256 for each minor one, 1 for each patch. A library of the same major
  * version and at least this minor one keeps what this header says. */
-#define OCA_VERSION 0x010400u
+#define OCA_VERSION 0x010500u
 uint32_t oca_version(void);
 
 enum oca_result {
@@ -212,7 +212,29 @@ static inline struct oca_name oca_name_of(const char *text) {
     return name;
 }
 
-/* An object, as it is added and as it is told, so that a device can be made again as it was: its class with its setting and its limits (a
+/* The bytes of a text as SetLabel has them for its one parameter: 2 to 66, and how many they are. OCA_NO_VALUE for one above 64 bytes, or that
+ * is no UTF-8. */
+enum oca_result oca_text_put(const struct oca_name *text, uint8_t *out, size_t out_len, size_t *len) OCA_NONNULL;
+
+/* What the parameters of an answer give: the text of a role, a label or a position's name; the names of a switch's positions; the numbers of a
+ * block's members; and the identifier of a class. OCA_NO_VALUE where they are no such answer, and then nothing is written. */
+enum oca_result oca_text_read(const uint8_t *params, size_t params_len, struct oca_name *text) OCA_NONNULL;
+
+/* The names of a switch's positions, in their order, at most 16. */
+struct oca_names { uint32_t count; struct oca_name names[16]; };
+enum oca_result oca_names_read(const uint8_t *params, size_t params_len, struct oca_names *names) OCA_NONNULL;
+
+/* The numbers of a block's members, in their order, at most 181. */
+struct oca_members { uint32_t count, onos[181]; };
+enum oca_result oca_members_read(const uint8_t *params, size_t params_len, struct oca_members *members) OCA_NONNULL;
+
+/* The identifier of a class (OcaClassID): how many fields it has, at most 16, and they; and the number in enum oca_class of the class, 0
+ * for one that is not of this profile. The number by the fields alone, too. */
+struct oca_class_id { uint16_t count, fields[16]; uint32_t class_number; };
+enum oca_result oca_class_read(const uint8_t *params, size_t params_len, struct oca_class_id *id) OCA_NONNULL;
+uint32_t oca_class_with(const uint16_t *fields, size_t fields_len) OCA_NONNULL;
+
+/* An object, as it is added and as it is read, so that a device can be made again as it was: its class with its setting and its limits (a
  * block's class is OCA_CLASS_BLOCK, and nothing else of its reading is looked at; the limits of a mute, a polarity, a Boolean and a position
  * are not looked at either), whether it can be locked and is enabled (0 no, any other byte yes), its role, its label, and of a switch
  * its positions: how many there are, the name of each, and which are enabled. There is no pointer in it, and no byte between its fields.
@@ -329,15 +351,15 @@ enum oca_result oca_device_tick(struct oca_device *device, uint64_t now) OCA_NON
  * until then where no datagram comes. OCA_NOTHING where there is none within 64 bits, as where there is no session. */
 enum oca_result oca_device_next_lapse(struct oca_device *device, uint64_t *moment) OCA_NONNULL;
 
-/* Sets an object at the device's own front; locks do not bind it. A state is 1 or 2, as in AES70-2. */
+/* Sets an object at the local front panel; locks do not bind it. A state is 1 or 2, as in AES70-2. */
 enum oca_result oca_device_set_state(struct oca_device *device, uint32_t ono, uint8_t state) OCA_NONNULL;
 enum oca_result oca_device_set_position(struct oca_device *device, uint32_t ono, uint16_t position) OCA_NONNULL;
 enum oca_result oca_device_set_truth(struct oca_device *device, uint32_t ono, bool truth) OCA_NONNULL;
 enum oca_result oca_device_set_signed(struct oca_device *device, uint32_t ono, int64_t number) OCA_NONNULL;
 enum oca_result oca_device_set_unsigned(struct oca_device *device, uint32_t ono, uint64_t number) OCA_NONNULL;
 
-/* The same by a value: states of a mute and of a polarity are of one kind, and so are integers of every type, as in the calls above.
- * OCA_NO_VALUE, before all others, where the words are those of no value. */
+/* The same by a value: its class is not looked at, but for the kind: states of a mute and of a polarity are of one kind, and so are integers
+ * of every type, as in the calls above. OCA_NO_VALUE, before all others, where the words are those of no value. */
 enum oca_result oca_device_set(struct oca_device *device, uint32_t ono, const struct oca_value *value) OCA_NONNULL;
 
 /* How an object is set: kind 1 a state, 2 a position, 3 a truth (0 or 1), 4 a number, `negative` (0 or 1) where it is below 0.
@@ -617,81 +639,19 @@ static inline struct oca_outcome oca_panel_get_of(struct oca_panel *panel, uint3
     return begun == OCA_DONE ? oca_panel_finish_get(panel, handle, class_number, reading) : oca_panel_refused(begun);
 }
 
-/* Parameters of an answer as they are read, one after another: where the next one stands, and whether all that was read was there. */
-struct oca_reader { const uint8_t *bytes; size_t len, at; bool good; };
-static inline uint32_t oca_reader_take(struct oca_reader *reader, size_t size) {
-    uint32_t number = 0;
-    if (!reader->good || reader->len - reader->at < size) {
-        reader->good = false;
-        return 0;
-    }
-    for (size_t i = 0; i < size; i++) number = number << 8 | reader->bytes[reader->at++];
-    return number;
-}
-static inline struct oca_reader oca_reader_of(const struct oca_answer *answer) {
-    struct oca_reader reader = {answer->params, answer->params_len, 0, true};
-    return reader;
-}
-static inline struct oca_outcome oca_reader_end(const struct oca_reader *reader) {
-    return oca_outcome_of(reader->good && reader->at == reader->len ? OCA_ASKED_DONE : OCA_ASKED_UNREADABLE, 0, 0);
-}
-static inline size_t oca_scalar_size(const uint8_t *bytes, size_t len) {
-    const uint8_t first = bytes[0];
-    const size_t size = first < 0x80 ? 1 : first < 0xc2 ? 0 : first < 0xe0 ? 2 : first < 0xf0 ? 3 : first < 0xf5 ? 4 : 0;
-    if (size == 0 || size > len) return 0;
-    for (size_t i = 1; i < size; i++)
-        if ((bytes[i] & 0xc0) != 0x80) return 0;
-    if ((first == 0xe0 && bytes[1] < 0xa0) || (first == 0xed && bytes[1] > 0x9f) || (first == 0xf0 && bytes[1] < 0x90) || (first == 0xf4 && bytes[1] > 0x8f)) return 0;
-    return size;
-}
-static inline void oca_reader_name(struct oca_reader *reader, struct oca_name *name) {
-    struct oca_name found = {0, {0}};
-    const uint32_t scalars = oca_reader_take(reader, 2);
-    for (uint32_t i = 0; i < scalars && reader->good; i++) {
-        const size_t size = reader->at < reader->len ? oca_scalar_size(reader->bytes + reader->at, reader->len - reader->at) : 0;
-        if (size == 0 || found.size + size > sizeof found.text) reader->good = false;
-        for (size_t j = 0; j < size && reader->good; j++) found.text[found.size++] = reader->bytes[reader->at++];
-    }
-    if (reader->good) *name = found;
+/* What became of a question whose answer was read. */
+static inline struct oca_outcome oca_panel_was_read(enum oca_result read) {
+    return oca_outcome_of(read == OCA_DONE ? OCA_ASKED_DONE : OCA_ASKED_UNREADABLE, 0, 0);
 }
 static inline struct oca_outcome oca_panel_text(const struct oca_answer *answer, struct oca_outcome outcome, struct oca_name *name) {
-    struct oca_name found = {0, {0}};
-    struct oca_reader reader = oca_reader_of(answer);
-    if (outcome.asked != OCA_ASKED_DONE) return outcome;
-    oca_reader_name(&reader, &found);
-    if (oca_reader_end(&reader).asked == OCA_ASKED_DONE) *name = found;
-    return oca_reader_end(&reader);
-}
-
-/* The identifier of a class (OcaClassID): how many fields it has, at most 16, and they; and the number in enum oca_class of the class, 0
- * for one that is not of this profile. */
-struct oca_class_id { uint16_t count, fields[16]; uint32_t class_number; };
-static inline uint32_t oca_class_with(const uint16_t *fields, size_t count) {
-    if (count == 3 && fields[0] == 1 && fields[1] == 1 && fields[2] == 3) return OCA_CLASS_BLOCK;
-    if (count < 4 || fields[0] != 1 || fields[1] != 1 || fields[2] != 1) return 0;
-    if (count == 4 && fields[3] >= 2 && fields[3] <= 4) return (uint32_t)(OCA_CLASS_MUTE + fields[3] - 2);
-    return count == 5 && fields[3] == 1 && fields[4] >= 1 && fields[4] <= 9 ? (uint32_t)(OCA_CLASS_BOOLEAN + fields[4] - 1) : 0;
-}
-static inline void oca_reader_class(struct oca_reader *reader, struct oca_class_id *id) {
-    const uint32_t count = oca_reader_take(reader, 2);
-    if (count > 16) reader->good = false;
-    for (uint32_t i = 0; i < count && reader->good; i++) id->fields[i] = (uint16_t)oca_reader_take(reader, 2);
-    (void)oca_reader_take(reader, 2);
-    if (!reader->good) return;
-    id->count = (uint16_t)count;
-    id->class_number = oca_class_with(id->fields, count);
+    return outcome.asked == OCA_ASKED_DONE ? oca_panel_was_read(oca_text_read(answer->params, answer->params_len, name)) : outcome;
 }
 
 /* The class of an object, by GetClassIdentification; of a class that is not of this profile the class number is 0. */
 static inline struct oca_outcome oca_panel_class(struct oca_panel *panel, uint32_t ono, struct oca_class_id *id) {
     struct oca_answer answer = {0, 0, {0}};
-    struct oca_class_id found = {0, {0}, 0};
     const struct oca_outcome outcome = oca_panel_read(panel, ono, OCA_GET_CLASS_IDENTIFICATION, &answer);
-    struct oca_reader reader = oca_reader_of(&answer);
-    if (outcome.asked != OCA_ASKED_DONE) return outcome;
-    oca_reader_class(&reader, &found);
-    if (oca_reader_end(&reader).asked == OCA_ASKED_DONE) *id = found;
-    return oca_reader_end(&reader);
+    return outcome.asked == OCA_ASKED_DONE ? oca_panel_was_read(oca_class_read(answer.params, answer.params_len, id)) : outcome;
 }
 
 /* The reading of an object: its class is asked first, and then what oca_panel_get_of asks. */
@@ -726,17 +686,10 @@ static inline struct oca_outcome oca_panel_label(struct oca_panel *panel, uint32
 /* Gives an object a label. OCA_ASKED_NO_VALUE for one above 64 bytes, or that is no UTF-8. */
 static inline struct oca_outcome oca_panel_set_label(struct oca_panel *panel, uint32_t ono, const struct oca_name *label) {
     uint8_t params[66] = {0};
+    size_t len = 0;
     struct oca_answer answer = {0, 0, {0}};
-    size_t at = 0;
-    if (label->size > sizeof label->text) return oca_outcome_of(OCA_ASKED_NO_VALUE, 0, 0);
-    while (at < label->size) {
-        const size_t size = oca_scalar_size(label->text + at, label->size - at);
-        if (size == 0) return oca_outcome_of(OCA_ASKED_NO_VALUE, 0, 0);
-        for (size_t i = 0; i < size; i++) params[2 + at + i] = label->text[at + i];
-        at += size;
-        params[1]++;
-    }
-    return oca_panel_ask(panel, ono, OCA_SET_LABEL, 1, params, 2 + at, &answer);
+    const enum oca_result put = oca_text_put(label, params, sizeof params, &len);
+    return put == OCA_DONE ? oca_panel_ask(panel, ono, OCA_SET_LABEL, 1, params, len, &answer) : oca_panel_refused(put);
 }
 
 /* The name of a switch's position, which is counted from 0. */
@@ -747,39 +700,19 @@ static inline struct oca_outcome oca_panel_position_name(struct oca_panel *panel
     return oca_panel_text(&answer, outcome, name);
 }
 
-/* The names of a switch's positions, in their order, at most 16. */
-struct oca_names { uint32_t count; struct oca_name names[16]; };
+/* The names of a switch's positions. */
 static inline struct oca_outcome oca_panel_position_names(struct oca_panel *panel, uint32_t ono, struct oca_names *names) {
     struct oca_answer answer = {0, 0, {0}};
     const struct oca_outcome outcome = oca_panel_read(panel, ono, OCA_GET_POSITION_NAMES, &answer);
-    struct oca_reader reader = oca_reader_of(&answer);
-    if (outcome.asked != OCA_ASKED_DONE) return outcome;
-    names->count = 0;
-    const uint32_t count = oca_reader_take(&reader, 2);
-    if (count > 16) reader.good = false;
-    for (uint32_t i = 0; i < count && reader.good; i++) oca_reader_name(&reader, &names->names[i]);
-    if (oca_reader_end(&reader).asked == OCA_ASKED_DONE) names->count = count;
-    return oca_reader_end(&reader);
+    return outcome.asked == OCA_ASKED_DONE ? oca_panel_was_read(oca_names_read(answer.params, answer.params_len, names)) : outcome;
 }
 
-/* The numbers of a block's members, in their order, at most 181. OCA_ASKED_REFUSED with OCA_STATUS_BUFFER_OVERFLOW where there are more
- * than a response has room for, some 90. */
-struct oca_members { uint32_t count, onos[181]; };
+/* The numbers of a block's members. OCA_ASKED_REFUSED with OCA_STATUS_BUFFER_OVERFLOW where there are more than a response has room for, some
+ * 90. */
 static inline struct oca_outcome oca_panel_members(struct oca_panel *panel, uint32_t ono, struct oca_members *members) {
     struct oca_answer answer = {0, 0, {0}};
-    struct oca_class_id id = {0, {0}, 0};
     const struct oca_outcome outcome = oca_panel_read(panel, ono, OCA_GET_MEMBERS, &answer);
-    struct oca_reader reader = oca_reader_of(&answer);
-    if (outcome.asked != OCA_ASKED_DONE) return outcome;
-    members->count = 0;
-    const uint32_t count = oca_reader_take(&reader, 2);
-    if (count > 181) reader.good = false;
-    for (uint32_t i = 0; i < count && reader.good; i++) {
-        members->onos[i] = oca_reader_take(&reader, 4);
-        oca_reader_class(&reader, &id);
-    }
-    if (oca_reader_end(&reader).asked == OCA_ASKED_DONE) members->count = count;
-    return oca_reader_end(&reader);
+    return outcome.asked == OCA_ASKED_DONE ? oca_panel_was_read(oca_members_read(answer.params, answer.params_len, members)) : outcome;
 }
 
 /* What a walk finds of an object: its number, that of the block that lists it (0 of the root), what became of the question for its class
@@ -838,10 +771,12 @@ static_assert(sizeof(struct oca_device) == 16 && sizeof(struct oca_link) == 16 &
 static_assert(sizeof(struct oca_value) == 16 && sizeof(struct oca_reading) == 48 && sizeof(struct oca_request) == 14, "values");
 static_assert(sizeof(enum oca_result) == sizeof(uint32_t), "a result is a word");
 static_assert(sizeof(struct oca_verdict) == 28 && sizeof(struct oca_name) == 65 && sizeof(struct oca_spec) == 1248 && offsetof(struct oca_object, role) == 16, "words");
+static_assert(sizeof(struct oca_names) == 1044 && sizeof(struct oca_members) == 728 && sizeof(struct oca_class_id) == 40, "answers");
 #else
 _Static_assert(sizeof(struct oca_device) == 16 && sizeof(struct oca_link) == 16 && sizeof(struct oca_setting) == 16, "64 bits");
 _Static_assert(sizeof(struct oca_value) == 16 && sizeof(struct oca_reading) == 48 && sizeof(struct oca_request) == 14, "values");
 _Static_assert(sizeof(enum oca_result) == sizeof(uint32_t), "a result is a word");
 _Static_assert(sizeof(struct oca_verdict) == 28 && sizeof(struct oca_name) == 65 && sizeof(struct oca_spec) == 1248 && offsetof(struct oca_object, role) == 16, "words");
+_Static_assert(sizeof(struct oca_names) == 1044 && sizeof(struct oca_members) == 728 && sizeof(struct oca_class_id) == 40, "answers");
 #endif
 #endif

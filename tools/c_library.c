@@ -504,6 +504,40 @@ static void values(void) {
     same("nor of a block", oca_value_read(OCA_CLASS_BLOCK, text("a"), 0, &got), OCA_NO_VALUE);
 }
 
+/* What answers give: texts, names, members and classes, each also with a byte less and a byte more. */
+static void reads_answers(void) {
+    static const uint8_t name[] = {0, 3, 'G', 0xc3, 0xb6, 'n'}, empty[] = {0, 0}, bad[] = {0, 1, 0xff};
+    static const uint8_t names[] = {0, 2, 0, 3, 'o', 'f', 'f', 0, 0}, members[] = {0, 2, 0, 0, 0x10, 1, 0, 3, 0, 1, 0, 1, 0, 3, 0, 2, 1, 2, 3, 4, 0, 1, 0, 9, 0, 2};
+    static const uint8_t uint64[] = {0, 5, 0, 1, 0, 1, 0, 1, 0, 1, 0, 9, 0, 3}, other[] = {0, 1, 0, 7, 0, 2};
+    struct oca_name text_is = {9, {9}}, label = oca_name_of("G\xc3\xb6n");
+    struct oca_names names_are = {9, {{9, {9}}}};
+    struct oca_members members_are = {9, {9}};
+    struct oca_class_id id = {9, {9}, 9};
+    uint8_t bytes[66] = {7};
+    size_t size = 0;
+    same("a byte less", oca_text_read(name, sizeof name - 1, &text_is) == OCA_NO_VALUE && text_is.size == 9, 1);
+    same("no UTF-8", oca_text_read(bad, sizeof bad, &text_is) == OCA_NO_VALUE && text_is.text[0] == 9, 1);
+    same("a text", oca_text_read(name, sizeof name, &text_is) == OCA_DONE && text_is.size == 4 && memcmp(text_is.text, name + 2, 4) == 0, 1);
+    same("an empty one", oca_text_read(empty, sizeof empty, &text_is) == OCA_DONE && text_is.size == 0, 1);
+    same("no names", oca_names_read(names, sizeof names - 1, &names_are) == OCA_NO_VALUE && names_are.count == 9, 1);
+    same("names", oca_names_read(names, sizeof names, &names_are) == OCA_DONE && names_are.count == 2 && names_are.names[0].size == 3
+         && memcmp(names_are.names[0].text, "off", 3) == 0 && names_are.names[1].size == 0, 1);
+    same("no members", oca_members_read(members, sizeof members - 1, &members_are) == OCA_NO_VALUE && members_are.count == 9, 1);
+    same("members", oca_members_read(members, sizeof members, &members_are) == OCA_DONE && members_are.count == 2 && members_are.onos[0] == 4097
+         && members_are.onos[1] == 0x01020304, 1);
+    same("no class", oca_class_read(uint64, sizeof uint64 - 1, &id) == OCA_NO_VALUE && id.count == 9 && id.class_number == 9, 1);
+    same("a class", oca_class_read(uint64, sizeof uint64, &id) == OCA_DONE && id.count == 5 && id.fields[4] == 9 && id.class_number == OCA_CLASS_UINT64, 1);
+    same("by its fields", oca_class_with(id.fields, id.count), OCA_CLASS_UINT64);
+    same("by fewer", oca_class_with(id.fields, 4), 0);
+    same("a class of another profile", oca_class_read(other, sizeof other, &id) == OCA_DONE && id.count == 1 && id.fields[0] == 7 && id.class_number == 0, 1);
+    same("no room for a text", oca_text_put(&label, bytes, 5, &size) == OCA_TOO_SMALL && size == 6 && bytes[0] == 7, 1);
+    same("a text's bytes", oca_text_put(&label, bytes, sizeof bytes, &size) == OCA_DONE && size == 6 && memcmp(bytes, name, 6) == 0, 1);
+    label.size = 65;
+    same("a text above 64 bytes", oca_text_put(&label, bytes, sizeof bytes, &size), OCA_NO_VALUE);
+    label.size = 2;
+    same("half a scalar", oca_text_put(&label, bytes, sizeof bytes, &size), OCA_NO_VALUE);
+}
+
 /* Values at the front. */
 static void sets_values(void) {
     struct oca_device d = OCA_DEVICE_INIT;
@@ -855,6 +889,7 @@ int main(void) {
     differing_neighbours();
     depths();
     values();
+    reads_answers();
     sets_values();
     objects_by_struct();
     numbers();

@@ -19,10 +19,11 @@ CALLS = TOP / "crates/oca_c/src"
 NUMBERS = {"bool": "bool", "usize": "size_t", **{f"{sign}{bits}": f"{'u' if sign == 'u' else ''}int{bits}_t" for sign in "iu" for bits in (8, 16, 32, 64)}}
 HANDLES = {"DeviceHandle": ("struct oca_device", "device"), "LinkHandle": ("struct oca_link", "link")}
 STRUCTS = {"Name": "struct oca_name", "Reading": "struct oca_setting", "ValueWords": "struct oca_value", "ReadingWords": "struct oca_reading",
-           "RequestWords": "struct oca_request", "SpecWords": "struct oca_spec"}
+           "RequestWords": "struct oca_request", "SpecWords": "struct oca_spec", "Names": "struct oca_names", "Members": "struct oca_members",
+           "ClassId": "struct oca_class_id"}
 # A parameter that the header calls otherwise, by its call.
 RENAMED = {
-    ("oca_device_datagram_words", "told"): "verdict", ("oca_device_object_words", "told"): "object", ("oca_device_setting", "reading"): "setting",
+    ("oca_device_datagram_words", "out"): "verdict", ("oca_device_object_words", "out"): "object", ("oca_device_setting", "reading"): "setting",
     ("oca_link_submit", "command"): "handle", ("oca_link_due", "kind"): "due", ("oca_link_due", "command"): "handle",
     ("oca_link_datagram", "kind"): "reception", ("oca_link_take", "command"): "handle", ("oca_link_answered", "command"): "handle",
     ("oca_link_next_handle", "command"): "handle",
@@ -51,7 +52,7 @@ def exported():
     for file in sorted(CALLS.glob("*.rt")):
         for name, given, result in re.findall(r'pub extern "C" fn (\w+)\(([^)]*)\)\s*(?:-> (\w+))?', file.read_text()):
             pairs = [re.fullmatch(r"(\w+): (.+)", it.strip()).groups() for it in given.split(",") if it.strip()]
-            answers = "uint32_t" if name == "oca_version" else {"u32": "enum oca_result"}.get(result, "void")
+            answers = "uint32_t" if name in ("oca_version", "oca_class_with") else {"u32": "enum oca_result"}.get(result, "void")
             found[name] = ([c for of, kind in pairs if kind != "Global" for c in in_c(name, of, kind)], answers)
     return found
 
@@ -158,6 +159,9 @@ def expected():
         "struct oca_reading": struct("value_words.rt", "ReadingWords"),
         "struct oca_request": struct("value_words.rt", "RequestWords"),
         "struct oca_spec": struct("spec_words.rt", "SpecWords"),
+        "struct oca_names": struct("answer_words.rt", "Names"),
+        "struct oca_members": struct("answer_words.rt", "Members"),
+        "struct oca_class_id": struct("answer_words.rt", "ClassId"),
         "size of oca_spec": int(re.search(r"const SPEC_SIZE: u32 = (\d+);", text("spec_words.rt"))[1]),
         "enum oca_status": variants("oca_types/src/status.rt", "Status", "OCA_STATUS_"),
         "enum oca_fault": variants("oca_pdu/src/fault.rt", "PduFaultKind", "OCA_FAULT_"),
@@ -238,7 +242,12 @@ WRONG = [
     ("OCA_DUE_COMMAND = 1, OCA_DUE_KEEP_ALIVE = 2", "OCA_DUE_COMMAND = 2, OCA_DUE_KEEP_ALIVE = 1"),
     ("OCA_STRANGER = 2, OCA_MALFORMED = 3", "OCA_STRANGER = 3, OCA_MALFORMED = 2"),
     ("OCA_MOST_WRITTEN = 86", "OCA_MOST_WRITTEN = 85"),
-    ("OCA_VERSION 0x010400u", "OCA_VERSION 0x010300u"),
+    ("uint16_t count, fields[16]; uint32_t class_number;", "uint16_t fields[16], count; uint32_t class_number;"),
+    ("struct oca_members { uint32_t count, onos[181]; };", "struct oca_members { uint32_t count, onos[180]; };"),
+    ("struct oca_names { uint32_t count; struct oca_name names[16]; };", "struct oca_names { struct oca_name names[16]; uint32_t count; };"),
+    ("uint32_t oca_class_with(const uint16_t *fields, size_t fields_len)", "uint32_t oca_class_with(const uint32_t *fields, size_t fields_len)"),
+    ("oca_text_read(const uint8_t *params, size_t params_len, struct oca_name *text)", "oca_text_read(const uint8_t *params, size_t params_len, const struct oca_name *text)"),
+    ("OCA_VERSION 0x010500u", "OCA_VERSION 0x010400u"),
 ]
 
 

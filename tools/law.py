@@ -217,13 +217,17 @@ def fronts(r):
     h.says(0, lock(1, 4100), lock(2, 4097, 6))
     for n in range(12):
         ono = r.choice([100, 4096, 4097, 4098, 4099, 4100, 4101, 4102, 5000])
-        kind = r.choice(["state", "position", "truth", "number"])
-        value = {"state": r.choice([0, 1, 2, 3, 255]), "position": r.choice([0, 1, 2, 3, 65535]),
-                 "truth": r.randrange(2),
-                 "number": r.choice([0, 600, 601, -600, -601, 100, 101, -1, 2**127 - 1, -2**127])}[kind]
+        kind = r.choice(["mute", "polarity", "switch", "boolean", *oca.WIDTHS])
+        value = {"mute": r.choice([1, 2]), "polarity": r.choice([1, 2]), "switch": r.choice([0, 1, 2, 3, 65535]),
+                 "boolean": r.randrange(2)}.get(kind)
+        if value is None:
+            size, signed = oca.WIDTHS[kind]
+            low, high = (-1 << 8 * size - 1, (1 << 8 * size - 1) - 1) if signed else (0, (1 << 8 * size) - 1)
+            value = r.choice([n for n in (0, 600, 601, -600, -601, 100, 101, -1, low, high) if low <= n <= high])
         if r.randrange(3):
-            kind, value = {4097: ("state", r.choice([1, 2])), 4099: ("position", r.randrange(4)),
-                           4100: ("number", r.randrange(-601, 602))}.get(ono, (kind, value))
+            kind, value = {4097: ("mute", r.choice([1, 2])), 4098: ("polarity", r.choice([1, 2])),
+                           4099: ("switch", r.randrange(4)), 4100: ("int16", r.randrange(-601, 602)),
+                           4101: ("boolean", r.randrange(2)), 4102: ("uint8", r.randrange(103))}.get(ono, (kind, value))
         h.sets(ono, kind, value)
         if r.randrange(3) == 0:
             h.at(h.now + r.choice([0, 1, 5001, 15001, 120001])).says(r.randrange(2),
@@ -254,8 +258,8 @@ def wander(r):
             reading(h, 40, handle)
             handle += 9
         elif kind == 2:
-            h.sets(*r.choice([(4097, "state", 1 + r.randrange(2)), (4100, "number", r.randrange(-601, 602)),
-                              (4099, "position", r.randrange(4))]))
+            h.sets(*r.choice([(4097, "mute", 1 + r.randrange(2)), (4100, "int16", r.randrange(-601, 602)),
+                              (4099, "switch", r.randrange(4))]))
         elif kind == 3:
             n = r.choice(numbers)
             h.says(n, ask(min(oca.U32, r.choice([panels[n].next + 1, 1])), r.choice([4097, 4098, 4100]), 1,

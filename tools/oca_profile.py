@@ -519,7 +519,6 @@ def change(obj, peer, key, args):
 # ---- changes at the front
 
 NO_OBJECT, NO_SETTING, OTHER_KIND, TOO_FAR = 1, 2, 3, 4
-TAKEN_BY = {"mute": "state", "polarity": "state", "switch": "position", "boolean": "truth"}
 
 
 def set_local(tree, ono, kind, value):
@@ -530,12 +529,12 @@ def set_local(tree, ono, kind, value):
         return NO_OBJECT
     if obj.kind == "block":
         return NO_SETTING
-    if TAKEN_BY.get(obj.kind, "number") != kind:
+    if obj.kind != kind:
         return OTHER_KIND
-    if (kind == "state" and value not in (1, 2)) or (kind == "number" and not obj.low <= value <= obj.high) \
-            or (kind == "position" and not (value < len(obj.names) and obj.enableds[value])):
+    if (kind in WIDTHS and not obj.low <= value <= obj.high) \
+            or (kind == "switch" and not (value < len(obj.names) and obj.enableds[value])):
         return TOO_FAR
-    obj.state = bool(value) if kind == "truth" else value
+    obj.state = bool(value) if kind == "boolean" else value
     return None
 
 

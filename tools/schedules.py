@@ -142,9 +142,9 @@ def wander(r, window, span):
 
 def some_setting(r):
     """A change at the device's own front, now and then one that is refused."""
-    return r.choice([(4097, "state", r.randrange(1, 4)), (4099, "position", r.randrange(4)),
-                     (4100, "number", r.randrange(-601, 602)),
-                     (4101, "truth", r.randrange(2)), (4096, "truth", 1), (4100, "state", 1), (5000, "number", 0)])
+    return r.choice([(4097, "mute", r.randrange(1, 3)), (4099, "switch", r.randrange(4)),
+                     (4100, "int16", r.randrange(-601, 602)), (4101, "boolean", r.randrange(2)),
+                     (4096, "boolean", 1), (4100, "mute", 1), (4097, "polarity", 1), (4100, "int8", 3), (5000, "uint64", 0)])
 
 
 def noise(r, schedule):

@@ -578,10 +578,11 @@ BAD_LINES = [
     ("0 other 1.2.3.4:5", "form"), ("take 0", "form"), ("take 0 4294967296", "number"), ("0 submit 0 1 1 1 256 -",
         "number"),
     ("0 submit 0 1 65536 1 0 -", "number"), ("0 submit 0 1 1 1 0", "form"), ("0  tick", "form"),
-    ("set 4097 state", "form"),
-    ("set 4097 state 1 1", "form"), ("set 4097 colour 1", "form"), ("set x state 1", "number"),
-    ("set 4097 state 256", "number"), ("set 4097 truth 2", "number"), ("set 4097 position 65536", "number"),
-    ("set 4097 number 170141183460469231731687303715884105728", "number"), ("set 4294967296 truth 1", "number")]
+    ("set 4097 mute", "form"), ("set 4097 mute 1 1", "form"), ("set 4097 colour 1", "form"),
+    ("set x mute 1", "number"), ("set 4097 mute 0", "number"), ("set 4097 mute 3", "number"),
+    ("set 4097 polarity 256", "number"), ("set 4101 boolean 2", "number"), ("set 4099 switch 65536", "number"),
+    ("set 4100 int16 32768", "number"), ("set 4100 int8 -129", "number"), ("set 4100 uint64 -1", "number"),
+    ("set 4100 int64 170141183460469231731687303715884105728", "number"), ("set 4294967296 boolean 1", "number")]
 
 
 def lines_refused(program):

@@ -14,11 +14,11 @@ abbrev pub block_of : Channel → ℕ
 block_of One = 4096
 block_of Two = 5096
 
-abbrev pub mute_of : Channel → ℕ
-mute_of channel = block_of channel + 1
+abbrev pub mute_ono : Channel → ℕ
+mute_ono channel = block_of channel + 1
 
-abbrev pub gain_of : Channel → ℕ
-gain_of channel = block_of channel + 2
+abbrev pub gain_ono : Channel → ℕ
+gain_ono channel = block_of channel + 2
 
 -- muted unless a mute says Unmuted
 abbrev pub is_muted : Option Setting → Bool
@@ -32,8 +32,12 @@ tenths_set _ = pos 0
 
 -- what the objects say of a channel
 abbrev pub levels_in : List Object → Channel → Levels
-levels_in tree channel = record { muted = is_muted (setting_at tree (mute_of channel)); gain = tenths_set (setting_at tree (gain_of channel)) }
+levels_in tree channel =
+    record {
+      muted = is_muted (setting_at tree (mute_ono channel));
+      gain = tenths_set (setting_at tree (gain_ono channel));
+    }
 
 -- BOTH CHANNELS are as the objects say.
-abbrev pub channels_in : List Object → Channels
-channels_in tree = record { one = levels_in tree One; two = levels_in tree Two }
+abbrev pub channels_of_objects : List Object → Channels
+channels_of_objects tree = record { one = levels_in tree One; two = levels_in tree Two }

@@ -1,6 +1,7 @@
 //! What the amplifier's electronics do, and the objects by which a controller sets it.
 ghost use Rattle.std.specs.Prelude.{◌≡◌};
-ghost use Rattle.amplifier.specs.Channels.{block_of, mute_of, gain_of, is_muted, tenths_set, levels_in, channels_in};
+ghost use Rattle.amplifier.specs.Channels.{block_of, mute_ono, gain_ono, is_muted, tenths_set, levels_in};
+ghost use Rattle.amplifier.specs.Channels.{channels_of_objects};
 
 use oca_device::Electronics;
 use oca_tree::{AddFault, Kind, MuteState, Setting, Spec, Tree, TreeBuilder};
@@ -30,14 +31,14 @@ impl Channel {
 
     /// Its mute.
     pub fn mute(self) -> Ono
-        ensures { result.0 ≡ mute_of self }
+        ensures { result.0 ≡ mute_ono self }
     {
         Ono(self.block().0 + 1)
     }
 
     /// Its gain, in tenths of a decibel.
     pub fn gain(self) -> Ono
-        ensures { result.0 ≡ gain_of self }
+        ensures { result.0 ≡ gain_ono self }
     {
         Ono(self.block().0 + 2)
     }
@@ -95,7 +96,7 @@ fn add_channel(builder: &mut TreeBuilder, channel: Channel, role: &str) -> Resul
 impl Channels {
     /// Both channels, as the objects say.
     pub fn new(tree: &Tree) -> Channels
-        ensures { result ≡ channels_in tree.now }
+        ensures { result ≡ channels_of_objects tree.now }
     {
         Channels {
             one: levels_of(tree, Channel::One),
@@ -111,7 +112,7 @@ impl Electronics for Channels {
 
     /// Brings both channels to what the objects say.
     fn follow(&mut self, tree: &Tree, _written: &[Ono])
-        ensures { self.new ≡ channels_in tree.now }
+        ensures { self.new ≡ channels_of_objects tree.now }
     {
         *self = Channels::new(tree);
     }

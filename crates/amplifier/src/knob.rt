@@ -1,27 +1,26 @@
 //! The amplifier's own knobs, which lines of text turn.
 ghost use Rattle.std.specs.Prelude.{◌≡◌, IfOk, OnErr};
 ghost use Rattle.std.specs.Result.{result_err};
-ghost use Rattle.oca_model.specs.Values.{mute_number};
 ghost use Rattle.oca_tree.specs.Settings.{set_fault};
-ghost use Rattle.amplifier.specs.Channels.{channels_in};
+ghost use Rattle.amplifier.specs.Channels.{channels_of_objects};
 ghost use Rattle.amplifier.specs.Knobs.{mute_at, channel_of, tenths_of, gain_by, knob_by, knob_of};
 
 use super::channels::{Channel, Channels};
 use oca_device::{Device, Electronics};
 use oca_script::field::{number, split_at_byte};
-use oca_tree::{LocalValue, MuteState, SetFault};
+use oca_tree::{MuteState, SetFault, Value};
 use oca_types::Ono;
 
 /// What a line turns: the object, and what it is set to.
 #[derive(Clone, Copy, Debug, PartialEq, Eq)]
 pub struct Knob {
     pub ono: Ono,
-    pub value: LocalValue,
+    pub value: Value,
 }
 
 impl Knob {
-    /// What a line says: `mute CHANNEL`, `open CHANNEL` or `gain CHANNEL TENTHS`, the channel being 1 or 2 and the tenths
-    /// of a decibel of one to four digits. Nothing for any other line.
+    /// What a line says: `mute CHANNEL`, `open CHANNEL` or `gain CHANNEL TENTHS`, the channel being 1 or 2 and the
+    /// tenths of a decibel of one to four digits. Nothing for any other line.
     #[tactic(auto, unfolding(crate::specs::Knobs::knob_of))]
     pub fn read(line: &[u8]) -> Option<Knob>
         ensures { result ≡ knob_of line.now }
@@ -30,11 +29,11 @@ impl Knob {
         knob_with(word, rest)
     }
 
-    /// Turns the knob: the object is set at the device's own front, and the electronics follow. A refusal changes
+    /// Turns the knob: the object is set at the local front panel, and the electronics follow. A refusal changes
     /// nothing.
     pub fn turn(self, device: &mut Device, channels: &mut Channels) -> Result<(), SetFault>
-        ensures told { result_err result ≡ set_fault device.old.tree self.ono.0 self.value }
-        ensures follows { IfOk result (λ _. channels.new ≡ channels_in device.new.tree) }
+        ensures fault { result_err result ≡ set_fault device.old.tree self.ono.0 self.value }
+        ensures follows { IfOk result (λ _. channels.new ≡ channels_of_objects device.new.tree) }
         ensures refused { OnErr result (device.new ≡ device.old) }
         ensures kept { OnErr result (channels.new ≡ channels.old) }
     {
@@ -63,11 +62,11 @@ fn knob_with(word: &[u8], rest: &[u8]) -> Option<Knob>
 
 /// The knob that sets the mute of a channel.
 fn mute(channel: Channel, state: MuteState) -> Knob
-    ensures { result ≡ mute_at (mute_number state) channel }
+    ensures { result ≡ mute_at state channel }
 {
     Knob {
         ono: channel.mute(),
-        value: LocalValue::State(state as u8),
+        value: Value::Mute(state),
     }
 }
 
@@ -81,7 +80,7 @@ fn gain(text: &[u8]) -> Option<Knob>
     let tenths = tenths(number)?;
     Some(Knob {
         ono: channel.gain(),
-        value: LocalValue::Number(tenths),
+        value: Value::Int16(tenths),
     })
 }
 
@@ -99,12 +98,12 @@ fn channel(text: &[u8]) -> Option<Channel>
 }
 
 /// Tenths of a decibel.
-fn tenths(text: &[u8]) -> Option<i128>
+fn tenths(text: &[u8]) -> Option<i16>
     ensures { result ≡ tenths_of text.now }
 {
     let (first, digits) = text.split_first()?;
     if *first == b'-' {
-        return Some(-i128::from(number(digits, 4, 9999)?));
+        return Some(-(number(digits, 4, 9999)? as i16));
     }
-    Some(i128::from(number(text, 4, 9999)?))
+    Some(number(text, 4, 9999)? as i16)
 }

@@ -76,7 +76,8 @@ fn serve<R: Runtime + AllocGlobal + Net, I: Read + AsRawFd + Drop>(
     Ok(())
 }
 
-/// Turns the knob of the next line, where one is there. A line that turns none, and a value out of range, are told.
+/// Turns the knob of the next line, where one is there. A line that turns none and a value out of range are noted on
+/// standard error.
 fn turn_next<R: Runtime, I: Read + AsRawFd + Drop>(
     rt: &R,
     lines: &mut Lines<I>,

@@ -1,5 +1,7 @@
 -- What a call makes of what is behind a handle holds of the handle.
 use Rattle.std.proofs.Common.{◌≡◌, ℕ, ◌≤◌, Bool, List, length, map, Option, Some, None, inl, inr, refl}
+use Rattle.std.specs.Prelude.{Result, Ok, Err}
+use Rattle.oca_tree.specs.declared.setting.SetFault.{SetFault}
 use Rattle.std.specs.List.{AllByRecursion}
 use Rattle.oca_tree.specs.declared.builder.Kind.{Kind}
 use Rattle.oca_tree.specs.Objects.{Store}
@@ -11,7 +13,8 @@ use Rattle.oca_tree.specs.declared.object.Object.{Object}
 use Rattle.oca_device.specs.Events.{Event}
 use Rattle.oca_model.specs.declared.value.Value.{Value}
 use Rattle.oca_c.specs.declared.value_words.ValueWords.{ValueWords}
-use Rattle.oca_c.specs.CValues.{AreWordsOf, HandleSetsTo, HandleSetsWords, SetsTo}
+use Rattle.oca_c.specs.CValues.{AreWordsOf}
+use Rattle.oca_c.specs.FrontCalls.{Entry, HandleSetsEntry, HandleSetsFound, HandleSetsValue, HandleSetsWords, SetsEntry, SetsFound, SetsWords}
 use Rattle.oca_c.specs.Numbers.{answer_number}
 use Rattle.oca_c.specs.Calls.{AddedBy, Builds, HandleBuilds, HandleStarts, Runs, IsName, IsSwitch, Starts, SwitchAddedBy, name_bytes}
 
@@ -28,12 +31,12 @@ pub starts_behind : (old new : Option DeviceBehind) (u u' : DeviceBehind) (numbe
     → old ≡ Some u → new ≡ Some u' → number ≡ answer_number answer
     → ((B : Store) → Builds u B → Starts answer u u' window peers packets B.list)
     → (B : Store) → HandleBuilds old B → HandleStarts number old new window peers packets B.list
-starts_behind old new u u' number answer window peers packets o n e k B h = rw (o, n, e) (told (k B (rw o at h)))
+starts_behind old new u u' number answer window peers packets o n e k B h = rw (o, n, e) (here (k B (rw o at h)))
   where
-    told : Starts answer u u' window peers packets B.list → HandleStarts (answer_number answer) (Some u) (Some u') window peers packets B.list
-    told (inl (is, w, p, r, runs, none)) = inl (rw is refl, w, p, r, runs, none)
-    told (inr (inl (is, w, p, r, spent))) = inr (inl (rw is refl, w, p, r, spent))
-    told (inr (inr (is, bad, same))) = inr (inr (rw is refl, bad, rw same refl))
+    here : Starts answer u u' window peers packets B.list → HandleStarts (answer_number answer) (Some u) (Some u') window peers packets B.list
+    here (inl (is, w, p, r, runs, none)) = inl (rw is refl, w, p, r, runs, none)
+    here (inr (inl (is, w, p, r, spent))) = inr (inl (rw is refl, w, p, r, spent))
+    here (inr (inr (is, bad, same))) = inr (inr (rw is refl, bad, rw same refl))
 
 -- an addition of a switch, once its names were read
 pub added_switch : (u : DeviceBehind) (answer : Answer) (B : Store) (container ono : ℕ) (role : List ℕ) (lockable : Bool) (names : List Name) (position : ℕ) (kind : Kind)
@@ -43,14 +46,27 @@ pub added_switch : (u : DeviceBehind) (answer : Answer) (B : Store) (container o
 added_switch u answer B container ono role lockable names position kind few all is r =
     (r.0, r.1, inr (inr (few, all, kind, is, r.2)))
 
+-- a change at the front
+found_behind : (w : DeviceSizes) (u' : DeviceBehind) (answer : Answer) (ono : ℕ) (T : List Object) (E : List Event) (found : Result Value SetFault)
+    → SetsFound w answer u' T E ono found → HandleSetsFound w (answer_number answer) (Some u') T E ono found
+found_behind w u' answer ono T E (Err fault) (is, runs) = (rw is refl, runs)
+found_behind w u' answer ono T E (Ok value) (is, runs) = (rw is refl, runs)
+
+pub entry_behind : (old new : Option DeviceBehind) (u u' : DeviceBehind) (number : ℕ) (answer : Answer) (ono : ℕ) (entry : Entry)
+    → old ≡ Some u → new ≡ Some u' → number ≡ answer_number answer
+    → ((w : DeviceSizes) (T : List Object) (E : List Event) → Runs w u T E → SetsEntry w answer u' T E ono entry)
+    → HandleSetsEntry number old new ono entry
+entry_behind old new u u' number answer ono entry o n e k w T E h =
+    let r = k w T E (rw o at h) in (r.0, r.1, rw (n, e) (found_behind w u' answer ono T E r.0 r.2))
+
 -- a change at the front by words
 pub sets_behind : (old new : Option DeviceBehind) (u u' : DeviceBehind) (number : ℕ) (answer : Answer) (ono : ℕ) (words : ValueWords)
     → old ≡ Some u → new ≡ Some u' → number ≡ answer_number answer
-    → ((w : DeviceSizes) (T : List Object) (E : List Event) → Runs w u T E → (value : Option Value) × AreWordsOf words value × SetsTo w answer u' T E ono value)
+    → ((w : DeviceSizes) (T : List Object) (E : List Event) → Runs w u T E → (value : Option Value) × AreWordsOf words value × SetsWords w answer u' T E ono value)
     → HandleSetsWords number old new ono words
 sets_behind old new u u' number answer ono words o n e k w T E h =
-    let r = k w T E (rw o at h) in (r.0, r.1, rw (n, e) (told r.0 r.2))
+    let r = k w T E (rw o at h) in (r.0, r.1, rw (n, e) (by r.0 r.2))
   where
-    told : (value : Option Value) → SetsTo w answer u' T E ono value → HandleSetsTo w (answer_number answer) (Some u') T E ono value
-    told None (is, runs) = (rw is refl, runs)
-    told (Some value) (is, runs) = (rw is refl, runs)
+    by : (value : Option Value) → SetsWords w answer u' T E ono value → HandleSetsValue w (answer_number answer) (Some u') T E ono value
+    by None (is, runs) = (rw is refl, runs)
+    by (Some value) r = (r.0, r.1, found_behind w u' answer ono T E r.0 r.2)

@@ -1,5 +1,6 @@
--- What an object is to be, and what it is told to be, as C has it: one struct.
-use Rattle.std.specs.Prelude.{◌≡◌, ◌⊎◌, ℕ, ◌-◌, ◌==◌, ◌<◌, ◌≤◌, not, ℤ, pos, Bool, List, map, take, length, Option, Some, None, IfSome, IsSome, Result, Ok, Err, FitsSigned}
+-- What an object is to be, and what it is, as C has it: one struct.
+use Rattle.std.specs.Prelude.{◌≡◌, ◌⊎◌, ℕ, ◌-◌, ◌==◌, ◌<◌, ◌≤◌, not, ℤ, pos, Bool, List, map, take, length, Option}
+use Rattle.std.specs.Prelude.{Some, None, IfSome, IsSome, Result, Ok, Err, FitsSigned}
 use Rattle.std.specs.Int.{w64, FitsUnsigned, cast_unsigned, from_bool}
 use Rattle.std.specs.List.{AllByRecursion}
 use Rattle.std.specs.Option.{option_map}
@@ -31,15 +32,15 @@ use Rattle.oca_c.specs.declared.spec_words.SpecWords.{SpecWords}
 use Rattle.oca_c.specs.Numbers.{answer_number, start_answer}
 use Rattle.oca_c.specs.Calls.{HandleBuilds, IsName, IsRoom, IsSwitch, name_bytes}
 use Rattle.oca_c.specs.CValues.{AreWordsOf}
-use Rattle.oca_c.specs.Told.{class_number}
+use Rattle.oca_c.specs.Outputs.{class_number}
 
 -- how many bytes the struct has
 abbrev pub spec_size : ℕ
 spec_size = 1248
 
 -- 0 is no, and any other byte is yes
-abbrev pub says : ℕ → Bool
-says byte = not (byte == 0)
+abbrev pub is_yes : ℕ → Bool
+is_yes byte = not (byte == 0)
 
 -- the names of its positions, their texts, and which of them are enabled
 abbrev pub names_of : SpecWords → List Name
@@ -49,7 +50,7 @@ abbrev pub texts_of : SpecWords → List (List ℕ)
 texts_of w = map name_bytes (names_of w)
 
 abbrev pub position_flags : SpecWords → List Bool
-position_flags w = map says (take w.positions w.enableds)
+position_flags w = map is_yes (take w.positions w.enableds)
 
 -- ---- readings
 
@@ -93,25 +94,27 @@ ranged setting (Some least) None = None
 ranged setting None greatest = None
 
 -- the reading that three values make: the limits of an integer are of its class; those of others are not looked at
-abbrev pub reading_by : Option Value → Option Value → Option Value → Option Reading
-reading_by None l g = None
-reading_by (Some (values.Mute state)) l g = Some (readings.Mute state)
-reading_by (Some (values.Polarity state)) l g = Some (readings.Polarity state)
-reading_by (Some (values.Switch n)) l g = Some (readings.Switch (record { setting = n; least = n; greatest = n }))
-reading_by (Some (values.Boolean truth)) l g = Some (readings.Boolean truth)
-reading_by (Some (values.Int8 n)) l g = option_map readings.Int8 (ranged n (int8_in l) (int8_in g))
-reading_by (Some (values.Int16 n)) l g = option_map readings.Int16 (ranged n (int16_in l) (int16_in g))
-reading_by (Some (values.Int32 n)) l g = option_map readings.Int32 (ranged n (int32_in l) (int32_in g))
-reading_by (Some (values.Int64 n)) l g = option_map readings.Int64 (ranged n (int64_in l) (int64_in g))
-reading_by (Some (values.Uint8 n)) l g = option_map readings.Uint8 (ranged n (uint8_in l) (uint8_in g))
-reading_by (Some (values.Uint16 n)) l g = option_map readings.Uint16 (ranged n (uint16_in l) (uint16_in g))
-reading_by (Some (values.Uint32 n)) l g = option_map readings.Uint32 (ranged n (uint32_in l) (uint32_in g))
-reading_by (Some (values.Uint64 n)) l g = option_map readings.Uint64 (ranged n (uint64_in l) (uint64_in g))
+abbrev pub reading_of_values : Option Value → Option Value → Option Value → Option Reading
+reading_of_values None l g = None
+reading_of_values (Some (values.Mute state)) l g = Some (readings.Mute state)
+reading_of_values (Some (values.Polarity state)) l g = Some (readings.Polarity state)
+reading_of_values (Some (values.Switch n)) l g =
+    Some (readings.Switch (record { setting = n; least = n; greatest = n }))
+reading_of_values (Some (values.Boolean truth)) l g = Some (readings.Boolean truth)
+reading_of_values (Some (values.Int8 n)) l g = option_map readings.Int8 (ranged n (int8_in l) (int8_in g))
+reading_of_values (Some (values.Int16 n)) l g = option_map readings.Int16 (ranged n (int16_in l) (int16_in g))
+reading_of_values (Some (values.Int32 n)) l g = option_map readings.Int32 (ranged n (int32_in l) (int32_in g))
+reading_of_values (Some (values.Int64 n)) l g = option_map readings.Int64 (ranged n (int64_in l) (int64_in g))
+reading_of_values (Some (values.Uint8 n)) l g = option_map readings.Uint8 (ranged n (uint8_in l) (uint8_in g))
+reading_of_values (Some (values.Uint16 n)) l g = option_map readings.Uint16 (ranged n (uint16_in l) (uint16_in g))
+reading_of_values (Some (values.Uint32 n)) l g = option_map readings.Uint32 (ranged n (uint32_in l) (uint32_in g))
+reading_of_values (Some (values.Uint64 n)) l g = option_map readings.Uint64 (ranged n (uint64_in l) (uint64_in g))
 
 -- THE READING whose words these are, or none.
 abbrev pub AreReadingOf : ReadingWords → Option Reading → Type 0
 AreReadingOf w reading =
-    (v : Option Value) × AreWordsOf w.value v × (l : Option Value) × AreWordsOf w.least l × (g : Option Value) × AreWordsOf w.greatest g × (reading ≡ reading_by v l g)
+    (v : Option Value) × AreWordsOf w.value v × (l : Option Value) × AreWordsOf w.least l × (g : Option Value)
+    × AreWordsOf w.greatest g × (reading ≡ reading_of_values v l g)
 
 -- the kind of object that is read so, a switch with these names; a position's own limits are those of the names
 abbrev pub IsKindOf : Kind → Reading → List (List ℕ) → Type 0
@@ -131,7 +134,9 @@ IsKindOf kind (readings.Uint64 r) texts = kind ≡ kinds.Uint64 r.setting r.leas
 -- THE KIND that the words of a reading and the texts of positions give: a block by its class alone; or none.
 abbrev pub GivesKind : ReadingWords → List (List ℕ) → Option Kind → Type 0
 GivesKind w texts (Some kind) =
-    ((w.value.class_number ≡ 1) × (kind ≡ kinds.Block)) ⊎ ((w.value.class_number ≡ 1 → ⊥) × (reading : Reading) × AreReadingOf w (Some reading) × IsKindOf kind reading texts)
+    ((w.value.class_number ≡ 1) × (kind ≡ kinds.Block))
+    ⊎ ((w.value.class_number ≡ 1 → ⊥) × (reading : Reading) × AreReadingOf w (Some reading)
+    × IsKindOf kind reading texts)
 GivesKind w texts None = (w.value.class_number ≡ 1 → ⊥) × AreReadingOf w None
 
 -- ---- additions
@@ -142,14 +147,14 @@ flags_for (kinds.Switch names position) flags = Some flags
 flags_for _ flags = None
 
 -- what the struct says of the object that is added, and what was stored of it
-pub record SaysSpec (w : SpecWords) (spec : Spec) : Type 0 where
+pub record GivesSpec (w : SpecWords) (spec : Spec) : Type 0 where
   pub role : spec.role.now ≡ name_bytes w.role
-  pub lockable : spec.lockable ≡ says w.lockable
+  pub lockable : spec.lockable ≡ is_yes w.lockable
   pub kind : GivesKind w.reading (texts_of w) (Some spec.kind)
 
-pub record SaysStart (w : SpecWords) (kind : Kind) (start : Start) : Type 0 where
+pub record GivesStart (w : SpecWords) (kind : Kind) (start : Start) : Type 0 where
   pub label : start.label.now ≡ name_bytes w.label
-  pub enabled : start.enabled ≡ says w.enabled
+  pub enabled : start.enabled ≡ is_yes w.enabled
   pub flags : flags_of start ≡ flags_for kind (position_flags w)
 
 -- the struct is of this version's size, and has at most 16 positions
@@ -166,20 +171,23 @@ abbrev pub start_answers : {X : Type 0} → Result X StartFault → Answer
 start_answers (Ok _) = answers.Done
 start_answers (Err fault) = start_answer fault
 
--- AN ADDITION BY A STRUCT answered this, the first that applies: bad size, where the struct is of another size; bad range, where it
--- has more than 16 positions; bad text, where a text is none; no value, where the reading is none; none of which changes
--- anything; else as the builder's own addition of what the struct says.
+-- AN ADDITION BY A STRUCT answered this, the first that applies: bad size, where the struct is of another size; bad
+-- range, where it has more than 16 positions; bad text, where a text is none; no value, where the reading is none; none
+-- of which changes anything; else as the builder's own addition of what the struct says.
 abbrev pub GivenAddedBy : Answer → Store → Store → ℕ → ℕ → SpecWords → Type 0
 GivenAddedBy answer old new container ono w =
-    (spec : Spec) × SaysSpec w spec × (start : Start) × SaysStart w spec.kind start × (r : Result (Unit {0}) StartFault) × (answer ≡ start_answers r) × AddsWith r old new container ono spec start
+    (spec : Spec) × GivesSpec w spec × (start : Start) × GivesStart w spec.kind start
+    × (r : Result (Unit {0}) StartFault) × (answer ≡ start_answers r) × AddsWith r old new container ono spec start
 
 abbrev pub KindAddedBy : Answer → Store → Store → ℕ → ℕ → SpecWords → Type 0
 KindAddedBy answer old new container ono w =
-    (GivesKind w.reading (texts_of w) None × (answer ≡ answers.NoValue) × (new ≡ old)) ⊎ GivenAddedBy answer old new container ono w
+    (GivesKind w.reading (texts_of w) None × (answer ≡ answers.NoValue) × (new ≡ old))
+    ⊎ GivenAddedBy answer old new container ono w
 
 abbrev pub NamedAddedBy : Answer → Store → Store → ℕ → ℕ → SpecWords → Type 0
 NamedAddedBy answer old new container ono w =
-    ((HasOwnTexts w → ⊥) × (answer ≡ answers.BadText) × (new ≡ old)) ⊎ (HasOwnTexts w × KindAddedBy answer old new container ono w)
+    ((HasOwnTexts w → ⊥) × (answer ≡ answers.BadText) × (new ≡ old))
+    ⊎ (HasOwnTexts w × KindAddedBy answer old new container ono w)
 
 abbrev pub SizedAddedBy : Answer → Store → Store → ℕ → ℕ → SpecWords → Type 0
 SizedAddedBy answer old new container ono w =
@@ -195,14 +203,15 @@ SpecAddedBy answer old new container ono w =
 -- the same behind an open handle
 abbrev pub HandleAddsSpec : ℕ → Option DeviceBehind → Store → ℕ → ℕ → SpecWords → Type 0
 HandleAddsSpec number behind built container ono w =
-    (built' : Store) × HandleBuilds behind built' × (answer : Answer) × (number ≡ answer_number answer) × SpecAddedBy answer built built' container ono w
+    (built' : Store) × HandleBuilds behind built' × (answer : Answer) × (number ≡ answer_number answer)
+    × SpecAddedBy answer built built' container ono w
 
 -- ---- a root
 
 -- what was stored of a root; all that the struct says else is not looked at
-pub record SaysRoot (w : SpecWords) (start : Start) : Type 0 where
+pub record GivesRoot (w : SpecWords) (start : Start) : Type 0 where
   pub label : start.label.now ≡ name_bytes w.label
-  pub enabled : start.enabled ≡ says w.enabled
+  pub enabled : start.enabled ≡ is_yes w.enabled
   pub flags : flags_of start ≡ None
 
 -- A struct is opened with what was built, unless memory for its packets is refused.
@@ -213,16 +222,16 @@ abbrev pub OpensBy : ℕ → Option DeviceBehind → Result Store StartFault →
 OpensBy number new (Ok built) = OpensOver number new built
 OpensBy number new (Err fault) = (number ≡ answer_number (start_answer fault)) × (new ≡ None)
 
--- A closed struct is opened with the root that was stored, the first that applies: not, where that is no room or the struct is of
--- another size; nor where the label is none; else as the builder's own beginning with it.
+-- A closed struct is opened with the root that was stored, the first that applies: not, where that is no room or the
+-- struct is of another size; nor where the label is none; else as the builder's own beginning with it.
 abbrev pub OpensWith : ℕ → Option DeviceBehind → ℕ → SpecWords → Type 0
 OpensWith number new room w =
     ((number ≡ 15) × (IsRoom room → w.size ≡ spec_size → ⊥) × (new ≡ None))
     ⊎ (((number ≡ 6) × IsRoom room × (w.size ≡ spec_size) × (IsName w.label → ⊥) × (new ≡ None))
-    ⊎ (IsRoom room × (w.size ≡ spec_size) × IsName w.label × (start : Start) × SaysRoot w start
+    ⊎ (IsRoom room × (w.size ≡ spec_size) × IsName w.label × (start : Start) × GivesRoot w start
     × (r : Result Store StartFault) × BeginsWith r room start × OpensBy number new r))
 
--- ---- what is told
+-- ---- what is written
 
 -- a number in 64 bits, one below 0 in two's complement
 abbrev pub HasBits : ℤ → ℕ → Type 0
@@ -236,7 +245,8 @@ pub record IsNumberWords (class : ℕ) (z : ℤ) (w : ValueWords) : Type 0 where
 -- the same words three times
 abbrev pub alone : ℕ → ℕ → ReadingWords
 alone class bits =
-    let words : ValueWords = record { class_number = class; zero = 0; bits = bits } in record { value = words; least = words; greatest = words }
+    let words : ValueWords = record { class_number = class; zero = 0; bits = bits } in
+    record { value = words; least = words; greatest = words }
 
 -- the words of a position, from the first to the last of so many
 abbrev pub position_words : ℕ → ℕ → ℕ → ReadingWords
@@ -255,14 +265,17 @@ AreSettingWords class positions (Some (settings.Truth truth)) w = w ≡ alone cl
 AreSettingWords class positions (Some (settings.Number setting least greatest)) w =
     IsNumberWords class setting w.value × IsNumberWords class least w.least × IsNumberWords class greatest w.greatest
 
--- WHAT IS TOLD of the object that this is: all that an addition of the struct makes of it.
+-- WHAT IS WRITTEN of the object that this is: all that an addition of the struct makes of it.
 pub record IsSpecOf (tree : List Object) (info : ObjectInfo) (w : SpecWords) : Type 0 where
   pub sized : IsSized w
   pub role : name_bytes w.role ≡ info.role
-  pub lockable : lockable_at tree info.ono.0 ≡ Some (says w.lockable)
-  pub reading : AreSettingWords (class_number info.class) (length (names_at tree info.ono.0)) (setting_at tree info.ono.0) w.reading
+  pub lockable : lockable_at tree info.ono.0 ≡ Some (is_yes w.lockable)
+  pub reading : AreSettingWords (class_number info.class) (length (names_at tree info.ono.0))
+      (setting_at tree info.ono.0) w.reading
   pub names : texts_of w ≡ names_at tree info.ono.0
-  pub stored : (flags : Option (List Bool)) × (stored_at tree info.ono.0 ≡ Some (record { label = name_bytes w.label; enabled = says w.enabled; flags = flags }))
+  pub stored : (flags : Option (List Bool))
+      × (stored_at tree info.ono.0
+      ≡ Some (record { label = name_bytes w.label; enabled = is_yes w.enabled; flags = flags }))
       × IfSome flags (λ them. them ≡ position_flags w)
 
 -- a number of 64 bits, as each object has
@@ -285,8 +298,9 @@ pub record FitsSpec (tree : List Object) (ono : ℕ) : Type 0 where
   pub lockable : IsSome (lockable_at tree ono)
   pub stored : FitsStored (length (names_at tree ono)) (stored_at tree ono)
 
--- An object is told; or that it has no room in the struct, or that there is none at this index, and then nothing is written.
-abbrev pub TellsSpec : List Object → Option ObjectInfo → SpecWords → SpecWords → ℕ → Type 0
-TellsSpec tree None old new number = (number ≡ 13) × (new ≡ old)
-TellsSpec tree (Some info) old new number =
+-- An object is written; or that it has no room in the struct, or that there is none at this index, and then nothing is
+-- written.
+abbrev pub WritesSpec : List Object → Option ObjectInfo → SpecWords → SpecWords → ℕ → Type 0
+WritesSpec tree None old new number = (number ≡ 13) × (new ≡ old)
+WritesSpec tree (Some info) old new number =
     ((number ≡ 0) × IsSpecOf tree info new) ⊎ ((number ≡ 14) × (new ≡ old) × (FitsSpec tree info.ono.0 → ⊥))

@@ -1,5 +1,6 @@
 -- What the calls promise of what is behind a handle.
-use Rattle.std.specs.Prelude.{◌≡◌, ◌⊎◌, ℕ, ◌<◌, ◌≤◌, Bool, List, [], ◌∷◌, take, map, length, Option, Some, None, Result, Ok, Err, IsSome, IsSomeAnd, if◌then◌else◌}
+use Rattle.std.specs.Prelude.{◌≡◌, ◌⊎◌, ℕ, ◌<◌, ◌≤◌, Bool, List, [], ◌∷◌, take, map, length, Option, Some, None, Result}
+use Rattle.std.specs.Prelude.{Ok, Err, IsSome, IsSomeAnd, if◌then◌else◌}
 use Rattle.std.specs.List.{AllByRecursion}
 use Rattle.std.specs.Str.{IsUtf8}
 use Rattle.oca_types.specs.Sizes.{DeviceSizes}
@@ -9,7 +10,7 @@ use Rattle.oca_tree.specs.declared.builder.Spec.{Spec}
 use Rattle.oca_tree.specs.declared.builder.Kind.{Kind}
 use Rattle.oca_tree.specs.declared.builder.Kind.TheVariants as kinds
 use Rattle.oca_tree.specs.declared.setting.SetFault.{SetFault}
-use Rattle.oca_tree.specs.declared.setting.LocalValue.{LocalValue}
+use Rattle.oca_model.specs.declared.value.Value.{Value}
 use Rattle.oca_model.specs.declared.value.MuteState.{MuteState}
 use Rattle.oca_model.specs.declared.value.MuteState.TheVariants as mutes
 use Rattle.oca_model.specs.declared.value.PolarityState.{PolarityState}
@@ -125,7 +126,8 @@ HandleStarts number old new window peers packets tree =
 -- The builder's own addition of an object that is so described gave this result.
 abbrev pub AddsSo : {X : Type 0} → Result X AddFault → Store → Store → ℕ → ℕ → List ℕ → Bool → Kind → Type 0
 AddsSo r old new container ono role lockable kind =
-    (spec : Spec) × (spec.role.now ≡ role) × (spec.lockable ≡ lockable) × (spec.kind ≡ kind) × Adds r old new container ono spec
+    (spec : Spec) × (spec.role.now ≡ role) × (spec.lockable ≡ lockable) × (spec.kind ≡ kind)
+    × Adds r old new container ono spec
 
 -- what an addition is answered with
 abbrev pub add_answers : {X : Type 0} → Result X AddFault → Answer
@@ -142,7 +144,8 @@ AddedBy answer old new container ono role lockable kind =
 -- behind an open handle, a tree was being built; an addition answered this number, and the tree is as that says
 abbrev pub HandleAdds : ℕ → Option DeviceBehind → Store → ℕ → ℕ → List ℕ → Bool → Kind → Type 0
 HandleAdds number behind built container ono role lockable kind =
-    (built' : Store) × HandleBuilds behind built' × (answer : Answer) × (number ≡ answer_number answer) × AddedBy answer built built' container ono role lockable kind
+    (built' : Store) × HandleBuilds behind built' × (answer : Answer) × (number ≡ answer_number answer)
+    × AddedBy answer built built' container ono role lockable kind
 
 -- the bytes of a name, and whether it is one
 abbrev pub name_bytes : Name → List ℕ
@@ -174,19 +177,21 @@ SwitchAddedBy answer old new container ono role lockable names position =
     ((16 < length names) × (answer ≡ answers.BadRange) × (new ≡ old))
     ⊎ (((length names ≤ 16) × (AllByRecursion IsName names → ⊥) × (answer ≡ answers.BadText) × (new ≡ old))
     ⊎ ((length names ≤ 16) × AllByRecursion IsName names
-    × (kind : Kind) × IsSwitch kind (map name_bytes names) position × AddedBy answer old new container ono role lockable kind))
+    × (kind : Kind) × IsSwitch kind (map name_bytes names) position
+    × AddedBy answer old new container ono role lockable kind))
 
 -- the same behind an open handle
 abbrev pub HandleAddsSwitch : ℕ → Option DeviceBehind → Store → ℕ → ℕ → List ℕ → Bool → List Name → ℕ → Type 0
 HandleAddsSwitch number behind built container ono role lockable names position =
-    (built' : Store) × HandleBuilds behind built' × (answer : Answer) × (number ≡ answer_number answer) × SwitchAddedBy answer built built' container ono role lockable names position
+    (built' : Store) × HandleBuilds behind built' × (answer : Answer) × (number ≡ answer_number answer)
+    × SwitchAddedBy answer built built' container ono role lockable names position
 
 -- the states of a mute and of a polarity
-abbrev pub mute_state : Bool → MuteState
-mute_state muted = if muted then mutes.Muted else mutes.Unmuted
+abbrev pub muted_state : Bool → MuteState
+muted_state muted = if muted then mutes.Muted else mutes.Unmuted
 
-abbrev pub polarity_state : Bool → PolarityState
-polarity_state inverted = if inverted then polarities.Inverted else polarities.NonInverted
+abbrev pub inverted_state : Bool → PolarityState
+inverted_state inverted = if inverted then polarities.Inverted else polarities.NonInverted
 
 -- ---- changes at the front
 
@@ -196,7 +201,8 @@ set_answers None = answers.Done
 set_answers (Some fault) = set_answer fault
 
 -- Behind an open handle a device ran; it was set, with this answer.
-abbrev pub HandleSets : ℕ → Option DeviceBehind → Option DeviceBehind → ℕ → LocalValue → Type 0
+abbrev pub HandleSets : ℕ → Option DeviceBehind → Option DeviceBehind → ℕ → Value → Type 0
 HandleSets number old new ono value =
     (w : DeviceSizes) (tree : List Object) (events : List Event) → HandleRuns w old tree events →
-    HandleRuns w new tree (Local ono value ∷ events) × (number ≡ answer_number (set_answers (set_fault (state_after w tree events).tree ono value)))
+    HandleRuns w new tree (Local ono value ∷ events)
+    × (number ≡ answer_number (set_answers (set_fault (state_after w tree events).tree ono value)))

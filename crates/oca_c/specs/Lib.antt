@@ -1,8 +1,10 @@
 pub mod DeviceSlots
 pub mod LinkSlots
 pub mod Numbers
-pub mod Told
+pub mod Outputs
 pub mod Calls
 pub mod LinkCalls
 pub mod CValues
 pub mod CSpecs
+pub mod FrontCalls
+pub mod AnswerCalls

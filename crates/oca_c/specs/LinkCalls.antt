@@ -31,11 +31,11 @@ pub record LiesIn (bytes place : List ℕ) (number : ℕ) : Type 0 where
   pub front : take (length bytes) place ≡ bytes
 
 -- the number that a submission is answered with, and the handle where it has one
-abbrev pub TellsSubmission : ℕ → ℕ → Result Handle ControlFault → Type 0
-TellsSubmission number handle (Ok h) = (number ≡ 0) × (handle ≡ h.0)
-TellsSubmission number handle (Err fault) = number ≡ answer_number (submission_answer fault)
+abbrev pub WritesSubmission : ℕ → ℕ → Result Handle ControlFault → Type 0
+WritesSubmission number handle (Ok h) = (number ≡ 0) × (handle ≡ h.0)
+WritesSubmission number handle (Err fault) = number ≡ answer_number (submission_answer fault)
 
--- what is told of what is due: 0 nothing, 1 a command with its handle, 2 a keep-alive, 3 the link is lost
+-- the number of what is due: 0 nothing, 1 a command with its handle, 2 a keep-alive, 3 the link is lost
 abbrev pub due_kind : Due → ℕ
 due_kind dues.Nothing = 0
 due_kind (dues.Send handle) = 1
@@ -48,7 +48,7 @@ due_handle (dues.Send handle) = handle.0
 due_handle dues.KeepAlive = 0
 due_handle dues.Lost = 0
 
--- what is told of a datagram: 0 nothing new, 1 how many commands it answered, 2 a stranger's, 3 malformed
+-- the number of what a datagram was: 0 nothing new, 1 how many commands it answered, 2 a stranger's, 3 malformed
 abbrev pub reception_kind : Reception → ℕ
 reception_kind receptions.NothingNew = 0
 reception_kind (receptions.Answered count) = 1
@@ -61,16 +61,17 @@ answered_count (receptions.Answered count) = count
 answered_count receptions.Stranger = 0
 answered_count receptions.Malformed = 0
 
--- what is told of an answer that is taken: its status, its ParamCount and its parameters; or that there is none
-abbrev pub TellsAnswer : ℕ → ℕ → ℕ → List ℕ → ℕ → Option AnswerFields → Type 0
-TellsAnswer number status count place size None = number ≡ 13
-TellsAnswer number status count place size (Some a) = (number ≡ 0) × (status ≡ a.status) × (count ≡ a.count) × LiesIn a.params place size
+-- what is written of an answer that is taken: its status, its ParamCount and its parameters; or that there is none
+abbrev pub WritesAnswer : ℕ → ℕ → ℕ → List ℕ → ℕ → Option AnswerFields → Type 0
+WritesAnswer number status count place size None = number ≡ 13
+WritesAnswer number status count place size (Some a) =
+    (number ≡ 0) × (status ≡ a.status) × (count ≡ a.count) × LiesIn a.params place size
 
--- what is told of a number that may not be there
-abbrev pub TellsNumber : ℕ → ℕ → Option ℕ → Type 0
-TellsNumber number told None = number ≡ 13
-TellsNumber number told (Some n) = (number ≡ 0) × (told ≡ n)
+-- what is written of a number that may not be there
+abbrev pub WritesNumber : ℕ → ℕ → Option ℕ → Type 0
+WritesNumber number out None = number ≡ 13
+WritesNumber number out (Some n) = (number ≡ 0) × (out ≡ n)
 
--- what is told of when something is due next: the moment; or that there is none within 64 bits
-abbrev pub TellsNextDue : ℕ → ℕ → LinkState → Type 0
-TellsNextDue number moment l = ((number ≡ 0) × IsNextDue l moment) ⊎ ((number ≡ 13) × NeverIsDue l)
+-- what is written of when something is due next: the moment; or that there is none within 64 bits
+abbrev pub WritesNextDue : ℕ → ℕ → LinkState → Type 0
+WritesNextDue number moment l = ((number ≡ 0) × IsNextDue l moment) ⊎ ((number ≡ 13) × NeverIsDue l)

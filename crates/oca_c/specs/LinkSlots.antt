@@ -9,9 +9,9 @@ use Rattle.std.specs.Global.{Global}
 use Rattle.std_heap.specs.contracts.GlobalAllocator.TheImpl.{ghosts}
 use Rattle.oca_c.specs.contracts.link.LinkBehind.{the_row}
 
-abbrev pub slot_owns : Global → Ptr → Option the_row.Denot → Fml
-slot_owns alloc p None = ftrue
-slot_owns alloc p (Some c) = box_owns (ghosts.dealloc_token alloc) the_row p c
+abbrev pub link_owns : Global → Ptr → Option the_row.Denot → Fml
+link_owns alloc p None = ftrue
+link_owns alloc p (Some c) = box_owns (ghosts.dealloc_token alloc) the_row p c
 
-abbrev pub inner_coded : Coded (Option the_row.Denot)
-inner_coded = coded_option the_row.coded
+abbrev pub link_coded : Coded (Option the_row.Denot)
+link_coded = coded_option the_row.coded

@@ -1,7 +1,8 @@
 //! What C calls to add the objects of a device.
 ghost use Rattle.oca_tree.specs.declared.builder.Kind.TheVariants as kinds;
 ghost use Rattle.oca_tree.specs.Objects.{Store};
-ghost use Rattle.oca_c.specs.Calls.{HandleAdds, HandleAddsSwitch, HandleBuilds, RefusesClosed, RefusesRunning, mute_state, polarity_state};
+ghost use Rattle.oca_c.specs.Calls.{HandleAdds, HandleAddsSwitch, HandleBuilds, RefusesClosed, RefusesRunning};
+ghost use Rattle.oca_c.specs.Calls.{muted_state, inverted_state};
 
 use crate::answer::Answer;
 use crate::device_handle::DeviceHandle;
@@ -64,7 +65,7 @@ pub extern "C" fn oca_device_add_mute(
     ensures closed { RefusesClosed handle.old.slot.inner handle.new.slot.inner result }
     ensures started { RefusesRunning handle.old.slot.inner handle.new.slot.inner result }
     ensures adds { (B : Store) → HandleBuilds handle.old.slot.inner B →
-        HandleAdds result handle.new.slot.inner B container ono role.now lockable (kinds.Mute (mute_state muted)) }
+        HandleAdds result handle.new.slot.inner B container ono role.now lockable (kinds.Mute (muted_state muted)) }
 {
     let state = if muted {
         MuteState::Muted
@@ -96,7 +97,8 @@ pub extern "C" fn oca_device_add_polarity(
     ensures closed { RefusesClosed handle.old.slot.inner handle.new.slot.inner result }
     ensures started { RefusesRunning handle.old.slot.inner handle.new.slot.inner result }
     ensures adds { (B : Store) → HandleBuilds handle.old.slot.inner B →
-        HandleAdds result handle.new.slot.inner B container ono role.now lockable (kinds.Polarity (polarity_state inverted)) }
+        HandleAdds result handle.new.slot.inner B container ono role.now lockable
+        (kinds.Polarity (inverted_state inverted)) }
 {
     let state = if inverted {
         PolarityState::Inverted
@@ -312,7 +314,8 @@ pub extern "C" fn oca_device_add_uint16(
     ensures closed { RefusesClosed handle.old.slot.inner handle.new.slot.inner result }
     ensures started { RefusesRunning handle.old.slot.inner handle.new.slot.inner result }
     ensures adds { (B : Store) → HandleBuilds handle.old.slot.inner B →
-        HandleAdds result handle.new.slot.inner B container ono role.now lockable (kinds.Uint16 setting least greatest) }
+        HandleAdds result handle.new.slot.inner B container ono role.now lockable
+        (kinds.Uint16 setting least greatest) }
 {
     let kind = Kind::Uint16 {
         setting,
@@ -338,7 +341,8 @@ pub extern "C" fn oca_device_add_uint32(
     ensures closed { RefusesClosed handle.old.slot.inner handle.new.slot.inner result }
     ensures started { RefusesRunning handle.old.slot.inner handle.new.slot.inner result }
     ensures adds { (B : Store) → HandleBuilds handle.old.slot.inner B →
-        HandleAdds result handle.new.slot.inner B container ono role.now lockable (kinds.Uint32 setting least greatest) }
+        HandleAdds result handle.new.slot.inner B container ono role.now lockable
+        (kinds.Uint32 setting least greatest) }
 {
     let kind = Kind::Uint32 {
         setting,
@@ -364,7 +368,8 @@ pub extern "C" fn oca_device_add_uint64(
     ensures closed { RefusesClosed handle.old.slot.inner handle.new.slot.inner result }
     ensures started { RefusesRunning handle.old.slot.inner handle.new.slot.inner result }
     ensures adds { (B : Store) → HandleBuilds handle.old.slot.inner B →
-        HandleAdds result handle.new.slot.inner B container ono role.now lockable (kinds.Uint64 setting least greatest) }
+        HandleAdds result handle.new.slot.inner B container ono role.now lockable
+        (kinds.Uint64 setting least greatest) }
 {
     let kind = Kind::Uint64 {
         setting,

@@ -1,5 +1,6 @@
 //! What is behind an open handle of a device.
-ghost use Rattle.std.specs.Prelude.{◌≡◌, ◌≤◌, ◌<◌, ◌∷◌, [], List, Option, Some, None, IfSome, IfNone, IsSome, length, take, slice_get};
+ghost use Rattle.std.specs.Prelude.{◌≡◌, ◌≤◌, ◌<◌, ◌∷◌, [], List, Option, Some, None, IfSome, IfNone, IsSome, length};
+ghost use Rattle.std.specs.Prelude.{take, slice_get};
 ghost use Rattle.oca_types.specs.Sizes.{DeviceSizes};
 ghost use Rattle.oca_tree.specs.Room.{room_size};
 ghost use Rattle.oca_tree.specs.declared.object.Object.{Object};
@@ -11,24 +12,28 @@ ghost use Rattle.oca_device.specs.Events.{Event, Datagram as DatagramEvent, Tick
 ghost use Rattle.oca_device.specs.Answers.{packets, verdict};
 ghost use Rattle.oca_device.specs.Outboxes.{first_packets};
 ghost use Rattle.oca_device.specs.Written.{written};
-ghost use Rattle.oca_c.specs.declared.answer.Answer.TheVariants.{Done, NotStarted, Nothing, Started, TooSmall, BadSize, NoMemory};
+ghost use Rattle.oca_c.specs.declared.answer.Answer.TheVariants.{Done, NotStarted, Nothing, Started, TooSmall, BadSize};
+ghost use Rattle.oca_c.specs.declared.answer.Answer.TheVariants.{NoMemory};
 ghost use Rattle.oca_c.specs.Numbers.{answer_number};
 ghost use Rattle.oca_c.specs.Calls.{AddedBy, AddsSo, Builds, Runs, Starts, SwitchAddedBy, root_alone, set_answers};
-ghost use Rattle.oca_model.specs.declared.value.Value.{Value};
-ghost use Rattle.oca_c.specs.CValues.{AreWordsOf, SetsTo};
-ghost use Rattle.oca_c.specs.CSpecs.{SpecAddedBy, TellsSpec};
-ghost use Rattle.oca_c.specs.Told.{TellsLock, TellsNextLapse, TellsObject, TellsSetting, TellsWords, put_words, verdict_words};
+ghost use Rattle.oca_model.specs.declared.value.Value.{Value as ValueItself};
+ghost use Rattle.oca_c.specs.CValues.{AreWordsOf};
+ghost use Rattle.oca_c.specs.FrontCalls.{SetsEntry, SetsFound, SetsWords, State, Integer};
+ghost use Rattle.oca_c.specs.CSpecs.{SpecAddedBy, WritesSpec};
+ghost use Rattle.oca_c.specs.Outputs.{WritesLock, WritesNextLapse, WritesObject, WritesSetting, WritesWords, put_words};
+ghost use Rattle.oca_c.specs.Outputs.{verdict_words};
 
 use crate::answer::Answer;
+use crate::front_values::{integer_at, state_at, value_at};
 use crate::name::{MOST_POSITIONS, Name, texts_of};
 use crate::reading::Reading;
 use crate::spec_adding::add_spec;
-use crate::spec_telling::tell_spec;
+use crate::spec_reading::read_spec;
 use crate::spec_words::SpecWords;
-use crate::value_words::{ValueWords, local_of};
+use crate::value_words::ValueWords;
 use crate::words::{lock_number, object_words, put_numbers, put_words, words_of};
 use oca_device::{BoundedOutbox, Device};
-use oca_tree::{AddFault, Kind, LocalValue, Room, Spec, TreeBuilder};
+use oca_tree::{AddFault, Kind, Room, SetFault, Spec, TreeBuilder, Value};
 use oca_types::{Ono, Peer, Peers, Sizes, Window};
 use std::alloc::Global;
 use std::str;
@@ -102,7 +107,8 @@ impl DeviceBehind {
         position: u16,
     ) -> Answer
         ensures adds { (B : Store) → Builds self.old B →
-            (B' : Store) × Builds self.new B' × SwitchAddedBy result B B' container ono role.now lockable names.now position }
+            (B' : Store) × Builds self.new B'
+            × SwitchAddedBy result B B' container ono role.now lockable names.now position }
         ensures started { self.old.builder ≡ None → (result ≡ Started) × (self.new ≡ self.old) }
     {
         if self.builder.is_none() {
@@ -168,12 +174,12 @@ impl DeviceBehind {
     }
 
     /// Takes a datagram, and tells its verdict.
-    pub fn datagram(&mut self, from: Peer, bytes: &[u8], now: u64, told: &mut [u32]) -> Answer
+    pub fn datagram(&mut self, from: Peer, bytes: &[u8], now: u64, out: &mut [u32]) -> Answer
         ensures serves { (w : DeviceSizes) (T : List Object) (E : List Event) → Runs w self.old T E →
             Runs w self.new T (DatagramEvent from bytes.now now ∷ E)
             × (self.new.outbox ≡ first_packets self.old.outbox.room (packets w T E (DatagramEvent from bytes.now now)))
             × (length (packets w T E (DatagramEvent from bytes.now now)) ≤ 122)
-            × (told.new ≡ put_words (verdict_words (verdict w T E from bytes.now now)) told.old)
+            × (out.new ≡ put_words (verdict_words (verdict w T E from bytes.now now)) out.old)
             × (result ≡ Done) }
         ensures building { self.old.device ≡ None → (result ≡ NotStarted) × (self.new ≡ self.old) }
     {
@@ -181,7 +187,7 @@ impl DeviceBehind {
             return Answer::NotStarted;
         };
         let verdict = device.datagram_within(from, bytes, now, &mut self.outbox);
-        put_words(&words_of(verdict), told);
+        put_words(&words_of(verdict), out);
         Answer::Done
     }
 
@@ -201,8 +207,8 @@ impl DeviceBehind {
 
     /// Tells when a clock reading next changes the objects or the sessions.
     pub fn next_lapse(&self, moment: &mut u64) -> Answer
-        ensures told { (w : DeviceSizes) (T : List Object) (E : List Event) → Runs w self.now T E →
-            TellsNextLapse w (state_after w T E) moment.new (answer_number result) }
+        ensures writes { (w : DeviceSizes) (T : List Object) (E : List Event) → Runs w self.now T E →
+            WritesNextLapse w (state_after w T E) moment.new (answer_number result) }
         ensures building { self.now.device ≡ None → result ≡ NotStarted }
     {
         let Some(device) = &self.device else {
@@ -217,8 +223,8 @@ impl DeviceBehind {
         }
     }
 
-    /// Sets an object at the device's own front.
-    pub fn set(&mut self, ono: u32, value: LocalValue) -> Answer
+    /// Sets an object at the local front panel.
+    pub fn set(&mut self, ono: u32, value: Value) -> Answer
         ensures sets { (w : DeviceSizes) (T : List Object) (E : List Event) → Runs w self.old T E →
             Runs w self.new T (Local ono value ∷ E)
             × (result ≡ set_answers (set_fault (state_after w T E).tree ono value)) }
@@ -234,25 +240,66 @@ impl DeviceBehind {
         }
     }
 
-    /// Sets an object at the device's own front to the value with these words.
+    /// Sets an object at the local front panel as the value with these words sets it, whatever its class.
     pub fn set_words(&mut self, ono: u32, words: ValueWords) -> Answer
         ensures sets { (w : DeviceSizes) (T : List Object) (E : List Event) → Runs w self.old T E →
-            (value : Option Value) × AreWordsOf words value × SetsTo w result self.new T E ono value }
+            (value : Option ValueItself) × AreWordsOf words value × SetsWords w result self.new T E ono value }
         ensures packets { self.new.outbox ≡ self.old.outbox }
         ensures building { self.old.device ≡ None → (result ≡ NotStarted) × (self.new ≡ self.old) }
     {
-        if self.device.is_none() {
+        let Some(device) = &self.device else {
             return Answer::NotStarted;
-        }
+        };
         let Some(value) = words.value() else {
             return Answer::NoValue;
         };
-        self.set(ono, local_of(value))
+        let found = value_at(device.tree().class_of(Ono(ono)), value);
+        self.set_found(ono, found)
+    }
+
+    /// Sets a mute or a polarity at the local front panel.
+    pub fn set_state(&mut self, ono: u32, state: u8) -> Answer
+        ensures sets { (w : DeviceSizes) (T : List Object) (E : List Event) → Runs w self.old T E →
+            SetsEntry w result self.new T E ono (State state) }
+        ensures packets { self.new.outbox ≡ self.old.outbox }
+        ensures building { self.old.device ≡ None → (result ≡ NotStarted) × (self.new ≡ self.old) }
+    {
+        let Some(device) = &self.device else {
+            return Answer::NotStarted;
+        };
+        let found = state_at(device.tree().class_of(Ono(ono)), state);
+        self.set_found(ono, found)
+    }
+
+    /// Sets an actuator of integers at the local front panel.
+    pub fn set_integer(&mut self, ono: u32, number: i128) -> Answer
+        ensures sets { (w : DeviceSizes) (T : List Object) (E : List Event) → Runs w self.old T E →
+            SetsEntry w result self.new T E ono (Integer number) }
+        ensures packets { self.new.outbox ≡ self.old.outbox }
+        ensures building { self.old.device ≡ None → (result ≡ NotStarted) × (self.new ≡ self.old) }
+    {
+        let Some(device) = &self.device else {
+            return Answer::NotStarted;
+        };
+        let found = integer_at(device.tree().class_of(Ono(ono)), number);
+        self.set_found(ono, found)
+    }
+
+    /// Sets an object to the value that was found for it, where one was.
+    fn set_found(&mut self, ono: u32, found: Result<Value, SetFault>) -> Answer
+        ensures sets { (w : DeviceSizes) (T : List Object) (E : List Event) → Runs w self.old T E →
+            SetsFound w result self.new T E ono found }
+        ensures packets { self.new.outbox ≡ self.old.outbox }
+    {
+        match found {
+            Ok(value) => self.set(ono, value),
+            Err(fault) => Answer::of_set(fault),
+        }
     }
 
     /// Tells how many packets there are that answer the last datagram.
     pub fn packets(&self, count: &mut usize) -> Answer
-        ensures told { IsSome self.now.device → (result ≡ Done) × (count.new ≡ length self.now.outbox.packets) }
+        ensures writes { IsSome self.now.device → (result ≡ Done) × (count.new ≡ length self.now.outbox.packets) }
         ensures building { self.now.device ≡ None → (result ≡ NotStarted) × (count.new ≡ count.old) }
     {
         if self.device.is_none() {
@@ -264,7 +311,7 @@ impl DeviceBehind {
 
     /// Tells whether packets that answer the last datagram were left out, since there was no room for them.
     pub fn left_out(&self, left_out: &mut bool) -> Answer
-        ensures told { IsSome self.now.device → (result ≡ Done) × (left_out.new ≡ self.now.outbox.is_cut) }
+        ensures writes { IsSome self.now.device → (result ≡ Done) × (left_out.new ≡ self.now.outbox.is_cut) }
         ensures building { self.now.device ≡ None → (result ≡ NotStarted) × (left_out.new ≡ left_out.old) }
     {
         if self.device.is_none() {
@@ -302,8 +349,8 @@ impl DeviceBehind {
     /// Puts the numbers of the objects that the last datagram wrote to at the front of `out`, and tells how many there
     /// are.
     pub fn written(&self, out: &mut [u32], count: &mut usize) -> Answer
-        ensures told { (w : DeviceSizes) (T : List Object) (E : List Event) → Runs w self.now T E →
-            TellsWords (written w T E) out.old out.new count.new (answer_number result) }
+        ensures writes { (w : DeviceSizes) (T : List Object) (E : List Event) → Runs w self.now T E →
+            WritesWords (written w T E) out.old out.new count.new (answer_number result) }
         ensures building { self.now.device ≡ None → result ≡ NotStarted }
     {
         let Some(device) = &self.device else {
@@ -321,7 +368,7 @@ impl DeviceBehind {
 
     /// Tells how many objects there are.
     pub fn objects(&self, count: &mut usize) -> Answer
-        ensures told { (w : DeviceSizes) (T : List Object) (E : List Event) → Runs w self.now T E →
+        ensures writes { (w : DeviceSizes) (T : List Object) (E : List Event) → Runs w self.now T E →
             (result ≡ Done) × (count.new ≡ length (state_after w T E).tree) }
         ensures building { self.now.device ≡ None → result ≡ NotStarted }
     {
@@ -333,9 +380,10 @@ impl DeviceBehind {
     }
 
     /// Tells what the object at this index is, and its role.
-    pub fn object(&self, index: usize, told: &mut [u32], role: &mut [u8]) -> Answer
-        ensures told { (w : DeviceSizes) (T : List Object) (E : List Event) → Runs w self.now T E →
-            TellsObject (info_at (state_after w T E).tree index) told.old told.new role.old role.new (answer_number result) }
+    pub fn object(&self, index: usize, out: &mut [u32], role: &mut [u8]) -> Answer
+        ensures writes { (w : DeviceSizes) (T : List Object) (E : List Event) → Runs w self.now T E →
+            WritesObject (info_at (state_after w T E).tree index) out.old out.new role.old role.new
+            (answer_number result) }
         ensures building { self.now.device ≡ None → result ≡ NotStarted }
     {
         let Some(device) = &self.device else {
@@ -344,27 +392,28 @@ impl DeviceBehind {
         let Some(object) = device.tree().object_at(index) else {
             return Answer::Nothing;
         };
-        put_words(&object_words(&object), told);
+        put_words(&object_words(&object), out);
         put_words(object.role.as_str().as_bytes(), role);
         Answer::Done
     }
 
     /// Tells of the object at this index all that an addition makes of it.
-    pub fn spec(&self, index: usize, told: &mut SpecWords) -> Answer
-        ensures told { (w : DeviceSizes) (T : List Object) (E : List Event) → Runs w self.now T E →
-            TellsSpec (state_after w T E).tree (info_at (state_after w T E).tree index) told.old told.new (answer_number result) }
-        ensures building { self.now.device ≡ None → (result ≡ NotStarted) × (told.new ≡ told.old) }
+    pub fn spec(&self, index: usize, out: &mut SpecWords) -> Answer
+        ensures writes { (w : DeviceSizes) (T : List Object) (E : List Event) → Runs w self.now T E →
+            WritesSpec (state_after w T E).tree (info_at (state_after w T E).tree index) out.old out.new
+            (answer_number result) }
+        ensures building { self.now.device ≡ None → (result ≡ NotStarted) × (out.new ≡ out.old) }
     {
         let Some(device) = &self.device else {
             return Answer::NotStarted;
         };
-        tell_spec(device.tree(), index, told)
+        read_spec(device.tree(), index, out)
     }
 
     /// Tells of an object's lock what it keeps other peers from, and its holder.
     pub fn lock(&self, ono: u32, kind: &mut u32, ip: &mut u32, port: &mut u16) -> Answer
-        ensures told { (w : DeviceSizes) (T : List Object) (E : List Event) → Runs w self.now T E →
-            TellsLock (lock_at (state_after w T E).tree ono) kind.new ip.new port.new (answer_number result) }
+        ensures writes { (w : DeviceSizes) (T : List Object) (E : List Event) → Runs w self.now T E →
+            WritesLock (lock_at (state_after w T E).tree ono) kind.new ip.new port.new (answer_number result) }
         ensures building { self.now.device ≡ None → result ≡ NotStarted }
     {
         let Some(device) = &self.device else {
@@ -381,8 +430,8 @@ impl DeviceBehind {
 
     /// Reads how an object is set.
     pub fn reading(&self, ono: u32, reading: &mut Reading) -> Answer
-        ensures told { (w : DeviceSizes) (T : List Object) (E : List Event) → Runs w self.now T E →
-            TellsSetting (setting_at (state_after w T E).tree ono) reading.new (answer_number result) }
+        ensures writes { (w : DeviceSizes) (T : List Object) (E : List Event) → Runs w self.now T E →
+            WritesSetting (setting_at (state_after w T E).tree ono) reading.new (answer_number result) }
         ensures building { self.now.device ≡ None → result ≡ NotStarted }
     {
         let Some(device) = &self.device else {
@@ -391,10 +440,10 @@ impl DeviceBehind {
         let Some(setting) = device.tree().setting_of(Ono(ono)) else {
             return Answer::Nothing;
         };
-        let Some(told) = Reading::of(setting) else {
+        let Some(out) = Reading::of(setting) else {
             return Answer::TooSmall;
         };
-        *reading = told;
+        *reading = out;
         Answer::Done
     }
 }

@@ -8,8 +8,9 @@ ghost use Rattle.oca_device.specs.States.{state_after};
 ghost use Rattle.oca_device.specs.Answers.{packets, verdict};
 ghost use Rattle.oca_device.specs.Outboxes.{KeptPackets};
 ghost use Rattle.oca_device.specs.Written.{written};
-ghost use Rattle.oca_c.specs.Calls.{HandleBuilds, HandleRuns, HandleStarts, AnsweredWith, KeepsFirst, KeepsPackets, Opens, RefusesBuilding, RefusesClosed, RefusesRunning};
-ghost use Rattle.oca_c.specs.Told.{TellsNextLapse, TellsWords, put_words, verdict_words};
+ghost use Rattle.oca_c.specs.Calls.{HandleBuilds, HandleRuns, HandleStarts, AnsweredWith, KeepsFirst, KeepsPackets};
+ghost use Rattle.oca_c.specs.Calls.{Opens, RefusesBuilding, RefusesClosed, RefusesRunning};
+ghost use Rattle.oca_c.specs.Outputs.{WritesNextLapse, WritesWords, put_words, verdict_words};
 
 use crate::answer::Answer;
 use crate::device::{DeviceBehind, MOST_PACKETS};
@@ -97,20 +98,23 @@ pub extern "C" fn oca_device_datagram_words(
     port: u16,
     bytes: &[u8],
     now: u64,
-    told: &mut [u32],
+    out: &mut [u32],
 ) -> u32
     ensures closed { RefusesClosed handle.old.slot.inner handle.new.slot.inner result }
     ensures building { RefusesBuilding handle.old.slot.inner handle.new.slot.inner result }
     ensures serves { (w : DeviceSizes) (T : List Object) (E : List Event) → HandleRuns w handle.old.slot.inner T E →
         HandleRuns w handle.new.slot.inner T (DatagramEvent (record { ip = ip; port = port }) bytes.now now ∷ E)
-        × KeepsFirst handle.old.slot.inner handle.new.slot.inner (packets w T E (DatagramEvent (record { ip = ip; port = port }) bytes.now now))
-        × (told.new ≡ put_words (verdict_words (verdict w T E (record { ip = ip; port = port }) bytes.now now)) told.old)
+        × KeepsFirst handle.old.slot.inner handle.new.slot.inner (packets w T E (DatagramEvent (record {
+          ip = ip;
+          port = port;
+        }) bytes.now now))
+        × (out.new ≡ put_words (verdict_words (verdict w T E (record { ip = ip; port = port }) bytes.now now)) out.old)
         × (result ≡ 0) }
 {
     let Some(mut behind) = handle.take(alloc) else {
         return Answer::Closed.number();
     };
-    let answer = behind.datagram(Peer { ip, port }, bytes, now, told);
+    let answer = behind.datagram(Peer { ip, port }, bytes, now, out);
     handle.put(behind);
     answer.number()
 }
@@ -143,8 +147,8 @@ pub extern "C" fn oca_device_next_lapse(
     ensures closed { RefusesClosed handle.old.slot.inner handle.new.slot.inner result }
     ensures building { RefusesBuilding handle.old.slot.inner handle.new.slot.inner result }
     ensures kept { handle.new.slot.inner ≡ handle.old.slot.inner }
-    ensures told { (w : DeviceSizes) (T : List Object) (E : List Event) → HandleRuns w handle.old.slot.inner T E →
-        TellsNextLapse w (state_after w T E) moment.new result }
+    ensures writes { (w : DeviceSizes) (T : List Object) (E : List Event) → HandleRuns w handle.old.slot.inner T E →
+        WritesNextLapse w (state_after w T E) moment.new result }
 {
     let Some(behind) = handle.take(alloc) else {
         return Answer::Closed.number();
@@ -184,7 +188,8 @@ pub extern "C" fn oca_device_left_out(
     ensures closed { RefusesClosed handle.old.slot.inner handle.new.slot.inner result }
     ensures kept { handle.new.slot.inner ≡ handle.old.slot.inner }
     ensures building { RefusesBuilding handle.old.slot.inner handle.new.slot.inner result }
-    ensures told { (K : KeptPackets) → AnsweredWith handle.old.slot.inner K → (result ≡ 0) × (left_out.new ≡ K.is_cut) }
+    ensures writes { (K : KeptPackets) → AnsweredWith handle.old.slot.inner K →
+        (result ≡ 0) × (left_out.new ≡ K.is_cut) }
 {
     let Some(behind) = handle.take(alloc) else {
         return Answer::Closed.number();
@@ -206,10 +211,13 @@ pub extern "C" fn oca_device_packet(
     ensures closed { RefusesClosed handle.old.slot.inner handle.new.slot.inner result }
     ensures kept { handle.new.slot.inner ≡ handle.old.slot.inner }
     ensures building { RefusesBuilding handle.old.slot.inner handle.new.slot.inner result }
-    ensures nothing { (K : KeptPackets) → AnsweredWith handle.old.slot.inner K → IfNone (slice_get K.packets i) (result ≡ 13) }
-    ensures packet { (K : KeptPackets) → AnsweredWith handle.old.slot.inner K → IfSome (slice_get K.packets i) (λ p. length p ≤ length out.old →
+    ensures nothing { (K : KeptPackets) → AnsweredWith handle.old.slot.inner K →
+        IfNone (slice_get K.packets i) (result ≡ 13) }
+    ensures packet { (K : KeptPackets) → AnsweredWith handle.old.slot.inner K →
+        IfSome (slice_get K.packets i) (λ p. length p ≤ length out.old →
         (result ≡ 0) × (len.new ≡ length p) × (take (length p) out.new ≡ p)) }
-    ensures small { (K : KeptPackets) → AnsweredWith handle.old.slot.inner K → IfSome (slice_get K.packets i) (λ p. length out.old < length p →
+    ensures small { (K : KeptPackets) → AnsweredWith handle.old.slot.inner K →
+        IfSome (slice_get K.packets i) (λ p. length out.old < length p →
         (result ≡ 14) × (len.new ≡ length p) × (out.new ≡ out.old)) }
 {
     let Some(behind) = handle.take(alloc) else {
@@ -232,8 +240,8 @@ pub extern "C" fn oca_device_written(
     ensures closed { RefusesClosed handle.old.slot.inner handle.new.slot.inner result }
     ensures building { RefusesBuilding handle.old.slot.inner handle.new.slot.inner result }
     ensures kept { handle.new.slot.inner ≡ handle.old.slot.inner }
-    ensures told { (w : DeviceSizes) (T : List Object) (E : List Event) → HandleRuns w handle.old.slot.inner T E →
-        TellsWords (written w T E) out.old out.new count.new result }
+    ensures writes { (w : DeviceSizes) (T : List Object) (E : List Event) → HandleRuns w handle.old.slot.inner T E →
+        WritesWords (written w T E) out.old out.new count.new result }
 {
     let Some(behind) = handle.take(alloc) else {
         return Answer::Closed.number();

@@ -1,17 +1,17 @@
-//! What C calls to set the objects of a device at its own front.
+//! What C calls to set the objects of a device at its local front panel.
 ghost use Rattle.std.specs.Prelude.{pos};
-ghost use Rattle.oca_tree.specs.declared.setting.LocalValue.TheVariants as values;
+ghost use Rattle.oca_model.specs.declared.value.Value.TheVariants as values;
 ghost use Rattle.oca_c.specs.Calls.{HandleSets, KeepsPackets, RefusesBuilding, RefusesClosed};
-ghost use Rattle.oca_c.specs.CValues.{HandleSetsWords};
+ghost use Rattle.oca_c.specs.FrontCalls.{HandleSetsEntry, HandleSetsWords, State, Integer};
 
 use crate::answer::Answer;
 use crate::device_handle::DeviceHandle;
 use crate::value_words::ValueWords;
-use oca_tree::LocalValue;
+use oca_tree::Value;
 use std::alloc::Global;
 
-/// Sets an object at the device's own front.
-fn set(alloc: Global, handle: &mut DeviceHandle, ono: u32, value: LocalValue) -> u32
+/// Sets an object at the local front panel.
+fn set(alloc: Global, handle: &mut DeviceHandle, ono: u32, value: Value) -> u32
     ensures closed { RefusesClosed handle.old.slot.inner handle.new.slot.inner result }
     ensures building { RefusesBuilding handle.old.slot.inner handle.new.slot.inner result }
     ensures packets { KeepsPackets handle.old.slot.inner handle.new.slot.inner }
@@ -25,7 +25,22 @@ fn set(alloc: Global, handle: &mut DeviceHandle, ono: u32, value: LocalValue) ->
     answer.number()
 }
 
-/// Sets a mute or a polarity at the device's own front.
+/// Sets an actuator of integers.
+fn set_integer(alloc: Global, handle: &mut DeviceHandle, ono: u32, number: i128) -> u32
+    ensures closed { RefusesClosed handle.old.slot.inner handle.new.slot.inner result }
+    ensures building { RefusesBuilding handle.old.slot.inner handle.new.slot.inner result }
+    ensures packets { KeepsPackets handle.old.slot.inner handle.new.slot.inner }
+    ensures sets { HandleSetsEntry result handle.old.slot.inner handle.new.slot.inner ono (Integer number) }
+{
+    let Some(mut behind) = handle.take(alloc) else {
+        return Answer::Closed.number();
+    };
+    let answer = behind.set_integer(ono, number);
+    handle.put(behind);
+    answer.number()
+}
+
+/// Sets a mute or a polarity at the local front panel.
 #[unsafe(no_mangle)]
 pub extern "C" fn oca_device_set_state(
     alloc: Global,
@@ -36,12 +51,17 @@ pub extern "C" fn oca_device_set_state(
     ensures closed { RefusesClosed handle.old.slot.inner handle.new.slot.inner result }
     ensures building { RefusesBuilding handle.old.slot.inner handle.new.slot.inner result }
     ensures packets { KeepsPackets handle.old.slot.inner handle.new.slot.inner }
-    ensures sets { HandleSets result handle.old.slot.inner handle.new.slot.inner ono (values.State state) }
+    ensures sets { HandleSetsEntry result handle.old.slot.inner handle.new.slot.inner ono (State state) }
 {
-    set(alloc, handle, ono, LocalValue::State(state))
+    let Some(mut behind) = handle.take(alloc) else {
+        return Answer::Closed.number();
+    };
+    let answer = behind.set_state(ono, state);
+    handle.put(behind);
+    answer.number()
 }
 
-/// Sets a switch at the device's own front.
+/// Sets a switch at the local front panel.
 #[unsafe(no_mangle)]
 pub extern "C" fn oca_device_set_position(
     alloc: Global,
@@ -52,12 +72,12 @@ pub extern "C" fn oca_device_set_position(
     ensures closed { RefusesClosed handle.old.slot.inner handle.new.slot.inner result }
     ensures building { RefusesBuilding handle.old.slot.inner handle.new.slot.inner result }
     ensures packets { KeepsPackets handle.old.slot.inner handle.new.slot.inner }
-    ensures sets { HandleSets result handle.old.slot.inner handle.new.slot.inner ono (values.Position position) }
+    ensures sets { HandleSets result handle.old.slot.inner handle.new.slot.inner ono (values.Switch position) }
 {
-    set(alloc, handle, ono, LocalValue::Position(position))
+    set(alloc, handle, ono, Value::Switch(position))
 }
 
-/// Sets a Boolean actuator at the device's own front.
+/// Sets a Boolean actuator at the local front panel.
 #[unsafe(no_mangle)]
 pub extern "C" fn oca_device_set_truth(
     alloc: Global,
@@ -68,12 +88,12 @@ pub extern "C" fn oca_device_set_truth(
     ensures closed { RefusesClosed handle.old.slot.inner handle.new.slot.inner result }
     ensures building { RefusesBuilding handle.old.slot.inner handle.new.slot.inner result }
     ensures packets { KeepsPackets handle.old.slot.inner handle.new.slot.inner }
-    ensures sets { HandleSets result handle.old.slot.inner handle.new.slot.inner ono (values.Truth truth) }
+    ensures sets { HandleSets result handle.old.slot.inner handle.new.slot.inner ono (values.Boolean truth) }
 {
-    set(alloc, handle, ono, LocalValue::Truth(truth))
+    set(alloc, handle, ono, Value::Boolean(truth))
 }
 
-/// Sets an actuator of integers at the device's own front.
+/// Sets an actuator of integers at the local front panel.
 #[unsafe(no_mangle)]
 pub extern "C" fn oca_device_set_signed(
     alloc: Global,
@@ -84,12 +104,12 @@ pub extern "C" fn oca_device_set_signed(
     ensures closed { RefusesClosed handle.old.slot.inner handle.new.slot.inner result }
     ensures building { RefusesBuilding handle.old.slot.inner handle.new.slot.inner result }
     ensures packets { KeepsPackets handle.old.slot.inner handle.new.slot.inner }
-    ensures sets { HandleSets result handle.old.slot.inner handle.new.slot.inner ono (values.Number number) }
+    ensures sets { HandleSetsEntry result handle.old.slot.inner handle.new.slot.inner ono (Integer number) }
 {
-    set(alloc, handle, ono, LocalValue::Number(i128::from(number)))
+    set_integer(alloc, handle, ono, i128::from(number))
 }
 
-/// Sets an actuator of integers at the device's own front.
+/// Sets an actuator of integers at the local front panel.
 #[unsafe(no_mangle)]
 pub extern "C" fn oca_device_set_unsigned(
     alloc: Global,
@@ -100,12 +120,12 @@ pub extern "C" fn oca_device_set_unsigned(
     ensures closed { RefusesClosed handle.old.slot.inner handle.new.slot.inner result }
     ensures building { RefusesBuilding handle.old.slot.inner handle.new.slot.inner result }
     ensures packets { KeepsPackets handle.old.slot.inner handle.new.slot.inner }
-    ensures sets { HandleSets result handle.old.slot.inner handle.new.slot.inner ono (values.Number (pos number)) }
+    ensures sets { HandleSetsEntry result handle.old.slot.inner handle.new.slot.inner ono (Integer (pos number)) }
 {
-    set(alloc, handle, ono, LocalValue::Number(i128::from(number)))
+    set_integer(alloc, handle, ono, i128::from(number))
 }
 
-/// Sets an object at the device's own front to a value.
+/// Sets an object at the local front panel to a value.
 #[unsafe(no_mangle)]
 pub extern "C" fn oca_device_set(
     alloc: Global,

@@ -6,11 +6,14 @@
 
 mod adding_calls;
 mod answer;
+mod answer_calls;
+mod answer_words;
 mod device;
 mod device_calls;
 mod device_handle;
 mod device_slot;
 mod front_calls;
+mod front_values;
 mod limits;
 mod link;
 mod link_calls;
@@ -22,7 +25,7 @@ mod parts;
 mod reading;
 mod spec_adding;
 mod spec_calls;
-mod spec_telling;
+mod spec_reading;
 mod spec_words;
 mod value_calls;
 mod value_words;

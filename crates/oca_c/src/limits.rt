@@ -1,6 +1,7 @@
 //! Reading the words of a reading: a value, and limits of its class.
 ghost use Rattle.std.specs.Prelude.{◌≡◌};
-ghost use Rattle.oca_c.specs.CSpecs.{AreReadingOf, int8_in, int16_in, int32_in, int64_in, ranged, uint8_in, uint16_in, uint32_in, uint64_in};
+ghost use Rattle.oca_c.specs.CSpecs.{AreReadingOf, int8_in, int16_in, int32_in, int64_in, ranged, uint8_in, uint16_in};
+ghost use Rattle.oca_c.specs.CSpecs.{uint32_in, uint64_in};
 
 use crate::value_words::ReadingWords;
 use oca_model::{Ranged, Reading, Value};

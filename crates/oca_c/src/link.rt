@@ -6,9 +6,11 @@ ghost use Rattle.oca_types.specs.Sizes.{largest_datagram, most_parameter_bytes};
 ghost use Rattle.oca_pdu.specs.Messages.{Msg};
 ghost use Rattle.oca_control.specs.Answers.{answer_fields};
 ghost use Rattle.oca_control.specs.Contents.{IsContent};
-ghost use Rattle.oca_control.specs.Links.{decision, due_answer, due_bytes, gone_on, late_at, received, reception, submission, submitted, taken};
+ghost use Rattle.oca_control.specs.Links.{decision, due_answer, due_bytes, gone_on, late_at, received, reception};
+ghost use Rattle.oca_control.specs.Links.{submission, submitted, taken};
 ghost use Rattle.oca_control.specs.Untaken.{answer_under, first_answered};
-ghost use Rattle.oca_c.specs.LinkCalls.{LiesIn, TellsNextDue, TellsNumber, TellsAnswer, TellsSubmission, answered_count, due_handle, due_kind, reception_kind};
+ghost use Rattle.oca_c.specs.LinkCalls.{LiesIn, WritesNextDue, WritesNumber, WritesAnswer, WritesSubmission};
+ghost use Rattle.oca_c.specs.LinkCalls.{answered_count, due_handle, due_kind, reception_kind};
 
 use crate::answer::Answer;
 use crate::words::put_front;
@@ -32,10 +34,22 @@ impl LinkBehind {
         now: u64,
         handle: &mut u32,
     ) -> u32
-        ensures link { let request : RequestFields = record { target = target.0; level = method.level; index = method.index; count = count; params = params.now } in
+        ensures link { let request : RequestFields = record {
+          target = target.0;
+          level = method.level;
+          index = method.index;
+          count = count;
+          params = params.now;
+        } in
             self.new.link ≡ submitted request now self.old.link }
-        ensures told { let request : RequestFields = record { target = target.0; level = method.level; index = method.index; count = count; params = params.now } in
-            TellsSubmission result handle.new (submission request self.old.link) }
+        ensures writes { let request : RequestFields = record {
+          target = target.0;
+          level = method.level;
+          index = method.index;
+          count = count;
+          params = params.now;
+        } in
+            WritesSubmission result handle.new (submission request self.old.link) }
     {
         match self.link.submit(target, method, count, params, now) {
             Ok(given) => {
@@ -57,9 +71,11 @@ impl LinkBehind {
     ) -> u32
         ensures small { length out.old < largest_datagram → (result ≡ 14) × (self.new ≡ self.old) }
         ensures link { largest_datagram ≤ length out.old → (result ≡ 0) × (self.new.link ≡ gone_on now self.old.link) }
-        ensures told { largest_datagram ≤ length out.old → (kind.new ≡ due_kind (due_answer (decision now self.old.link)))
+        ensures writes { largest_datagram ≤ length out.old →
+            (kind.new ≡ due_kind (due_answer (decision now self.old.link)))
             × (handle.new ≡ due_handle (due_answer (decision now self.old.link))) }
-        ensures bytes { largest_datagram ≤ length out.old → LiesIn (due_bytes (decision now self.old.link)) out.new len.new }
+        ensures bytes { largest_datagram ≤ length out.old →
+            LiesIn (due_bytes (decision now self.old.link)) out.new len.new }
     {
         if out.len() < MOST_BYTES {
             return Answer::TooSmall.number();
@@ -81,9 +97,11 @@ impl LinkBehind {
         answered: &mut u32,
     ) -> u32
         ensures done { result ≡ 0 }
-        ensures link { (content : Option (List Msg)) → IsContent content bytes.now → self.new.link ≡ received from content now self.old.link }
-        ensures told { (content : Option (List Msg)) → IsContent content bytes.now →
-            (kind.new ≡ reception_kind (reception from content self.old.link)) × (answered.new ≡ answered_count (reception from content self.old.link)) }
+        ensures link { (content : Option (List Msg)) → IsContent content bytes.now →
+            self.new.link ≡ received from content now self.old.link }
+        ensures writes { (content : Option (List Msg)) → IsContent content bytes.now →
+            (kind.new ≡ reception_kind (reception from content self.old.link))
+            × (answered.new ≡ answered_count (reception from content self.old.link)) }
     {
         let reception = self.link.datagram(from, bytes, now);
         (*kind, *answered) = reception_words(reception);
@@ -101,7 +119,8 @@ impl LinkBehind {
     ) -> u32
         ensures small { length out.old < most_parameter_bytes → (result ≡ 14) × (self.new ≡ self.old) }
         ensures link { most_parameter_bytes ≤ length out.old → self.new.link ≡ taken handle self.old.link }
-        ensures told { most_parameter_bytes ≤ length out.old → TellsAnswer result status.new count.new out.new len.new (answer_under handle self.old.link.untaken) }
+        ensures writes { most_parameter_bytes ≤ length out.old →
+            WritesAnswer result status.new count.new out.new len.new (answer_under handle self.old.link.untaken) }
     {
         if out.len() < MOST_PARAMETER_BYTES {
             return Answer::TooSmall.number();
@@ -119,7 +138,7 @@ impl LinkBehind {
 
     /// Tells when something is due next.
     pub fn next_due(&self, moment: &mut u64) -> u32
-        ensures { TellsNextDue result moment.new self.now.link }
+        ensures { WritesNextDue result moment.new self.now.link }
     {
         match self.link.next_due() {
             Some(due) => {
@@ -132,7 +151,7 @@ impl LinkBehind {
 
     /// Tells the lowest handle that has its answer.
     pub fn answered(&self, handle: &mut u32) -> u32
-        ensures { TellsNumber result handle.new (first_answered self.now.link.untaken) }
+        ensures { WritesNumber result handle.new (first_answered self.now.link.untaken) }
     {
         match self.link.answered() {
             Some(answered) => {
@@ -145,7 +164,7 @@ impl LinkBehind {
 
     /// Tells the handle that the next command gets.
     pub fn next_handle(&self, handle: &mut u32) -> u32
-        ensures { TellsNumber result handle.new self.now.link.next }
+        ensures { WritesNumber result handle.new self.now.link.next }
     {
         match self.link.next_handle() {
             Some(next) => {
@@ -181,7 +200,7 @@ impl LinkBehind {
     }
 }
 
-/// What is told of what is due.
+/// The number of what is due.
 fn due_words(due: Due) -> (u32, u32)
     ensures kind { result.0 ≡ due_kind due }
     ensures handle { result.1 ≡ due_handle due }
@@ -194,7 +213,7 @@ fn due_words(due: Due) -> (u32, u32)
     }
 }
 
-/// What is told of a datagram.
+/// The number of what a datagram was.
 fn reception_words(reception: Reception) -> (u32, u32)
     ensures kind { result.0 ≡ reception_kind reception }
     ensures answered { result.1 ≡ answered_count reception }

@@ -4,10 +4,12 @@ ghost use Rattle.oca_types.specs.Peers.{RequestFields};
 ghost use Rattle.oca_types.specs.Sizes.{largest_datagram, most_parameter_bytes};
 ghost use Rattle.oca_pdu.specs.Messages.{Msg};
 ghost use Rattle.oca_control.specs.Contents.{IsContent};
-ghost use Rattle.oca_control.specs.Links.{decision, due_answer, due_bytes, gone_on, late_at, new_link, received, reception, submission, submitted, taken};
+ghost use Rattle.oca_control.specs.Links.{decision, due_answer, due_bytes, gone_on, late_at, new_link, received};
+ghost use Rattle.oca_control.specs.Links.{reception, submission, submitted, taken};
 ghost use Rattle.oca_control.specs.Untaken.{answer_under, first_answered};
 ghost use Rattle.oca_c.specs.Calls.{RefusesClosed};
-ghost use Rattle.oca_c.specs.LinkCalls.{HoldsLink, LiesIn, OpensLink, TellsNextDue, TellsNumber, TellsAnswer, TellsSubmission, answered_count, due_handle, due_kind, reception_kind};
+ghost use Rattle.oca_c.specs.LinkCalls.{HoldsLink, LiesIn, OpensLink, WritesNextDue, WritesNumber, WritesAnswer};
+ghost use Rattle.oca_c.specs.LinkCalls.{WritesSubmission, answered_count, due_handle, due_kind, reception_kind};
 
 use crate::answer::Answer;
 use crate::link::LinkBehind;
@@ -28,7 +30,8 @@ pub extern "C" fn oca_link_open(
     span: u8,
 ) -> u32
     ensures open { IsSome handle.old.slot.inner → (result ≡ 10) × (handle.new.slot.inner ≡ handle.old.slot.inner) }
-    ensures opens { handle.old.slot.inner ≡ None → OpensLink result handle.new.slot.inner span (new_link (record { ip = ip; port = port }) first_handle now span) }
+    ensures opens { handle.old.slot.inner ≡ None →
+        OpensLink result handle.new.slot.inner span (new_link (record { ip = ip; port = port }) first_handle now span) }
 {
     if handle.is_open {
         return Answer::Open.number();
@@ -68,9 +71,15 @@ pub extern "C" fn oca_link_submit(
     command: &mut u32,
 ) -> u32
     ensures closed { RefusesClosed handle.old.slot.inner handle.new.slot.inner result }
-    ensures submits { let request : RequestFields = record { target = target; level = level; index = index; count = count; params = params.now } in
+    ensures submits { let request : RequestFields = record {
+      target = target;
+      level = level;
+      index = index;
+      count = count;
+      params = params.now;
+    } in
         IfSome handle.old.slot.inner (λ b. HoldsLink handle.new.slot.inner (submitted request now b.link)
-        × TellsSubmission result command.new (submission request b.link)) }
+        × WritesSubmission result command.new (submission request b.link)) }
 {
     let Some(mut behind) = handle.take(alloc) else {
         return Answer::Closed.number();
@@ -93,9 +102,12 @@ pub extern "C" fn oca_link_due(
     command: &mut u32,
 ) -> u32
     ensures closed { RefusesClosed handle.old.slot.inner handle.new.slot.inner result }
-    ensures small { IfSome handle.old.slot.inner (λ b. length out.old < largest_datagram → HoldsLink handle.new.slot.inner b.link × (result ≡ 14)) }
-    ensures gives { IfSome handle.old.slot.inner (λ b. largest_datagram ≤ length out.old → HoldsLink handle.new.slot.inner (gone_on now b.link) × (result ≡ 0)
-        × (kind.new ≡ due_kind (due_answer (decision now b.link))) × (command.new ≡ due_handle (due_answer (decision now b.link)))
+    ensures small { IfSome handle.old.slot.inner (λ b. length out.old < largest_datagram →
+        HoldsLink handle.new.slot.inner b.link × (result ≡ 14)) }
+    ensures gives { IfSome handle.old.slot.inner (λ b. largest_datagram ≤ length out.old →
+        HoldsLink handle.new.slot.inner (gone_on now b.link) × (result ≡ 0)
+        × (kind.new ≡ due_kind (due_answer (decision now b.link)))
+        × (command.new ≡ due_handle (due_answer (decision now b.link)))
         × LiesIn (due_bytes (decision now b.link)) out.new len.new) }
 {
     let Some(mut behind) = handle.take(alloc) else {
@@ -144,9 +156,11 @@ pub extern "C" fn oca_link_take(
     len: &mut usize,
 ) -> u32
     ensures closed { RefusesClosed handle.old.slot.inner handle.new.slot.inner result }
-    ensures small { IfSome handle.old.slot.inner (λ b. length out.old < most_parameter_bytes → HoldsLink handle.new.slot.inner b.link × (result ≡ 14)) }
-    ensures takes { IfSome handle.old.slot.inner (λ b. most_parameter_bytes ≤ length out.old → HoldsLink handle.new.slot.inner (taken command b.link)
-        × TellsAnswer result status.new count.new out.new len.new (answer_under command b.link.untaken)) }
+    ensures small { IfSome handle.old.slot.inner (λ b. length out.old < most_parameter_bytes →
+        HoldsLink handle.new.slot.inner b.link × (result ≡ 14)) }
+    ensures takes { IfSome handle.old.slot.inner (λ b. most_parameter_bytes ≤ length out.old →
+        HoldsLink handle.new.slot.inner (taken command b.link)
+        × WritesAnswer result status.new count.new out.new len.new (answer_under command b.link.untaken)) }
 {
     let Some(mut behind) = handle.take(alloc) else {
         return Answer::Closed.number();
@@ -161,7 +175,7 @@ pub extern "C" fn oca_link_take(
 pub extern "C" fn oca_link_next_due(alloc: Global, handle: &mut LinkHandle, moment: &mut u64) -> u32
     ensures closed { RefusesClosed handle.old.slot.inner handle.new.slot.inner result }
     ensures kept { handle.new.slot.inner ≡ handle.old.slot.inner }
-    ensures told { IfSome handle.old.slot.inner (λ b. TellsNextDue result moment.new b.link) }
+    ensures writes { IfSome handle.old.slot.inner (λ b. WritesNextDue result moment.new b.link) }
 {
     let Some(behind) = handle.take(alloc) else {
         return Answer::Closed.number();
@@ -180,7 +194,8 @@ pub extern "C" fn oca_link_answered(
 ) -> u32
     ensures closed { RefusesClosed handle.old.slot.inner handle.new.slot.inner result }
     ensures kept { handle.new.slot.inner ≡ handle.old.slot.inner }
-    ensures told { IfSome handle.old.slot.inner (λ b. TellsNumber result command.new (first_answered b.link.untaken)) }
+    ensures writes { IfSome handle.old.slot.inner (λ b.
+        WritesNumber result command.new (first_answered b.link.untaken)) }
 {
     let Some(behind) = handle.take(alloc) else {
         return Answer::Closed.number();
@@ -199,7 +214,7 @@ pub extern "C" fn oca_link_next_handle(
 ) -> u32
     ensures closed { RefusesClosed handle.old.slot.inner handle.new.slot.inner result }
     ensures kept { handle.new.slot.inner ≡ handle.old.slot.inner }
-    ensures told { IfSome handle.old.slot.inner (λ b. TellsNumber result command.new b.link.next) }
+    ensures writes { IfSome handle.old.slot.inner (λ b. WritesNumber result command.new b.link.next) }
 {
     let Some(behind) = handle.take(alloc) else {
         return Answer::Closed.number();
@@ -218,7 +233,7 @@ pub extern "C" fn oca_link_last_heard(
 ) -> u32
     ensures closed { RefusesClosed handle.old.slot.inner handle.new.slot.inner result }
     ensures kept { handle.new.slot.inner ≡ handle.old.slot.inner }
-    ensures told { IfSome handle.old.slot.inner (λ b. (result ≡ 0) × (moment.new ≡ b.link.heard)) }
+    ensures writes { IfSome handle.old.slot.inner (λ b. (result ≡ 0) × (moment.new ≡ b.link.heard)) }
 {
     let Some(behind) = handle.take(alloc) else {
         return Answer::Closed.number();
@@ -233,7 +248,7 @@ pub extern "C" fn oca_link_last_heard(
 pub extern "C" fn oca_link_is_lost(alloc: Global, handle: &mut LinkHandle, lost: &mut bool) -> u32
     ensures closed { RefusesClosed handle.old.slot.inner handle.new.slot.inner result }
     ensures kept { handle.new.slot.inner ≡ handle.old.slot.inner }
-    ensures told { IfSome handle.old.slot.inner (λ b. (result ≡ 0) × (lost.new ≡ b.link.lost)) }
+    ensures writes { IfSome handle.old.slot.inner (λ b. (result ≡ 0) × (lost.new ≡ b.link.lost)) }
 {
     let Some(behind) = handle.take(alloc) else {
         return Answer::Closed.number();
@@ -253,7 +268,7 @@ pub extern "C" fn oca_link_is_late(
 ) -> u32
     ensures closed { RefusesClosed handle.old.slot.inner handle.new.slot.inner result }
     ensures kept { handle.new.slot.inner ≡ handle.old.slot.inner }
-    ensures told { IfSome handle.old.slot.inner (λ b. (result ≡ 0) × (late.new ≡ late_at now b.link)) }
+    ensures writes { IfSome handle.old.slot.inner (λ b. (result ≡ 0) × (late.new ≡ late_at now b.link)) }
 {
     let Some(behind) = handle.take(alloc) else {
         return Answer::Closed.number();

@@ -1,7 +1,7 @@
 //! A place for what is behind a handle, as C holds it: empty, or the owner of one.
 ghost use Rattle.std.specs.Prelude.{◌≡◌, Option, None, Some, is_some, true};
 ghost use Rattle.oca_c.specs.declared.link.LinkBehind.{LinkBehind};
-ghost use Rattle.oca_c.specs.LinkSlots.{inner_coded, slot_owns};
+ghost use Rattle.oca_c.specs.LinkSlots.{link_coded, link_owns};
 
 use crate::link::LinkBehind;
 use crate::parts::Parts;
@@ -14,11 +14,11 @@ use std::marker::Model;
 pub struct LinkSlot {
     at: *mut (),
     alloc: Global,
-    pub ghost inner: { Option LinkBehind } by { inner_coded },
+    pub ghost inner: { Option LinkBehind } by { link_coded },
 }
 
 impl Model for LinkSlot {
-    ghost also_owns = { λ s. slot_owns s.alloc s.at s.inner };
+    ghost also_owns = { λ s. link_owns s.alloc s.at s.inner };
 }
 
 impl LinkSlot {

@@ -74,7 +74,8 @@ pub fn text_of(name: &Name) -> Option<&str>
 /// The texts of these names; nothing where one is longer than its room or no UTF-8.
 pub fn texts_of(names: &[Name]) -> Option<ArrayVec<&str, MOST_POSITIONS>>
     requires { length names.now ≤ 16 }
-    ensures texts { IfSome result (λ texts. AllByRecursion IsName names.now × (map (λ text. text.now) texts.items ≡ map name_bytes names.now)) }
+    ensures texts { IfSome result (λ texts. AllByRecursion IsName names.now
+        × (map (λ text. text.now) texts.items ≡ map name_bytes names.now)) }
     ensures none { IfNone result (AllByRecursion IsName names.now → ⊥) }
 {
     let mut texts = ArrayVec::new();

@@ -6,7 +6,7 @@ ghost use Rattle.oca_tree.specs.Readers.{info_at, lock_at, setting_at};
 ghost use Rattle.oca_device.specs.States.{state_after};
 ghost use Rattle.oca_device.specs.Events.{Event};
 ghost use Rattle.oca_c.specs.Calls.{HandleRuns, RefusesBuilding, RefusesClosed};
-ghost use Rattle.oca_c.specs.Told.{TellsLock, TellsObject, TellsSetting};
+ghost use Rattle.oca_c.specs.Outputs.{WritesLock, WritesObject, WritesSetting};
 
 use crate::answer::Answer;
 use crate::device_handle::DeviceHandle;
@@ -23,7 +23,7 @@ pub extern "C" fn oca_device_objects(
     ensures closed { RefusesClosed handle.old.slot.inner handle.new.slot.inner result }
     ensures building { RefusesBuilding handle.old.slot.inner handle.new.slot.inner result }
     ensures kept { handle.new.slot.inner ≡ handle.old.slot.inner }
-    ensures told { (w : DeviceSizes) (T : List Object) (E : List Event) → HandleRuns w handle.old.slot.inner T E →
+    ensures writes { (w : DeviceSizes) (T : List Object) (E : List Event) → HandleRuns w handle.old.slot.inner T E →
         (result ≡ 0) × (count.new ≡ length (state_after w T E).tree) }
 {
     let Some(behind) = handle.take(alloc) else {
@@ -40,19 +40,19 @@ pub extern "C" fn oca_device_object_words(
     alloc: Global,
     handle: &mut DeviceHandle,
     index: usize,
-    told: &mut [u32],
+    out: &mut [u32],
     role: &mut [u8],
 ) -> u32
     ensures closed { RefusesClosed handle.old.slot.inner handle.new.slot.inner result }
     ensures building { RefusesBuilding handle.old.slot.inner handle.new.slot.inner result }
     ensures kept { handle.new.slot.inner ≡ handle.old.slot.inner }
-    ensures told { (w : DeviceSizes) (T : List Object) (E : List Event) → HandleRuns w handle.old.slot.inner T E →
-        TellsObject (info_at (state_after w T E).tree index) told.old told.new role.old role.new result }
+    ensures writes { (w : DeviceSizes) (T : List Object) (E : List Event) → HandleRuns w handle.old.slot.inner T E →
+        WritesObject (info_at (state_after w T E).tree index) out.old out.new role.old role.new result }
 {
     let Some(behind) = handle.take(alloc) else {
         return Answer::Closed.number();
     };
-    let answer = behind.object(index, told, role);
+    let answer = behind.object(index, out, role);
     handle.put(behind);
     answer.number()
 }
@@ -70,8 +70,8 @@ pub extern "C" fn oca_device_lock(
     ensures closed { RefusesClosed handle.old.slot.inner handle.new.slot.inner result }
     ensures building { RefusesBuilding handle.old.slot.inner handle.new.slot.inner result }
     ensures kept { handle.new.slot.inner ≡ handle.old.slot.inner }
-    ensures told { (w : DeviceSizes) (T : List Object) (E : List Event) → HandleRuns w handle.old.slot.inner T E →
-        TellsLock (lock_at (state_after w T E).tree ono) kind.new ip.new port.new result }
+    ensures writes { (w : DeviceSizes) (T : List Object) (E : List Event) → HandleRuns w handle.old.slot.inner T E →
+        WritesLock (lock_at (state_after w T E).tree ono) kind.new ip.new port.new result }
 {
     let Some(behind) = handle.take(alloc) else {
         return Answer::Closed.number();
@@ -92,8 +92,8 @@ pub extern "C" fn oca_device_setting(
     ensures closed { RefusesClosed handle.old.slot.inner handle.new.slot.inner result }
     ensures building { RefusesBuilding handle.old.slot.inner handle.new.slot.inner result }
     ensures kept { handle.new.slot.inner ≡ handle.old.slot.inner }
-    ensures told { (w : DeviceSizes) (T : List Object) (E : List Event) → HandleRuns w handle.old.slot.inner T E →
-        TellsSetting (setting_at (state_after w T E).tree ono) reading.new result }
+    ensures writes { (w : DeviceSizes) (T : List Object) (E : List Event) → HandleRuns w handle.old.slot.inner T E →
+        WritesSetting (setting_at (state_after w T E).tree ono) reading.new result }
 {
     let Some(behind) = handle.take(alloc) else {
         return Answer::Closed.number();

@@ -1,6 +1,6 @@
 //! What C reads of a setting.
 ghost use Rattle.std.specs.Prelude.{◌≡◌, IfSome, IsSome};
-ghost use Rattle.oca_c.specs.Told.{FitsReading, reading_of};
+ghost use Rattle.oca_c.specs.Outputs.{FitsReading, reading_of};
 
 use oca_tree::Setting;
 
@@ -14,9 +14,9 @@ pub struct Reading {
 }
 
 impl Reading {
-    /// What is told of a setting; nothing of a number beyond 64 bits, which no object has.
+    /// The words of a setting; nothing of a number beyond 64 bits, which no object has.
     pub fn of(setting: Setting) -> Option<Reading>
-        ensures told { IfSome result (λ reading. reading ≡ reading_of setting) }
+        ensures writes { IfSome result (λ reading. reading ≡ reading_of setting) }
         ensures fits { FitsReading setting → IsSome result }
     {
         match setting {

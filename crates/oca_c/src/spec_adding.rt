@@ -3,7 +3,7 @@ ghost use Rattle.std.specs.Prelude.{◌≡◌, ◌≤◌, map};
 ghost use Rattle.std.specs.Option.{option_copied};
 ghost use Rattle.oca_tree.specs.Starts.{flags_of};
 ghost use Rattle.oca_c.specs.Calls.{name_bytes};
-ghost use Rattle.oca_c.specs.CSpecs.{GivenAddedBy, NamedAddedBy, SaysSpec, SpecAddedBy, texts_of as position_texts};
+ghost use Rattle.oca_c.specs.CSpecs.{GivenAddedBy, NamedAddedBy, GivesSpec, SpecAddedBy, texts_of as position_texts};
 
 use crate::answer::Answer;
 use crate::name::{MOST_POSITIONS, text_of, texts_of};
@@ -67,7 +67,7 @@ fn add_given(
     label: &str,
 ) -> Answer
     requires positions { words.now.positions ≤ 16 }
-    requires spec { SaysSpec words.now spec.now }
+    requires spec { GivesSpec words.now spec.now }
     requires label { label.now ≡ name_bytes words.now.label }
     ensures { GivenAddedBy result builder.old builder.new container ono words.now }
 {

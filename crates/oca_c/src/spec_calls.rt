@@ -7,7 +7,7 @@ ghost use Rattle.oca_tree.specs.Readers.{info_at};
 ghost use Rattle.oca_device.specs.States.{state_after};
 ghost use Rattle.oca_device.specs.Events.{Event};
 ghost use Rattle.oca_c.specs.Calls.{HandleBuilds, HandleRuns, RefusesBuilding, RefusesClosed, RefusesRunning};
-ghost use Rattle.oca_c.specs.CSpecs.{HandleAddsSpec, OpensOver, OpensWith, TellsSpec};
+ghost use Rattle.oca_c.specs.CSpecs.{HandleAddsSpec, OpensOver, OpensWith, WritesSpec};
 
 use crate::answer::Answer;
 use crate::device::DeviceBehind;
@@ -98,8 +98,8 @@ pub extern "C" fn oca_device_spec(
     ensures closed { RefusesClosed handle.old.slot.inner handle.new.slot.inner result }
     ensures building { RefusesBuilding handle.old.slot.inner handle.new.slot.inner result }
     ensures kept { handle.new.slot.inner ≡ handle.old.slot.inner }
-    ensures told { (w : DeviceSizes) (T : List Object) (E : List Event) → HandleRuns w handle.old.slot.inner T E →
-        TellsSpec (state_after w T E).tree (info_at (state_after w T E).tree index) spec.old spec.new result }
+    ensures writes { (w : DeviceSizes) (T : List Object) (E : List Event) → HandleRuns w handle.old.slot.inner T E →
+        WritesSpec (state_after w T E).tree (info_at (state_after w T E).tree index) spec.old spec.new result }
 {
     let Some(behind) = handle.take(alloc) else {
         return Answer::Closed.number();

@@ -1,7 +1,7 @@
-//! What an object is to be, and what it is told to be, as C has it: one struct.
+//! What an object is to be, and what it is, as C has it: one struct.
 ghost use Rattle.std.specs.Prelude.{◌≡◌, ◌≤◌, length, map, take};
 ghost use Rattle.std.specs.Option.{option_copied};
-ghost use Rattle.oca_c.specs.CSpecs.{GivesKind, IsKindOf, flags_for, says};
+ghost use Rattle.oca_c.specs.CSpecs.{GivesKind, IsKindOf, flags_for, is_yes};
 
 use crate::limits::reading_of;
 use crate::name::{MOST_POSITIONS, Name};
@@ -15,8 +15,8 @@ use oca_tree::Kind;
 pub const SPEC_SIZE: u32 = 1248;
 
 /// An object: whether it can be locked, its class with its setting and limits, its role, and what was stored of it: its
-/// label, whether it is enabled, and of a switch the names of its positions and which of them are. A byte that is 0 says
-/// no, any other yes.
+/// label, whether it is enabled, and of a switch the names of its positions and which of them are. A byte that is 0
+/// says no, any other yes.
 #[repr(C)]
 #[derive(Clone, Copy)]
 pub struct SpecWords {
@@ -37,7 +37,7 @@ const _: () = prove!(std::mem::size_of::<SpecWords>() == 1248);
 /// What each of these bytes says.
 pub fn flags_of(bytes: &[u8]) -> ArrayVec<bool, MOST_POSITIONS>
     requires { length bytes.now ≤ 16 }
-    ensures { result.items ≡ map says bytes.now }
+    ensures { result.items ≡ map is_yes bytes.now }
 {
     let mut flags = ArrayVec::new();
     for byte in bytes {
@@ -49,7 +49,7 @@ pub fn flags_of(bytes: &[u8]) -> ArrayVec<bool, MOST_POSITIONS>
 /// The bytes that say these flags, in a place of their own.
 pub fn bytes_of(flags: &[bool]) -> [u8; MOST_POSITIONS]
     requires { length flags.now ≤ 16 }
-    ensures { map says (take (length flags.now) result) ≡ flags.now }
+    ensures { map is_yes (take (length flags.now) result) ≡ flags.now }
 {
     let mut bytes: ArrayVec<u8, MOST_POSITIONS> = ArrayVec::new();
     for flag in flags {

@@ -1,5 +1,5 @@
 //! What C calls to encode a value, to ask for one and to read what came back. Nothing here has a handle.
-ghost use Rattle.oca_c.specs.CValues.{PutsWords, ReadsAnswer, TellsGetOf, TellsSetOf};
+ghost use Rattle.oca_c.specs.CValues.{PutsWords, ReadsAnswer, WritesGetOf, WritesSetOf};
 
 use crate::answer::Answer;
 use crate::value_words::{ReadingWords, RequestWords, ValueWords, class_with};
@@ -40,7 +40,7 @@ pub extern "C" fn oca_value_read(
 /// Tells what sets an object to a value.
 #[unsafe(no_mangle)]
 pub extern "C" fn oca_set_request(value: &ValueWords, request: &mut RequestWords) -> u32
-    ensures { TellsSetOf value.now request.new result }
+    ensures { WritesSetOf value.now request.new result }
 {
     let Some(value) = value.value() else {
         return Answer::NoValue.number();
@@ -52,7 +52,7 @@ pub extern "C" fn oca_set_request(value: &ValueWords, request: &mut RequestWords
 /// Tells what reads an object of this class.
 #[unsafe(no_mangle)]
 pub extern "C" fn oca_get_request(class_number: u32, request: &mut RequestWords) -> u32
-    ensures { TellsGetOf class_number request.new result }
+    ensures { WritesGetOf class_number request.new result }
 {
     let Some(class) = class_with(class_number) else {
         return Answer::NoValue.number();

@@ -4,11 +4,10 @@ ghost use Rattle.oca_c.specs.CValues.{AreWordsOf, HasClass, IsRequest};
 
 use crate::words::put_front;
 use oca_model::{MuteState, PolarityState, Reading, Value, ValueRequest};
-use oca_tree::LocalValue;
 use oca_types::Class;
 
-/// A value: the number of its class, 2 for a mute to 13 for a Uint64, and its number in 64 bits: of a state, a position,
-/// a truth (0 or 1) or a setting, a signed one in two's complement. `zero` is not looked at.
+/// A value: the number of its class, 2 for a mute to 13 for a Uint64, and its number in 64 bits: of a state, a
+/// position, a truth (0 or 1) or a setting, a signed one in two's complement. `zero` is not looked at.
 #[repr(C)]
 #[derive(Clone, Copy, Debug, PartialEq, Eq)]
 pub struct ValueWords {
@@ -29,7 +28,7 @@ pub struct ReadingWords {
 
 /// A signed setting.
 fn signed(class_number: u32, setting: i64) -> ValueWords
-    ensures { result ≡ Rattle.oca_c.specs.CValues.signed class_number setting }
+    ensures { result ≡ Rattle.oca_c.specs.CValues.signed_words class_number setting }
 {
     ValueWords {
         class_number,
@@ -40,7 +39,7 @@ fn signed(class_number: u32, setting: i64) -> ValueWords
 
 /// An unsigned number.
 fn unsigned(class_number: u32, number: u64) -> ValueWords
-    ensures { result ≡ Rattle.oca_c.specs.CValues.unsigned class_number number }
+    ensures { result ≡ Rattle.oca_c.specs.CValues.unsigned_words class_number number }
 {
     ValueWords {
         class_number,
@@ -189,24 +188,4 @@ pub fn class_with(number: u32) -> Option<Class>
         13 => Class::Uint64,
         _ => return None,
     })
-}
-
-/// The value as the device's own front has it.
-pub fn local_of(value: Value) -> LocalValue
-    ensures { result ≡ Rattle.oca_c.specs.CValues.local_of value }
-{
-    match value {
-        Value::Mute(state) => LocalValue::State(state as u8),
-        Value::Polarity(state) => LocalValue::State(state as u8),
-        Value::Switch(position) => LocalValue::Position(position),
-        Value::Boolean(truth) => LocalValue::Truth(truth),
-        Value::Int8(setting) => LocalValue::Number(i128::from(setting)),
-        Value::Int16(setting) => LocalValue::Number(i128::from(setting)),
-        Value::Int32(setting) => LocalValue::Number(i128::from(setting)),
-        Value::Int64(setting) => LocalValue::Number(i128::from(setting)),
-        Value::Uint8(setting) => LocalValue::Number(i128::from(setting)),
-        Value::Uint16(setting) => LocalValue::Number(i128::from(setting)),
-        Value::Uint32(setting) => LocalValue::Number(i128::from(setting)),
-        Value::Uint64(setting) => LocalValue::Number(i128::from(setting)),
-    }
 }

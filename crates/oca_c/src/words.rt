@@ -3,7 +3,7 @@ ghost use Rattle.std.specs.Prelude.{◌≡◌, ◌≤◌, ◌<◌, length};
 ghost use Rattle.oca_device.specs.Written.{numbers_of};
 ghost use Rattle.oca_c.specs.LinkCalls.{LiesIn};
 ghost use Rattle.oca_c.specs.Numbers.{answer_number};
-ghost use Rattle.oca_c.specs.Told.{TellsBytes, class_number, lock_number, object_words, put_words, verdict_words};
+ghost use Rattle.oca_c.specs.Outputs.{WritesBytes, class_number, lock_number, object_words, put_words, verdict_words};
 
 use crate::answer::Answer;
 use oca_device::Verdict;
@@ -16,7 +16,7 @@ pub const VERDICT_WORDS: usize = 7;
 /// How many words tell of an object.
 pub const OBJECT_WORDS: usize = 4;
 
-/// What is told of a verdict: 0, how many commands were executed, kept, old and reused; 1, 0, 0, 0, 0, the number of
+/// The words of a verdict: 0, how many commands were executed, kept, old and reused; 1, 0, 0, 0, 0, the number of
 /// the fault and where it lies; or 2 for no room.
 pub fn words_of(verdict: Verdict) -> [u32; VERDICT_WORDS]
     ensures { result ≡ verdict_words verdict }
@@ -41,7 +41,7 @@ pub fn words_of(verdict: Verdict) -> [u32; VERDICT_WORDS]
     }
 }
 
-/// What is told of an object: its number, its container's, its class and how many bytes its role has.
+/// The words of an object: its number, its container's, its class and how many bytes its role has.
 pub fn object_words(object: &ObjectInfo) -> [u32; OBJECT_WORDS]
     ensures { result ≡ object_words object.now }
 {
@@ -116,7 +116,7 @@ pub fn put_front(bytes: &[u8], place: &mut [u8]) -> usize
 
 /// Copies bytes to the front of a place, where it has room for them, and tells how many they are.
 pub fn put_bytes(bytes: &[u8], place: &mut [u8], len: &mut usize) -> Answer
-    ensures { TellsBytes bytes.now place.old place.new len.new (answer_number result) }
+    ensures { WritesBytes bytes.now place.old place.new len.new (answer_number result) }
 {
     *len = bytes.len();
     if place.len() < bytes.len() {

@@ -11,7 +11,7 @@ use Rattle.oca_tree.specs.Execution.{execution}
 use Rattle.oca_tree.specs.Locks.{released}
 use Rattle.oca_tree.specs.Settings.{after_set}
 use Rattle.oca_session.specs.Accepted.{Entry, Fresh, Duplicate, Reused, judge_unaccepted, accepts, entry_under, window, asks_the_same}
-use Rattle.oca_device.specs.Notes.{run, is_known, accepted}
+use Rattle.oca_device.specs.Notes.{run, is_noted, accepted}
 use Rattle.oca_device.specs.States.{State, judged_in, reply_of, after_command, after_messages, time_of}
 use Rattle.oca_device.specs.Answers.{response, answer_to_command, answers_to_messages}
 use Rattle.oca_device.specs.LawByEvents.{accepts_handle, accepted_of, is_duplicate, Change, Executes, Releases, Sets, objects, reply, replies}
@@ -25,7 +25,7 @@ pub record Grows (A A' : List Entry) : Type 0 where
   pub more : List Entry
   pub grew : A' ≡ A ++ more
 
-accepted_grows : (w : DeviceSizes) (p : Peer) (ms : List Msg) (s : State) → is_known s.moment s.notes p ≡ true →
+accepted_grows : (w : DeviceSizes) (p : Peer) (ms : List Msg) (s : State) → is_noted s.moment s.notes p ≡ true →
     Grows (accepted (run p s.notes)) (accepted (run p (after_messages w p ms s).notes))
 accepted_grows w p [] s k = record { more = []; grew = sym (append-nil (accepted (run p s.notes))) }
 accepted_grows w p (Command respond c ∷ ms) s k =
@@ -80,7 +80,7 @@ module _ (w : DeviceSizes) (p : Peer) (c : CommandFields) (s : State) (under : �
       by false q None f = refl
       by false q (Some e) f = by_asked e (asks_the_same e.command c) (f e refl)
 
-pub messages_answered : (w : DeviceSizes) (p : Peer) (ms : List Msg) (s : State) (under : ℕ → List Msg) → is_known s.moment s.notes p ≡ true → AreDistinct (executed_of p s.notes) →
+pub messages_answered : (w : DeviceSizes) (p : Peer) (ms : List Msg) (s : State) (under : ℕ → List Msg) → is_noted s.moment s.notes p ≡ true → AreDistinct (executed_of p s.notes) →
     AnswersUnder under (accepted (run p (after_messages w p ms s).notes)) →
     answers_to_messages w p ms s ≡ replies w under (executed_of p s.notes) ms
 messages_answered w p [] s under k d u = refl
@@ -188,7 +188,7 @@ replied_fresh w p c s tree C A new same rep = λ h e f.
         ap (λ (o : Option Entry). response h (or_else e o).reply ∷ []) found
     by h e f false k = rep h e (sym (found_before h A (entry_of p c s) k) ∙ f)
 
-pub messages_replied : (w : DeviceSizes) (p : Peer) (ms : List Msg) (s : State) (tree : List Object) (C : List Change) → is_known s.moment s.notes p ≡ true → s.tree ≡ objects tree C →
+pub messages_replied : (w : DeviceSizes) (p : Peer) (ms : List Msg) (s : State) (tree : List Object) (C : List Change) → is_noted s.moment s.notes p ≡ true → s.tree ≡ objects tree C →
     Replied tree C p (accepted (run p s.notes)) →
     Replied tree (C ++ map (Executes p) (accepted_of w (executed_of p s.notes) ms)) p (accepted (run p (after_messages w p ms s).notes))
 messages_replied w p [] s tree C k same rep = subst (λ (x : List Change). Replied tree x p (accepted (run p s.notes))) (sym (append-nil C)) rep

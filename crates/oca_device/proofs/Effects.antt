@@ -11,7 +11,7 @@ use Rattle.oca_tree.specs.Execution.{execution}
 use Rattle.oca_tree.specs.Locks.{released}
 use Rattle.oca_tree.specs.Settings.{after_set}
 use Rattle.oca_session.specs.Accepted.{Entry, Fresh, Duplicate, Reused, judge_unaccepted, accepts, entry_under, window, asks_the_same}
-use Rattle.oca_device.specs.Notes.{is_known, accepted, run}
+use Rattle.oca_device.specs.Notes.{is_noted, accepted, run}
 use Rattle.oca_device.specs.States.{State, judged_in, reply_of, after_command, after_messages, time_of}
 use Rattle.oca_device.specs.Written.{written_by_execution, written_by_command, written_by_messages}
 use Rattle.oca_device.specs.LawByEvents.{accepts_handle, accepted_of, Change, Executes, Releases, Sets, objects, Execution, executions, executions_noted, written_of}
@@ -35,7 +35,7 @@ command_written w p c s =
     by false None = refl
     by false (Some e) = by_asked e (asks_the_same e.command c)
 
-pub messages_written : (w : DeviceSizes) (p : Peer) (ms : List Msg) (s : State) → is_known s.moment s.notes p ≡ true →
+pub messages_written : (w : DeviceSizes) (p : Peer) (ms : List Msg) (s : State) → is_noted s.moment s.notes p ≡ true →
     written_by_messages w p ms s ≡ written_of p s.tree (accepted_of w (executed_of p s.notes) ms)
 messages_written w p [] s k = refl
 messages_written w p (Command respond c ∷ ms) s k =
@@ -77,7 +77,7 @@ pub executions_released : (ps : List Peer) (tree : List Object) → executions t
 executions_released [] tree = refl
 executions_released (p ∷ ps) tree = executions_released ps (released tree p)
 
-pub messages_noted : (w : DeviceSizes) (p : Peer) (ms : List Msg) (s : State) → is_known s.moment s.notes p ≡ true →
+pub messages_noted : (w : DeviceSizes) (p : Peer) (ms : List Msg) (s : State) → is_noted s.moment s.notes p ≡ true →
     executions_noted (after_messages w p ms s).notes ≡ executions_noted s.notes ++ executions s.tree (map (Executes p) (accepted_of w (executed_of p s.notes) ms))
 messages_noted w p [] s k = sym (append-nil (executions_noted s.notes))
 messages_noted w p (Command respond c ∷ ms) s k =

@@ -13,12 +13,12 @@ use Rattle.oca_pdu.specs.Messages.{Msg, Command, Response, KeepAlive}
 use Rattle.oca_tree.specs.declared.object.Object.{Object}
 use Rattle.oca_tree.specs.declared.request.Request.{Request}
 use Rattle.oca_tree.specs.Objects.{object_of}
-use Rattle.oca_tree.specs.Execution.{Execution, answer, execution, by_status, status_of, first_that_applies, kind_at, request_at, is_unknown, is_left_out, is_locked, on_both}
+use Rattle.oca_tree.specs.Execution.{Execution, answer, execution, by_status, status_of, first_that_applies, kind_at, request_at, is_unknown, is_kind_left_out, is_locked, on_both}
 use Rattle.oca_tree.specs.Requests.{is_out_of_range, is_invalid}
 use Rattle.oca_tree.specs.Locks.{released}
 use Rattle.oca_tree.specs.Settings.{after_set}
-use Rattle.oca_device.specs.Groups.{IsAnswer}
-use Rattle.oca_device.specs.LawByEvents.{Happening, Passes, Says, Sets, Change, Executes, Releases, reply, replies, answers, changes, clock, admitted, accepted_by, served_of, accepts_handle, is_duplicate, with_command}
+use Rattle.oca_device.specs.Groups.{IsAnswerMessage}
+use Rattle.oca_device.specs.LawByEvents.{Happening, Passes, Says, Sets, Change, Executes, Releases, reply, replies, answers_by_events, changes, clock, admitted, accepted_by, served_of, accepts_handle, is_duplicate, with_command}
 
 -- ---- the parameters of an answer
 
@@ -65,7 +65,7 @@ found_short tree peer c None r e = none_long
 found_short tree peer c (Some o) None e = none_long
 found_short tree peer c (Some o) (Some r) e =
     status_short tree peer o r (status_of tree peer (Some o) c) (λ q. not_above (length (answer tree o r))
-    (sym (ap (λ (x : Option Request). on_both (λ o r. nat_lt 1452 (length (answer tree o r))) (Some o) x) e) ∙ last_line (is_none (Some o)) (is_unknown (kind_at (Some o) c)) (is_left_out (kind_at (Some o) c)) (is_locked (Some o) (kind_at (Some o) c) peer) (is_none (request_at (Some o) (kind_at (Some o) c) c))
+    (sym (ap (λ (x : Option Request). on_both (λ o r. nat_lt 1452 (length (answer tree o r))) (Some o) x) e) ∙ last_line (is_none (Some o)) (is_unknown (kind_at (Some o) c)) (is_kind_left_out (kind_at (Some o) c)) (is_locked (Some o) (kind_at (Some o) c) peer) (is_none (request_at (Some o) (kind_at (Some o) c) c))
     (on_both (λ x y. is_out_of_range x.value y) (Some o) (request_at (Some o) (kind_at (Some o) c) c)) (on_both (λ x y. is_invalid x.lockable x.lock y) (Some o) (request_at (Some o) (kind_at (Some o) c) c))
     (on_both (λ x y. nat_lt 1452 (length (answer tree x y))) (Some o) (request_at (Some o) (kind_at (Some o) c) c)) q))
 
@@ -78,7 +78,7 @@ execution_short tree peer c =
 -- ---- the answers of the law
 
 abbrev AreAnswers : List Msg → Type 0
-AreAnswers ms = AllByRecursion IsAnswer ms
+AreAnswers ms = AllByRecursion IsAnswerMessage ms
 
 abbrev its : Execution → ℕ → Msg
 its x h = Response (record { handle = h; status = status_number x.status; count = x.count; params = x.parameters })
@@ -108,7 +108,7 @@ replies_fit w under A (Command respond c ∷ ms) u =
 replies_fit w under A (KeepAlive form ∷ ms) u = (tt, replies_fit w under A ms u)
 replies_fit w under A (Response r ∷ ms) u = replies_fit w under A ms u
 
-pub answers_fit : (w : DeviceSizes) (tree : List Object) (H : List Happening) → AllByRecursion IsAnswer (answers w tree H)
+pub answers_fit : (w : DeviceSizes) (tree : List Object) (H : List Happening) → AllByRecursion IsAnswerMessage (answers_by_events w tree H)
 answers_fit w tree [] = tt
 answers_fit w tree (Passes now ∷ H) = tt
 answers_fit w tree (Sets ono value ∷ H) = tt

@@ -7,7 +7,7 @@ use Rattle.std.proofs.lemmas.Grind.{flat_map-append}
 use Rattle.std.proofs.lemmas.List.{append_assoc, append-nil, length-append, map-append}
 use Rattle.oca_pdu.specs.Messages.{ResponseFields, Msg, Command, Response, KeepAlive, Pdu, Commands, Responses, OneKeepAlive, messages_of}
 use Rattle.oca_pdu.specs.Encoding.{response_encoding, pdu_encoding}
-use Rattle.oca_device.specs.Groups.{IsGroup, IsFullBefore, AreGroups, IsAnswer, pdu_of, with_response, last_with, from_with, with_answer, with_answers, groups_of}
+use Rattle.oca_device.specs.Groups.{IsGroup, IsFullBefore, AreGroups, IsAnswerMessage, pdu_of, with_response, last_with, from_with, with_answer, with_answers, groups_of}
 
 -- ---- the size of a PDU of responses
 
@@ -106,12 +106,12 @@ last_response rs r g few = by (nat_le (length (pdu_encoding (Responses (rs ++ r 
       said = ap (λ (ms : List Msg). ms ++ Response r ∷ []) (sym (append-nil (map (λ x. Response x) rs)));
     }
 
-one_group : (m : Msg) → IsAnswer m → IsGroup (pdu_of m)
+one_group : (m : Msg) → IsAnswerMessage m → IsGroup (pdu_of m)
 one_group (Command respond c) a = absurd a
 one_group (Response r) a = (omega arith, omega (arith, size_one r))
 one_group (KeepAlive form) a = tt
 
-last_grown : (p : Pdu) (m : Msg) → IsGroup p → IsAnswer m → Grown (last_with p m) (p ∷ []) m
+last_grown : (p : Pdu) (m : Msg) → IsGroup p → IsAnswerMessage m → Grown (last_with p m) (p ∷ []) m
 last_grown (Responses rs) (Response r) g a = last_response rs r g a
 last_grown (Responses rs) (KeepAlive form) g a = record { sound = ((g, (tt, tt)), (tt, (tt, tt))); said = ap (λ (ms : List Msg). ms ++ KeepAlive form ∷ []) (sym (append-nil (map (λ x. Response x) rs))) }
 last_grown (Responses rs) (Command respond c) g a = absurd a
@@ -139,7 +139,7 @@ still_first p (Responses rs) [] (Command respond c) g h = h
 still_first p (OneKeepAlive form) [] m g h = h
 still_first p (Commands respond cs) [] m g h = absurd g
 
-from_grown : (p : Pdu) (groups : List Pdu) (m : Msg) → AreSound (p ∷ groups) → IsAnswer m → Grown (from_with p groups m) (p ∷ groups) m
+from_grown : (p : Pdu) (groups : List Pdu) (m : Msg) → AreSound (p ∷ groups) → IsAnswerMessage m → Grown (from_with p groups m) (p ∷ groups) m
 from_grown p [] m h a = last_grown p m h.0.0 a
 from_grown p (q ∷ groups) m h a =
     let rest = from_grown q groups m (h.0.1, h.1.1) a in
@@ -153,7 +153,7 @@ one_message (Command respond c) = refl
 one_message (Response r) = refl
 one_message (KeepAlive form) = refl
 
-answer_grown : (groups : List Pdu) (m : Msg) → AreSound groups → IsAnswer m → Grown (with_answer groups m) groups m
+answer_grown : (groups : List Pdu) (m : Msg) → AreSound groups → IsAnswerMessage m → Grown (with_answer groups m) groups m
 answer_grown [] m h a = record { sound = ((one_group m a, tt), (tt, tt)); said = append-nil (messages_of (pdu_of m)) ∙ one_message m }
 answer_grown (p ∷ groups) m h a = from_grown p groups m h a
 
@@ -161,14 +161,14 @@ pub record Built (groups before : List Pdu) (ms : List Msg) : Type 0 where
   pub sound : AreSound groups
   pub said : said_by groups ≡ said_by before ++ ms
 
-built : (groups : List Pdu) (ms : List Msg) → AreSound groups → AllByRecursion IsAnswer ms → Built (with_answers groups ms) groups ms
+built : (groups : List Pdu) (ms : List Msg) → AreSound groups → AllByRecursion IsAnswerMessage ms → Built (with_answers groups ms) groups ms
 built groups [] h a = record { sound = h; said = sym (append-nil (said_by groups)) }
 built groups (m ∷ ms) h a =
     let one = answer_grown groups m h a.0 in
     let rest = built (with_answer groups m) ms one.sound a.1 in
     record { sound = rest.sound; said = rest.said ∙ ap (λ (xs : List Msg). xs ++ ms) one.said ∙ append_assoc (said_by groups) (m ∷ []) ms }
 
-pub are_groups : (answers : List Msg) → AllByRecursion IsAnswer answers → AreGroups answers (groups_of answers)
+pub are_groups : (answers : List Msg) → AllByRecursion IsAnswerMessage answers → AreGroups answers (groups_of answers)
 are_groups answers a =
     let all = built [] answers (tt, tt) a in
     record { in_order = all.said; each = all.sound.0; full = full_between (groups_of answers) all.sound.1 }
@@ -266,7 +266,7 @@ unique (Commands respond cs ∷ ps) (q ∷ qs) h k e = absurd h.0.0
 unique (OneKeepAlive f ∷ ps) (Commands respond cs ∷ qs) h k e = absurd k.0.0
 unique (Responses rs ∷ ps) (Commands respond cs ∷ qs) h k e = absurd k.0.0
 
-pub only_groups : (answers : List Msg) (groups : List Pdu) → AllByRecursion IsAnswer answers → AreGroups answers groups → groups ≡ groups_of answers
+pub only_groups : (answers : List Msg) (groups : List Pdu) → AllByRecursion IsAnswerMessage answers → AreGroups answers groups → groups ≡ groups_of answers
 only_groups answers groups a h =
     let made = are_groups answers a in
     unique groups (groups_of answers) (h.each, are_full groups h.full) (made.each, are_full (groups_of answers) made.full) (h.in_order ∙ sym made.in_order)

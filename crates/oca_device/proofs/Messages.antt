@@ -10,10 +10,10 @@ use Rattle.oca_pdu.specs.Messages.{Msg, Command, Response, KeepAlive}
 use Rattle.oca_tree.specs.Execution.{execution}
 use Rattle.oca_session.specs.Accepted.{Entry, Fresh, Duplicate, Reused, judge_unaccepted, accepts, entry_under, window, asks_the_same}
 use Rattle.oca_device.specs.declared.counts.Counts.{Counts}
-use Rattle.oca_device.specs.Notes.{Heartbeat, Executed, Note, notes_of, run, is_known, accepted, heartbeat_of}
+use Rattle.oca_device.specs.Notes.{Heartbeat, Executed, Note, notes_of, run, is_noted, accepted, heartbeat_noted}
 use Rattle.oca_device.specs.States.{State, noted, judged_in, reply_of, after_command, after_messages, time_of}
 use Rattle.oca_device.specs.Answers.{counts, plus, count_of_command, counts_of_messages}
-use Rattle.oca_device.specs.LawByEvents.{accepts_handle, accepted_of, is_duplicate, Executes, objects, heartbeat, counted, all_counted}
+use Rattle.oca_device.specs.LawByEvents.{accepts_handle, accepted_of, is_duplicate, Executes, objects, heartbeat, counted_command, all_counted}
 use Rattle.oca_device.proofs.Runs.{run_goes_on, known_now}
 use Rattle.oca_device.proofs.Acceptance.{commands_of, AreDistinct, accepts_same, distinct_after, duplicate_is, reuse_is, asks_so}
 
@@ -32,14 +32,14 @@ entry_of p c s = record { command = c; reply = reply_of s.tree p c }
 abbrev pub fresh_note : Peer → CommandFields → State → Note
 fresh_note p c s = record { peer = p; at = s.moment; what = Executed s.tree c (reply_of s.tree p c) }
 
-pub fresh_known : (p : Peer) (c : CommandFields) (s : State) → is_known (fresh_state p c s).moment (fresh_state p c s).notes p ≡ true
+pub fresh_known : (p : Peer) (c : CommandFields) (s : State) → is_noted (fresh_state p c s).moment (fresh_state p c s).notes p ≡ true
 fresh_known p c s = known_now (fresh_note p c s) s.notes
 
-pub fresh_accepted : (p : Peer) (c : CommandFields) (s : State) → is_known s.moment s.notes p ≡ true →
+pub fresh_accepted : (p : Peer) (c : CommandFields) (s : State) → is_noted s.moment s.notes p ≡ true →
     accepted (run p (fresh_state p c s).notes) ≡ accepted (run p s.notes) ++ entry_of p c s ∷ []
 fresh_accepted p c s k = ap accepted (run_goes_on (fresh_note p c s) s.notes k)
 
-pub fresh_executed : (p : Peer) (c : CommandFields) (s : State) → is_known s.moment s.notes p ≡ true →
+pub fresh_executed : (p : Peer) (c : CommandFields) (s : State) → is_noted s.moment s.notes p ≡ true →
     executed_of p (fresh_state p c s).notes ≡ executed_of p s.notes ++ c ∷ []
 fresh_executed p c s k = ap commands_of (fresh_accepted p c s k) ∙ map-append (λ (e : Entry). e.command) (accepted (run p s.notes)) (entry_of p c s ∷ [])
 
@@ -70,18 +70,18 @@ kept_alive p ms s = noted p (Heartbeat ms) s
 abbrev alive_note : Peer → ℕ → State → Note
 alive_note p ms s = record { peer = p; at = s.moment; what = Heartbeat ms }
 
-pub alive_accepted : (p : Peer) (ms : ℕ) (s : State) → is_known s.moment s.notes p ≡ true → accepted (run p (kept_alive p ms s).notes) ≡ accepted (run p s.notes)
+pub alive_accepted : (p : Peer) (ms : ℕ) (s : State) → is_noted s.moment s.notes p ≡ true → accepted (run p (kept_alive p ms s).notes) ≡ accepted (run p s.notes)
 alive_accepted p ms s k = ap accepted (run_goes_on (alive_note p ms s) s.notes k)
 
-pub alive_executed : (p : Peer) (ms : ℕ) (s : State) → is_known s.moment s.notes p ≡ true → executed_of p (kept_alive p ms s).notes ≡ executed_of p s.notes
+pub alive_executed : (p : Peer) (ms : ℕ) (s : State) → is_noted s.moment s.notes p ≡ true → executed_of p (kept_alive p ms s).notes ≡ executed_of p s.notes
 alive_executed p ms s k = ap commands_of (alive_accepted p ms s k)
 
-pub alive_known : (p : Peer) (ms : ℕ) (s : State) → is_known (kept_alive p ms s).moment (kept_alive p ms s).notes p ≡ true
+pub alive_known : (p : Peer) (ms : ℕ) (s : State) → is_noted (kept_alive p ms s).moment (kept_alive p ms s).notes p ≡ true
 alive_known p ms s = known_now (alive_note p ms s) s.notes
 
 -- ---- several messages of a known peer
 
-pub messages_executed : (w : DeviceSizes) (p : Peer) (ms : List Msg) (s : State) → is_known s.moment s.notes p ≡ true →
+pub messages_executed : (w : DeviceSizes) (p : Peer) (ms : List Msg) (s : State) → is_noted s.moment s.notes p ≡ true →
     executed_of p (after_messages w p ms s).notes ≡ executed_of p s.notes ++ accepted_of w (executed_of p s.notes) ms
 messages_executed w p [] s k = sym (append-nil (executed_of p s.notes))
 messages_executed w p (Command respond c ∷ ms) s k =
@@ -104,7 +104,7 @@ messages_executed w p (KeepAlive form ∷ ms) s k =
     ∙ ap (λ (B : List CommandFields). B ++ accepted_of w B ms) (alive_executed p (time_of form) s k)
 messages_executed w p (Response r ∷ ms) s k = messages_executed w p ms s k
 
-pub messages_tree : (w : DeviceSizes) (p : Peer) (ms : List Msg) (s : State) → is_known s.moment s.notes p ≡ true →
+pub messages_tree : (w : DeviceSizes) (p : Peer) (ms : List Msg) (s : State) → is_noted s.moment s.notes p ≡ true →
     (after_messages w p ms s).tree ≡ objects s.tree (map (Executes p) (accepted_of w (executed_of p s.notes) ms))
 messages_tree w p [] s k = refl
 messages_tree w p (Command respond c ∷ ms) s k =
@@ -162,30 +162,30 @@ messages_other w p q (Response r ∷ ms) s h = messages_other w p q ms s h
 
 -- ---- the heartbeat
 
-heartbeat_command : (w : DeviceSizes) (p : Peer) (c : CommandFields) (b : Bool) (s : State) → is_known s.moment s.notes p ≡ true →
-    heartbeat_of (run p (cond b (fresh_state p c s) s).notes) ≡ heartbeat_of (run p s.notes)
-heartbeat_command w p c true s k = ap heartbeat_of (run_goes_on (fresh_note p c s) s.notes k)
+heartbeat_command : (w : DeviceSizes) (p : Peer) (c : CommandFields) (b : Bool) (s : State) → is_noted s.moment s.notes p ≡ true →
+    heartbeat_noted (run p (cond b (fresh_state p c s) s).notes) ≡ heartbeat_noted (run p s.notes)
+heartbeat_command w p c true s k = ap heartbeat_noted (run_goes_on (fresh_note p c s) s.notes k)
 heartbeat_command w p c false s k = refl
 
-known_command : (p : Peer) (c : CommandFields) (b : Bool) (s : State) → is_known s.moment s.notes p ≡ true →
-    is_known (cond b (fresh_state p c s) s).moment (cond b (fresh_state p c s) s).notes p ≡ true
+known_command : (p : Peer) (c : CommandFields) (b : Bool) (s : State) → is_noted s.moment s.notes p ≡ true →
+    is_noted (cond b (fresh_state p c s) s).moment (cond b (fresh_state p c s) s).notes p ≡ true
 known_command p c true s k = fresh_known p c s
 known_command p c false s k = k
 
-pub messages_heartbeat : (w : DeviceSizes) (p : Peer) (ms : List Msg) (s : State) → is_known s.moment s.notes p ≡ true →
-    heartbeat_of (run p (after_messages w p ms s).notes) ≡ heartbeat (heartbeat_of (run p s.notes)) ms
+pub messages_heartbeat : (w : DeviceSizes) (p : Peer) (ms : List Msg) (s : State) → is_noted s.moment s.notes p ≡ true →
+    heartbeat_noted (run p (after_messages w p ms s).notes) ≡ heartbeat (heartbeat_noted (run p s.notes)) ms
 messages_heartbeat w p [] s k = refl
 messages_heartbeat w p (Command respond c ∷ ms) s k =
     let b = accepts_handle w (executed_of p s.notes) c.handle in
-    ap (λ (x : State). heartbeat_of (run p (after_messages w p ms x).notes)) (after_judged w p c s)
+    ap (λ (x : State). heartbeat_noted (run p (after_messages w p ms x).notes)) (after_judged w p c s)
     ∙ messages_heartbeat w p ms (cond b (fresh_state p c s) s) (known_command p c b s k)
     ∙ ap (λ (m : ℕ). heartbeat m ms) (heartbeat_command w p c b s k)
 messages_heartbeat w p (KeepAlive (Seconds n) ∷ ms) s k =
     messages_heartbeat w p ms (kept_alive p (1000 * n) s) (alive_known p (1000 * n) s)
-    ∙ ap (λ (r : List Note). heartbeat (heartbeat_of r) ms) (run_goes_on (alive_note p (1000 * n) s) s.notes k)
+    ∙ ap (λ (r : List Note). heartbeat (heartbeat_noted r) ms) (run_goes_on (alive_note p (1000 * n) s) s.notes k)
 messages_heartbeat w p (KeepAlive (Millis n) ∷ ms) s k =
     messages_heartbeat w p ms (kept_alive p n s) (alive_known p n s)
-    ∙ ap (λ (r : List Note). heartbeat (heartbeat_of r) ms) (run_goes_on (alive_note p n s) s.notes k)
+    ∙ ap (λ (r : List Note). heartbeat (heartbeat_noted r) ms) (run_goes_on (alive_note p n s) s.notes k)
 messages_heartbeat w p (Response r ∷ ms) s k = messages_heartbeat w p ms s k
 
 pub heartbeat_both : (b : ℕ) (xs ys : List Msg) → heartbeat b (xs ++ ys) ≡ heartbeat (heartbeat b xs) ys
@@ -197,14 +197,14 @@ heartbeat_both b (Response r ∷ xs) ys = heartbeat_both b xs ys
 
 -- ---- the counts
 
-pub distinct_next : (w : DeviceSizes) (p : Peer) (c : CommandFields) (s : State) → is_known s.moment s.notes p ≡ true → AreDistinct (executed_of p s.notes) →
+pub distinct_next : (w : DeviceSizes) (p : Peer) (c : CommandFields) (s : State) → is_noted s.moment s.notes p ≡ true → AreDistinct (executed_of p s.notes) →
     accepts_handle w (executed_of p s.notes) c.handle ≡ true → AreDistinct (executed_of p (fresh_state p c s).notes)
 distinct_next w p c s k d is_so =
     subst (λ (x : List CommandFields). AreDistinct x) (sym (fresh_executed p c s k))
     (subst (λ (b : Bool). AreDistinct (cond b (executed_of p s.notes ++ c ∷ []) (executed_of p s.notes))) is_so (distinct_after w (executed_of p s.notes) c d))
 
 command_counted : (w : DeviceSizes) (p : Peer) (c : CommandFields) (s : State) → AreDistinct (executed_of p s.notes) →
-    count_of_command (judged_in w s p c) ≡ counted w (executed_of p s.notes) c
+    count_of_command (judged_in w s p c) ≡ counted_command w (executed_of p s.notes) c
 command_counted w p c s d =
     by (accepts w.window A c.handle) (entry_under c.handle (window w.window A))
     ∙ ap (λ b. cond b (counts 1 0 0 0) (cond (asks_so (λ x. x) o c) (counts 0 1 0 0) (cond (asks_so not o c) (counts 0 0 0 1) (counts 0 0 1 0)))) (accepts_same w A c.handle)
@@ -227,13 +227,13 @@ command_counted w p c s d =
     by false None = refl
     by false (Some e) = by_asked e (asks_the_same e.command c)
 
-pub messages_counted : (w : DeviceSizes) (p : Peer) (ms : List Msg) (s : State) → is_known s.moment s.notes p ≡ true → AreDistinct (executed_of p s.notes) →
+pub messages_counted : (w : DeviceSizes) (p : Peer) (ms : List Msg) (s : State) → is_noted s.moment s.notes p ≡ true → AreDistinct (executed_of p s.notes) →
     counts_of_messages w p ms s ≡ all_counted w (executed_of p s.notes) ms
 messages_counted w p [] s k d = refl
 messages_counted w p (Command respond c ∷ ms) s k d =
     ap (λ (x : Counts). plus x (counts_of_messages w p ms (after_command (judged_in w s p c) p c s))) (command_counted w p c s d)
-    ∙ ap (λ (x : State). plus (counted w A c) (counts_of_messages w p ms x)) (after_judged w p c s)
-    ∙ ap (λ (x : Counts). plus (counted w A c) x)
+    ∙ ap (λ (x : State). plus (counted_command w A c) (counts_of_messages w p ms x)) (after_judged w p c s)
+    ∙ ap (λ (x : Counts). plus (counted_command w A c) x)
     (by (accepts_handle w A c.handle) refl
     (λ is_so. messages_counted w p ms (fresh_state p c s) (fresh_known p c s) (distinct_next w p c s k d is_so)
     ∙ ap (λ (B : List CommandFields). all_counted w B ms) (fresh_executed p c s k))

@@ -10,7 +10,7 @@ use Rattle.oca_pdu.specs.Messages.{Msg}
 use Rattle.oca_session.specs.Accepted.{retained_of}
 use Rattle.oca_session.specs.Table.{Session, Table, session_of, changed, lapsed, stays, is_lapsed, staying, with_moment_and_sessions}
 use Rattle.oca_session.specs.Table as table
-use Rattle.oca_device.specs.Notes.{Note, Noted, Admitted, notes_of, is_within, unbroken, run, is_known, peers_except, opened, known, last_moment, heartbeat_of, accepted}
+use Rattle.oca_device.specs.Notes.{Note, Noted, Admitted, notes_of, is_within, unbroken, run, is_noted, peers_except, noted_order, noted_peers, last_noted, heartbeat_noted, accepted}
 use Rattle.oca_device.specs.States.{State, noted, moved_to, lapsed_at}
 use Rattle.oca_device.specs.Devices.{session_for, table_of}
 use Rattle.oca_device.proofs.Lists.{filter_same, filter_both, filter_mapped, filter_appended, map_appended, map_back}
@@ -39,27 +39,27 @@ other_notes n ns q h = ap (λ b. cond b (n ∷ notes_of q ns) (notes_of q ns)) h
 own_notes : (n : Note) (ns : List Note) → notes_of n.peer (n ∷ ns) ≡ n ∷ notes_of n.peer ns
 own_notes n ns = ap (λ b. cond b (n ∷ notes_of n.peer ns) (notes_of n.peer ns)) (same_self n.peer)
 
-pub known_now : (n : Note) (ns : List Note) → is_known n.at (n ∷ ns) n.peer ≡ true
+pub known_now : (n : Note) (ns : List Note) → is_noted n.at (n ∷ ns) n.peer ≡ true
 known_now n ns = ap (is_within n.at) (own_notes n ns) ∙ now n.at
   where
     now : (t : ℕ) → nat_le (t - t) 120000 ≡ true
     now t = grind (arith, nat_tests)
 
 -- a run goes on, or begins
-pub run_goes_on : (n : Note) (ns : List Note) → is_known n.at ns n.peer ≡ true → run n.peer (n ∷ ns) ≡ n ∷ run n.peer ns
+pub run_goes_on : (n : Note) (ns : List Note) → is_noted n.at ns n.peer ≡ true → run n.peer (n ∷ ns) ≡ n ∷ run n.peer ns
 run_goes_on n ns h = ap unbroken (own_notes n ns) ∙ ap (λ b. n ∷ cond b (run n.peer ns) []) h
 
-pub run_begins : (n : Note) (ns : List Note) → is_known n.at ns n.peer ≡ false → run n.peer (n ∷ ns) ≡ n ∷ []
+pub run_begins : (n : Note) (ns : List Note) → is_noted n.at ns n.peer ≡ false → run n.peer (n ∷ ns) ≡ n ∷ []
 run_begins n ns h = ap unbroken (own_notes n ns) ∙ ap (λ b. n ∷ cond b (run n.peer ns) []) h
 
 -- those that were ever noted are those who opened
-opened_has : (ns : List Note) (p : Peer) → is_in p (opened ns) ≡ has_notes (notes_of p ns)
+opened_has : (ns : List Note) (p : Peer) → is_in p (noted_order ns) ≡ has_notes (notes_of p ns)
 opened_has [] p = refl
-opened_has (n ∷ ns) p = by_known (is_known n.at ns n.peer) refl (opened_has ns p)
+opened_has (n ∷ ns) p = by_known (is_noted n.at ns n.peer) refl (opened_has ns p)
   where
-    by_same_known : (b : Bool) → same_peer n.peer p ≡ b → is_known n.at ns n.peer ≡ true → is_in p (opened ns) ≡ has_notes (notes_of p ns) →
-        is_in p (opened ns) ≡ has_notes (cond b (n ∷ notes_of p ns) (notes_of p ns))
-    by_same_known true s k h = h ∙ known_has_notes n.at (notes_of p ns) (ap (is_known n.at ns) (sym (same_is n.peer p s)) ∙ k)
+    by_same_known : (b : Bool) → same_peer n.peer p ≡ b → is_noted n.at ns n.peer ≡ true → is_in p (noted_order ns) ≡ has_notes (notes_of p ns) →
+        is_in p (noted_order ns) ≡ has_notes (cond b (n ∷ notes_of p ns) (notes_of p ns))
+    by_same_known true s k h = h ∙ known_has_notes n.at (notes_of p ns) (ap (is_noted n.at ns) (sym (same_is n.peer p s)) ∙ k)
     by_same_known false s k h = h
 
     or_false : (b : Bool) → (b || false) ≡ b
@@ -70,104 +70,104 @@ opened_has (n ∷ ns) p = by_known (is_known n.at ns n.peer) refl (opened_has ns
     or_true true = refl
     or_true false = refl
 
-    by_same_new : (b : Bool) → same_peer n.peer p ≡ b → is_in p (opened ns) ≡ has_notes (notes_of p ns) →
-        (is_in p (peers_except n.peer (opened ns)) || (same_peer n.peer p || false)) ≡ has_notes (cond b (n ∷ notes_of p ns) (notes_of p ns))
-    by_same_new true s h = ap (λ x. is_in p (peers_except n.peer (opened ns)) || (x || false)) s ∙ or_true (is_in p (peers_except n.peer (opened ns)))
+    by_same_new : (b : Bool) → same_peer n.peer p ≡ b → is_in p (noted_order ns) ≡ has_notes (notes_of p ns) →
+        (is_in p (peers_except n.peer (noted_order ns)) || (same_peer n.peer p || false)) ≡ has_notes (cond b (n ∷ notes_of p ns) (notes_of p ns))
+    by_same_new true s h = ap (λ x. is_in p (peers_except n.peer (noted_order ns)) || (x || false)) s ∙ or_true (is_in p (peers_except n.peer (noted_order ns)))
     by_same_new false s h =
-        ap (λ x. is_in p (peers_except n.peer (opened ns)) || (x || false)) s
-        ∙ or_false (is_in p (peers_except n.peer (opened ns)))
-        ∙ in_filtered (λ q. not (same_peer q n.peer)) p (opened ns)
-        ∙ ap (λ x. not x && is_in p (opened ns)) (same_turned p n.peer ∙ s)
+        ap (λ x. is_in p (peers_except n.peer (noted_order ns)) || (x || false)) s
+        ∙ or_false (is_in p (peers_except n.peer (noted_order ns)))
+        ∙ in_filtered (λ q. not (same_peer q n.peer)) p (noted_order ns)
+        ∙ ap (λ x. not x && is_in p (noted_order ns)) (same_turned p n.peer ∙ s)
         ∙ h
 
-    by_known : (b : Bool) → is_known n.at ns n.peer ≡ b → is_in p (opened ns) ≡ has_notes (notes_of p ns) →
-        is_in p (cond b (opened ns) (peers_except n.peer (opened ns) ++ n.peer ∷ [])) ≡ has_notes (cond (same_peer n.peer p) (n ∷ notes_of p ns) (notes_of p ns))
+    by_known : (b : Bool) → is_noted n.at ns n.peer ≡ b → is_in p (noted_order ns) ≡ has_notes (notes_of p ns) →
+        is_in p (cond b (noted_order ns) (peers_except n.peer (noted_order ns) ++ n.peer ∷ [])) ≡ has_notes (cond (same_peer n.peer p) (n ∷ notes_of p ns) (notes_of p ns))
     by_known true k h = by_same_known (same_peer n.peer p) refl k h
-    by_known false k h = list_any-append (λ q. same_peer q p) (peers_except n.peer (opened ns)) (n.peer ∷ []) ∙ by_same_new (same_peer n.peer p) refl h
+    by_known false k h = list_any-append (λ q. same_peer q p) (peers_except n.peer (noted_order ns)) (n.peer ∷ []) ∙ by_same_new (same_peer n.peer p) refl h
 
 -- the list of the known has exactly those who are known
-pub known_has : (t : ℕ) (ns : List Note) (p : Peer) → is_in p (known t ns) ≡ is_known t ns p
-known_has t ns p = in_filtered (is_known t ns) p (opened ns) ∙ ap (λ x. is_known t ns p && x) (opened_has ns p) ∙ within_has_notes t (notes_of p ns)
+pub known_has : (t : ℕ) (ns : List Note) (p : Peer) → is_in p (noted_peers t ns) ≡ is_noted t ns p
+known_has t ns p = in_filtered (is_noted t ns) p (noted_order ns) ∙ ap (λ x. is_noted t ns p && x) (opened_has ns p) ∙ within_has_notes t (notes_of p ns)
 
 -- a note of a known peer leaves the known
-known_goes_on : (n : Note) (ns : List Note) → is_known n.at ns n.peer ≡ true → known n.at (n ∷ ns) ≡ known n.at ns
+known_goes_on : (n : Note) (ns : List Note) → is_noted n.at ns n.peer ≡ true → noted_peers n.at (n ∷ ns) ≡ noted_peers n.at ns
 known_goes_on n ns k =
-    ap (λ b. filter (is_known n.at (n ∷ ns)) (cond b (opened ns) (peers_except n.peer (opened ns) ++ n.peer ∷ []))) k
-    ∙ filter_same (is_known n.at (n ∷ ns)) (is_known n.at ns) (λ q. by_same q (same_peer n.peer q) refl) (opened ns)
+    ap (λ b. filter (is_noted n.at (n ∷ ns)) (cond b (noted_order ns) (peers_except n.peer (noted_order ns) ++ n.peer ∷ []))) k
+    ∙ filter_same (is_noted n.at (n ∷ ns)) (is_noted n.at ns) (λ q. by_same q (same_peer n.peer q) refl) (noted_order ns)
   where
-    by_same : (q : Peer) (b : Bool) → same_peer n.peer q ≡ b → is_known n.at (n ∷ ns) q ≡ is_known n.at ns q
-    by_same q true s = let e = same_is n.peer q s in ap (is_known n.at (n ∷ ns)) (sym e) ∙ known_now n ns ∙ sym k ∙ ap (is_known n.at ns) e
+    by_same : (q : Peer) (b : Bool) → same_peer n.peer q ≡ b → is_noted n.at (n ∷ ns) q ≡ is_noted n.at ns q
+    by_same q true s = let e = same_is n.peer q s in ap (is_noted n.at (n ∷ ns)) (sym e) ∙ known_now n ns ∙ sym k ∙ ap (is_noted n.at ns) e
     by_same q false s = ap (is_within n.at) (other_notes n ns q s)
 
 -- a note of a peer that wasn't known puts it at the end
-known_begins : (n : Note) (ns : List Note) → is_known n.at ns n.peer ≡ false → known n.at (n ∷ ns) ≡ known n.at ns ++ n.peer ∷ []
+known_begins : (n : Note) (ns : List Note) → is_noted n.at ns n.peer ≡ false → noted_peers n.at (n ∷ ns) ≡ noted_peers n.at ns ++ n.peer ∷ []
 known_begins n ns k =
-    ap (λ b. filter (is_known n.at (n ∷ ns)) (cond b (opened ns) (peers_except n.peer (opened ns) ++ n.peer ∷ []))) k
-    ∙ filter_appended (is_known n.at (n ∷ ns)) (peers_except n.peer (opened ns)) (n.peer ∷ [])
-    ∙ ap (λ xs. xs ++ filter (is_known n.at (n ∷ ns)) (n.peer ∷ [])) (filter_both (is_known n.at (n ∷ ns)) (λ q. not (same_peer q n.peer)) (is_known n.at ns) (λ q. by_same q (same_peer n.peer q) refl) (opened ns))
-    ∙ ap (λ b. known n.at ns ++ cond b (n.peer ∷ []) []) (known_now n ns)
+    ap (λ b. filter (is_noted n.at (n ∷ ns)) (cond b (noted_order ns) (peers_except n.peer (noted_order ns) ++ n.peer ∷ []))) k
+    ∙ filter_appended (is_noted n.at (n ∷ ns)) (peers_except n.peer (noted_order ns)) (n.peer ∷ [])
+    ∙ ap (λ xs. xs ++ filter (is_noted n.at (n ∷ ns)) (n.peer ∷ [])) (filter_both (is_noted n.at (n ∷ ns)) (λ q. not (same_peer q n.peer)) (is_noted n.at ns) (λ q. by_same q (same_peer n.peer q) refl) (noted_order ns))
+    ∙ ap (λ b. noted_peers n.at ns ++ cond b (n.peer ∷ []) []) (known_now n ns)
   where
-    by_same : (q : Peer) (b : Bool) → same_peer n.peer q ≡ b → (not (same_peer q n.peer) && is_known n.at (n ∷ ns) q) ≡ is_known n.at ns q
+    by_same : (q : Peer) (b : Bool) → same_peer n.peer q ≡ b → (not (same_peer q n.peer) && is_noted n.at (n ∷ ns) q) ≡ is_noted n.at ns q
     by_same q true s =
-        ap (λ x. not x && is_known n.at (n ∷ ns) q) (same_turned q n.peer ∙ s)
-        ∙ sym k ∙ ap (is_known n.at ns) (same_is n.peer q s)
+        ap (λ x. not x && is_noted n.at (n ∷ ns) q) (same_turned q n.peer ∙ s)
+        ∙ sym k ∙ ap (is_noted n.at ns) (same_is n.peer q s)
     by_same q false s =
-        ap (λ x. not x && is_known n.at (n ∷ ns) q) (same_turned q n.peer ∙ s)
+        ap (λ x. not x && is_noted n.at (n ∷ ns) q) (same_turned q n.peer ∙ s)
         ∙ ap (is_within n.at) (other_notes n ns q s)
 
 -- who is known at a later moment
-known_later : (m t : ℕ) (ns : List Note) → m ≤ t → (w : DeviceSizes) → filter (λ q. stays t (session_for w ns q)) (known m ns) ≡ known t ns
-known_later m t ns le w = filter_both (λ q. stays t (session_for w ns q)) (is_known m ns) (is_known t ns) (λ q. by_notes (notes_of q ns)) (opened ns)
+known_later : (m t : ℕ) (ns : List Note) → m ≤ t → (w : DeviceSizes) → filter (λ q. stays t (session_for w ns q)) (noted_peers m ns) ≡ noted_peers t ns
+known_later m t ns le w = filter_both (λ q. stays t (session_for w ns q)) (is_noted m ns) (is_noted t ns) (λ q. by_notes (notes_of q ns)) (noted_order ns)
   where
     both_within : (a : ℕ) → (nat_le (m - a) 120000 && nat_le (t - a) 120000) ≡ nat_le (t - a) 120000
     both_within a = grind (arith, nat_tests)
 
-    by_notes : (own : List Note) → (is_within m own && nat_le (t - last_moment (unbroken own)) 120000) ≡ is_within t own
+    by_notes : (own : List Note) → (is_within m own && nat_le (t - last_noted (unbroken own)) 120000) ≡ is_within t own
     by_notes [] = refl
     by_notes (n ∷ own) = both_within n.at
 
 -- other peers' sessions stay
 other_session : (w : DeviceSizes) (n : Note) (ns : List Note) (q : Peer) → same_peer q n.peer ≡ false → session_for w ns q ≡ session_for w (n ∷ ns) q
 other_session w n ns q h =
-    ap (λ (own : List Note). let s : Session = record { peer = q; heard = last_moment (unbroken own); heartbeat = heartbeat_of (unbroken own); retained = retained_of w.window (accepted (unbroken own)) } in s)
+    ap (λ (own : List Note). let s : Session = record { peer = q; heard = last_noted (unbroken own); heartbeat = heartbeat_noted (unbroken own); retained = retained_of w.window (accepted (unbroken own)) } in s)
     (sym (other_notes n ns q (same_turned n.peer q ∙ h)))
 
 -- The clock moves.
 pub table_moved : (w : DeviceSizes) (t : ℕ) (s : State) → s.moment ≤ t → with_moment_and_sessions (table_of w s) t (staying t (table_of w s).sessions) ≡ table_of w (moved_to t s)
 table_moved w t s le =
     ap (λ ss. let x : Table = record { sizes = w; moment = t; sessions = ss } in x)
-    (filter_mapped (stays t) (session_for w s.notes) (known s.moment s.notes)
+    (filter_mapped (stays t) (session_for w s.notes) (noted_peers s.moment s.notes)
     ∙ ap (map (session_for w s.notes)) (known_later s.moment t s.notes le w))
 
 pub lapsed_moved : (w : DeviceSizes) (t : ℕ) (s : State) → lapsed t (table_of w s).sessions ≡ lapsed_at t s
 lapsed_moved w t s =
-    ap (map (λ (x : Session). x.peer)) (filter_mapped (is_lapsed t) (session_for w s.notes) (known s.moment s.notes))
+    ap (map (λ (x : Session). x.peer)) (filter_mapped (is_lapsed t) (session_for w s.notes) (noted_peers s.moment s.notes))
     ∙ map_back (session_for w s.notes) (λ (x : Session). x.peer) (λ _. refl) (lapsed_at t s)
 
 -- The session of a known peer.
-pub session_known : (w : DeviceSizes) (s : State) (p : Peer) → session_of p (table_of w s).sessions ≡ cond (is_known s.moment s.notes p) (Some (session_for w s.notes p)) None
+pub session_known : (w : DeviceSizes) (s : State) (p : Peer) → session_of p (table_of w s).sessions ≡ cond (is_noted s.moment s.notes p) (Some (session_for w s.notes p)) None
 session_known w s p =
-    session_made (session_for w s.notes) (λ _. refl) p (known s.moment s.notes)
+    session_made (session_for w s.notes) (λ _. refl) p (noted_peers s.moment s.notes)
     ∙ ap (λ b. cond b (Some (session_for w s.notes p)) None) (known_has s.moment s.notes p)
 
 -- A note of a known peer changes its session alone.
-pub table_noted : (w : DeviceSizes) (s : State) (p : Peer) (what : Noted) (f : Session → Session) → is_known s.moment s.notes p ≡ true →
+pub table_noted : (w : DeviceSizes) (s : State) (p : Peer) (what : Noted) (f : Session → Session) → is_noted s.moment s.notes p ≡ true →
     f (session_for w s.notes p) ≡ session_for w (noted p what s).notes p →
     changed p f (table_of w s).sessions ≡ (table_of w (noted p what s)).sessions
 table_noted w s p what f k e =
     let n : Note = record { peer = p; at = s.moment; what = what } in
-    changed_made (session_for w s.notes) (λ _. refl) (session_for w (n ∷ s.notes)) p f (other_session w n s.notes) e (known s.moment s.notes)
+    changed_made (session_for w s.notes) (λ _. refl) (session_for w (n ∷ s.notes)) p f (other_session w n s.notes) e (noted_peers s.moment s.notes)
     ∙ ap (map (session_for w (n ∷ s.notes))) (sym (known_goes_on n s.notes k))
 
 -- The first note of a run adds a session.
-pub table_opened : (w : DeviceSizes) (s : State) (p : Peer) (messages : List Msg) → is_known s.moment s.notes p ≡ false →
+pub table_opened : (w : DeviceSizes) (s : State) (p : Peer) (messages : List Msg) → is_noted s.moment s.notes p ≡ false →
     (table_of w s).sessions ++ table.opened_session w.window p s.moment ∷ [] ≡ (table_of w (noted p (Admitted messages) s)).sessions
 table_opened w s p messages k =
     let n : Note = record { peer = p; at = s.moment; what = Admitted messages } in
-    let ks = known s.moment s.notes in
+    let ks = noted_peers s.moment s.notes in
     let made = session_for w (n ∷ s.notes) in
     let new : table.opened_session w.window p s.moment ≡ made p =
-    ap (λ (own : List Note). let x : Session = record { peer = p; heard = last_moment own; heartbeat = heartbeat_of own; retained = retained_of w.window (accepted own) } in x) (sym (run_begins n s.notes k)) in
+    ap (λ (own : List Note). let x : Session = record { peer = p; heard = last_noted own; heartbeat = heartbeat_noted own; retained = retained_of w.window (accepted own) } in x) (sym (run_begins n s.notes k)) in
     ap (λ x. map (session_for w s.notes) ks ++ x ∷ []) new
     ∙ ap (λ xs. xs ++ made p ∷ []) (made_alike (session_for w s.notes) (λ _. refl) made p (other_session w n s.notes) ks (known_has s.moment s.notes p ∙ k))
     ∙ sym (map_appended made ks (p ∷ []))

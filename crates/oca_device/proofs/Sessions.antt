@@ -5,9 +5,9 @@ use Rattle.oca_types.specs.declared.words.Peer.{Peer}
 use Rattle.oca_types.specs.Peers.{same_peer, CommandFields}
 use Rattle.oca_types.specs.Sizes.{DeviceSizes}
 use Rattle.oca_pdu.specs.Messages.{Msg, Command, Response, KeepAlive}
-use Rattle.oca_device.specs.Notes.{Noted, Admitted, Heartbeat, Executed, Note, notes_of, is_within, unbroken, run, is_known, peers_except, opened, known, accepted, heartbeat_of, last_moment, has_lapsed}
+use Rattle.oca_device.specs.Notes.{Noted, Admitted, Heartbeat, Executed, Note, notes_of, is_within, unbroken, run, is_noted, peers_except, noted_order, noted_peers, accepted, heartbeat_noted, last_noted, has_lapsed}
 use Rattle.oca_device.specs.States.{State, noted, admits, reply_of, after_messages, time_of, lapsed_at}
-use Rattle.oca_device.specs.LawByEvents.{Arrival, Happening, session, is_open, said, heartbeat, accepted_of, accepts_handle, admitted, clock, is_lapsed, lapsed, has_room}
+use Rattle.oca_device.specs.LawByEvents.{Arrival, Happening, session, is_open, messages_in, heartbeat, accepted_of, accepts_handle, admitted, clock, session_has_lapsed, lapsed_peers, has_room}
 use Rattle.oca_device.specs.LawByEvents as law
 use Rattle.oca_device.proofs.Lists.{filter_same, filter_both}
 use Rattle.oca_device.proofs.Peers.{same_self, same_is}
@@ -50,21 +50,21 @@ known_where t q D = ap is_open (session_latest t q D) ∙ open_where t (latest q
 
 pub record Bridged (w : DeviceSizes) (own : List Note) (S : List Arrival) : Type 0 where
   pub moments : (t : ℕ) → is_within t own ≡ within t S
-  pub last : last_moment (unbroken own) ≡ law.last_moment S
-  pub beat : heartbeat_of (unbroken own) ≡ law.heartbeat_of S
-  pub commands : commands_of (accepted (unbroken own)) ≡ accepted_of w [] (said S)
+  pub last : last_noted (unbroken own) ≡ law.last_moment S
+  pub beat : heartbeat_noted (unbroken own) ≡ law.heartbeat_of S
+  pub commands : commands_of (accepted (unbroken own)) ≡ accepted_of w [] (messages_in S)
 
 pub none_bridged : (w : DeviceSizes) → Bridged w [] []
 none_bridged w = record { moments = λ t. refl; last = refl; beat = refl; commands = refl }
 
 -- each note of a datagram has its moment
 abbrev IsNow : Peer → State → ℕ → Type 0
-IsNow p s at = ((t : ℕ) → is_within t (notes_of p s.notes) ≡ nat_le (t - at) 120000) × (last_moment (run p s.notes) ≡ at)
+IsNow p s at = ((t : ℕ) → is_within t (notes_of p s.notes) ≡ nat_le (t - at) 120000) × (last_noted (run p s.notes) ≡ at)
 
 noted_now : (p : Peer) (what : Noted) (s : State) → IsNow p (noted p what s) s.moment
 noted_now p what s = (
   λ t. ap (λ b. is_within t (cond b (note ∷ notes_of p s.notes) (notes_of p s.notes))) (same_self p),
-  ap (λ b. last_moment (unbroken (cond b (note ∷ notes_of p s.notes) (notes_of p s.notes)))) (same_self p),
+  ap (λ b. last_noted (unbroken (cond b (note ∷ notes_of p s.notes) (notes_of p s.notes)))) (same_self p),
 )
   where
     note : Note
@@ -96,35 +96,35 @@ let_in p ms s = noted p (Admitted ms) s
 abbrev pub let_in_note : Peer → List Msg → State → Note
 let_in_note p ms s = record { peer = p; at = s.moment; what = Admitted ms }
 
-pub let_in_known : (p : Peer) (ms : List Msg) (s : State) → is_known (let_in p ms s).moment (let_in p ms s).notes p ≡ true
+pub let_in_known : (p : Peer) (ms : List Msg) (s : State) → is_noted (let_in p ms s).moment (let_in p ms s).notes p ≡ true
 let_in_known p ms s = known_now (let_in_note p ms s) s.notes
 
 abbrev pub arrival : Peer → List Msg → ℕ → Arrival
 arrival p ms t = record { from = p; messages = ms; at = t }
 
 -- the session of the moment, where its peer is known or not
-session_now : (w : DeviceSizes) (p : Peer) (s : State) (D : List Arrival) (b : Bool) → Bridged w (notes_of p s.notes) (latest p D) → is_known s.moment s.notes p ≡ b →
+session_now : (w : DeviceSizes) (p : Peer) (s : State) (D : List Arrival) (b : Bool) → Bridged w (notes_of p s.notes) (latest p D) → is_noted s.moment s.notes p ≡ b →
     session s.moment p D ≡ cond b (latest p D) []
 session_now w p s D b h k = session_latest s.moment p D ∙ ap (λ x. cond x (latest p D) []) (sym (h.moments s.moment) ∙ k)
 
 -- who is let in has what its present session has
 let_in_beat : (w : DeviceSizes) (p : Peer) (ms : List Msg) (s : State) (D : List Arrival) → Bridged w (notes_of p s.notes) (latest p D) →
-    heartbeat_of (run p (let_in p ms s).notes) ≡ law.heartbeat_of (session s.moment p D)
-let_in_beat w p ms s D h = by (is_known s.moment s.notes p) refl
+    heartbeat_noted (run p (let_in p ms s).notes) ≡ law.heartbeat_of (session s.moment p D)
+let_in_beat w p ms s D h = by (is_noted s.moment s.notes p) refl
   where
-    by : (b : Bool) → is_known s.moment s.notes p ≡ b → heartbeat_of (run p (let_in p ms s).notes) ≡ law.heartbeat_of (session s.moment p D)
-    by true k = ap heartbeat_of (run_goes_on (let_in_note p ms s) s.notes k) ∙ h.beat ∙ ap law.heartbeat_of (sym (session_now w p s D true h k))
-    by false k = ap heartbeat_of (run_begins (let_in_note p ms s) s.notes k) ∙ ap law.heartbeat_of (sym (session_now w p s D false h k))
+    by : (b : Bool) → is_noted s.moment s.notes p ≡ b → heartbeat_noted (run p (let_in p ms s).notes) ≡ law.heartbeat_of (session s.moment p D)
+    by true k = ap heartbeat_noted (run_goes_on (let_in_note p ms s) s.notes k) ∙ h.beat ∙ ap law.heartbeat_of (sym (session_now w p s D true h k))
+    by false k = ap heartbeat_noted (run_begins (let_in_note p ms s) s.notes k) ∙ ap law.heartbeat_of (sym (session_now w p s D false h k))
 
 pub let_in_executed : (w : DeviceSizes) (p : Peer) (ms : List Msg) (s : State) (D : List Arrival) → Bridged w (notes_of p s.notes) (latest p D) →
-    executed_of p (let_in p ms s).notes ≡ accepted_of w [] (said (session s.moment p D))
-let_in_executed w p ms s D h = by (is_known s.moment s.notes p) refl
+    executed_of p (let_in p ms s).notes ≡ accepted_of w [] (messages_in (session s.moment p D))
+let_in_executed w p ms s D h = by (is_noted s.moment s.notes p) refl
   where
-    by : (b : Bool) → is_known s.moment s.notes p ≡ b → executed_of p (let_in p ms s).notes ≡ accepted_of w [] (said (session s.moment p D))
+    by : (b : Bool) → is_noted s.moment s.notes p ≡ b → executed_of p (let_in p ms s).notes ≡ accepted_of w [] (messages_in (session s.moment p D))
     by true k = ap (λ (x : List Note). commands_of (accepted x)) (run_goes_on (let_in_note p ms s) s.notes k) ∙ h.commands
-        ∙ ap (λ (x : List Arrival). accepted_of w [] (said x)) (sym (session_now w p s D true h k))
+        ∙ ap (λ (x : List Arrival). accepted_of w [] (messages_in x)) (sym (session_now w p s D true h k))
     by false k = ap (λ (x : List Note). commands_of (accepted x)) (run_begins (let_in_note p ms s) s.notes k)
-        ∙ ap (λ (x : List Arrival). accepted_of w [] (said x)) (sym (session_now w p s D false h k))
+        ∙ ap (λ (x : List Arrival). accepted_of w [] (messages_in x)) (sym (session_now w p s D false h k))
 
 -- an admitted datagram keeps the bridge of its own peer
 own_bridged : (w : DeviceSizes) (p : Peer) (ms : List Msg) (s : State) (D : List Arrival) → Bridged w (notes_of p s.notes) (latest p D) →
@@ -136,10 +136,10 @@ own_bridged w p ms s D h =
       last = now.1;
       beat = messages_heartbeat w p ms (let_in p ms s) (let_in_known p ms s)
           ∙ ap (λ (b : ℕ). heartbeat b ms) (let_in_beat w p ms s D h)
-          ∙ sym (heartbeat_both 5000 (said own) ms);
+          ∙ sym (heartbeat_both 5000 (messages_in own) ms);
       commands = messages_executed w p ms (let_in p ms s) (let_in_known p ms s)
           ∙ ap (λ (A : List CommandFields). A ++ accepted_of w A ms) (let_in_executed w p ms s D h)
-          ∙ sym (accepted_both w [] (said own) ms);
+          ∙ sym (accepted_both w [] (messages_in own) ms);
     }
   where
     own : List Arrival
@@ -157,38 +157,38 @@ other_bridged w p q ms s D e h =
 
 -- ---- who opened
 
-messages_opened : (w : DeviceSizes) (p : Peer) (ms : List Msg) (s : State) → is_known s.moment s.notes p ≡ true → opened (after_messages w p ms s).notes ≡ opened s.notes
+messages_opened : (w : DeviceSizes) (p : Peer) (ms : List Msg) (s : State) → is_noted s.moment s.notes p ≡ true → noted_order (after_messages w p ms s).notes ≡ noted_order s.notes
 messages_opened w p [] s k = refl
 messages_opened w p (Command respond c ∷ ms) s k =
-    ap (λ (x : State). opened (after_messages w p ms x).notes) (after_judged w p c s)
+    ap (λ (x : State). noted_order (after_messages w p ms x).notes) (after_judged w p c s)
     ∙ by (accepts_handle w (executed_of p s.notes) c.handle)
-    (messages_opened w p ms (fresh_state p c s) (fresh_known p c s) ∙ ap (λ b. cond b (opened s.notes) (peers_except p (opened s.notes) ++ p ∷ [])) k)
+    (messages_opened w p ms (fresh_state p c s) (fresh_known p c s) ∙ ap (λ b. cond b (noted_order s.notes) (peers_except p (noted_order s.notes) ++ p ∷ [])) k)
     (messages_opened w p ms s k)
   where
-    by : (b : Bool) → opened (after_messages w p ms (fresh_state p c s)).notes ≡ opened s.notes → opened (after_messages w p ms s).notes ≡ opened s.notes →
-        opened (after_messages w p ms (cond b (fresh_state p c s) s)).notes ≡ opened s.notes
+    by : (b : Bool) → noted_order (after_messages w p ms (fresh_state p c s)).notes ≡ noted_order s.notes → noted_order (after_messages w p ms s).notes ≡ noted_order s.notes →
+        noted_order (after_messages w p ms (cond b (fresh_state p c s) s)).notes ≡ noted_order s.notes
     by true f g = f
     by false f g = g
 messages_opened w p (KeepAlive form ∷ ms) s k =
-    messages_opened w p ms (kept_alive p (time_of form) s) (alive_known p (time_of form) s) ∙ ap (λ b. cond b (opened s.notes) (peers_except p (opened s.notes) ++ p ∷ [])) k
+    messages_opened w p ms (kept_alive p (time_of form) s) (alive_known p (time_of form) s) ∙ ap (λ b. cond b (noted_order s.notes) (peers_except p (noted_order s.notes) ++ p ∷ [])) k
 messages_opened w p (Response r ∷ ms) s k = messages_opened w p ms s k
 
 -- ---- all peers
 
 pub record AllBridged (w : DeviceSizes) (s : State) (D : List Arrival) : Type 0 where
   pub each : (q : Peer) → Bridged w (notes_of q s.notes) (latest q D)
-  pub opened_is : opened s.notes ≡ law.opened D
+  pub opened_is : noted_order s.notes ≡ law.opened D
 
-pub same_known : (w : DeviceSizes) (t : ℕ) (s : State) (D : List Arrival) → AllBridged w s D → (p : Peer) → is_known t s.notes p ≡ law.is_known t p D
+pub same_known : (w : DeviceSizes) (t : ℕ) (s : State) (D : List Arrival) → AllBridged w s D → (p : Peer) → is_noted t s.notes p ≡ law.is_known t p D
 same_known w t s D h p = (h.each p).moments t ∙ sym (known_where t p D)
 
-pub known_are : (w : DeviceSizes) (t : ℕ) (s : State) (D : List Arrival) → AllBridged w s D → known t s.notes ≡ law.known t D
-known_are w t s D h = filter_same (is_known t s.notes) (λ p. law.is_known t p D) (same_known w t s D h) (opened s.notes)
+pub known_are : (w : DeviceSizes) (t : ℕ) (s : State) (D : List Arrival) → AllBridged w s D → noted_peers t s.notes ≡ law.known t D
+known_are w t s D h = filter_same (is_noted t s.notes) (λ p. law.is_known t p D) (same_known w t s D h) (noted_order s.notes)
     ∙ ap (filter (λ p. law.is_known t p D)) h.opened_is
 
 pub same_room : (w : DeviceSizes) (s : State) (p : Peer) (D : List Arrival) → AllBridged w s D → admits w s p ≡ has_room w s.moment p D
 same_room w s p D h =
-    ap (λ b. b || nat_lt (length (known s.moment s.notes)) w.peers) (same_known w s.moment s D h p)
+    ap (λ b. b || nat_lt (length (noted_peers s.moment s.notes)) w.peers) (same_known w s.moment s D h p)
     ∙ ap (λ (ps : List Peer). law.is_known s.moment p D || nat_lt (length ps) w.peers) (known_are w s.moment s D h)
 
 -- an admitted datagram keeps the bridges
@@ -196,7 +196,7 @@ pub let_in_bridged : (w : DeviceSizes) (p : Peer) (ms : List Msg) (s : State) (D
 let_in_bridged w p ms s D h = record {
   each = λ q. by q (same_peer p q) refl;
   opened_is = messages_opened w p ms (let_in p ms s) (let_in_known p ms s)
-      ∙ ap (λ b. cond b (opened s.notes) (peers_except p (opened s.notes) ++ p ∷ [])) (same_known w s.moment s D h p)
+      ∙ ap (λ b. cond b (noted_order s.notes) (peers_except p (noted_order s.notes) ++ p ∷ [])) (same_known w s.moment s D h p)
       ∙ ap (λ (ps : List Peer). cond (law.is_known s.moment p D) ps (peers_except p ps ++ p ∷ [])) h.opened_is;
 }
   where
@@ -209,35 +209,35 @@ let_in_bridged w p ms s D h = record {
 
 -- ---- who has lapsed
 
-pub same_lapsed : (w : DeviceSizes) (t : ℕ) (s : State) (H : List Happening) → s.moment ≡ clock H → AllBridged w s (admitted w H) → lapsed_at t s ≡ lapsed w t H
+pub same_lapsed : (w : DeviceSizes) (t : ℕ) (s : State) (H : List Happening) → s.moment ≡ clock H → AllBridged w s (admitted w H) → lapsed_at t s ≡ lapsed_peers w t H
 same_lapsed w t s H c h =
-    filter_both (has_lapsed t s.notes) (is_known s.moment s.notes) both (λ p. refl) (opened s.notes)
-    ∙ filter_same both both' same (opened s.notes)
+    filter_both (has_lapsed t s.notes) (is_noted s.moment s.notes) both (λ p. refl) (noted_order s.notes)
+    ∙ filter_same both both' same (noted_order s.notes)
     ∙ ap (filter both') h.opened_is
-    ∙ sym (filter_both (λ p. is_lapsed t (session (clock H) p D)) (λ p. law.is_known (clock H) p D) both' (λ p. refl) (law.opened D))
+    ∙ sym (filter_both (λ p. session_has_lapsed t (session (clock H) p D)) (λ p. law.is_known (clock H) p D) both' (λ p. refl) (law.opened D))
   where
     D : List Arrival
     D = admitted w H
 
     both : Peer → Bool
-    both p = is_known s.moment s.notes p && has_lapsed t s.notes p
+    both p = is_noted s.moment s.notes p && has_lapsed t s.notes p
 
     both' : Peer → Bool
-    both' p = law.is_known (clock H) p D && is_lapsed t (session (clock H) p D)
+    both' p = law.is_known (clock H) p D && session_has_lapsed t (session (clock H) p D)
 
     same : (p : Peer) → both p ≡ both' p
     same p =
-        by (is_known s.moment s.notes p) refl
-        ∙ ap (λ (m : ℕ). law.is_known m p D && is_lapsed t (session m p D)) c
+        by (is_noted s.moment s.notes p) refl
+        ∙ ap (λ (m : ℕ). law.is_known m p D && session_has_lapsed t (session m p D)) c
       where
-        by : (b : Bool) → is_known s.moment s.notes p ≡ b → (b && has_lapsed t s.notes p) ≡ (law.is_known s.moment p D && is_lapsed t (session s.moment p D))
+        by : (b : Bool) → is_noted s.moment s.notes p ≡ b → (b && has_lapsed t s.notes p) ≡ (law.is_known s.moment p D && session_has_lapsed t (session s.moment p D))
         by true k =
-            ap (λ (x : ℕ). nat_lt (3 * x) (t - last_moment (run p s.notes))) (h.each p).beat
+            ap (λ (x : ℕ). nat_lt (3 * x) (t - last_noted (run p s.notes))) (h.each p).beat
             ∙ ap (λ (x : ℕ). nat_lt (3 * law.heartbeat_of (latest p D)) (t - x)) (h.each p).last
-            ∙ ap (λ (x : List Arrival). is_lapsed t x) (sym (session_now w p s D true (h.each p) k))
-            ∙ ap (λ b. b && is_lapsed t (session s.moment p D)) (sym k ∙ same_known w s.moment s D h p)
-        by false k = ap (λ b. b && is_lapsed t (session s.moment p D)) (sym k ∙ same_known w s.moment s D h p)
+            ∙ ap (λ (x : List Arrival). session_has_lapsed t x) (sym (session_now w p s D true (h.each p) k))
+            ∙ ap (λ b. b && session_has_lapsed t (session s.moment p D)) (sym k ∙ same_known w s.moment s D h p)
+        by false k = ap (λ b. b && session_has_lapsed t (session s.moment p D)) (sym k ∙ same_known w s.moment s D h p)
 
 -- what is known of a known peer
-pub session_is : (w : DeviceSizes) (s : State) (D : List Arrival) (p : Peer) → AllBridged w s D → is_known s.moment s.notes p ≡ true → session s.moment p D ≡ latest p D
+pub session_is : (w : DeviceSizes) (s : State) (D : List Arrival) (p : Peer) → AllBridged w s D → is_noted s.moment s.notes p ≡ true → session s.moment p D ≡ latest p D
 session_is w s D p h k = session_now w p s D true (h.each p) k

@@ -15,15 +15,15 @@ use Rattle.oca_pdu.specs.Laws.{AreBytes, ReadingIsExact, OneListOfMessages}
 use Rattle.oca_tree.specs.declared.object.Object.{Object}
 use Rattle.oca_tree.specs.Locks.{released}
 use Rattle.oca_tree.specs.Settings.{after_set}
-use Rattle.oca_tree.specs.declared.setting.LocalValue.{LocalValue}
+use Rattle.oca_model.specs.declared.value.Value.{Value}
 use Rattle.oca_device.specs.declared.verdict.Verdict.TheVariants as verdicts
 use Rattle.oca_device.specs.Events.{Event, Datagram, Tick, Local}
-use Rattle.oca_device.specs.Notes.{Note, notes_of, unbroken, run, is_known, accepted}
+use Rattle.oca_device.specs.Notes.{Note, notes_of, unbroken, run, is_noted, accepted}
 use Rattle.oca_device.specs.States.{State, admits, after_messages, after_reading, released_all, lapsed_at, moved_to, after_local, state_after}
 use Rattle.oca_device.specs.Answers.{answers_to_messages, answers_to_reading, answers_in, counts_of_messages, served, verdict_of_reading}
 use Rattle.oca_device.specs.Written.{written_by_messages, written_by_reading}
 use Rattle.oca_device.specs.Written as effects
-use Rattle.oca_device.specs.LawByEvents.{Execution, executions, executions_noted, written_of, Arrival, Happening, Passes, Says, Sets, Happened, nothing, tick, local, malformed, datagram, EventsAreBytes, clock, admitted, session, said, lapsed, has_room, accepted_of, accepted_by, served_of, Change, Executes, Releases, changes, objects, reply, replies, all_counted, IsVerdict}
+use Rattle.oca_device.specs.LawByEvents.{Execution, executions, executions_noted, written_of, Arrival, Happening, Passes, Says, Sets, Happened, nothing, tick, local, malformed, datagram, EventsAreBytes, clock, admitted, session, messages_in, lapsed_peers, has_room, accepted_of, accepted_by, served_of, Change, Executes, Releases, changes, objects, reply, replies, all_counted, IsVerdict}
 use Rattle.oca_device.specs.LawByEvents as law
 use Rattle.oca_device.proofs.Peers.{same_is}
 use Rattle.oca_device.proofs.Runs.{run_goes_on, run_begins}
@@ -84,7 +84,7 @@ objects_released (p ∷ ps) tree = objects_released ps (released tree p)
 pub passing : (w : DeviceSizes) (tree : List Object) (now : ℕ) (s : State) (H : List Happening) → Stands w tree s H → Stands w tree (moved_to (max s.moment now) s) (Passes now ∷ H)
 passing w tree now s H h =
     let t = max (clock H) now in
-    let ps = lapsed w t H in
+    let ps = lapsed_peers w t H in
     let e = ap (λ (m : ℕ). max m now) h.clock_is in
     record {
       clock_is = e;
@@ -102,7 +102,7 @@ passing w tree now s H h =
     }
 
 -- the front sets: who is known and what was answered stays
-pub setting : (w : DeviceSizes) (tree : List Object) (ono : ℕ) (value : LocalValue) (s : State) (H : List Happening) → Stands w tree s H → Stands w tree (after_local ono value s) (Sets ono value ∷ H)
+pub setting : (w : DeviceSizes) (tree : List Object) (ono : ℕ) (value : Value) (s : State) (H : List Happening) → Stands w tree s H → Stands w tree (after_local ono value s) (Sets ono value ∷ H)
 setting w tree ono value s H h =
     let C = changes w H in
     record {
@@ -125,9 +125,9 @@ module _ (w : DeviceSizes) (tree : List Object) (p : Peer) (ms : List Msg) (s : 
   same_executed = let_in_executed w p ms s D (h.bridged.each p)
 
   pub executed_distinct : AreDistinct (executed_of p (let_in p ms s).notes)
-  executed_distinct = subst (λ (x : List CommandFields). AreDistinct x) (sym same_executed) (distinct_of w [] (said (session s.moment p D)) distinct_none)
+  executed_distinct = subst (λ (x : List CommandFields). AreDistinct x) (sym same_executed) (distinct_of w [] (messages_in (session s.moment p D)) distinct_none)
 
-  let_in_replied : (b : Bool) → is_known s.moment s.notes p ≡ b → Replied tree C p (accepted (run p (let_in p ms s).notes))
+  let_in_replied : (b : Bool) → is_noted s.moment s.notes p ≡ b → Replied tree C p (accepted (run p (let_in p ms s).notes))
   let_in_replied true k = subst (λ (x : List Note). Replied tree C p (accepted x)) (sym (run_goes_on (let_in_note p ms s) s.notes k)) (h.replied p)
   let_in_replied false k = subst (λ (x : List Note). Replied tree C p (accepted x)) (sym (run_begins (let_in_note p ms s) s.notes k)) (λ i e f. absurd cc)
 
@@ -137,7 +137,7 @@ module _ (w : DeviceSizes) (tree : List Object) (p : Peer) (ms : List Msg) (s : 
   by_same : (q : Peer) (b : Bool) → same_peer p q ≡ b → Replied tree (C ++ executing) q (accepted (run q after.notes))
   by_same q true e = subst (λ (x : Peer). Replied tree (C ++ executing) x (accepted (run x after.notes))) (same_is p q e)
       (subst (λ (x : List CommandFields). Replied tree (C ++ map (Executes p) (accepted_of w x ms)) p (accepted (run p after.notes))) same_executed
-      (messages_replied w p ms (let_in p ms s) tree C (let_in_known p ms s) h.tree_is (let_in_replied (is_known s.moment s.notes p) refl)))
+      (messages_replied w p ms (let_in p ms s) tree C (let_in_known p ms s) h.tree_is (let_in_replied (is_noted s.moment s.notes p) refl)))
   by_same q false e =
       let own : notes_of q after.notes ≡ notes_of q s.notes = messages_other w p q ms (let_in p ms s) e ∙ other_note (let_in_note p ms s) s.notes q e in
       subst (λ (x : List Note). Replied tree (C ++ executing) q (accepted (unbroken x))) (sym own)
@@ -244,7 +244,7 @@ stands exact w tree (datagram {E} {H} p bytes now b ps is h) =
     (saying w tree p ms (moved_to (max s.moment now) s) (clock (Passes now ∷ H)) (admitted w (Passes now ∷ H)) (changes w (Passes now ∷ H)) (passing w tree now s H (stands exact w tree h))).stands_so
 
 pub answers_same : ReadingIsExact → (w : DeviceSizes) (tree : List Object) {E : List Event} {H' : List Happening} (e : Event) → Happened (e ∷ E) H' →
-    answers_in w e (state_after w tree E) ≡ law.answers w tree H'
+    answers_in w e (state_after w tree E) ≡ law.answers_by_events w tree H'
 answers_same exact w tree {E} e (tick now h) = refl
 answers_same exact w tree {E} e (local ono value h) = refl
 answers_same exact w tree {E} e (malformed p bytes now b is_other h) =
@@ -269,7 +269,7 @@ verdict_same exact w tree {E} p bytes now (datagram {H = H} q xs t b ps is h) =
     ap (λ (r : Result (List Msg) PduFault). verdict_of_reading w p r s1) (read_messages exact bytes ps b is)
     ∙ (saying w tree p (flat_map messages_of ps) s1 (clock (Passes now ∷ H)) (admitted w (Passes now ∷ H)) (changes w (Passes now ∷ H)) (passing w tree now s H (stands exact w tree h))).verdict_so
 
-pub written_same : ReadingIsExact → (w : DeviceSizes) (tree : List Object) {E : List Event} {H : List Happening} (h : Happened E H) → effects.written w tree E ≡ law.written w tree h
+pub written_same : ReadingIsExact → (w : DeviceSizes) (tree : List Object) {E : List Event} {H : List Happening} (h : Happened E H) → effects.written w tree E ≡ law.written_by_events w tree h
 written_same exact w tree nothing = refl
 written_same exact w tree (tick now h) = written_same exact w tree h
 written_same exact w tree (local ono value h) = written_same exact w tree h

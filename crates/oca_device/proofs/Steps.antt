@@ -13,10 +13,10 @@ use Rattle.oca_pdu.specs.declared.fault.PduFault.{PduFault}
 use Rattle.oca_pdu.specs.Reading.{read_datagram}
 use Rattle.oca_device.specs.declared.counts.Counts.{Counts}
 use Rattle.oca_device.specs.declared.verdict.Verdict.TheVariants as verdicts
-use Rattle.oca_device.specs.Notes.{Noted, Admitted, Heartbeat, Executed, Note, run, is_known, known, last_moment, heartbeat_of, accepted}
+use Rattle.oca_device.specs.Notes.{Noted, Admitted, Heartbeat, Executed, Note, run, is_noted, noted_peers, last_noted, heartbeat_noted, accepted}
 use Rattle.oca_device.specs.States.{State, noted, moved_to, lapsed_at, admits, judged_in, reply_of, after_command, after_message, after_messages, after_reading, time_of, state_after, known_after}
 use Rattle.oca_device.specs.Groups.{with_answers, encodings}
-use Rattle.oca_device.specs.Answers.{counts, plus, answer_to, answers_to_messages, packets_of, count_of, counts_of_messages, answers_to_reading, verdict_of_reading, served}
+use Rattle.oca_device.specs.Answers.{counts, plus, answer_to, answers_to_messages, packets_of, count_of_message, counts_of_messages, answers_to_reading, verdict_of_reading, served}
 use Rattle.oca_tree.specs.declared.object.Object.{Object}
 use Rattle.oca_device.specs.Events.{Event}
 use Rattle.oca_device.specs.Outboxes.{KeptPackets, first_packets}
@@ -27,7 +27,7 @@ use Rattle.oca_device.proofs.Grouping.{answers_both}
 use Rattle.oca_device.proofs.Runs.{table_moved, lapsed_moved, session_known, table_noted, table_opened, run_goes_on, run_begins}
 
 abbrev session_in : DeviceSizes → Peer → ℕ → List Note → Session
-session_in w p t own = record { peer = p; heard = t; heartbeat = heartbeat_of own; retained = retained_of w.window (accepted own) }
+session_in w p t own = record { peer = p; heard = t; heartbeat = heartbeat_noted own; retained = retained_of w.window (accepted own) }
 
 abbrev table_at : DeviceSizes → ℕ → List Session → Table
 table_at w t ss = record { sizes = w; moment = t; sessions = ss }
@@ -56,17 +56,17 @@ none_known true x h = cc
 none_known false x h = refl
 
 -- a peer with a session is known
-pub known_there : (w : DeviceSizes) (s : State) (p : Peer) (old : Table) → old ≡ table_of w s → IsSome (session_of p old.sessions) → is_known s.moment s.notes p ≡ true
+pub known_there : (w : DeviceSizes) (s : State) (p : Peer) (old : Table) → old ≡ table_of w s → IsSome (session_of p old.sessions) → is_noted s.moment s.notes p ≡ true
 known_there w s p old was h =
-    some_known (is_known s.moment s.notes p) (session_for w s.notes p)
+    some_known (is_noted s.moment s.notes p) (session_for w s.notes p)
     (subst (λ (o : Option Session). IsSome o) (ap (λ (x : Table). session_of p x.sessions) was ∙ session_known w s p) h)
 
-new_there : (w : DeviceSizes) (s : State) (p : Peer) (old : Table) → old ≡ table_of w s → session_of p old.sessions ≡ None → is_known s.moment s.notes p ≡ false
+new_there : (w : DeviceSizes) (s : State) (p : Peer) (old : Table) → old ≡ table_of w s → session_of p old.sessions ≡ None → is_noted s.moment s.notes p ≡ false
 new_there w s p old was h =
-    none_known (is_known s.moment s.notes p) (session_for w s.notes p) (sym (ap (λ (x : Table). session_of p x.sessions) was ∙ session_known w s p) ∙ h)
+    none_known (is_noted s.moment s.notes p) (session_for w s.notes p) (sym (ap (λ (x : Table). session_of p x.sessions) was ∙ session_known w s p) ∙ h)
 
 -- the session of a known peer retains what is that of the accepted commands of its run
-pub agrees_there : (w : DeviceSizes) (s : State) (p : Peer) (old : Table) → old ≡ table_of w s → is_known s.moment s.notes p ≡ true →
+pub agrees_there : (w : DeviceSizes) (s : State) (p : Peer) (old : Table) → old ≡ table_of w s → is_noted s.moment s.notes p ≡ true →
     AgreesAt p w.window (accepted (run p s.notes)) old.sessions
 agrees_there w s p old was k =
     let P : Option Session → Type 0 = λ o. IfSome o (λ x. Agrees w.window (accepted (run p s.notes)) x.retained) in
@@ -74,19 +74,19 @@ agrees_there w s p old was k =
 
 -- ---- a peer is let in
 
-admitted_known : (w : DeviceSizes) (s : State) (p : Peer) (ms : List Msg) → is_known s.moment s.notes p ≡ true →
+admitted_known : (w : DeviceSizes) (s : State) (p : Peer) (ms : List Msg) → is_noted s.moment s.notes p ≡ true →
     with_moment_and_sessions (table_of w s) s.moment (changed p (heard_at s.moment) (table_of w s).sessions) ≡ table_of w (noted p (Admitted ms) s)
 admitted_known w s p ms k =
     let n : Note = record { peer = p; at = s.moment; what = Admitted ms } in
     ap (table_at w s.moment) (table_noted w s p (Admitted ms) (heard_at s.moment) k
-    (ap (λ (own : List Note). session_in w p (last_moment own) own) (sym (run_goes_on n s.notes k))))
+    (ap (λ (own : List Note). session_in w p (last_noted own) own) (sym (run_goes_on n s.notes k))))
 
-admitted_new : (w : DeviceSizes) (s : State) (p : Peer) (ms : List Msg) → is_known s.moment s.notes p ≡ false →
+admitted_new : (w : DeviceSizes) (s : State) (p : Peer) (ms : List Msg) → is_noted s.moment s.notes p ≡ false →
     with_moment_and_sessions (table_of w s) s.moment ((table_of w s).sessions ++ opened_session w.window p s.moment ∷ []) ≡ table_of w (noted p (Admitted ms) s)
 admitted_new w s p ms k = ap (table_at w s.moment) (table_opened w s p ms k)
 
-count_known : (w : DeviceSizes) (s : State) (old : Table) → old ≡ table_of w s → length old.sessions ≡ length (known s.moment s.notes)
-count_known w s old was = ap (λ (x : Table). length x.sessions) was ∙ length-map (known s.moment s.notes) (session_for w s.notes)
+count_known : (w : DeviceSizes) (s : State) (old : Table) → old ≡ table_of w s → length old.sessions ≡ length (noted_peers s.moment s.notes)
+count_known w s old was = ap (λ (x : Table). length x.sessions) was ∙ length-map (noted_peers s.moment s.notes) (session_for w s.notes)
 
 -- the sessions of a device are as many as the peers that are known
 pub known_counted : (w : DeviceSizes) (d : DeviceState) (tree : List Object) (events : List Event) → Represents w d tree events →
@@ -104,7 +104,7 @@ pub hears_known : (w : DeviceSizes) (s : State) (p : Peer) (t : ℕ) (old new : 
     (true ≡ admits w s p) × ((ms : List Msg) → new ≡ table_of w (noted p (Admitted ms) s))
 hears_known w s p t old new was now h =
     let k = known_there w s p old was h.0 in (
-      sym (ap (λ b. b || nat_lt (length (known s.moment s.notes)) w.peers) k),
+      sym (ap (λ b. b || nat_lt (length (noted_peers s.moment s.notes)) w.peers) k),
       λ ms. h.1 ∙ ap (λ (u : ℕ). with_moment_and_sessions old u (changed p (heard_at u) old.sessions)) now
           ∙ ap (λ (x : Table). with_moment_and_sessions x s.moment (changed p (heard_at s.moment) x.sessions)) was
           ∙ admitted_known w s p ms k,
@@ -114,9 +114,9 @@ pub hears_opened : (w : DeviceSizes) (s : State) (p : Peer) (t : ℕ) (old new :
     (true ≡ admits w s p) × ((ms : List Msg) → new ≡ table_of w (noted p (Admitted ms) s))
 hears_opened w s p t old new was now h =
     let k = new_there w s p old was h.0 in
-    let few : length (known s.moment s.notes) < w.peers =
+    let few : length (noted_peers s.moment s.notes) < w.peers =
     subst (λ (n : ℕ). n < w.peers) (count_known w s old was) (subst (λ (n : ℕ). length old.sessions < n) (ap (λ (x : Table). x.sizes.peers) was) h.1) in (
-      sym (ap (λ b. b || nat_lt (length (known s.moment s.notes)) w.peers) k ∙ lt-ltb (length (known s.moment s.notes)) w.peers few),
+      sym (ap (λ b. b || nat_lt (length (noted_peers s.moment s.notes)) w.peers) k ∙ lt-ltb (length (noted_peers s.moment s.notes)) w.peers few),
       λ ms. h.2 ∙ ap (λ (u : ℕ). with_moment_and_sessions old u (old.sessions ++ opened_session old.sizes.window p u ∷ [])) now
           ∙ ap (λ (x : Table). with_moment_and_sessions x s.moment (x.sessions ++ opened_session x.sizes.window p s.moment ∷ [])) was
           ∙ admitted_new w s p ms k,
@@ -126,24 +126,24 @@ pub hears_no_room : (w : DeviceSizes) (s : State) (p : Peer) (t : ℕ) (old new 
     (false ≡ admits w s p) × (new ≡ table_of w s)
 hears_no_room w s p t old new was now h =
     let k = new_there w s p old was h.0 in
-    let many : w.peers ≤ length (known s.moment s.notes) =
+    let many : w.peers ≤ length (noted_peers s.moment s.notes) =
     subst (λ (n : ℕ). w.peers ≤ n) (count_known w s old was) (subst (λ (n : ℕ). n ≤ length old.sessions) (ap (λ (x : Table). x.sizes.peers) was) h.1) in (
-      sym (ap (λ b. b || nat_lt (length (known s.moment s.notes)) w.peers) k ∙ le-ltb (length (known s.moment s.notes)) w.peers many),
+      sym (ap (λ b. b || nat_lt (length (noted_peers s.moment s.notes)) w.peers) k ∙ le-ltb (length (noted_peers s.moment s.notes)) w.peers many),
       h.2 ∙ ap (λ (u : ℕ). with_moment_and_sessions old u old.sessions) now ∙ ap (λ (x : Table). with_moment_and_sessions x s.moment x.sessions) was,
     )
 
 -- a peer that was let in has the present moment as its last, and is known
-pub admitted_now : (s : State) (p : Peer) (ms : List Msg) → last_moment (run p (noted p (Admitted ms) s).notes) ≡ s.moment
-admitted_now s p ms = by_known (is_known s.moment s.notes p) refl
+pub admitted_now : (s : State) (p : Peer) (ms : List Msg) → last_noted (run p (noted p (Admitted ms) s).notes) ≡ s.moment
+admitted_now s p ms = by_known (is_noted s.moment s.notes p) refl
   where
-    by_known : (b : Bool) → is_known s.moment s.notes p ≡ b → last_moment (run p (noted p (Admitted ms) s).notes) ≡ s.moment
-    by_known true k = ap last_moment (run_goes_on (record { peer = p; at = s.moment; what = Admitted ms }) s.notes k)
-    by_known false k = ap last_moment (run_begins (record { peer = p; at = s.moment; what = Admitted ms }) s.notes k)
+    by_known : (b : Bool) → is_noted s.moment s.notes p ≡ b → last_noted (run p (noted p (Admitted ms) s).notes) ≡ s.moment
+    by_known true k = ap last_noted (run_goes_on (record { peer = p; at = s.moment; what = Admitted ms }) s.notes k)
+    by_known false k = ap last_noted (run_begins (record { peer = p; at = s.moment; what = Admitted ms }) s.notes k)
 
 -- ---- a message is served
 
 -- a heartbeat was set
-pub heartbeat_there : (w : DeviceSizes) (ms : ℕ) (s : State) (p : Peer) (old new : Table) → old ≡ table_of w s → is_known s.moment s.notes p ≡ true → last_moment (run p s.notes) ≡ s.moment →
+pub heartbeat_there : (w : DeviceSizes) (ms : ℕ) (s : State) (p : Peer) (old new : Table) → old ≡ table_of w s → is_noted s.moment s.notes p ≡ true → last_noted (run p s.notes) ≡ s.moment →
     new ≡ with_sessions old (changed p (with_heartbeat ms) old.sessions) → new ≡ table_of w (noted p (Heartbeat ms) s)
 heartbeat_there w ms s p old new was k now is =
     let n : Note = record { peer = p; at = s.moment; what = Heartbeat ms } in
@@ -151,35 +151,35 @@ heartbeat_there w ms s p old new was k now is =
     is ∙ ap (λ (x : Table). with_sessions x (changed p (with_heartbeat ms) x.sessions)) was
     ∙ ap (table_at w s.moment) (table_noted w s p (Heartbeat ms) (with_heartbeat ms) k
     (ap (λ (t : ℕ). let x : Session = record { peer = p; heard = t; heartbeat = max 250 (min ms 30000); retained = retained_of w.window (accepted own) } in x) now
-    ∙ ap (λ (run_now : List Note). session_in w p (last_moment run_now) run_now) (sym (run_goes_on n s.notes k))))
+    ∙ ap (λ (run_now : List Note). session_in w p (last_noted run_now) run_now) (sym (run_goes_on n s.notes k))))
 
 -- a command was executed, and its reply kept
-pub executed_there : (w : DeviceSizes) (s : State) (p : Peer) (what : Noted) (e : Entry) (old new : Table) → old ≡ table_of w s → is_known s.moment s.notes p ≡ true → last_moment (run p s.notes) ≡ s.moment →
-    ((own : List Note) (t : ℕ) → let n : Note = record { peer = p; at = t; what = what } in (heartbeat_of (n ∷ own) ≡ heartbeat_of own) × (accepted (n ∷ own) ≡ accepted own ++ e ∷ [])) →
+pub executed_there : (w : DeviceSizes) (s : State) (p : Peer) (what : Noted) (e : Entry) (old new : Table) → old ≡ table_of w s → is_noted s.moment s.notes p ≡ true → last_noted (run p s.notes) ≡ s.moment →
+    ((own : List Note) (t : ℕ) → let n : Note = record { peer = p; at = t; what = what } in (heartbeat_noted (n ∷ own) ≡ heartbeat_noted own) × (accepted (n ∷ own) ≡ accepted own ++ e ∷ [])) →
     new ≡ with_sessions old (changed p (with_accepted w.window (accepted (run p s.notes) ++ e ∷ [])) old.sessions) → new ≡ table_of w (noted p what s)
 executed_there w s p what e old new was k now says is =
     let n : Note = record { peer = p; at = s.moment; what = what } in
     let own = run p s.notes in
     is ∙ ap (λ (x : Table). with_sessions x (changed p (with_accepted w.window (accepted own ++ e ∷ [])) x.sessions)) was
     ∙ ap (table_at w s.moment) (table_noted w s p what (with_accepted w.window (accepted own ++ e ∷ [])) k
-    (ap (λ (t : ℕ). let x : Session = record { peer = p; heard = t; heartbeat = heartbeat_of own; retained = retained_of w.window (accepted own ++ e ∷ []) } in x) now
+    (ap (λ (t : ℕ). let x : Session = record { peer = p; heard = t; heartbeat = heartbeat_noted own; retained = retained_of w.window (accepted own ++ e ∷ []) } in x) now
     ∙ ap (λ (h : ℕ). let x : Session = record { peer = p; heard = s.moment; heartbeat = h; retained = retained_of w.window (accepted own ++ e ∷ []) } in x) (sym (says own s.moment).0)
-    ∙ ap (λ (A : List Entry). let x : Session = record { peer = p; heard = s.moment; heartbeat = heartbeat_of (n ∷ own); retained = retained_of w.window A } in x) (sym (says own s.moment).1)
-    ∙ ap (λ (run_now : List Note). session_in w p (last_moment run_now) run_now) (sym (run_goes_on n s.notes k))))
+    ∙ ap (λ (A : List Entry). let x : Session = record { peer = p; heard = s.moment; heartbeat = heartbeat_noted (n ∷ own); retained = retained_of w.window A } in x) (sym (says own s.moment).1)
+    ∙ ap (λ (run_now : List Note). session_in w p (last_noted run_now) run_now) (sym (run_goes_on n s.notes k))))
 
 -- ---- several messages are served
 
 -- after a message the run's last moment is still the present one
-pub message_now : (w : DeviceSizes) (s : State) (p : Peer) (m : Msg) → is_known s.moment s.notes p ≡ true → last_moment (run p s.notes) ≡ s.moment →
-    last_moment (run p (after_message w p m s).notes) ≡ (after_message w p m s).moment
+pub message_now : (w : DeviceSizes) (s : State) (p : Peer) (m : Msg) → is_noted s.moment s.notes p ≡ true → last_noted (run p s.notes) ≡ s.moment →
+    last_noted (run p (after_message w p m s).notes) ≡ (after_message w p m s).moment
 message_now w s p (Command respond c) k now = by_judgement (judged_in w s p c)
   where
-    by_judgement : (j : Judgement) → last_moment (run p (after_command j p c s).notes) ≡ (after_command j p c s).moment
-    by_judgement Fresh = ap last_moment (run_goes_on (record { peer = p; at = s.moment; what = Executed s.tree c (reply_of s.tree p c) }) s.notes k)
+    by_judgement : (j : Judgement) → last_noted (run p (after_command j p c s).notes) ≡ (after_command j p c s).moment
+    by_judgement Fresh = ap last_noted (run_goes_on (record { peer = p; at = s.moment; what = Executed s.tree c (reply_of s.tree p c) }) s.notes k)
     by_judgement (Duplicate reply) = now
     by_judgement Reused = now
     by_judgement Old = now
-message_now w s p (KeepAlive form) k now = ap last_moment (run_goes_on (record { peer = p; at = s.moment; what = Heartbeat (time_of form) }) s.notes k)
+message_now w s p (KeepAlive form) k now = ap last_noted (run_goes_on (record { peer = p; at = s.moment; what = Heartbeat (time_of form) }) s.notes k)
 message_now w s p (Response r) k now = now
 
 -- the same numbers, sums taken
@@ -208,7 +208,7 @@ one_reused n = sums _ _ _ _ _ _ _ _ (omega arith) (omega arith) (omega arith) (o
 pub record IsHalfway (w : DeviceSizes) (p : Peer) (d : DeviceState) (rest ms : List Msg) (s : State) (before out : KeptPackets) (n : Counts) : Type 0 where
   pub mid : State
   pub device : IsIn w d mid
-  pub now : last_moment (run p mid.notes) ≡ mid.moment
+  pub now : last_noted (run p mid.notes) ≡ mid.moment
   pub state_is : after_messages w p rest mid ≡ after_messages w p ms s
   pub packets_are : (room : ℕ) (groups : List Pdu) → before ≡ first_packets room (encodings groups) →
       (so_far : List Pdu) × (out ≡ first_packets room (encodings so_far)) × (with_answers so_far (answers_to_messages w p rest mid) ≡ with_answers groups (answers_to_messages w p ms s))
@@ -219,7 +219,7 @@ no_counts : (n : Counts) → plus (counts 0 0 0 0) n ≡ n
 no_counts n = sums _ _ _ _ _ _ _ _ (omega arith) (omega arith) (omega arith) (omega arith)
 
 -- before the first message
-pub none_served : (w : DeviceSizes) (p : Peer) (d : DeviceState) (ms : List Msg) (s : State) (before : KeptPackets) → IsIn w d s → last_moment (run p s.notes) ≡ s.moment → d.written ≡ [] →
+pub none_served : (w : DeviceSizes) (p : Peer) (d : DeviceState) (ms : List Msg) (s : State) (before : KeptPackets) → IsIn w d s → last_noted (run p s.notes) ≡ s.moment → d.written ≡ [] →
     IsHalfway w p d ms ms s before before (counts 0 0 0 0)
 none_served w p d ms s before h now none = record {
   mid = s;
@@ -248,12 +248,12 @@ pub one_further : (w : DeviceSizes) (p : Peer) (d d' : DeviceState) (m : Msg) (r
     ServesMessage w d d' p m h.mid out out' n n' →
     IsHalfway w p d' rest' ms s before out' n'
 one_further w p d d' m rest rest' ms s before out out' n n' h step has t =
-    let known = known_there w h.mid p d.sessions h.device.sessions has in
+    let noted_peers = known_there w h.mid p d.sessions h.device.sessions has in
     let next = after_message w p m h.mid in
     record {
       mid = next;
       device = t.device;
-      now = message_now w h.mid p m known h.now;
+      now = message_now w h.mid p m noted_peers h.now;
       state_is = sym (ap (λ xs. after_messages w p xs h.mid) step) ∙ h.state_is;
       packets_are = λ room groups is.
           let x = h.packets_are room groups is in
@@ -266,7 +266,7 @@ one_further w p d d' m rest rest' ms s before out out' n n' h step has t =
           );
       counts_are =
           ap (λ x. plus x (counts_of_messages w p rest' next)) t.counts
-          ∙ sym (plus_assoc n (count_of w p m h.mid) (counts_of_messages w p rest' next))
+          ∙ sym (plus_assoc n (count_of_message w p m h.mid) (counts_of_messages w p rest' next))
           ∙ sym (ap (λ xs. plus n (counts_of_messages w p xs h.mid)) step)
           ∙ h.counts_are;
       written_are =

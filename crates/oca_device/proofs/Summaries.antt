@@ -8,11 +8,11 @@ use Rattle.oca_types.specs.Sizes.{DeviceSizes}
 use Rattle.oca_tree.specs.declared.object.Object.{Object}
 use Rattle.oca_pdu.specs.Messages.{Msg}
 use Rattle.oca_session.specs.Accepted.{Entry, window, outside, entry_under, greatest, higher_of}
-use Rattle.oca_device.specs.Notes.{run, is_known, known, opened, accepted, heartbeat_of}
+use Rattle.oca_device.specs.Notes.{run, is_noted, noted_peers, noted_order, accepted, heartbeat_noted}
 use Rattle.oca_device.specs.States.{State}
 use Rattle.oca_device.specs.Devices.{session_for, table_of}
 use Rattle.oca_device.specs.Answers.{response}
-use Rattle.oca_device.specs.LawByEvents.{Arrival, Happening, clock, admitted, session, said, accepted_of, Change, changes, reply, Summary, summary_of, summary_by_events, greatest_handle}
+use Rattle.oca_device.specs.LawByEvents.{Arrival, Happening, clock, admitted, session, messages_in, accepted_of, Change, changes, reply, Summary, summary_of, summary_by_events, greatest_handle}
 use Rattle.oca_device.specs.LawByEvents as law
 use Rattle.oca_device.proofs.Acceptance.{commands_of, AreDistinct, distinct_none, distinct_of, distinct_dropped, equal_self, found_after, window_mapped, outside_mapped}
 use Rattle.oca_device.proofs.Answering.{AnswersUnder, Replied}
@@ -60,28 +60,28 @@ greatest_mapped [] = refl
 greatest_mapped (e ∷ es) = ap (higher_of (Some e.command.handle)) (greatest_mapped es)
 
 one_summary : (w : DeviceSizes) (tree : List Object) (C : List Change) (s : State) (D : List Arrival) (p : Peer) → AllBridged w s D → Replied tree C p (accepted (run p s.notes)) →
-    is_known s.moment s.notes p ≡ true → summary_of (session_for w s.notes p) ≡ summary_by_events w tree C s.moment D p
+    is_noted s.moment s.notes p ≡ true → summary_of (session_for w s.notes p) ≡ summary_by_events w tree C s.moment D p
 unfolding summary_with
 one_summary w tree C s D p h replied k =
     let b = h.each p in
     let A = accepted (run p s.notes) in
     let f : ℕ → List Msg = λ i. reply p i [] tree C in
-    let distinct = subst (λ (x : List CommandFields). AreDistinct x) (sym b.commands) (distinct_of w [] (said (latest p D)) distinct_none) in
+    let distinct = subst (λ (x : List CommandFields). AreDistinct x) (sym b.commands) (distinct_of w [] (messages_in (latest p D)) distinct_none) in
     let front = sym (window_mapped w A) ∙ ap (window w.window) b.commands in
-    ap (λ (x : ℕ). summary_with p x (heartbeat_of (run p s.notes)) (commands_of (window w.window A)) (responses_of (window w.window A)) (greatest (outside w.window A))) b.last
+    ap (λ (x : ℕ). summary_with p x (heartbeat_noted (run p s.notes)) (commands_of (window w.window A)) (responses_of (window w.window A)) (greatest (outside w.window A))) b.last
     ∙ ap (λ (x : ℕ). summary_with p (law.last_moment (latest p D)) x (commands_of (window w.window A)) (responses_of (window w.window A)) (greatest (outside w.window A))) b.beat
     ∙ ap (λ (x : List (List Msg)). summary_with p (law.last_moment (latest p D)) (law.heartbeat_of (latest p D)) (commands_of (window w.window A)) x (greatest (outside w.window A))) (window_answered w f A distinct replied)
     ∙ ap (λ (x : List CommandFields). summary_with p (law.last_moment (latest p D)) (law.heartbeat_of (latest p D)) x (map (λ c. f c.handle) x) (greatest (outside w.window A))) front
-    ∙ ap (λ (x : Option ℕ). summary_with p (law.last_moment (latest p D)) (law.heartbeat_of (latest p D)) (window w.window (accepted_of w [] (said (latest p D)))) (map (λ c. f c.handle) (window w.window (accepted_of w [] (said (latest p D))))) x)
+    ∙ ap (λ (x : Option ℕ). summary_with p (law.last_moment (latest p D)) (law.heartbeat_of (latest p D)) (window w.window (accepted_of w [] (messages_in (latest p D)))) (map (λ c. f c.handle) (window w.window (accepted_of w [] (messages_in (latest p D))))) x)
     (greatest_mapped (outside w.window A) ∙ ap greatest_handle (sym (outside_mapped w A) ∙ ap (outside w.window) b.commands))
-    ∙ ap (λ (S : List Arrival). summary_with p (law.last_moment S) (law.heartbeat_of S) (window w.window (accepted_of w [] (said S))) (map (λ c. f c.handle) (window w.window (accepted_of w [] (said S)))) (greatest_handle (outside w.window (accepted_of w [] (said S)))))
+    ∙ ap (λ (S : List Arrival). summary_with p (law.last_moment S) (law.heartbeat_of S) (window w.window (accepted_of w [] (messages_in S))) (map (λ c. f c.handle) (window w.window (accepted_of w [] (messages_in S)))) (greatest_handle (outside w.window (accepted_of w [] (messages_in S)))))
     (sym (session_is w s D p h k))
 
 pub summaries_are : (w : DeviceSizes) (tree : List Object) (s : State) (H : List Happening) → Stands w tree s H →
     map summary_of (table_of w s).sessions ≡ map (summary_by_events w tree (changes w H) (clock H) (admitted w H)) (law.known (clock H) (admitted w H))
 summaries_are w tree s H h =
-    map_twice summary_of (session_for w s.notes) (known s.moment s.notes)
-    ∙ map_filtered (is_known s.moment s.notes) (λ p. summary_of (session_for w s.notes p)) (summary_by_events w tree (changes w H) s.moment (admitted w H))
-    (λ p k. one_summary w tree (changes w H) s (admitted w H) p h.bridged (h.replied p) k) (opened s.notes)
+    map_twice summary_of (session_for w s.notes) (noted_peers s.moment s.notes)
+    ∙ map_filtered (is_noted s.moment s.notes) (λ p. summary_of (session_for w s.notes p)) (summary_by_events w tree (changes w H) s.moment (admitted w H))
+    (λ p k. one_summary w tree (changes w H) s (admitted w H) p h.bridged (h.replied p) k) (noted_order s.notes)
     ∙ ap (map (summary_by_events w tree (changes w H) s.moment (admitted w H))) (known_are w s.moment s (admitted w H) h.bridged)
     ∙ ap (λ (m : ℕ). map (summary_by_events w tree (changes w H) m (admitted w H)) (law.known m (admitted w H))) h.clock_is

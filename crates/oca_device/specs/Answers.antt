@@ -23,7 +23,13 @@ use Rattle.oca_device.specs.States.{State, noted, moved_to, admits, judged_in, r
 
 -- the response with a command's handle and a reply
 abbrev pub response : ℕ → Reply → Msg
-response handle reply = Response (record { handle = handle; status = status_number reply.status; count = reply.count; params = reply.params.items })
+response handle reply =
+    Response (record {
+      handle = handle;
+      status = status_number reply.status;
+      count = reply.count;
+      params = reply.params.items;
+    })
 
 -- A fresh command is answered with the reply of its execution, a duplicate with the reply that is retained, and a
 -- command that reuses a handle or is old not at all.
@@ -48,11 +54,13 @@ answers_to_messages w p (m ∷ messages) s = answer_to w p m s ++ answers_to_mes
 -- the answers to what was read of a datagram
 abbrev pub answers_to_reading : DeviceSizes → Peer → Result (List Msg) PduFault → State → List Msg
 answers_to_reading w p (Err fault) s = []
-answers_to_reading w p (Ok messages) s = if admits w s p then answers_to_messages w p messages (noted p (Admitted messages) s) else []
+answers_to_reading w p (Ok messages) s =
+    if admits w s p then answers_to_messages w p messages (noted p (Admitted messages) s) else []
 
 -- the answers to an event in a state
 abbrev pub answers_in : DeviceSizes → Event → State → List Msg
-answers_in w (Datagram from bytes now) s = answers_to_reading w from (read_datagram bytes) (moved_to (max s.moment now) s)
+answers_in w (Datagram from bytes now) s =
+    answers_to_reading w from (read_datagram bytes) (moved_to (max s.moment now) s)
 answers_in w (Tick now) s = []
 answers_in w (Local ono value) s = []
 
@@ -87,15 +95,16 @@ count_of_command Old = counts 0 0 1 0
 count_of_command Reused = counts 0 0 0 1
 
 -- commands with and without response are both counted
-abbrev pub count_of : DeviceSizes → Peer → Msg → State → Counts
-count_of w p (Command respond c) s = count_of_command (judged_in w s p c)
-count_of w p (KeepAlive form) s = counts 0 0 0 0
-count_of w p (Response r) s = counts 0 0 0 0
+abbrev pub count_of_message : DeviceSizes → Peer → Msg → State → Counts
+count_of_message w p (Command respond c) s = count_of_command (judged_in w s p c)
+count_of_message w p (KeepAlive form) s = counts 0 0 0 0
+count_of_message w p (Response r) s = counts 0 0 0 0
 
 -- all commands of messages
 abbrev pub counts_of_messages : DeviceSizes → Peer → List Msg → State → Counts
 counts_of_messages w p [] s = counts 0 0 0 0
-counts_of_messages w p (m ∷ messages) s = plus (count_of w p m s) (counts_of_messages w p messages (after_message w p m s))
+counts_of_messages w p (m ∷ messages) s =
+    plus (count_of_message w p m s) (counts_of_messages w p messages (after_message w p m s))
 
 -- the verdict with these numbers
 abbrev pub served : Counts → Verdict
@@ -104,7 +113,8 @@ served n = verdicts.Served n.executed n.kept n.old n.reused
 -- malformed with the first fault, or else without room, or else served
 abbrev pub verdict_of_reading : DeviceSizes → Peer → Result (List Msg) PduFault → State → Verdict
 verdict_of_reading w p (Err fault) s = verdicts.Malformed fault
-verdict_of_reading w p (Ok messages) s = if admits w s p then served (counts_of_messages w p messages (noted p (Admitted messages) s)) else verdicts.NoRoom
+verdict_of_reading w p (Ok messages) s =
+    if admits w s p then served (counts_of_messages w p messages (noted p (Admitted messages) s)) else verdicts.NoRoom
 
 -- THE VERDICT on a datagram after events.
 abbrev pub verdict : DeviceSizes → List Object → List Event → Peer → List ℕ → ℕ → Verdict

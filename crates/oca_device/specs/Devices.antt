@@ -6,7 +6,7 @@ use Rattle.oca_tree.specs.declared.object.Object.{Object}
 use Rattle.oca_session.specs.Accepted.{retained_of}
 use Rattle.oca_session.specs.Table.{Session, Table}
 use Rattle.oca_device.specs.Events.{Event}
-use Rattle.oca_device.specs.Notes.{Note, run, known, last_moment, heartbeat_of, accepted}
+use Rattle.oca_device.specs.Notes.{Note, run, noted_peers, last_noted, heartbeat_noted, accepted}
 use Rattle.oca_device.specs.States.{State, state_after}
 use Rattle.oca_device.specs.Written.{written}
 
@@ -22,11 +22,17 @@ pub record DeviceState : Type 0 where
 abbrev pub session_for : DeviceSizes → List Note → Peer → Session
 session_for w notes p =
     let own = run p notes in
-    record { peer = p; heard = last_moment own; heartbeat = heartbeat_of own; retained = retained_of w.window (accepted own) }
+    record {
+      peer = p;
+      heard = last_noted own;
+      heartbeat = heartbeat_noted own;
+      retained = retained_of w.window (accepted own);
+    }
 
 -- the clock, and the sessions of the known peers in order of opening
 abbrev pub table_of : DeviceSizes → State → Table
-table_of w s = record { sizes = w; moment = s.moment; sessions = map (session_for w s.notes) (known s.moment s.notes) }
+table_of w s =
+    record { sizes = w; moment = s.moment; sessions = map (session_for w s.notes) (noted_peers s.moment s.notes) }
 
 -- the objects, the clock and the sessions of the device are what the state says
 pub record IsIn (w : DeviceSizes) (d : DeviceState) (s : State) : Type 0 where

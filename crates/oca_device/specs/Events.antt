@@ -2,13 +2,13 @@
 -- (profile). Moments are in milliseconds. In a list of events the latest stands first.
 use Rattle.std.specs.Prelude.{ℕ, max, List, [], ◌∷◌}
 use Rattle.oca_types.specs.declared.words.Peer.{Peer}
-use Rattle.oca_tree.specs.declared.setting.LocalValue.{LocalValue}
+use Rattle.oca_model.specs.declared.value.Value.{Value}
 
 -- A change at the front has no moment: it happens at that of the clock.
 pub data Event : Type 0 where
   Datagram : (from : Peer) (bytes : List ℕ) (now : ℕ) → Event
   Tick : (now : ℕ) → Event
-  Local : (ono : ℕ) (value : LocalValue) → Event
+  Local : (ono : ℕ) (value : Value) → Event
 
 -- The clock after events is the greatest moment seen, and 0 before the first: a moment earlier than one already seen
 -- counts as the one already seen.

@@ -35,7 +35,10 @@ pub record Follows (tree : List Object) (numbers : List ℕ) (old new : Electron
 abbrev pub handed_of : DeviceSizes → List Object → List Event → Delivery → List Followed
 handed_of w tree events (Datagram from bytes now) =
     let after = event.Datagram from bytes now ∷ events in
-    if nat_le (length bytes) largest_datagram then (record { tree = (state_after w tree after).tree; written = written w tree after }) ∷ [] else []
+    if nat_le (length bytes) largest_datagram then (record {
+      tree = (state_after w tree after).tree;
+      written = written w tree after;
+    }) ∷ [] else []
 handed_of w tree events (Quiet now) = []
 handed_of w tree events Failed = []
 
@@ -46,8 +49,10 @@ handed w tree events (d ∷ deliveries) = handed_of w tree events d ++ handed w 
 
 -- A DEVICE SERVED AN END WITH ELECTRONICS: it served the end, and the electronics were handed what each datagram did,
 -- in order.
-pub record ServesEndWith (old new : DeviceState) (before after : EndState) (idle moved : ElectronicsState) (report : Report) : Type 0 where
+pub record ServesEndWith (old new : DeviceState) (before after : EndState) (idle moved : ElectronicsState)
+    (report : Report) : Type 0 where
   pub serves : ServesEnd old new before after report
   pub telling : moved.tells ≡ idle.tells
-  pub followed : IsTrue idle.tells → (w : DeviceSizes) (tree : List Object) (events : List Event) → Represents w old tree events →
+  pub followed : IsTrue idle.tells → (w : DeviceSizes) (tree : List Object) (events : List Event) →
+      Represents w old tree events →
       moved.followed ≡ idle.followed ++ handed w tree events serves.deliveries

@@ -4,7 +4,8 @@ use Rattle.std.specs.Prelude.{◌≡◌, ℕ, ◌<◌, ◌≤◌, nat_le, ⊤, i
 use Rattle.std.specs.List.{flat_map, AllByRecursion}
 use Rattle.oca_types.specs.Sizes.{most_parameter_bytes}
 use Rattle.oca_net.specs.Ends.{largest_datagram}
-use Rattle.oca_pdu.specs.Messages.{ResponseFields, Msg, Command, Response, KeepAlive, Pdu, Commands, Responses, OneKeepAlive, messages_of}
+use Rattle.oca_pdu.specs.Messages.{ResponseFields, Msg, Command, Response, KeepAlive, Pdu, Commands, Responses}
+use Rattle.oca_pdu.specs.Messages.{OneKeepAlive, messages_of}
 use Rattle.oca_pdu.specs.Encoding.{pdu_encoding}
 
 -- ---- what is promised of the groups
@@ -35,10 +36,10 @@ pub record AreGroups (answers : List Msg) (groups : List Pdu) : Type 0 where
   pub full : (before after : List Pdu) (p q : Pdu) → groups ≡ before ++ p ∷ q ∷ after → IsFullBefore p q
 
 -- An answer: a keep-alive, or a response with at most 1,452 bytes of parameters, so that it fits into a datagram.
-abbrev pub IsAnswer : Msg → Type 0
-IsAnswer (KeepAlive form) = ⊤
-IsAnswer (Response r) = length r.params ≤ most_parameter_bytes
-IsAnswer (Command respond c) = ⊥
+abbrev pub IsAnswerMessage : Msg → Type 0
+IsAnswerMessage (KeepAlive form) = ⊤
+IsAnswerMessage (Response r) = length r.params ≤ most_parameter_bytes
+IsAnswerMessage (Command respond c) = ⊥
 
 -- ---- the groups, one answer after the other
 
@@ -51,7 +52,8 @@ pdu_of (KeepAlive form) = OneKeepAlive form
 -- The responses with one more: in one PDU where that has at most 1,472 bytes, and else in a PDU of its own.
 abbrev pub with_response : List ResponseFields → ResponseFields → List Pdu
 with_response rs r =
-    if nat_le (length (pdu_encoding (Responses (rs ++ r ∷ [])))) largest_datagram then Responses (rs ++ r ∷ []) ∷ [] else Responses rs ∷ Responses (r ∷ []) ∷ []
+    if nat_le (length (pdu_encoding (Responses (rs ++ r ∷ [])))) largest_datagram then Responses (rs ++ r ∷ []) ∷ []
+    else Responses rs ∷ Responses (r ∷ []) ∷ []
 
 -- The last group with one more answer: a response may join responses, and any other answer begins a group.
 abbrev pub last_with : Pdu → Msg → List Pdu
@@ -86,5 +88,6 @@ encodings groups = map pdu_encoding groups
 
 -- THE LAW OF THE GROUPS: `groups_of` gives the one and only groups of answers.
 abbrev pub AnswersHaveOneGrouping : Type 0
-AnswersHaveOneGrouping = (answers : List Msg) → AllByRecursion IsAnswer answers →
-    AreGroups answers (groups_of answers) × ((groups : List Pdu) → AreGroups answers groups → groups ≡ groups_of answers)
+AnswersHaveOneGrouping = (answers : List Msg) → AllByRecursion IsAnswerMessage answers →
+    AreGroups answers (groups_of answers)
+    × ((groups : List Pdu) → AreGroups answers groups → groups ≡ groups_of answers)

@@ -40,8 +40,8 @@ abbrev pub run : Peer → List Note → List Note
 run p notes = unbroken (notes_of p notes)
 
 -- A peer is known at a moment where its silence then is at most the longest.
-abbrev pub is_known : ℕ → List Note → Peer → Bool
-is_known t notes p = is_within t (notes_of p notes)
+abbrev pub is_noted : ℕ → List Note → Peer → Bool
+is_noted t notes p = is_within t (notes_of p notes)
 
 -- the peers but for one
 abbrev pub peers_except : Peer → List Peer → List Peer
@@ -49,20 +49,21 @@ peers_except p peers = filter (λ q. not (same_peer q p)) peers
 
 -- Every peer that was ever noted, in the order in which their latest sessions were opened: a note whose peer was not
 -- known opens a session, and moves that peer to the end.
-abbrev pub opened : List Note → List Peer
-opened [] = []
-opened (n ∷ notes) = if is_known n.at notes n.peer then opened notes else peers_except n.peer (opened notes) ++ n.peer ∷ []
+abbrev pub noted_order : List Note → List Peer
+noted_order [] = []
+noted_order (n ∷ notes) =
+    if is_noted n.at notes n.peer then noted_order notes else peers_except n.peer (noted_order notes) ++ n.peer ∷ []
 
 -- the peers known at a moment, in order of opening
-abbrev pub known : ℕ → List Note → List Peer
-known t notes = filter (is_known t notes) (opened notes)
+abbrev pub noted_peers : ℕ → List Note → List Peer
+noted_peers t notes = filter (is_noted t notes) (noted_order notes)
 
 -- ---- of a session's run
 
 -- the moment of its last datagram (each later note of that datagram has the same moment)
-abbrev pub last_moment : List Note → ℕ
-last_moment [] = 0
-last_moment (n ∷ notes) = n.at
+abbrev pub last_noted : List Note → ℕ
+last_noted [] = 0
+last_noted (n ∷ notes) = n.at
 
 abbrev pub heartbeat_after : Noted → ℕ → ℕ
 heartbeat_after (Admitted messages) heartbeat = heartbeat
@@ -71,9 +72,9 @@ heartbeat_after (Executed tree request reply) heartbeat = heartbeat
 
 -- The heartbeat is the time of the last keep-alive, raised to 250 or lowered to 30,000 ms where it is outside them, and
 -- 5,000 ms where there was none.
-abbrev pub heartbeat_of : List Note → ℕ
-heartbeat_of [] = first_heartbeat
-heartbeat_of (n ∷ notes) = heartbeat_after n.what (heartbeat_of notes)
+abbrev pub heartbeat_noted : List Note → ℕ
+heartbeat_noted [] = first_heartbeat
+heartbeat_noted (n ∷ notes) = heartbeat_after n.what (heartbeat_noted notes)
 
 abbrev pub accepted_after : Noted → List Entry → List Entry
 accepted_after (Admitted messages) A = A
@@ -87,7 +88,7 @@ accepted (n ∷ notes) = accepted_after n.what (accepted notes)
 
 -- silence of more than three heartbeats, in a run
 abbrev pub has_lapsed_in : ℕ → List Note → Bool
-has_lapsed_in t own = nat_lt (3 * heartbeat_of own) (t - last_moment own)
+has_lapsed_in t own = nat_lt (3 * heartbeat_noted own) (t - last_noted own)
 
 abbrev pub has_lapsed : ℕ → List Note → Peer → Bool
 has_lapsed t notes p = has_lapsed_in t (run p notes)

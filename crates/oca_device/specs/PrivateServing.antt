@@ -10,7 +10,8 @@ use Rattle.oca_device.specs.declared.counts.Counts.{Counts}
 use Rattle.oca_device.specs.declared.verdict.Verdict.{Verdict}
 use Rattle.oca_device.specs.Groups.{pdu_of, last_with, with_answer, with_answers, encodings}
 use Rattle.oca_device.specs.States.{State, after_message, after_messages, after_reading}
-use Rattle.oca_device.specs.Answers.{answer_to, answers_to_messages, answers_to_reading, packets_of, plus, count_of, counts_of_messages, verdict_of_reading}
+use Rattle.oca_device.specs.Answers.{answer_to, answers_to_messages, answers_to_reading, packets_of, plus}
+use Rattle.oca_device.specs.Answers.{count_of_message, counts_of_messages, verdict_of_reading}
 use Rattle.oca_device.specs.Outboxes.{KeptPackets, first_packets}
 use Rattle.oca_device.specs.Written.{written_by_message, written_by_messages, written_by_reading}
 use Rattle.oca_device.specs.Devices.{DeviceState, IsIn}
@@ -37,7 +38,8 @@ Joins false p m before after = (last_with p m ≡ p ∷ pdu_of m ∷ []) × (aft
 
 -- An answer joined the last of the packets of groups, or it begins a packet of its own and they are as before.
 abbrev pub JoinsLast : Bool → Msg → List (List ℕ) → List (List ℕ) → Type 0
-JoinsLast true m before after = (length after ≡ length before) × ((groups : List Pdu) → before ≡ encodings groups → after ≡ encodings (with_answer groups m))
+JoinsLast true m before after = (length after ≡ length before)
+    × ((groups : List Pdu) → before ≡ encodings groups → after ≡ encodings (with_answer groups m))
 JoinsLast false m before after = (after ≡ before)
     × ((groups : List Pdu) → before ≡ encodings groups → with_answer groups m ≡ groups ++ pdu_of m ∷ [])
 
@@ -62,15 +64,17 @@ abbrev pub commands_in : Counts → ℕ
 commands_in n = n.executed + n.kept + n.old + n.reused
 
 -- one message, where so many commands were counted before
-pub record ServesMessage (w : DeviceSizes) (old new : DeviceState) (p : Peer) (m : Msg) (s : State) (before after : KeptPackets) (so_far n : Counts) : Type 0 where
+pub record ServesMessage (w : DeviceSizes) (old new : DeviceState) (p : Peer) (m : Msg) (s : State)
+    (before after : KeptPackets) (so_far n : Counts) : Type 0 where
   pub device : IsIn w new (after_message w p m s)
   pub written : new.written ≡ old.written ++ written_by_message w p m s
   pub packets : (room : ℕ) (groups : List Pdu) → before ≡ first_packets room (encodings groups) →
       after ≡ first_packets room (encodings (with_answers groups (answer_to w p m s)))
-  pub counts : n ≡ plus so_far (count_of w p m s)
+  pub counts : n ≡ plus so_far (count_of_message w p m s)
 
 -- several messages, where nothing was written before
-pub record ServesMessages (w : DeviceSizes) (new : DeviceState) (p : Peer) (ms : List Msg) (s : State) (before after : KeptPackets) (n : Counts) : Type 0 where
+pub record ServesMessages (w : DeviceSizes) (new : DeviceState) (p : Peer) (ms : List Msg) (s : State)
+    (before after : KeptPackets) (n : Counts) : Type 0 where
   pub device : IsIn w new (after_messages w p ms s)
   pub written : new.written ≡ written_by_messages w p ms s
   pub packets : (room : ℕ) (groups : List Pdu) → before ≡ first_packets room (encodings groups) →
@@ -78,7 +82,8 @@ pub record ServesMessages (w : DeviceSizes) (new : DeviceState) (p : Peer) (ms :
   pub counts : n ≡ counts_of_messages w p ms s
 
 -- a datagram, when the clock has moved, nothing is written and there is room for so many packets
-pub record TakesDatagram (w : DeviceSizes) (new : DeviceState) (p : Peer) (bytes : List ℕ) (s : State) (room : ℕ) (after : KeptPackets) (verdict : Verdict) : Type 0 where
+pub record TakesDatagram (w : DeviceSizes) (new : DeviceState) (p : Peer) (bytes : List ℕ) (s : State)
+    (room : ℕ) (after : KeptPackets) (verdict : Verdict) : Type 0 where
   pub device : IsIn w new (after_reading w p (read_datagram bytes) s)
   pub written : new.written ≡ written_by_reading w p (read_datagram bytes) s
   pub packets : after ≡ first_packets room (packets_of (answers_to_reading w p (read_datagram bytes) s))

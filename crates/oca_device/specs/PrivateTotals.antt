@@ -22,7 +22,8 @@ pub record IsWithin (m : ℕ) (r : Report) : Type 0 where
   pub failed_sends : r.failed_sends ≤ m
 
 -- A turn serves an end with electronics, and receives once.
-pub record ServesTurn (old new : DeviceState) (before after : EndState) (idle moved : ElectronicsState) (turn : Report) : Type 0 where
+pub record ServesTurn (old new : DeviceState) (before after : EndState) (idle moved : ElectronicsState) (turn : Report)
+    : Type 0 where
   pub serves : ServesEndWith old new before after idle moved turn
   pub one : turn.turns ≡ 1
   pub receives : after.receives ≡ one_more before.receives
@@ -33,6 +34,7 @@ pub record IsClosed (old new : DeviceState) (before after : EndState) (idle move
   pub electronics : moved ≡ idle
   pub received : Receives heard.Closed [] before after
 
-abbrev pub TakesTurn : DeviceState → DeviceState → EndState → EndState → ElectronicsState → ElectronicsState → Option Report → Type 0
+abbrev pub TakesTurn : DeviceState → DeviceState → EndState → EndState → ElectronicsState → ElectronicsState →
+    Option Report → Type 0
 TakesTurn old new before after idle moved None = IsClosed old new before after idle moved
 TakesTurn old new before after idle moved (Some turn) = ServesTurn old new before after idle moved turn

@@ -20,14 +20,16 @@ sent_to p packets = map (λ bytes. record { to = p; bytes = bytes }) packets
 -- what is sent for a delivery, after events
 abbrev pub sent_for : DeviceSizes → List Object → List Event → Delivery → List Sent
 sent_for w tree events (Datagram from bytes now) =
-    if nat_le (length bytes) largest_datagram then sent_to from (packets w tree events (event.Datagram from bytes now)) else []
+    if nat_le (length bytes) largest_datagram then sent_to from (packets w tree events (event.Datagram from bytes now))
+    else []
 sent_for w tree events (Quiet now) = []
 sent_for w tree events Failed = []
 
 -- ALL THAT IS SENT for deliveries, after events, in order.
 abbrev pub sent_in_all : DeviceSizes → List Object → List Event → List Delivery → List Sent
 sent_in_all w tree events [] = []
-sent_in_all w tree events (d ∷ deliveries) = sent_for w tree events d ++ sent_in_all w tree (events_after d events) deliveries
+sent_in_all w tree events (d ∷ deliveries) =
+    sent_for w tree events d ++ sent_in_all w tree (events_after d events) deliveries
 
 -- A DEVICE SERVED THESE DELIVERIES, one a turn: for each tree and events that it represented, it then represents these
 -- with the deliveries' events, and the report is that of the deliveries and of the sends that failed.
@@ -39,13 +41,15 @@ pub record Serves (deliveries : List Delivery) (old new : DeviceState) (report :
       report ≡ record (report_of w tree events deliveries) { failed_sends = report.failed_sends }
 
 -- A DEVICE SERVED AN END: there are deliveries that it served, and the report counts the calls of the end that failed.
--- Where the end tells, these deliveries are what it delivered, and it took what was sent for them but for those whose send
--- failed.
+-- Where the end tells, these deliveries are what it delivered, and it took what was sent for them but for those whose
+-- send failed.
 pub record ServesEnd (old new : DeviceState) (before after : EndState) (report : Report) : Type 0 where
   pub deliveries : List Delivery
   pub serves : Serves deliveries old new report
   pub telling : after.tells ≡ before.tells
   pub delivered : IsTrue before.tells → after.delivered ≡ before.delivered ++ deliveries
-  pub sent : IsTrue before.tells → (w : DeviceSizes) (tree : List Object) (events : List Event) → Represents w old tree events →
+  pub sent : IsTrue before.tells → (w : DeviceSizes) (tree : List Object) (events : List Event) →
+      Represents w old tree events →
       TakesAllBut report.failed_sends before.taken after.taken (sent_in_all w tree events deliveries)
-  pub failures : after.failures < last_u64 → after.failures ≡ before.failures + (report.failed_receives + report.failed_sends)
+  pub failures : after.failures < last_u64 →
+      after.failures ≡ before.failures + (report.failed_receives + report.failed_sends)

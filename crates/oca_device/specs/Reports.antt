@@ -67,14 +67,16 @@ one_turn = record no_turns { turns = 1 }
 
 -- a turn with this verdict
 abbrev pub verdict_turn : Verdict → Report
-verdict_turn (verdicts.Served executed kept old reused) = record one_turn { executed = executed; kept = kept; old = old; reused = reused }
+verdict_turn (verdicts.Served executed kept old reused) =
+    record one_turn { executed = executed; kept = kept; old = old; reused = reused }
 verdict_turn (verdicts.Malformed fault) = record one_turn { malformed = 1 }
 verdict_turn verdicts.NoRoom = record one_turn { no_room = 1 }
 
 -- A turn with this delivery, after events, but for the sends that failed.
 abbrev pub turn_report : DeviceSizes → List Object → List Event → Delivery → Report
 turn_report w tree events (Datagram from bytes now) =
-    if nat_le (length bytes) largest_datagram then verdict_turn (verdict w tree events from bytes now) else record one_turn { oversize = 1 }
+    if nat_le (length bytes) largest_datagram then verdict_turn (verdict w tree events from bytes now)
+    else record one_turn { oversize = 1 }
 turn_report w tree events (Quiet now) = record one_turn { quiet = 1 }
 turn_report w tree events Failed = record one_turn { failed_receives = 1 }
 
@@ -94,7 +96,8 @@ events_after_all (d ∷ deliveries) events = events_after_all deliveries (events
 -- THE REPORT of the deliveries, but for the sends that failed.
 abbrev pub report_of : DeviceSizes → List Object → List Event → List Delivery → Report
 report_of w tree events [] = no_turns
-report_of w tree events (d ∷ deliveries) = added (turn_report w tree events d) (report_of w tree (events_after d events) deliveries)
+report_of w tree events (d ∷ deliveries) =
+    added (turn_report w tree events d) (report_of w tree (events_after d events) deliveries)
 
 -- How often a loop of at most `bound` turns receives: once a turn, and once more, which returned Closed, where it took
 -- fewer turns.

@@ -1,5 +1,6 @@
 -- The state after events: the objects, the clock, and the notes (profile; execution is AES70-2's).
-use Rattle.std.specs.Prelude.{ℕ, ◌*◌, nat_lt, max, Bool, ◌||◌, if◌then◌else◌, List, [], ◌∷◌, filter, length, Result, Ok, Err}
+use Rattle.std.specs.Prelude.{ℕ, ◌*◌, nat_lt, max, Bool, ◌||◌, if◌then◌else◌, List, [], ◌∷◌, filter, length, Result, Ok}
+use Rattle.std.specs.Prelude.{Err}
 use Rattle.oca_types.specs.declared.words.Peer.{Peer}
 use Rattle.oca_types.specs.declared.words.Reply.{Reply}
 use Rattle.oca_types.specs.Peers.{CommandFields}
@@ -13,10 +14,11 @@ use Rattle.oca_tree.specs.declared.object.Object.{Object}
 use Rattle.oca_tree.specs.Execution.{execution}
 use Rattle.oca_tree.specs.Locks.{released}
 use Rattle.oca_tree.specs.Settings.{after_set}
-use Rattle.oca_tree.specs.declared.setting.LocalValue.{LocalValue}
+use Rattle.oca_model.specs.declared.value.Value.{Value}
 use Rattle.oca_session.specs.Accepted.{Judgement, Fresh, Duplicate, Reused, Old, judgement}
 use Rattle.oca_device.specs.Events.{Event, Datagram, Tick, Local}
-use Rattle.oca_device.specs.Notes.{Noted, Admitted, Heartbeat, Executed, Note, run, is_known, known, accepted, has_lapsed}
+use Rattle.oca_device.specs.Notes.{Noted, Admitted, Heartbeat, Executed, Note, run, is_noted, noted_peers, accepted}
+use Rattle.oca_device.specs.Notes.{has_lapsed}
 
 pub record State : Type 0 where
   pub tree : List Object
@@ -24,7 +26,8 @@ pub record State : Type 0 where
   pub notes : List Note
 
 abbrev pub noted : Peer → Noted → State → State
-noted p what s = record { tree = s.tree; moment = s.moment; notes = (record { peer = p; at = s.moment; what = what }) ∷ s.notes }
+noted p what s =
+    record { tree = s.tree; moment = s.moment; notes = (record { peer = p; at = s.moment; what = what }) ∷ s.notes }
 
 -- ---- the clock moves
 
@@ -34,7 +37,7 @@ released_all (p ∷ peers) tree = released_all peers (released tree p)
 
 -- the peers known in the state whose silence at t passes three of their heartbeats
 abbrev pub lapsed_at : ℕ → State → List Peer
-lapsed_at t s = filter (has_lapsed t s.notes) (known s.moment s.notes)
+lapsed_at t s = filter (has_lapsed t s.notes) (noted_peers s.moment s.notes)
 
 -- The clock moves to t, and the locks of lapsed peers are taken off. (Who is known at t, and so which sessions are
 -- forgotten, follows from the notes.)
@@ -45,7 +48,7 @@ moved_to t s = record { tree = released_all (lapsed_at t s) s.tree; moment = t; 
 
 -- A datagram is admitted where its peer is known, or there is room for one more session.
 abbrev pub admits : DeviceSizes → State → Peer → Bool
-admits w s p = is_known s.moment s.notes p || nat_lt (length (known s.moment s.notes)) w.peers
+admits w s p = is_noted s.moment s.notes p || nat_lt (length (noted_peers s.moment s.notes)) w.peers
 
 -- what the accepted commands of the peer's session say of a command
 abbrev pub judged_in : DeviceSizes → State → Peer → CommandFields → Judgement
@@ -88,12 +91,13 @@ after_messages w p (m ∷ messages) s = after_messages w p messages (after_messa
 -- A malformed datagram, and one for which there is no room, change nothing.
 abbrev pub after_reading : DeviceSizes → Peer → Result (List Msg) PduFault → State → State
 after_reading w p (Err fault) s = s
-after_reading w p (Ok messages) s = if admits w s p then after_messages w p messages (noted p (Admitted messages) s) else s
+after_reading w p (Ok messages) s =
+    if admits w s p then after_messages w p messages (noted p (Admitted messages) s) else s
 
 -- ---- a change at the front
 
 -- The object is set. Nobody was heard, so the clock and the notes stay.
-abbrev pub after_local : ℕ → LocalValue → State → State
+abbrev pub after_local : ℕ → Value → State → State
 after_local ono value s = record { tree = after_set s.tree ono value; moment = s.moment; notes = s.notes }
 
 -- ---- events
@@ -105,7 +109,7 @@ after_event w (Local ono value) s = after_local ono value s
 
 -- the peers known in a state, in order of opening
 abbrev pub known_after : State → List Peer
-known_after s = known s.moment s.notes
+known_after s = noted_peers s.moment s.notes
 
 -- THE STATE AFTER EVENTS, from the opening tree on, with sizes w.
 abbrev pub state_after : DeviceSizes → List Object → List Event → State

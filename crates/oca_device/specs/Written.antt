@@ -36,11 +36,13 @@ written_by_message w p (Response r) s = []
 
 abbrev pub written_by_messages : DeviceSizes → Peer → List Msg → State → List ℕ
 written_by_messages w p [] s = []
-written_by_messages w p (m ∷ messages) s = written_by_message w p m s ++ written_by_messages w p messages (after_message w p m s)
+written_by_messages w p (m ∷ messages) s =
+    written_by_message w p m s ++ written_by_messages w p messages (after_message w p m s)
 
 abbrev pub written_by_reading : DeviceSizes → Peer → Result (List Msg) PduFault → State → List ℕ
 written_by_reading w p (Err fault) s = []
-written_by_reading w p (Ok messages) s = if admits w s p then written_by_messages w p messages (noted p (Admitted messages) s) else []
+written_by_reading w p (Ok messages) s =
+    if admits w s p then written_by_messages w p messages (noted p (Admitted messages) s) else []
 
 -- THE OBJECTS WRITTEN by the last datagram of events: in order, each as often as it was; none before the first. Clock
 -- readings and changes at the front leave them.

@@ -1,5 +1,6 @@
 //! An outbox with room for so many packets as its maker chose.
-ghost use Rattle.std.specs.Prelude.{◌≡◌, ℕ, ◌+◌, ◌<◌, ◌≤◌, List, [], ◌∷◌, ◌++◌, length, take, IfOk, slice_get, ◌==◌, vec_capacity, false, true};
+ghost use Rattle.std.specs.Prelude.{◌≡◌, ℕ, ◌+◌, ◌<◌, ◌≤◌, List, [], ◌∷◌, ◌++◌, length, take, IfOk, slice_get};
+ghost use Rattle.std.specs.Prelude.{◌==◌, vec_capacity, false, true};
 ghost use Rattle.std.specs.Option.{option_map};
 ghost use Rattle.oca_pdu.specs.Messages.{Msg, KeepAlive, Pdu};
 ghost use Rattle.oca_pdu.specs.Encoding.{pdu_encoding};
@@ -30,9 +31,14 @@ impl Model for BoundedOutbox {
 
     ghost Value = { KeptPackets };
 
-    ghost view = { λ a. record { packets = bytes_of_packets (take a.count a.places.items); room = a.room; is_cut = a.is_cut } };
+    ghost view = { λ a. record {
+      packets = bytes_of_packets (take a.count a.places.items);
+      room = a.room;
+      is_cut = a.is_cut;
+    } };
 
-    ghost invariant = { λ a. (a.count ≤ length a.places.items) × (length a.places.items ≤ a.room) × (a.room ≤ vec_capacity a.places) };
+    ghost invariant = { λ a.
+        (a.count ≤ length a.places.items) × (length a.places.items ≤ a.room) × (a.room ≤ vec_capacity a.places) };
 }
 
 impl BoundedOutbox {
@@ -143,7 +149,8 @@ impl fmt::Debug for BoundedOutbox {
 fn join_last(places: &mut Vec<Packet>, count: usize, handle: Handle, reply: &Reply) -> bool
     requires within { count ≤ length places.old.items }
     requires groups { AreEncodings (bytes_of_packets (take count places.old.items)) }
-    ensures joins { JoinsLast result (response handle.0 reply.now) (bytes_of_packets (take count places.old.items)) (bytes_of_packets (take count places.new.items)) }
+    ensures joins { JoinsLast result (response handle.0 reply.now) (bytes_of_packets (take count places.old.items))
+        (bytes_of_packets (take count places.new.items)) }
     ensures length { length places.new.items ≡ length places.old.items }
     ensures room { vec_capacity places.new ≡ vec_capacity places.old }
 {
@@ -157,7 +164,8 @@ fn join_last(places: &mut Vec<Packet>, count: usize, handle: Handle, reply: &Rep
 #[inline(always)]
 fn join(packet: &mut Packet, handle: Handle, reply: &Reply) -> bool
     requires { (p : Pdu) × (packet.old.items ≡ pdu_encoding p) }
-    ensures { (p : Pdu) → packet.old.items ≡ pdu_encoding p → Joins result p (response handle.0 reply.now) packet.old.items packet.new.items }
+    ensures { (p : Pdu) → packet.old.items ≡ pdu_encoding p →
+        Joins result p (response handle.0 reply.now) packet.old.items packet.new.items }
 {
     holds_responses(packet) && extend_response(packet, handle, reply).is_ok()
 }

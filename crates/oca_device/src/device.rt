@@ -1,5 +1,6 @@
 //! The device: it takes events, and puts its answers into an outbox.
-ghost use Rattle.std.specs.Prelude.{◌≡◌, ℕ, ◌+◌, ◌<◌, ◌≤◌, List, [], ◌∷◌, ◌++◌, length, max, IfOk, OnErr, MatchOption, IsTrue, IsSome, if◌then◌else◌, Ok, Err};
+ghost use Rattle.std.specs.Prelude.{◌≡◌, ℕ, ◌+◌, ◌<◌, ◌≤◌, List, [], ◌∷◌, ◌++◌, length, max, IfOk, OnErr, MatchOption};
+ghost use Rattle.std.specs.Prelude.{IsTrue, IsSome, if◌then◌else◌, Ok, Err};
 ghost use Rattle.oca_types.specs.Peers.{fields_of};
 ghost use Rattle.oca_types.specs.Sizes.{most_command_parameter_bytes, window_size, sizes_of, DeviceSizes};
 ghost use Rattle.std.specs.List.{AllByRecursion};
@@ -9,8 +10,9 @@ ghost use Rattle.oca_pdu.specs.Datagrams.{messages_left};
 ghost use Rattle.oca_tree.specs.declared.object.Object.{Object};
 ghost use Rattle.oca_session.specs.Table.{session_of};
 ghost use Rattle.oca_device.specs.Events.{Event, Datagram as DatagramEvent, Tick, Local};
-ghost use Rattle.oca_device.specs.Notes.{Admitted, run, last_moment};
-ghost use Rattle.oca_device.specs.States.{State, state_after, known_after, noted, moved_to, admits, released_all, reply_of, time_of};
+ghost use Rattle.oca_device.specs.Notes.{Admitted, run, last_noted};
+ghost use Rattle.oca_device.specs.States.{State, state_after, known_after, noted, moved_to, admits, released_all};
+ghost use Rattle.oca_device.specs.States.{reply_of, time_of};
 ghost use Rattle.oca_tree.specs.Execution.{execution};
 ghost use Rattle.oca_tree.specs.Settings.{set_fault};
 ghost use Rattle.std.specs.Result.{result_err};
@@ -27,7 +29,7 @@ use crate::verdict::Verdict;
 use arrayvec::ArrayVec;
 use oca_pdu::{Form, Message, Messages, check};
 use oca_session::{Admission, Judged, Sessions};
-use oca_tree::{LocalValue, SetFault, Tree};
+use oca_tree::{SetFault, Tree, Value};
 use oca_types::{
     Command, MOST_PEERS, NoMemory, Ono, Params, Peer, Peers, Reply, Sizes, Status, Window, sooner,
 };
@@ -67,12 +69,16 @@ impl Model for Device {
 impl Device {
     ghost use Rattle.oca_device.specs.Devices.{Represents, IsIn};
     ghost use Rattle.oca_device.specs.Lapses.{IsNextLapse, NeverLapses};
-    ghost use Rattle.oca_device.specs.PrivateServing.{ServesMessage, ServesMessages, TakesDatagram, AreGrouped, IsShort, commands_in, commands_of, all_commands};
+    ghost use Rattle.oca_device.specs.PrivateServing.{ServesMessage, ServesMessages, TakesDatagram, AreGrouped};
+    ghost use Rattle.oca_device.specs.PrivateServing.{IsShort, commands_in, commands_of, all_commands};
 
     /// A device of these objects, with reply windows of this size and sessions of at most 16 peers, before any event.
     /// Takes all the memory that its sessions will need. Refusal: `NoMemory`.
     pub fn new(alloc: Global, tree: Tree, window: Window) -> Result<Device, NoMemory>
-        ensures { IfOk result (λ device. Represents (record { window = window_size window; peers = 16 }) device tree []) }
+        ensures { IfOk result (λ device. Represents (record {
+          window = window_size window;
+          peers = 16;
+        }) device tree []) }
     {
         Device::with_sizes(
             alloc,
@@ -157,17 +163,18 @@ impl Device {
     /// Takes a clock reading: locks of peers that are silent for more than three heartbeats are released, and sessions
     /// that are silent for more than 120,000 ms forgotten.
     pub fn tick(&mut self, now: u64)
-        ensures { (w : DeviceSizes) (T : List Object) (E : List Event) → Represents w self.old T E → Represents w self.new T (Tick now ∷ E) }
+        ensures { (w : DeviceSizes) (T : List Object) (E : List Event) → Represents w self.old T E →
+            Represents w self.new T (Tick now ∷ E) }
     {
         self.move_clock(now);
     }
 
     /// Sets an object at the device's own front, as the set method of its class sets it at a peer that no lock refuses.
     /// A refusal changes nothing. Either way the clock stays, and no session is opened.
-    pub fn set(&mut self, ono: Ono, value: LocalValue) -> Result<(), SetFault>
+    pub fn set(&mut self, ono: Ono, value: Value) -> Result<(), SetFault>
         ensures represents { (w : DeviceSizes) (T : List Object) (E : List Event) → Represents w self.old T E →
             Represents w self.new T (Local ono.0 value ∷ E) }
-        ensures told { result_err result ≡ set_fault self.old.tree ono.0 value }
+        ensures fault { result_err result ≡ set_fault self.old.tree ono.0 value }
         ensures represented { (w : DeviceSizes) (T : List Object) (E : List Event) → Represents w self.old T E →
             result_err result ≡ set_fault (state_after w T E).tree ono.0 value }
         ensures refused { OnErr result (self.new ≡ self.old) }
@@ -234,7 +241,8 @@ impl Device {
 
     /// Moves the clock.
     fn move_clock(&mut self, now: u64)
-        ensures moved { (w : DeviceSizes) (s : State) → IsIn w self.old s → IsIn w self.new (moved_to (max s.moment now) s) }
+        ensures moved { (w : DeviceSizes) (s : State) → IsIn w self.old s →
+            IsIn w self.new (moved_to (max s.moment now) s) }
         ensures written { self.new.written ≡ self.old.written }
         ensures moment { now ≤ self.new.sessions.moment }
     {
@@ -302,7 +310,7 @@ impl Device {
         requires short { AllByRecursion IsShort (messages_left messages) }
         requires few { all_commands (messages_left messages) ≤ most_commands }
         requires none { self.old.written ≡ [] }
-        ensures serves { (w : DeviceSizes) (s : State) → IsIn w self.old s → last_moment (run from s.notes) ≡ s.moment →
+        ensures serves { (w : DeviceSizes) (s : State) → IsIn w self.old s → last_noted (run from s.notes) ≡ s.moment →
             ServesMessages w self.new from (messages_left messages.entry) s outbox.old outbox.new result }
         ensures room { outbox.new.room ≡ outbox.old.room }
     {
@@ -326,8 +334,9 @@ impl Device {
         requires short { IsShort (msg_of message) }
         requires few { commands_in counts.now + commands_of (msg_of message) ≤ most_commands }
         requires within { length self.old.written ≤ commands_in counts.now }
-        ensures serves { (w : DeviceSizes) (s : State) → IsIn w self.old s → last_moment (run from s.notes) ≡ s.moment →
-            ServesMessage w self.old self.new from (msg_of message.entry) s outbox.old outbox.new counts.entry.now counts.exit.now }
+        ensures serves { (w : DeviceSizes) (s : State) → IsIn w self.old s → last_noted (run from s.notes) ≡ s.moment →
+            ServesMessage w self.old self.new from (msg_of message.entry) s outbox.old outbox.new
+            counts.entry.now counts.exit.now }
         ensures known { IsSome (session_of from self.new.sessions.sessions) }
         ensures room { outbox.new.room ≡ outbox.old.room }
         ensures groups { AreGrouped outbox.new }
@@ -360,8 +369,9 @@ impl Device {
         requires short { length command.now.params.now ≤ most_command_parameter_bytes }
         requires few { commands_in counts.now < most_commands }
         requires within { length self.old.written ≤ commands_in counts.now }
-        ensures serves { (w : DeviceSizes) (s : State) → IsIn w self.old s → last_moment (run from s.notes) ≡ s.moment →
-            ServesMessage w self.old self.new from (Commands respond (fields_of command.now)) s outbox.old outbox.new counts.entry.now counts.exit.now }
+        ensures serves { (w : DeviceSizes) (s : State) → IsIn w self.old s → last_noted (run from s.notes) ≡ s.moment →
+            ServesMessage w self.old self.new from (Commands respond (fields_of command.now)) s outbox.old outbox.new
+            counts.entry.now counts.exit.now }
         ensures known { IsSome (session_of from self.new.sessions.sessions) }
         ensures room { outbox.new.room ≡ outbox.old.room }
         ensures groups { AreGrouped outbox.new }
@@ -442,7 +452,8 @@ fn execute(
     requires { length written.old.items < most_commands }
     ensures tree { tree.new ≡ (execution tree.old peer (fields_of command.now)).tree }
     ensures reply { reply.new ≡ reply_of tree.old peer (fields_of command.now) }
-    ensures written { numbers_of written.new.items ≡ numbers_of written.old.items ++ written_by_execution tree.old peer (fields_of command.now) }
+    ensures written { numbers_of written.new.items
+        ≡ numbers_of written.old.items ++ written_by_execution tree.old peer (fields_of command.now) }
     ensures most { length written.new.items ≤ length written.old.items + 1 }
 {
     let done = tree.execute(peer, command, &mut reply.params);

@@ -45,7 +45,8 @@ pub fn serve_with<E: End, L: Electronics>(
     electronics: &mut L,
     turns: u32,
 ) -> Report
-    ensures served { ServesEndWith device.old device.new (E.state end.old) (E.state end.new) (L.state electronics.old) (L.state electronics.new) result }
+    ensures served { ServesEndWith device.old device.new (E.state end.old) (E.state end.new) (L.state electronics.old)
+        (L.state electronics.new) result }
     ensures turns { result.turns ≤ turns }
     ensures closed { result.turns < turns → IsTrue (E.state end.new).closed }
     ensures receives { (E.state end.new).receives < last_u64 →
@@ -73,7 +74,8 @@ fn take_turn<E: End, L: Electronics>(
     packet: &mut Packet,
 ) -> Option<Report>
     requires { outbox.old ≡ [] }
-    ensures turn { TakesTurn device.old device.new (E.state end.old) (E.state end.new) (L.state electronics.old) (L.state electronics.new) result }
+    ensures turn { TakesTurn device.old device.new (E.state end.old) (E.state end.new) (L.state electronics.old)
+        (L.state electronics.new) result }
     ensures fits { IfSome result (IsWithin 4294967295) }
     ensures outbox { outbox.new ≡ [] }
 {

@@ -9,7 +9,8 @@ use Rattle.oca_types.specs.Numbers.{unsigned_encoding, bool_encoding}
 use Rattle.oca_types.specs.Reading.{unsigned_at, bool_at, text_at}
 use Rattle.oca_types.specs.Texts.{text_encoding}
 use Rattle.oca_model.specs.declared.answer.Answer.{Answer}
-use Rattle.oca_model.specs.declared.answer.Answer.TheVariants.{Done, Truth, Text, Owner, Reading, Names, Flags, Class as ItsClass, Members}
+use Rattle.oca_model.specs.declared.answer.Answer.TheVariants.{Done, Truth, Text, Owner, Reading, Names, Flags}
+use Rattle.oca_model.specs.declared.answer.Answer.TheVariants.{Class as ItsClass, Members}
 use Rattle.oca_model.specs.declared.answer.Shape.{Shape}
 use Rattle.oca_model.specs.declared.answer.Shape.TheVariants as shape
 use Rattle.oca_model.specs.Parameters.{whole}
@@ -91,14 +92,17 @@ shaped_in shape.Text of bytes = option_map Text (whole (text_at bytes))
 shaped_in shape.Owner of bytes = option_map (λ n. Owner (record { 0 = n })) (whole (unsigned_at w32 bytes))
 shaped_in shape.Reading of bytes = option_map Reading (reading_in of bytes)
 shaped_in shape.Names of bytes = option_map (λ xs. Names (record { items = xs })) (names_in bytes)
-shaped_in shape.Flags of bytes = option_map (λ xs. Flags (record { items = xs })) (whole (list_of_most 16 bool_at bytes))
+shaped_in shape.Flags of bytes =
+    option_map (λ xs. Flags (record { items = xs })) (whole (list_of_most 16 bool_at bytes))
 shaped_in shape.Class of bytes = option_map ItsClass (class_in bytes)
-shaped_in shape.Members of bytes = option_map (λ xs. Members (record { items = xs })) (whole (list_of_most 181 member_at bytes))
+shaped_in shape.Members of bytes =
+    option_map (λ xs. Members (record { items = xs })) (whole (list_of_most 181 member_at bytes))
 shaped_in shape.Descendants of bytes = None
 
 -- WHAT PARAMETERS ANSWER to the method of an object of the class, and nothing where they are no such answer.
 unfoldable pub answer_in : Class → Method → ℕ → List ℕ → Option Answer
-answer_in of m count bytes = option_and_then (λ a. if count == answer_count a then Some a else None) (shaped_in (shape_of m) of bytes)
+answer_in of m count bytes =
+    option_and_then (λ a. if count == answer_count a then Some a else None) (shaped_in (shape_of m) of bytes)
 
 -- The answer is of an object of the class, and its numbers and texts are of their types.
 abbrev pub IsAnswer : Class → Answer → Type 0
@@ -114,4 +118,5 @@ IsAnswer of (Members members) = Each IsMember members.items × (length members.i
 
 -- WHAT A DEVICE ANSWERS is what the panel reads.
 abbrev pub AnswersAreRead : Type 0
-AnswersAreRead = (of : Class) (m : Method) (a : Answer) → IsAnswer of a → shape_of m ≡ shape_of_answer a → answer_in of m (answer_count a) (answer_encoding a) ≡ Some a
+AnswersAreRead = (of : Class) (m : Method) (a : Answer) → IsAnswer of a → shape_of m ≡ shape_of_answer a →
+    answer_in of m (answer_count a) (answer_encoding a) ≡ Some a

@@ -5,6 +5,7 @@ pub mod ListsBack
 pub mod Members
 pub mod MemberFronts
 pub mod Values
+pub mod ValueNumbers
 pub mod Readings
 pub mod ValueRequests
 pub mod Requests

@@ -10,7 +10,8 @@ use Rattle.oca_types.specs.Reading.{unsigned_at}
 use Rattle.oca_model.specs.declared.member.Member.{Member}
 use Rattle.oca_model.specs.Fronts.{u16_front, u32_front}
 use Rattle.oca_model.specs.Lists.{Each, list_encoding, list_of_most}
-use Rattle.oca_model.specs.Members.{class_with, class_id_at, class_at, member_at, class_bytes, member_encoding, IsMember}
+use Rattle.oca_model.specs.Members.{class_with, class_id_at, class_at, member_at, class_bytes, member_encoding}
+use Rattle.oca_model.specs.Members.{IsMember}
 use Rattle.oca_model.specs.ListsBack.{list_front}
 
 abbrev Small : ℕ → Type 0
@@ -25,28 +26,91 @@ record HasFields (c : Class) : Type 0 where
 
 has_fields : (c : Class) → HasFields c
 unfolding class_with
-has_fields class.Block = record { few = lit≤ tt; fits = lit< tt; small = (lit< tt, (lit< tt, (lit< tt, tt))); found = refl }
-has_fields class.Mute = record { few = lit≤ tt; fits = lit< tt; small = (lit< tt, (lit< tt, (lit< tt, (lit< tt, tt)))); found = refl }
-has_fields class.Polarity = record { few = lit≤ tt; fits = lit< tt; small = (lit< tt, (lit< tt, (lit< tt, (lit< tt, tt)))); found = refl }
-has_fields class.Switch = record { few = lit≤ tt; fits = lit< tt; small = (lit< tt, (lit< tt, (lit< tt, (lit< tt, tt)))); found = refl }
-has_fields class.Boolean = record { few = lit≤ tt; fits = lit< tt; small = (lit< tt, (lit< tt, (lit< tt, (lit< tt, (lit< tt, tt))))); found = refl }
-has_fields class.Int8 = record { few = lit≤ tt; fits = lit< tt; small = (lit< tt, (lit< tt, (lit< tt, (lit< tt, (lit< tt, tt))))); found = refl }
-has_fields class.Int16 = record { few = lit≤ tt; fits = lit< tt; small = (lit< tt, (lit< tt, (lit< tt, (lit< tt, (lit< tt, tt))))); found = refl }
-has_fields class.Int32 = record { few = lit≤ tt; fits = lit< tt; small = (lit< tt, (lit< tt, (lit< tt, (lit< tt, (lit< tt, tt))))); found = refl }
-has_fields class.Int64 = record { few = lit≤ tt; fits = lit< tt; small = (lit< tt, (lit< tt, (lit< tt, (lit< tt, (lit< tt, tt))))); found = refl }
-has_fields class.Uint8 = record { few = lit≤ tt; fits = lit< tt; small = (lit< tt, (lit< tt, (lit< tt, (lit< tt, (lit< tt, tt))))); found = refl }
-has_fields class.Uint16 = record { few = lit≤ tt; fits = lit< tt; small = (lit< tt, (lit< tt, (lit< tt, (lit< tt, (lit< tt, tt))))); found = refl }
-has_fields class.Uint32 = record { few = lit≤ tt; fits = lit< tt; small = (lit< tt, (lit< tt, (lit< tt, (lit< tt, (lit< tt, tt))))); found = refl }
-has_fields class.Uint64 = record { few = lit≤ tt; fits = lit< tt; small = (lit< tt, (lit< tt, (lit< tt, (lit< tt, (lit< tt, tt))))); found = refl }
+has_fields class.Block =
+    record { few = lit≤ tt; fits = lit< tt; small = (lit< tt, (lit< tt, (lit< tt, tt))); found = refl }
+has_fields class.Mute =
+    record { few = lit≤ tt; fits = lit< tt; small = (lit< tt, (lit< tt, (lit< tt, (lit< tt, tt)))); found = refl }
+has_fields class.Polarity =
+    record { few = lit≤ tt; fits = lit< tt; small = (lit< tt, (lit< tt, (lit< tt, (lit< tt, tt)))); found = refl }
+has_fields class.Switch =
+    record { few = lit≤ tt; fits = lit< tt; small = (lit< tt, (lit< tt, (lit< tt, (lit< tt, tt)))); found = refl }
+has_fields class.Boolean =
+    record {
+      few = lit≤ tt;
+      fits = lit< tt;
+      small = (lit< tt, (lit< tt, (lit< tt, (lit< tt, (lit< tt, tt)))));
+      found = refl;
+    }
+has_fields class.Int8 =
+    record {
+      few = lit≤ tt;
+      fits = lit< tt;
+      small = (lit< tt, (lit< tt, (lit< tt, (lit< tt, (lit< tt, tt)))));
+      found = refl;
+    }
+has_fields class.Int16 =
+    record {
+      few = lit≤ tt;
+      fits = lit< tt;
+      small = (lit< tt, (lit< tt, (lit< tt, (lit< tt, (lit< tt, tt)))));
+      found = refl;
+    }
+has_fields class.Int32 =
+    record {
+      few = lit≤ tt;
+      fits = lit< tt;
+      small = (lit< tt, (lit< tt, (lit< tt, (lit< tt, (lit< tt, tt)))));
+      found = refl;
+    }
+has_fields class.Int64 =
+    record {
+      few = lit≤ tt;
+      fits = lit< tt;
+      small = (lit< tt, (lit< tt, (lit< tt, (lit< tt, (lit< tt, tt)))));
+      found = refl;
+    }
+has_fields class.Uint8 =
+    record {
+      few = lit≤ tt;
+      fits = lit< tt;
+      small = (lit< tt, (lit< tt, (lit< tt, (lit< tt, (lit< tt, tt)))));
+      found = refl;
+    }
+has_fields class.Uint16 =
+    record {
+      few = lit≤ tt;
+      fits = lit< tt;
+      small = (lit< tt, (lit< tt, (lit< tt, (lit< tt, (lit< tt, tt)))));
+      found = refl;
+    }
+has_fields class.Uint32 =
+    record {
+      few = lit≤ tt;
+      fits = lit< tt;
+      small = (lit< tt, (lit< tt, (lit< tt, (lit< tt, (lit< tt, tt)))));
+      found = refl;
+    }
+has_fields class.Uint64 =
+    record {
+      few = lit≤ tt;
+      fits = lit< tt;
+      small = (lit< tt, (lit< tt, (lit< tt, (lit< tt, (lit< tt, tt)))));
+      found = refl;
+    }
 
 pub class_front : (c : Class) (rest : List ℕ) → class_at (class_identification_encoding c ++ rest) ≡ Some (Some c, rest)
 unfolding class_id_at class_at
 class_front c rest =
     let h = has_fields c in
     let fields = class_fields_of c in
-    let apart : class_identification_encoding c ++ rest ≡ list_encoding (unsigned_encoding w16) fields ++ (unsigned_encoding w16 2 ++ rest) = append_assoc (list_encoding (unsigned_encoding w16) fields) (unsigned_encoding w16 2) rest in
-    let list : list_of_most 16 (unsigned_at w16) (class_identification_encoding c ++ rest) ≡ Some (fields, unsigned_encoding w16 2 ++ rest)
-    = ap (list_of_most 16 (unsigned_at w16)) apart ∙ list_front Small (unsigned_encoding w16) (unsigned_at w16) u16_front 16 fields (unsigned_encoding w16 2 ++ rest) h.few h.fits h.small in
+    let apart : class_identification_encoding c ++ rest
+    ≡ list_encoding (unsigned_encoding w16) fields ++ (unsigned_encoding w16 2 ++ rest) =
+    append_assoc (list_encoding (unsigned_encoding w16) fields) (unsigned_encoding w16 2) rest in
+    let list : list_of_most 16 (unsigned_at w16) (class_identification_encoding c ++ rest)
+    ≡ Some (fields, unsigned_encoding w16 2 ++ rest)
+    = ap (list_of_most 16 (unsigned_at w16)) apart
+    ∙ list_front Small (unsigned_encoding w16) (unsigned_at w16) u16_front 16 fields (unsigned_encoding w16 2
+    ++ rest) h.few h.fits h.small in
     rw (list, u16_front 2 rest (lit< tt), h.found) refl
 
 pub member_front : (m : Member) (rest : List ℕ) → IsMember m → member_at (member_encoding m ++ rest) ≡ Some (m, rest)
@@ -54,6 +118,8 @@ unfolding member_at
 member_front m rest is =
     let c = is.0 in
     let number : unsigned_at w32 (member_encoding m ++ rest) ≡ Some (m.ono.0, class_bytes m.class ++ rest)
-    = ap (unsigned_at w32) (append_assoc (unsigned_encoding w32 m.ono.0) (class_bytes m.class) rest) ∙ u32_front m.ono.0 (class_bytes m.class ++ rest) is.2 in
-    let behind : class_at (class_bytes m.class ++ rest) ≡ Some (m.class, rest) = ap (λ k. class_at (class_bytes k ++ rest)) is.1 ∙ class_front c rest ∙ ap (λ k. Some (k, rest)) (sym is.1) in
+    = ap (unsigned_at w32) (append_assoc (unsigned_encoding w32 m.ono.0) (class_bytes m.class) rest)
+    ∙ u32_front m.ono.0 (class_bytes m.class ++ rest) is.2 in
+    let behind : class_at (class_bytes m.class ++ rest) ≡ Some (m.class, rest) =
+    ap (λ k. class_at (class_bytes k ++ rest)) is.1 ∙ class_front c rest ∙ ap (λ k. Some (k, rest)) (sym is.1) in
     rw (number, behind) refl

@@ -15,7 +15,8 @@ use Rattle.oca_model.specs.Parameters.{whole, pair_at}
 -- the classes of this profile
 abbrev pub classes : List Class
 classes =
-    class.Block ∷ class.Mute ∷ class.Polarity ∷ class.Switch ∷ class.Boolean ∷ class.Int8 ∷ class.Int16 ∷ class.Int32 ∷ class.Int64
+    class.Block ∷ class.Mute ∷ class.Polarity ∷ class.Switch ∷ class.Boolean ∷ class.Int8 ∷ class.Int16 ∷ class.Int32
+    ∷ class.Int64
     ∷ class.Uint8 ∷ class.Uint16 ∷ class.Uint32 ∷ class.Uint64 ∷ []
 
 -- the class whose identifier has these fields
@@ -41,7 +42,11 @@ class_in bytes = option_and_then (λ c. c) (whole (class_at bytes))
 
 -- OcaObjectIdentification: the number of an object, and behind it its class
 unfoldable pub member_at : List ℕ → Option (Member × List ℕ)
-member_at bytes = option_map (λ x. (record { ono = record { 0 = x.0.0 }; class = x.0.1 }, x.1)) (pair_at (unsigned_at w32) class_at bytes)
+member_at bytes =
+    option_map (λ x. (
+      record { ono = record { 0 = x.0.0 }; class = x.0.1 },
+      x.1,
+    )) (pair_at (unsigned_at w32) class_at bytes)
 
 -- the encoding of a class; of one that is not of this profile nothing is known
 abbrev pub class_bytes : Option Class → List ℕ

@@ -8,7 +8,8 @@ use Rattle.oca_types.specs.Numbers.{unsigned_encoding, signed_encoding, bool_enc
 use Rattle.oca_types.specs.Reading.{unsigned_at, signed_at, bool_at}
 use Rattle.oca_model.specs.declared.reading.Ranged.{Ranged}
 use Rattle.oca_model.specs.declared.reading.Reading.{Reading}
-use Rattle.oca_model.specs.declared.reading.Reading.TheVariants.{Mute, Polarity, Switch, Boolean, Int8, Int16, Int32, Int64, Uint8, Uint16, Uint32, Uint64}
+use Rattle.oca_model.specs.declared.reading.Reading.TheVariants.{Mute, Polarity, Switch, Boolean, Int8, Int16, Int32}
+use Rattle.oca_model.specs.declared.reading.Reading.TheVariants.{Int64, Uint8, Uint16, Uint32, Uint64}
 use Rattle.oca_model.specs.declared.value.Value.{Value}
 use Rattle.oca_model.specs.declared.value.Value.TheVariants as value
 use Rattle.oca_model.specs.Parameters.{whole, pair_at}
@@ -57,7 +58,12 @@ reading_count _ = 3
 
 -- a setting and its limits, which are all of the bytes
 abbrev pub ranged_in : {X : Type 0} → (List ℕ → Option (X × List ℕ)) → List ℕ → Option (Ranged X)
-ranged_in number bytes = option_map (λ x. record { setting = x.0; least = x.1.0; greatest = x.1.1 }) (whole (pair_at number (pair_at number number) bytes))
+ranged_in number bytes =
+    option_map (λ x. record {
+      setting = x.0;
+      least = x.1.0;
+      greatest = x.1.1;
+    }) (whole (pair_at number (pair_at number number) bytes))
 
 -- WHAT AN ANSWER GIVES of an object of the class, where its parameters are such an answer; a block gives nothing.
 unfoldable pub reading_in : Class → List ℕ → Option Reading
@@ -102,4 +108,5 @@ IsReading (Uint64 r) = All3 (λ n. n < 256 ^ byte_len w64) r
 
 -- A reading that was encoded is read back by its value's class.
 abbrev pub ReadingsAreReadBack : Type 0
-ReadingsAreReadBack = (r : Reading) → IsReading r → reading_in (class_of_value (value_of r)) (reading_encoding r) ≡ Some r
+ReadingsAreReadBack =
+    (r : Reading) → IsReading r → reading_in (class_of_value (value_of r)) (reading_encoding r) ≡ Some r

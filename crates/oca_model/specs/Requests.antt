@@ -1,5 +1,6 @@
 -- What is asked of an object: as it is sent, and as a device understands it (AES70-2; the numbers are the profile's).
-use Rattle.std.specs.Prelude.{◌≡◌, ℕ, ◌<◌, ◌≤◌, ◌^◌, ◌==◌, ◌&&◌, if◌then◌else◌, List, [], ◌++◌, length, Some, Result, Ok, Err}
+use Rattle.std.specs.Prelude.{◌≡◌, ℕ, ◌<◌, ◌≤◌, ◌^◌, ◌==◌, ◌&&◌, if◌then◌else◌, List, [], ◌++◌, length, Some, Result}
+use Rattle.std.specs.Prelude.{Ok, Err}
 use Rattle.std.specs.Int.{w16}
 use Rattle.oca_types.specs.declared.class.Class.{Class}
 use Rattle.oca_types.specs.declared.class.Method.{Method}
@@ -13,14 +14,21 @@ use Rattle.oca_types.specs.Texts.{text_encoding}
 use Rattle.oca_types.specs.Sizes.{most_parameter_bytes}
 use Rattle.oca_model.specs.declared.request.Call.{Call}
 use Rattle.oca_model.specs.declared.request.Request.{Request}
-use Rattle.oca_model.specs.declared.request.Request.TheVariants.{GetClassIdentification, GetLockable, LockTotal, LockReadonly, Unlock, GetRole, GetEnabled, SetEnabled, GetLabel, SetLabel, GetOwner, GetMembers, GetMembersRecursive, Get, Set, GetPositionName, SetPositionName, GetPositionNames, GetPositionEnabled, SetPositionEnabled, GetPositionEnableds, SetPositionNames, SetPositionEnableds}
+use Rattle.oca_model.specs.declared.request.Request.TheVariants.{GetClassIdentification, GetLockable, LockTotal}
+use Rattle.oca_model.specs.declared.request.Request.TheVariants.{LockReadonly, Unlock, GetRole, GetEnabled, SetEnabled}
+use Rattle.oca_model.specs.declared.request.Request.TheVariants.{GetLabel, SetLabel, GetOwner, GetMembers}
+use Rattle.oca_model.specs.declared.request.Request.TheVariants.{GetMembersRecursive, Get, Set, GetPositionName}
+use Rattle.oca_model.specs.declared.request.Request.TheVariants.{SetPositionName, GetPositionNames, GetPositionEnabled}
+use Rattle.oca_model.specs.declared.request.Request.TheVariants.{SetPositionEnabled, GetPositionEnableds}
+use Rattle.oca_model.specs.declared.request.Request.TheVariants.{SetPositionNames, SetPositionEnableds}
 use Rattle.oca_model.specs.declared.request.RequestFault.{RequestFault}
 use Rattle.oca_model.specs.declared.request.RequestFault.TheVariants.{OtherClass, Full}
 use Rattle.oca_model.specs.declared.value.ValueFault.{ValueFault}
 use Rattle.oca_model.specs.declared.value.ValueFault.TheVariants.{Malformed}
 use Rattle.oca_model.specs.Lists.{IsText, Each, list_encoding, list_of_most}
 use Rattle.oca_model.specs.Parameters.{pair_at}
-use Rattle.oca_model.specs.Values.{class_of_value, value_encoding, value_in, all, then_find, set_method, get_method, IsOfItsType}
+use Rattle.oca_model.specs.Values.{class_of_value, value_encoding, value_in, all, then_find, set_method, get_method}
+use Rattle.oca_model.specs.Values.{IsOfItsType}
 
 -- ---- as it is sent
 
@@ -85,7 +93,8 @@ pub record IsCall (of : Class) (request : Request) (call : Call) (bytes : List �
 -- When a request cannot be asked of an object of the class: OtherClass where no method of the class asks it, Full where
 -- its parameters are too long.
 abbrev pub IsRefusedCall : Class → Request → RequestFault → Type 0
-IsRefusedCall of request OtherClass = (m : Method) (id : MethodId) → AskedBy of request m → method_kind of id ≡ Known m (access m) → ⊥
+IsRefusedCall of request OtherClass =
+    (m : Method) (id : MethodId) → AskedBy of request m → method_kind of id ≡ Known m (access m) → ⊥
 IsRefusedCall of request Full = most_parameter_bytes < length (parameters_of request)
 
 -- ---- as a device understands it
@@ -127,14 +136,21 @@ request_in of method.GetSetting count bytes = bare Get count bytes
 request_in of method.SetState count bytes = set_in of count bytes
 request_in of method.SetPosition count bytes = set_in of count bytes
 request_in of method.SetSetting count bytes = set_in of count bytes
-request_in of method.GetPositionName count bytes = as_request GetPositionName (counted 1 count (all (unsigned_at w16) bytes))
-request_in of method.SetPositionName count bytes = as_request (λ x. SetPositionName x.0 x.1) (counted 2 count (all (pair_at (unsigned_at w16) text_at) bytes))
+request_in of method.GetPositionName count bytes =
+    as_request GetPositionName (counted 1 count (all (unsigned_at w16) bytes))
+request_in of method.SetPositionName count bytes =
+    as_request (λ x. SetPositionName x.0 x.1) (counted 2 count (all (pair_at (unsigned_at w16) text_at) bytes))
 request_in of method.GetPositionNames count bytes = bare GetPositionNames count bytes
-request_in of method.GetPositionEnabled count bytes = as_request GetPositionEnabled (counted 1 count (all (unsigned_at w16) bytes))
-request_in of method.SetPositionEnabled count bytes = as_request (λ x. SetPositionEnabled x.0 x.1) (counted 2 count (all (pair_at (unsigned_at w16) bool_at) bytes))
+request_in of method.GetPositionEnabled count bytes =
+    as_request GetPositionEnabled (counted 1 count (all (unsigned_at w16) bytes))
+request_in of method.SetPositionEnabled count bytes =
+    as_request (λ x. SetPositionEnabled x.0 x.1) (counted 2 count (all (pair_at (unsigned_at w16) bool_at) bytes))
 request_in of method.GetPositionEnableds count bytes = bare GetPositionEnableds count bytes
-request_in of method.SetPositionNames count bytes = as_request (λ xs. SetPositionNames (record { items = xs })) (counted 1 count (all (list_of_most 16 text_at) bytes))
-request_in of method.SetPositionEnableds count bytes = as_request (λ xs. SetPositionEnableds (record { items = xs })) (counted 1 count (all (list_of_most 16 bool_at) bytes))
+request_in of method.SetPositionNames count bytes =
+    as_request (λ xs. SetPositionNames (record { items = xs })) (counted 1 count (all (list_of_most 16 text_at) bytes))
+request_in of method.SetPositionEnableds count bytes =
+    as_request (λ xs. SetPositionEnableds (record { items = xs }))
+    (counted 1 count (all (list_of_most 16 bool_at) bytes))
 
 -- ---- the law
 

@@ -8,9 +8,11 @@ name_at (row ∷ rows) number = if number == row.0 then Some row.1 else name_at 
 
 abbrev pub status_names : List (ℕ × List ℕ)
 status_names =
-    (0, codes "OK") ∷ (1, codes "ProtocolVersionError") ∷ (2, codes "DeviceError") ∷ (3, codes "Locked") ∷ (4, codes "BadFormat")
+    (0, codes "OK") ∷ (1, codes "ProtocolVersionError") ∷ (2, codes "DeviceError") ∷ (3, codes "Locked")
+    ∷ (4, codes "BadFormat")
     ∷ (5, codes "BadONo") ∷ (6, codes "ParameterError") ∷ (7, codes "ParameterOutOfRange") ∷ (8, codes "NotImplemented")
-    ∷ (9, codes "InvalidRequest") ∷ (10, codes "ProcessingFailed") ∷ (11, codes "BadMethod") ∷ (12, codes "PartiallySucceeded")
+    ∷ (9, codes "InvalidRequest") ∷ (10, codes "ProcessingFailed") ∷ (11, codes "BadMethod")
+    ∷ (12, codes "PartiallySucceeded")
     ∷ (13, codes "Timeout") ∷ (14, codes "BufferOverflow") ∷ []
 
 abbrev pub status_name_of : ℕ → Option (List ℕ)

@@ -9,7 +9,8 @@ use Rattle.oca_model.specs.declared.value_request.ValueRequest.{ValueRequest}
 
 -- what is asked of the object with this number, without where the parameters lie in memory
 abbrev pub request_to : ℕ → ValueRequest → RequestFields
-request_to target r = record { target = target; level = r.method.level; index = r.method.index; count = r.count; params = r.params.items }
+request_to target r =
+    record { target = target; level = r.method.level; index = r.method.index; count = r.count; params = r.params.items }
 
 -- The request calls this method of the class, with so many parameters in these bytes.
 pub record Asks (of : Class) (called : Method) (request : ValueRequest) (number : ℕ) (bytes : List ℕ) : Type 0 where

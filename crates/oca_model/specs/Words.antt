@@ -1,15 +1,18 @@
 -- The words for values (profile).
-use Rattle.std.specs.Prelude.{◌≡◌, ◌≢◌, ◌⊎◌, ℕ, ◌<◌, ◌^◌, true, false, List, Option, Some, None, codes, ℤ, pos, FitsSigned, decimal, MatchOption}
+use Rattle.std.specs.Prelude.{◌≡◌, ◌≢◌, ◌⊎◌, ℕ, ◌<◌, ◌^◌, true, false, List, Option, Some, None, codes, ℤ, pos}
+use Rattle.std.specs.Prelude.{FitsSigned, decimal, MatchOption}
 use Rattle.std.specs.Fmt.{signed_decimal}
 use Rattle.std.specs.Int.{Width, w8, w16, w32, w64}
 use Rattle.std.specs.Option.{SomeIff}
-use Rattle.std.specs.Str.Parse.{IsNumeral, digits_value, signed_digits_value, without_leading_plus, without_leading_sign}
+use Rattle.std.specs.Str.Parse.{IsNumeral, digits_value, signed_digits_value, without_leading_plus}
+use Rattle.std.specs.Str.Parse.{without_leading_sign}
 use Rattle.oca_types.specs.declared.class.Class.{Class}
 use Rattle.oca_types.specs.declared.class.Class.TheVariants as class
 use Rattle.oca_model.specs.declared.value.MuteState.TheVariants.{Muted, Unmuted}
 use Rattle.oca_model.specs.declared.value.PolarityState.TheVariants.{NonInverted, Inverted}
 use Rattle.oca_model.specs.declared.value.Value.{Value}
-use Rattle.oca_model.specs.declared.value.Value.TheVariants.{Mute, Polarity, Switch, Boolean, Int8, Int16, Int32, Int64, Uint8, Uint16, Uint32, Uint64}
+use Rattle.oca_model.specs.declared.value.Value.TheVariants.{Mute, Polarity, Switch, Boolean, Int8, Int16, Int32, Int64}
+use Rattle.oca_model.specs.declared.value.Value.TheVariants.{Uint8, Uint16, Uint32, Uint64}
 
 -- the word for a value: that of its state, or its number in decimal digits
 unfoldable pub word_of : Value → List ℕ
@@ -43,7 +46,8 @@ IsUnsigned bits value word found =
 -- The word is a signed number of this width, with or without a sign.
 abbrev pub IsSigned : Width → (ℤ → Value) → List ℕ → Option Value → Type 0
 IsSigned w value word found =
-    SomeIff found (IsNumeral 10 (without_leading_sign word) × FitsSigned w (signed_digits_value 10 word)) (value (signed_digits_value 10 word))
+    SomeIff found (IsNumeral 10 (without_leading_sign word)
+    × FitsSigned w (signed_digits_value 10 word)) (value (signed_digits_value 10 word))
 
 -- What is found is the value of an object of the class that the word names, or nothing where it names none.
 unfoldable pub IsRead : Class → List ℕ → Option Value → Type 0

@@ -9,7 +9,8 @@ ghost use Rattle.oca_types.specs.Texts.{text_encoding};
 ghost use Rattle.oca_model.specs.Lists.{IsText};
 ghost use Rattle.oca_model.specs.Members.{member_at, member_encoding, IsMember};
 ghost use Rattle.oca_model.specs.MemberFronts.{member_front};
-ghost use Rattle.oca_model.specs.Fronts.{u8_front, u16_front, u32_front, u64_front, i8_front, i16_front, i32_front, i64_front, bool_front, text_front};
+ghost use Rattle.oca_model.specs.Fronts.{u8_front, u16_front, u32_front, u64_front, i8_front, i16_front, i32_front};
+ghost use Rattle.oca_model.specs.Fronts.{i64_front, bool_front, text_front};
 
 use crate::member::{Member, take_class};
 use oca_types::{

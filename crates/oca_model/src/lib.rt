@@ -17,6 +17,7 @@ mod reading;
 mod request;
 mod status;
 mod value;
+mod value_number;
 mod value_request;
 mod words;
 

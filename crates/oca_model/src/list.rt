@@ -17,7 +17,8 @@ pub(crate) fn take_items<I: Item, const N: usize>(
     number: usize,
 ) -> Option<ArrayVec<I, N>>
     requires { number ≤ N }
-    ensures { option_map (λ v. (v.items, bytes_left cursor.new)) result ≡ items_at I.read_at number (bytes_left cursor.old) }
+    ensures { option_map (λ v. (v.items, bytes_left cursor.new)) result
+        ≡ items_at I.read_at number (bytes_left cursor.old) }
 {
     let mut items = ArrayVec::new();
     for _ in 0..number {

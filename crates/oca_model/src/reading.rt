@@ -1,7 +1,8 @@
 //! What reading an object gives: its value, with the limits of a position and of a number.
 ghost use Rattle.std.specs.Prelude.{◌≡◌};
 ghost use Rattle.oca_types.specs.Putting.{Puts};
-ghost use Rattle.oca_model.specs.Readings.{ranged_in, ranged_encoding, value_of, reading_count, reading_encoding, reading_in, value_read};
+ghost use Rattle.oca_model.specs.Readings.{ranged_in, ranged_encoding, value_of, reading_count, reading_encoding};
+ghost use Rattle.oca_model.specs.Readings.{reading_in, value_read};
 
 use crate::item::Item;
 use crate::parameters::whole;
@@ -125,8 +126,8 @@ impl Reading {
         }
     }
 
-    /// What an answer with these parameters gives of an object of this class. Nothing where they are not such an answer,
-    /// and for a block.
+    /// What an answer with these parameters gives of an object of this class. Nothing where they are not such an
+    /// answer, and for a block.
     #[tactic(auto, unfolding(crate::specs::Readings::reading_in))]
     pub fn read(class: Class, params: &[u8]) -> Option<Reading>
         ensures { result ≡ reading_in class params.now }

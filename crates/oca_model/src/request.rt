@@ -11,7 +11,8 @@ ghost use Rattle.oca_types.specs.declared.words.MethodId.{MethodId};
 ghost use Rattle.oca_model.specs.Lists.{list_of_most};
 ghost use Rattle.oca_model.specs.Parameters.{pair_at};
 ghost use Rattle.oca_model.specs.Values.{all};
-ghost use Rattle.oca_model.specs.Requests.{AskedBy, IsCall, IsRefusedCall, count_of, parameters_of, request_in, bare, set_in, counted};
+ghost use Rattle.oca_model.specs.Requests.{AskedBy, IsCall, IsRefusedCall, count_of, parameters_of, request_in, bare};
+ghost use Rattle.oca_model.specs.Requests.{set_in, counted};
 
 use crate::item::Item;
 use crate::list::{put_list, read_list};
@@ -132,7 +133,8 @@ fn one_text(count: u8, params: &[u8]) -> Result<Text, ValueFault>
 
 /// The list of at most 16 items that is all of the parameters.
 fn one_list<I: Item>(count: u8, params: &[u8]) -> Result<ArrayVec<I, 16>, ValueFault>
-    ensures { result_map_both (λ v. v.items) (λ e. e) result ≡ counted 1 count (all (list_of_most 16 I.read_at) params.now) }
+    ensures { result_map_both (λ v. v.items) (λ e. e) result
+        ≡ counted 1 count (all (list_of_most 16 I.read_at) params.now) }
 {
     if count != 1 {
         return Err(ValueFault::Malformed);
@@ -274,8 +276,8 @@ impl Request {
         })
     }
 
-    /// What a method with these parameters asks of an object of the class. `Malformed` is the status ParameterError, and
-    /// `Unlisted` ParameterOutOfRange.
+    /// What a method with these parameters asks of an object of the class. `Malformed` is the status ParameterError,
+    /// and `Unlisted` ParameterOutOfRange.
     #[tactic(auto, unfolding(crate::specs::Requests::request_in))]
     pub fn read(
         class: Class,

@@ -7,8 +7,8 @@ use crate::value::Value;
 use arrayvec::ArrayVec;
 use oca_types::{Class, Method, MethodId, Ono, method_id};
 
-/// What sets or reads the value of an object: a command without its handle and its target. [`ValueRequest::of`] puts the target to it,
-/// which gives a request as `oca_types` has it.
+/// What sets or reads the value of an object: a command without its handle and its target. [`ValueRequest::of`] puts
+/// the target to it, which gives a request as `oca_types` has it.
 #[derive(Debug, Drop)]
 pub struct ValueRequest {
     /// The method.

@@ -13,9 +13,9 @@ use Rattle.oca_tree.specs.Execution.{execution}
 use Rattle.oca_tree.specs.Locks.{released}
 use Rattle.oca_tree.specs.Settings.{after_set}
 use Rattle.oca_device.specs.Events.{Event, Datagram, Tick, Local}
-use Rattle.oca_device.specs.Notes.{Noted, Admitted, Heartbeat, Executed, Note, is_known}
+use Rattle.oca_device.specs.Notes.{Noted, Admitted, Heartbeat, Executed, Note, is_noted}
 use Rattle.oca_device.specs.States.{State, noted, moved_to, admits, after_messages, after_reading, state_after, time_of}
-use Rattle.oca_device.specs.LawByEvents.{Happening, Passes, Says, Sets, Change, Executes, Releases, clock, admitted, lapsed, has_room, accepts_handle, accepted_of, accepted_by, changes}
+use Rattle.oca_device.specs.LawByEvents.{Happening, Passes, Says, Sets, Change, Executes, Releases, clock, admitted, lapsed_peers, has_room, accepts_handle, accepted_of, accepted_by, changes}
 use Rattle.oca_device.specs.LawByEvents as law
 use Rattle.oca_device.proofs.Messages.{executed_of, fresh_state, fresh_known, fresh_executed, after_judged, kept_alive, alive_known, alive_executed}
 use Rattle.oca_device.proofs.Sessions.{same_room, let_in, let_in_known, let_in_executed}
@@ -61,7 +61,7 @@ none_noted p q what s e = ap (λ (x : List Execution). cond (same_peer q p) x []
     by_test true = refl
     by_test false = refl
 
-messages_executed : (w : DeviceSizes) (p q : Peer) (ms : List Msg) (s : State) → is_known s.moment s.notes q ≡ true →
+messages_executed : (w : DeviceSizes) (p q : Peer) (ms : List Msg) (s : State) → is_noted s.moment s.notes q ≡ true →
     executed_for p (after_messages w q ms s).notes ≡ executions p s.tree (map (Executes q) (accepted_of w (executed_of q s.notes) ms)) ++ executed_for p s.notes
 messages_executed w p q [] s k = refl
 messages_executed w p q (Command respond c ∷ ms) s k =
@@ -100,7 +100,7 @@ messages_executed w p q (Response r ∷ ms) s k = messages_executed w p q ms s k
 passing_executed : (w : DeviceSizes) (p : Peer) (tree : List Object) (now : ℕ) (H : List Happening) → executions p tree (changes w (Passes now ∷ H)) ≡ executions p tree (changes w H)
 passing_executed w p tree now H =
     let C : List Change = changes w H in
-    let ps : List Peer = lapsed w (clock (Passes now ∷ H)) H in
+    let ps : List Peer = lapsed_peers w (clock (Passes now ∷ H)) H in
     executions_both p tree C (map Releases ps) ∙ ap (λ (x : List Execution). x ++ executions p tree C) (executions_released p (law.objects tree C) ps)
 
 pub executions_are : (w : DeviceSizes) (p : Peer) (tree : List Object) (E : List Event) → executions p tree (changes w (happenings E)) ≡ executed_for p (state_after w tree E).notes

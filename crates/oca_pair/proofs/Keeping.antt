@@ -13,7 +13,7 @@ use Rattle.oca_pdu.specs.Messages.{Msg, Command, KeepAlive}
 use Rattle.oca_pdu.specs.Reading.{read_datagram}
 use Rattle.oca_session.specs.Accepted.{Entry, has_handle, Judgement, Fresh, Duplicate, Reused, Old}
 use Rattle.oca_device.specs.Events.{Datagram}
-use Rattle.oca_device.specs.Notes.{Noted, Admitted, Heartbeat, Executed, Note, notes_of, unbroken, run, known, accepted, accepted_after}
+use Rattle.oca_device.specs.Notes.{Noted, Admitted, Heartbeat, Executed, Note, notes_of, unbroken, run, noted_peers, accepted, accepted_after}
 use Rattle.oca_device.specs.States.{State, noted, admits, judged_in, reply_of, after_command, after_message, after_reading, time_of}
 use Rattle.oca_device.specs.LawByEvents.{Arrival}
 use Rattle.oca_pair.specs.Laws.{Execution}
@@ -106,8 +106,8 @@ executed_noted p x s = ap (λ b. cond b (executed_in x) [] ++ executed_for p s.n
 
 kept_noted : (p : Peer) (x : Noted) (s : State) → run p s.notes ≡ notes_of p s.notes → IsKnownThen s.moment (notes_of p s.notes) →
     IsDistinct eqb (map (λ (y : Execution). y.command.handle) (executed_in x ++ executed_for p s.notes)) → KeptState p (noted p x s).notes
-kept_noted p x s whole known once = record {
-  whole = ap unbroken (notes_noted p x s) ∙ by_notes (notes_of p s.notes) whole known ∙ sym (notes_noted p x s);
+kept_noted p x s whole noted_peers once = record {
+  whole = ap unbroken (notes_noted p x s) ∙ by_notes (notes_of p s.notes) whole noted_peers ∙ sym (notes_noted p x s);
   once = rw (executed_noted p x s) once;
 }
   where

@@ -12,7 +12,7 @@ use Rattle.oca_pdu.specs.Reading.{read_datagram}
 use Rattle.oca_pdu.specs.Laws.{WrittenIsReadBack}
 use Rattle.oca_tree.specs.declared.object.Object.{Object}
 use Rattle.oca_session.specs.Accepted.{Entry}
-use Rattle.oca_tree.specs.declared.setting.LocalValue.{LocalValue}
+use Rattle.oca_model.specs.declared.value.Value.{Value}
 use Rattle.oca_device.specs.Events.{Datagram}
 use Rattle.oca_device.specs.Answers.{packets}
 use Rattle.oca_control.specs.declared.fault.ControlFault.{ControlFault}
@@ -406,7 +406,7 @@ sound_tick s now n g = record {
   }) n.links g.each;
 }
 
-sound_local : (s ono : ℕ) (value : LocalValue) (n : Network) → Sound s n → Sound s (after_step (steps.Local ono value) n)
+sound_local : (s ono : ℕ) (value : Value) (n : Network) → Sound s n → Sound s (after_step (steps.Local ono value) n)
 sound_local s ono value n g = record {
   apart = g.apart;
   each = each_map (λ z w. record {

@@ -1,7 +1,8 @@
 -- THE LAW OF GETTING THROUGH (profile), over every schedule: a link that is asked often enough gives each command out
 -- to the device until it has the command's answer or is lost; and one copy that arrives, and the one response that
 -- comes back, are enough.
-use Rattle.std.specs.Prelude.{◌≡◌, ◌⊎◌, ℕ, ◌+◌, ◌*◌, ◌==◌, ◌<◌, ◌≤◌, max, true, if◌then◌else◌, List, [], ◌∷◌, ◌++◌, Option, Some, None}
+use Rattle.std.specs.Prelude.{◌≡◌, ◌⊎◌, ℕ, ◌+◌, ◌*◌, ◌==◌, ◌<◌, ◌≤◌, max, true, if◌then◌else◌, List, [], ◌∷◌, ◌++◌}
+use Rattle.std.specs.Prelude.{Option, Some, None}
 use Rattle.std.specs.List.{slice_get, AllByRecursion, Contains}
 use Rattle.oca_types.specs.declared.words.Peer.{Peer}
 use Rattle.oca_types.specs.declared.words.Handle.{Handle}
@@ -11,13 +12,15 @@ use Rattle.oca_pdu.specs.Messages.{Msg, Commands}
 use Rattle.oca_pdu.specs.Encoding.{pdu_encoding}
 use Rattle.oca_tree.specs.declared.object.Object.{Object}
 use Rattle.oca_control.specs.Untaken.{answer_under}
-use Rattle.oca_control.specs.Links.{LinkState, Request, command_under, submission, decision, due_answer, due_bytes, reception}
+use Rattle.oca_control.specs.Links.{LinkState, Request, command_under, submission, decision, due_answer, due_bytes}
+use Rattle.oca_control.specs.Links.{reception}
 use Rattle.oca_control.specs.Histories.{Call, Submits, GivesOut, Receives, TakesAnswer, clock, sendings}
 use Rattle.oca_control.specs.Answering.{IsAskedEvery, IsGivenOutInTime}
 use Rattle.oca_pair.specs.declared.outcome.Outcome.TheVariants as outcomes
 use Rattle.oca_pair.specs.declared.start.Start.{Start}
 use Rattle.oca_pair.specs.Networks.{Network, PeerLink, SentDatagram, device_address, opening}
-use Rattle.oca_pair.specs.Steps.{Step, Submit, Due, ToDevice, ToLink, Other, Tick, Local, Take, content_of, after_step, after_steps, outcome_of}
+use Rattle.oca_pair.specs.Steps.{Step, Submit, Due, ToDevice, ToLink, Other, Tick, Local, Take, content_of, after_step}
+use Rattle.oca_pair.specs.Steps.{after_steps, outcome_of}
 use Rattle.oca_pair.specs.Premises.{are_apart, StepFits, Fit, KeepsItsSession, FindsRoom}
 use Rattle.oca_pair.specs.RoundTrip.{GotItsAnswer, asked, ComesBack}
 

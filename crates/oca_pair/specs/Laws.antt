@@ -1,5 +1,6 @@
 -- THE LAWS OF A NETWORK (profile), over every schedule.
-use Rattle.std.specs.Prelude.{◌≡◌, ◌==◌, ◌⊎◌, ℕ, ◌+◌, ◌*◌, ◌<◌, ◌≤◌, true, if◌then◌else◌, List, [], ◌∷◌, ◌++◌, map, filter, Some}
+use Rattle.std.specs.Prelude.{◌≡◌, ◌==◌, ◌⊎◌, ℕ, ◌+◌, ◌*◌, ◌<◌, ◌≤◌, true, if◌then◌else◌, List, [], ◌∷◌, ◌++◌, map}
+use Rattle.std.specs.Prelude.{filter, Some}
 use Rattle.std.specs.List.{slice_get, Contains, IsDistinct}
 use Rattle.oca_types.specs.declared.words.Peer.{Peer}
 use Rattle.oca_types.specs.declared.words.Reply.{Reply}
@@ -105,16 +106,19 @@ AreConsecutive (h ∷ k ∷ more) = (k ≡ h + 1) × AreConsecutive (k ∷ more)
 -- Of each answer that a link holds, and of each that was taken from it; and each command that it submitted has a handle
 -- of its own, the one before it plus one.
 pub record AnswersItsCommands (n : Network) : Type 0 where
-  pub held : (i : ℕ) (l : PeerLink) (h : ℕ) (answer : AnswerFields) → slice_get n.links i ≡ Some l → answer_under h l.link.untaken ≡ Some answer →
+  pub held : (i : ℕ) (l : PeerLink) (h : ℕ) (answer : AnswerFields) → slice_get n.links i ≡ Some l →
+      answer_under h l.link.untaken ≡ Some answer →
       IsAnswerOfItsCommand l.peer h answer n
-  pub was_taken : (i : ℕ) (l : PeerLink) (h : ℕ) (answer : AnswerFields) → slice_get n.links i ≡ Some l → WasTaken l.peer h answer n.taken →
+  pub was_taken : (i : ℕ) (l : PeerLink) (h : ℕ) (answer : AnswerFields) → slice_get n.links i ≡ Some l →
+      WasTaken l.peer h answer n.taken →
       IsAnswerOfItsCommand l.peer h answer n
   pub handles : (i : ℕ) (l : PeerLink) → slice_get n.links i ≡ Some l → AreConsecutive (handles_of l.peer n.submitted)
 
 -- Over every schedule, for all sizes:
 abbrev pub EveryScheduleAnswersItsCommands : Type 0
 EveryScheduleAnswersItsCommands =
-    (w : DeviceSizes) (s : ℕ) (tree : List Object) (starts : List Start) (steps : List Step) → are_apart starts ≡ true → Fit starts steps →
+    (w : DeviceSizes) (s : ℕ) (tree : List Object) (starts : List Start) (steps : List Step) → are_apart starts ≡ true →
+    Fit starts steps →
     AnswersItsCommands (after_steps steps (opening w s tree starts))
 
 -- ---- THE LAW OF UNTAKEN COMMANDS
@@ -160,7 +164,8 @@ AnswersUntaken n = (k now i : ℕ) (d : SentDatagram) (l : PeerLink) (c : Comman
 -- Over every schedule, for all sizes where the window is at least twice the span less one:
 abbrev pub NoUntakenCommandIsTooOld : Type 0
 NoUntakenCommandIsTooOld =
-    (w : DeviceSizes) (s : ℕ) (tree : List Object) (starts : List Start) (steps : List Step) → 0 < s → 2 * s ≤ w.window + 1 → are_apart starts ≡ true → Fit starts steps →
+    (w : DeviceSizes) (s : ℕ) (tree : List Object) (starts : List Start) (steps : List Step) → 0 < s →
+    2 * s ≤ w.window + 1 → are_apart starts ≡ true → Fit starts steps →
     AnswersUntaken (after_steps steps (opening w s tree starts))
 
 -- No command of a link is executed twice, where its peer kept its session.
@@ -171,5 +176,6 @@ ExecutesOnce n = (i : ℕ) (l : PeerLink) → slice_get n.links i ≡ Some l →
 -- Over every schedule, for all sizes:
 abbrev pub EveryCommandIsExecutedOnce : Type 0
 EveryCommandIsExecutedOnce =
-    (w : DeviceSizes) (s : ℕ) (tree : List Object) (starts : List Start) (steps : List Step) → are_apart starts ≡ true → Fit starts steps →
+    (w : DeviceSizes) (s : ℕ) (tree : List Object) (starts : List Start) (steps : List Step) → are_apart starts ≡ true →
+    Fit starts steps →
     ExecutesOnce (after_steps steps (opening w s tree starts))

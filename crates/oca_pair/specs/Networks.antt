@@ -56,4 +56,13 @@ started span x = record { peer = x.peer; link = new_link device_address x.first_
 -- THE NETWORK AT FIRST: a device to which nothing happened, and a new link for each start.
 abbrev pub opening : DeviceSizes → ℕ → List Object → List Start → Network
 opening sizes span tree starts =
-    record { sizes = sizes; tree = tree; events = []; links = map (started span) starts; to_device = []; to_links = []; submitted = []; taken = [] }
+    record {
+      sizes = sizes;
+      tree = tree;
+      events = [];
+      links = map (started span) starts;
+      to_device = [];
+      to_links = [];
+      submitted = [];
+      taken = [];
+    }

@@ -19,7 +19,8 @@ is_of_another_peer p x = not (same_peer x.peer p)
 
 abbrev pub are_apart : List Start → Bool
 are_apart [] = true
-are_apart (x ∷ starts) = is_of_another_peer device_address x && list_all (is_of_another_peer x.peer) starts && are_apart starts
+are_apart (x ∷ starts) =
+    is_of_another_peer device_address x && list_all (is_of_another_peer x.peer) starts && are_apart starts
 
 -- ---- of numbers: each fits its width (AES70-3), as every number of a program does
 pub record RequestFits (r : Request) : Type 0 where

@@ -32,7 +32,8 @@ pub record Shows (r : Running) (n : Network) : Type 0 where
 
 -- what a step led to: its outcome and the network after it, or that what it names is not there
 abbrev pub Took : Result Outcome StepFault → Step → Network → Running → Type 0
-Took (Ok outcome) step n new = (is_there step n ≡ true) × (outcome_of step n ≡ outcome ∷ []) × Shows new (after_step step n)
+Took (Ok outcome) step n new =
+    (is_there step n ≡ true) × (outcome_of step n ≡ outcome ∷ []) × Shows new (after_step step n)
 Took (Err faults.Missing) step n new = is_there step n ≡ false
 Took (Err faults.NoMemory) step n new = Unit {0}
 

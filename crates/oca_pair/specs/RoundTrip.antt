@@ -71,14 +71,16 @@ pub record IsSentBack (k now : ℕ) (between : List Step) (n : Network) (c : Com
   pub delivered : slice_get (meanwhile k now between n).to_links (length n.to_links) ≡ Some datagram
 
 -- What comes of it, whatever the steps between are.
-pub record ComesBack (k now : ℕ) (between : List Step) (later i : ℕ) (c : CommandFields) (p : Peer) (n : Network) : Type 0 where
+pub record ComesBack (k now : ℕ) (between : List Step) (later i : ℕ) (c : CommandFields) (p : Peer) (n : Network) : Type
+    0 where
   pub sent_back : IsSentBack k now between n c p
   -- where the link still holds the command before the step ToLink, it holds the command's answer after it
   pub held : HoldsUntaken i c (meanwhile k now between n) → HoldsItsAnswer i c p (come_back k now between later n)
   -- and in any case it holds the answer then, or the answer was taken from it
   pub got : GotItsAnswer i c p (come_back k now between later n)
   -- where the peer kept its session till then, the answer is the reply that the datagram carried: there is no other
-  pub carried : KeepsItsSession p (come_back k now between later n) → (answer : AnswerFields) → IsAnswerTo c p answer (come_back k now between later n) →
+  pub carried : KeepsItsSession p (come_back k now between later n) → (answer : AnswerFields) →
+      IsAnswerTo c p answer (come_back k now between later n) →
       answer ≡ answer_of sent_back.reply
 
 -- Each delivery of a datagram that carries an untaken command comes back, under the premises of `AnswersUntaken`. Of
@@ -86,10 +88,12 @@ pub record ComesBack (k now : ℕ) (between : List Step) (later i : ℕ) (c : Co
 abbrev pub RoundTrips : Network → Type 0
 RoundTrips n = (k now i : ℕ) (d : SentDatagram) (l : PeerLink) (c : CommandFields) (between : List Step) (later : ℕ) →
     slice_get n.to_device k ≡ Some d → slice_get n.links i ≡ Some l → CarriesUntaken d l c →
-    FindsRoom d.peer now n → KeepsItsSession d.peer (asked k now n) → AllByRecursion StepFits between → ComesBack k now between later i c l.peer n
+    FindsRoom d.peer now n → KeepsItsSession d.peer (asked k now n) → AllByRecursion StepFits between →
+    ComesBack k now between later i c l.peer n
 
 -- Over every schedule, for all sizes where the window is at least twice the span less one:
 abbrev pub EveryRoundTripBringsTheAnswer : Type 0
 EveryRoundTripBringsTheAnswer =
-    (w : DeviceSizes) (s : ℕ) (tree : List Object) (starts : List Start) (steps : List Step) → 0 < s → 2 * s ≤ w.window + 1 → are_apart starts ≡ true → Fit starts steps →
+    (w : DeviceSizes) (s : ℕ) (tree : List Object) (starts : List Start) (steps : List Step) → 0 < s →
+    2 * s ≤ w.window + 1 → are_apart starts ≡ true → Fit starts steps →
     RoundTrips (after_steps steps (opening w s tree starts))

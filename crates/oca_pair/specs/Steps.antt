@@ -1,5 +1,6 @@
 -- THE STEPS OF A NETWORK (profile). A schedule is any list of steps, of which the first comes first.
-use Rattle.std.specs.Prelude.{ℕ, ◌+◌, Bool, true, not, if◌then◌else◌, List, [], ◌∷◌, ◌++◌, map, length, Option, Some, None, is_some, Result, Ok, Err}
+use Rattle.std.specs.Prelude.{ℕ, ◌+◌, Bool, true, not, if◌then◌else◌, List, [], ◌∷◌, ◌++◌, map, length, Option, Some}
+use Rattle.std.specs.Prelude.{None, is_some, Result, Ok, Err}
 use Rattle.std.specs.List.{list_any, slice_get, slice_set}
 use Rattle.oca_types.specs.declared.words.Peer.{Peer}
 use Rattle.oca_types.specs.declared.words.Handle.{Handle}
@@ -11,13 +12,15 @@ use Rattle.oca_device.specs.Events.{Datagram}
 use Rattle.oca_device.specs.Events as event
 use Rattle.oca_device.specs.Answers.{packets, verdict}
 use Rattle.oca_device.specs.States.{state_after}
-use Rattle.oca_tree.specs.declared.setting.LocalValue.{LocalValue}
+use Rattle.oca_model.specs.declared.value.Value.{Value}
 use Rattle.oca_tree.specs.declared.setting.SetFault.{SetFault}
 use Rattle.oca_tree.specs.Settings.{set_fault}
 use Rattle.oca_control.specs.declared.fault.ControlFault.{ControlFault}
 use Rattle.oca_control.specs.Answers.{AnswerFields}
 use Rattle.oca_control.specs.Untaken.{answer_under}
-use Rattle.oca_control.specs.Links.{LinkState, Request, command_under, submission, after_submission, Decision, GivesCommand, GivesKeepAlive, GivesNothing, IsLost, decision, due_bytes, gone_on, reception, received, taken}
+use Rattle.oca_control.specs.Links.{LinkState, Request, command_under, submission, after_submission, Decision}
+use Rattle.oca_control.specs.Links.{GivesCommand, GivesKeepAlive, GivesNothing, IsLost, decision, due_bytes, gone_on}
+use Rattle.oca_control.specs.Links.{reception, received, taken}
 use Rattle.oca_pair.specs.declared.outcome.Outcome.{Outcome}
 use Rattle.oca_pair.specs.declared.outcome.Outcome.TheVariants as outcomes
 use Rattle.oca_pair.specs.Networks.{Network, PeerLink, SentDatagram, SubmittedCommand, TakenAnswer, device_address}
@@ -37,7 +40,7 @@ pub data Step : Type 0 where
   -- the device reads its clock
   Tick : (now : ℕ) → Step
   -- an object is set at the device's own front
-  Local : (ono : ℕ) (value : LocalValue) → Step
+  Local : (ono : ℕ) (value : Value) → Step
   -- the answer to a command is asked of a link
   Take : (link : ℕ) (handle : ℕ) → Step
 
@@ -119,7 +122,10 @@ content_of bytes = messages_read (read_datagram bytes)
 
 abbrev pub hears_datagram : SentDatagram → ℕ → PeerLink → PeerLink
 hears_datagram d now l =
-    if same_peer l.peer d.peer then record { peer = l.peer; link = received device_address (content_of d.bytes) now l.link } else l
+    if same_peer l.peer d.peer then record {
+      peer = l.peer;
+      link = received device_address (content_of d.bytes) now l.link;
+    } else l
 
 abbrev pub after_reception : ℕ → Option SentDatagram → Network → Network
 after_reception now None n = n
@@ -128,7 +134,8 @@ after_reception now (Some d) n = record n { links = map (hears_datagram d now) n
 abbrev pub reception_outcomes : SentDatagram → List PeerLink → List Outcome
 reception_outcomes d [] = []
 reception_outcomes d (l ∷ links) =
-    if same_peer l.peer d.peer then outcomes.Link (reception device_address (content_of d.bytes) l.link) ∷ [] else reception_outcomes d links
+    if same_peer l.peer d.peer then outcomes.Link (reception device_address (content_of d.bytes) l.link) ∷ []
+    else reception_outcomes d links
 
 -- ---- TAKE: the answer is taken from the link, where it has one
 abbrev pub taken_by : Peer → ℕ → Option AnswerFields → List TakenAnswer
@@ -143,7 +150,8 @@ after_take i h (Some l) n = record n {
 }
 
 abbrev pub take_outcome : Option AnswerFields → Outcome
-take_outcome (Some answer) = outcomes.Answer (record { status = answer.status; count = answer.count; params = record { items = answer.params } })
+take_outcome (Some answer) =
+    outcomes.Answer (record { status = answer.status; count = answer.count; params = record { items = answer.params } })
 take_outcome None = outcomes.NoAnswer
 
 -- ---- LOCAL: what the device says of a change at its own front
@@ -157,7 +165,8 @@ after_step (Submit link request now) n = after_submit link request now (slice_ge
 after_step (Due link now) n = after_due_step link now (slice_get n.links link) n
 after_step (ToDevice k now) n = after_delivery now (slice_get n.to_device k) n
 after_step (ToLink k now) n = after_reception now (slice_get n.to_links k) n
-after_step (Other from bytes now) n = if has_link from n.links then n else record n { events = Datagram from bytes now ∷ n.events }
+after_step (Other from bytes now) n =
+    if has_link from n.links then n else record n { events = Datagram from bytes now ∷ n.events }
 after_step (Tick now) n = record n { events = event.Tick now ∷ n.events }
 after_step (Local ono value) n = record n { events = event.Local ono value ∷ n.events }
 after_step (Take link handle) n = after_take link handle (slice_get n.links link) n
@@ -181,15 +190,18 @@ reception_outcome (Some d) n = reception_outcomes d n.links
 reception_outcome None n = []
 
 abbrev pub outcome_of : Step → Network → List Outcome
-outcome_of (Submit link request now) n = on_link (λ l. submit_outcome (submission request l.link)) (slice_get n.links link)
-outcome_of (Due link now) n = on_link (λ l. due_outcome (length n.to_device) (decision now l.link)) (slice_get n.links link)
+outcome_of (Submit link request now) n =
+    on_link (λ l. submit_outcome (submission request l.link)) (slice_get n.links link)
+outcome_of (Due link now) n =
+    on_link (λ l. due_outcome (length n.to_device) (decision now l.link)) (slice_get n.links link)
 outcome_of (ToDevice k now) n = delivery_outcome now (slice_get n.to_device k) n
 outcome_of (ToLink k now) n = reception_outcome (slice_get n.to_links k) n
 outcome_of (Other from bytes now) n =
     if has_link from n.links then [] else outcomes.Device (verdict n.sizes n.tree n.events from bytes now) ∷ []
 outcome_of (Tick now) n = outcomes.Ticked ∷ []
 outcome_of (Local ono value) n = set_outcome (set_fault (state_after n.sizes n.tree n.events).tree ono value) ∷ []
-outcome_of (Take link handle) n = on_link (λ l. take_outcome (answer_under handle l.link.untaken)) (slice_get n.links link)
+outcome_of (Take link handle) n =
+    on_link (λ l. take_outcome (answer_under handle l.link.untaken)) (slice_get n.links link)
 
 -- THE OUTCOMES OF A SCHEDULE, in order.
 abbrev pub outcomes_of : List Step → Network → List Outcome

@@ -10,13 +10,20 @@ use Rattle.oca_pair.specs.declared.start.Start.{Start}
 use Rattle.oca_pair.specs.declared.step.Step as declared
 use Rattle.oca_pair.specs.declared.step.Step.TheVariants as given
 use Rattle.oca_pair.specs.Networks.{Network, opening}
-use Rattle.oca_pair.specs.Steps.{Step, Submit, Due, ToDevice, ToLink, Other, Tick, Local, Take, after_steps, outcomes_of, first_missing}
+use Rattle.oca_pair.specs.Steps.{Step, Submit, Due, ToDevice, ToLink, Other, Tick, Local, Take, after_steps}
+use Rattle.oca_pair.specs.Steps.{outcomes_of, first_missing}
 use Rattle.oca_pair.specs.Premises.{are_apart}
 
 -- a step without where its bytes lie in memory
 abbrev pub step_of : declared.Step → Step
 step_of (given.Submit link target method count params now) =
-    Submit link (record { target = target.0; level = method.level; index = method.index; count = count; params = params.now }) now
+    Submit link (record {
+      target = target.0;
+      level = method.level;
+      index = method.index;
+      count = count;
+      params = params.now;
+    }) now
 step_of (given.Due link now) = Due link now
 step_of (given.ToDevice k now) = ToDevice k now
 step_of (given.ToLink k now) = ToLink k now
@@ -41,8 +48,10 @@ IsRunOf (Err faults.NoMemory) starts steps n = are_apart starts ≡ true
 IsRunOf (Err (faults.BadStep k)) starts steps n = (are_apart starts ≡ true) × (first_missing steps n ≡ Some k)
 IsRunOf (Err faults.SamePeer) starts steps n = are_apart starts ≡ false
 
-abbrev pub RunsSchedule : Result Transcript PairFault → DeviceSizes → ℕ → List Object → List Start → List declared.Step → Type 0
-RunsSchedule result sizes span tree starts steps = IsRunOf result starts (map step_of steps) (opening sizes span tree starts)
+abbrev pub RunsSchedule : Result Transcript PairFault → DeviceSizes → ℕ → List Object → List Start →
+    List declared.Step → Type 0
+RunsSchedule result sizes span tree starts steps =
+    IsRunOf result starts (map step_of steps) (opening sizes span tree starts)
 
 -- the number of a fault
 abbrev pub fault_number : PairFault → ℕ

@@ -41,7 +41,10 @@ pub fn run_pair(
     starts: &[Start],
     steps: &[Step<'_>],
 ) -> Result<Transcript, PairFault>
-    ensures { RunsSchedule result (record { window = window_size window; peers = 16 }) (span_size span) tree starts.now steps.now }
+    ensures { RunsSchedule result (record {
+      window = window_size window;
+      peers = 16;
+    }) (span_size span) tree starts.now steps.now }
 {
     let peers = Peers::default();
     run_pair_with_sizes(alloc, tree, Sizes { window, peers }, span, starts, steps)

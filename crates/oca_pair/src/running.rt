@@ -1,10 +1,12 @@
 //! A network as it runs: the device, the links, and what was sent.
 ghost use Rattle.std.specs.Prelude.{◌≡◌, ◌++◌, ◌∷◌, [], ℕ, IfOk, Ok, map, Option, Some, None};
 ghost use Rattle.oca_types.specs.Sizes.{sizes_of, span_size};
-ghost use Rattle.oca_control.specs.Links.{Request, submitted, submission, decision, gone_on, received, reception, taken};
+ghost use Rattle.oca_control.specs.Links.{Request, submitted, submission, decision, gone_on, received, reception};
+ghost use Rattle.oca_control.specs.Links.{taken};
 ghost use Rattle.oca_control.specs.Untaken.{answer_under};
 ghost use Rattle.oca_pair.specs.Networks.{Network, SentDatagram, started, opening, device_address};
-ghost use Rattle.oca_pair.specs.Steps.{Submit, Due as DueStep, ToDevice, ToLink, Other, Tick as TickStep, Local, Take, sendings, hears_datagram, submit_outcome, content_of, take_outcome};
+ghost use Rattle.oca_pair.specs.Steps.{Submit, Due as DueStep, ToDevice, ToLink, Other, Tick as TickStep, Local, Take};
+ghost use Rattle.oca_pair.specs.Steps.{sendings, hears_datagram, submit_outcome, content_of, take_outcome};
 ghost use Rattle.oca_pair.specs.PrivateRunning.{first_heard};
 
 use crate::given::Given;
@@ -15,7 +17,7 @@ use crate::step::Step;
 use oca_control::{Due, Link, Reception};
 use oca_device::{Device, Outbox};
 use oca_pdu::law_reading;
-use oca_tree::{LocalValue, Tree};
+use oca_tree::{Tree, Value};
 use oca_types::{Handle, LOOPBACK, MethodId, NoMemory, Ono, Packet, Peer, Sizes, Span};
 use std::alloc::Global;
 use std::marker::Model;
@@ -63,9 +65,21 @@ impl PeerLink {
         params: &[u8],
         now: u64,
     ) -> Outcome
-        ensures answer { let request : Request = record { target = target.0; level = method.level; index = method.index; count = count; params = params.now } in
+        ensures answer { let request : Request = record {
+          target = target.0;
+          level = method.level;
+          index = method.index;
+          count = count;
+          params = params.now;
+        } in
             result ≡ submit_outcome (submission request self.old.link) }
-        ensures link { let request : Request = record { target = target.0; level = method.level; index = method.index; count = count; params = params.now } in
+        ensures link { let request : Request = record {
+          target = target.0;
+          level = method.level;
+          index = method.index;
+          count = count;
+          params = params.now;
+        } in
             self.new ≡ record { peer = self.old.peer; link = submitted request now self.old.link } }
     {
         match self.link.submit(target, method, count, params, now) {
@@ -91,7 +105,8 @@ impl PeerLink {
     /// Takes a datagram of the device in.
     fn datagram(&mut self, bytes: &[u8], now: u64) -> Reception
         ensures answer { result ≡ reception device_address (content_of bytes.now) self.old.link }
-        ensures link { self.new ≡ record { peer = self.old.peer; link = received device_address (content_of bytes.now) now self.old.link } }
+        ensures link { self.new
+            ≡ record { peer = self.old.peer; link = received device_address (content_of bytes.now) now self.old.link } }
     {
         law_reading();
         self.link.datagram(DEVICE, bytes, now)
@@ -197,7 +212,13 @@ impl Running {
         now: u64,
     ) -> Result<Outcome, StepFault>
         ensures { (n : Network) → Shows self.old n →
-            Took result (Submit link (record { target = target.0; level = method.level; index = method.index; count = count; params = params.now }) now) n self.new }
+            Took result (Submit link (record {
+              target = target.0;
+              level = method.level;
+              index = method.index;
+              count = count;
+              params = params.now;
+            }) now) n self.new }
     {
         if link >= self.links.len() {
             return Err(StepFault::Missing);
@@ -287,7 +308,7 @@ impl Running {
     }
 
     /// Sets an object at the device's own front.
-    fn set(&mut self, ono: Ono, value: LocalValue) -> Outcome
+    fn set(&mut self, ono: Ono, value: Value) -> Outcome
         ensures { (n : Network) → Shows self.old n → Took (Ok result) (Local ono.0 value) n self.new }
     {
         match self.device.set(ono, value) {
@@ -352,8 +373,10 @@ fn add(list: &mut Vec<Sent>, sent: Sent) -> Result<(), NoMemory>
 
 /// Each link of the peer hears the datagram, and the first one's answer is told.
 fn hear(links: &mut Vec<PeerLink>, peer: Peer, bytes: &[u8], now: u64) -> Option<Reception>
-    ensures links { let d : SentDatagram = record { peer = peer; bytes = bytes.now } in links.new.items ≡ map (hears_datagram d now) links.old.items }
-    ensures answer { let d : SentDatagram = record { peer = peer; bytes = bytes.now } in result ≡ first_heard d links.old.items }
+    ensures links { let d : SentDatagram = record { peer = peer; bytes = bytes.now } in
+        links.new.items ≡ map (hears_datagram d now) links.old.items }
+    ensures answer { let d : SentDatagram = record { peer = peer; bytes = bytes.now } in
+        result ≡ first_heard d links.old.items }
 {
     let mut answer = None;
     for i in 0..links.len() {

@@ -1,5 +1,5 @@
 //! The steps of a schedule.
-use oca_tree::LocalValue;
+use oca_tree::Value;
 use oca_types::{Handle, MethodId, Ono, Peer};
 
 /// A step of a schedule. Links and datagrams are named by their number, from 0: links in the order of the starts,
@@ -43,7 +43,7 @@ pub enum Step<'a> {
     /// An object is set at the device's own front. That has no moment: it happens at that of the device's clock.
     Local {
         ono: Ono,
-        value: LocalValue,
+        value: Value,
     },
     /// A link is asked for the answer to a command.
     Take {

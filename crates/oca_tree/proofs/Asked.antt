@@ -16,7 +16,7 @@ use Rattle.oca_tree.specs.declared.request.Request.{Request}
 use Rattle.oca_tree.specs.declared.request.Request.TheVariants as requests
 use Rattle.oca_tree.specs.declared.request.SwitchRequest.TheVariants as switches
 use Rattle.oca_tree.specs.Kinds.{number_at}
-use Rattle.oca_tree.specs.Parameters.{whole, pair_at, items_at, list_at}
+use Rattle.oca_model.specs.Parameters.{whole, pair_at, items_at, list_at}
 use Rattle.oca_tree.specs.Requests.{positions, with_parameters, without_parameters, setting_request, request_of}
 use Rattle.oca_tree.specs.Execution.{request_at}
 use Rattle.oca_tree.proofs.Items.{with_first}

@@ -1,13 +1,11 @@
--- What is told of an object makes it again.
+-- A description of an object makes it again.
 use Rattle.std.proofs.Common.{◌≡◌, ℕ, ◌==◌, Bool, true, false, List, [], ◌∷◌, map, refl, sym, ap, ◌∙◌, arith}
 use Rattle.std.specs.Prelude.{Option, Some, None, is_some, if◌then◌else◌}
 use Rattle.std.proofs.lemmas.List.Sums.{sum_by-cons}
 use Rattle.arrayvec.specs.ArrayVec.{ArrayVec}
 use Rattle.oca_types.specs.declared.class.Class.{Class}
 use Rattle.oca_types.specs.declared.class.Class.TheVariants as class
-use Rattle.oca_model.specs.declared.value.MuteState.{MuteState}
 use Rattle.oca_model.specs.declared.value.MuteState.TheVariants.{Muted, Unmuted}
-use Rattle.oca_model.specs.declared.value.PolarityState.{PolarityState}
 use Rattle.oca_model.specs.declared.value.PolarityState.TheVariants.{NonInverted, Inverted}
 use Rattle.oca_tree.specs.declared.object.NumberKind.{NumberKind}
 use Rattle.oca_tree.specs.declared.object.NumberKind.TheVariants as kinds
@@ -16,16 +14,14 @@ use Rattle.oca_tree.specs.declared.object.Lock.{Lock}
 use Rattle.oca_tree.specs.Locks.{lock_of_one, lock_count}
 use Rattle.oca_tree.specs.declared.object.Value.{Value}
 use Rattle.oca_tree.specs.declared.object.Value.TheVariants as values
-use Rattle.oca_tree.specs.declared.builder.Spec.{Spec}
-use Rattle.oca_tree.specs.declared.start.Start.{Start}
 use Rattle.oca_tree.specs.declared.tree.Setting.{Setting}
 use Rattle.oca_tree.specs.declared.tree.Setting.TheVariants as set
 use Rattle.oca_tree.specs.Kinds.{number_class}
 use Rattle.oca_tree.specs.Objects.{class_of}
 use Rattle.oca_tree.specs.Readers.{value_setting}
-use Rattle.oca_tree.specs.Building.{value_of, object_of_spec}
-use Rattle.oca_tree.specs.Starts.{flags_of, with_flags, restored}
-use Rattle.oca_tree.specs.Copies.{AreToldOf, ToldMakesAgain, stored_in, stored_of, flags_in, names_in, unlocked, Stored}
+use Rattle.oca_tree.specs.Building.{value_of}
+use Rattle.oca_tree.specs.Starts.{flags_of, with_flags}
+use Rattle.oca_tree.specs.Copies.{DescriptionMakesAgain, flags_in, names_in, unlocked, Stored}
 
 -- the type of a class of numbers
 abbrev kind_for : Class → NumberKind
@@ -167,16 +163,16 @@ plainly v w other e f g =
     ∙ ignored (class_of w) (value_setting w) (names_in w) (flags_in v) (no_switch (class_of w) other)
     ∙ sym (ignored (class_of w) (value_setting w) (names_in w) (flags_in w) (no_switch (class_of w) other)) ∙ itself w
 
-told_value : (v w : Value) → class_of v ≡ class_of w → value_setting v ≡ value_setting w → names_in v ≡ names_in w → with_flags (flags_in w) v ≡ w
+described_value : (v w : Value) → class_of v ≡ class_of w → value_setting v ≡ value_setting w → names_in v ≡ names_in w → with_flags (flags_in w) v ≡ w
 unfolding class_of value_setting names_in flags_in
-told_value v values.Block e f g = plainly v values.Block refl e f g
-told_value v (values.Mute state) e f g = plainly v (values.Mute state) refl e f g
-told_value v (values.Polarity state) e f g = plainly v (values.Polarity state) refl e f g
-told_value v (values.Switch switch) e f g =
+described_value v values.Block e f g = plainly v values.Block refl e f g
+described_value v (values.Mute state) e f g = plainly v (values.Mute state) refl e f g
+described_value v (values.Polarity state) e f g = plainly v (values.Polarity state) refl e f g
+described_value v (values.Switch switch) e f g =
     flagged v switch.enableds.items
     ∙ same_again (class_of v) class.Switch (value_setting v) (Some (set.Position switch.position)) (names_in v) switch.names.items (Some switch.enableds.items) e f g
-told_value v (values.Boolean truth) e f g = plainly v (values.Boolean truth) refl e f g
-told_value v (values.Number range) e f g = plainly v (values.Number range) (not_number range.kind) e f g
+described_value v (values.Boolean truth) e f g = plainly v (values.Boolean truth) refl e f g
+described_value v (values.Number range) e f g = plainly v (values.Number range) (not_number range.kind) e f g
 
 abbrev object_with : Object → Bool → List ℕ → List ℕ → Bool → Value → Object
 object_with o lockable role label enabled value = record {
@@ -196,13 +192,13 @@ same_with o a b c d e f g h v w p q r s t =
     ap (λ x. object_with o x c e g v) p ∙ ap (λ x. object_with o b x e g v) q ∙ ap (λ x. object_with o b d x g v) r
     ∙ ap (λ x. object_with o b d f x v) s ∙ ap (λ x. object_with o b d f h x) t
 
-pub made_again : ToldMakesAgain
-made_again o spec start told =
+pub made_again : DescriptionMakesAgain
+made_again o spec start is =
     same_with o spec.lockable o.lockable spec.role.now o.role start.label.now o.label start.enabled o.enabled
     (with_flags (flags_of start) (value_of spec.kind)) o.value
-    told.lockable told.role (ap (λ (s : Stored). s.label) told.stored) (ap (λ (s : Stored). s.enabled) told.stored)
-    (ap (λ (x : Option (List Bool)). with_flags x (value_of spec.kind)) (ap (λ (s : Stored). s.flags) told.stored)
-    ∙ told_value (value_of spec.kind) o.value told.class told.setting told.names)
+    is.lockable is.role (ap (λ (s : Stored). s.label) is.stored) (ap (λ (s : Stored). s.enabled) is.stored)
+    (ap (λ (x : Option (List Bool)). with_flags x (value_of spec.kind)) (ap (λ (s : Stored). s.flags) is.stored)
+    ∙ described_value (value_of spec.kind) o.value is.class is.setting is.names)
 
 -- ---- the same but for locks
 

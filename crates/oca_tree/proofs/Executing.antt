@@ -17,7 +17,7 @@ use Rattle.oca_tree.specs.declared.object.Object.{Object}
 use Rattle.oca_tree.specs.declared.request.Request.{Request}
 use Rattle.oca_tree.specs.Objects.{object_of, has_number, with_object}
 use Rattle.oca_tree.specs.Requests.{request_of, is_out_of_range, is_invalid}
-use Rattle.oca_tree.specs.Execution.{execution, refused, carried_out, parameters, answer, answer_count, changed, status_of, by_status, request_at, kind_at}
+use Rattle.oca_tree.specs.Execution.{execution, refused, carried_out, parameters, answer, parameter_count, changed, status_of, by_status, request_at, kind_at}
 use Rattle.oca_tree.specs.Trees.{IsTree, IsSound}
 use Rattle.oca_tree.specs.Written.{is_ok}
 use Rattle.oca_tree.specs.PrivateSteps.{plain_request, MayCall, IsRefusedAt, IsRequestFor, PutsAll, Executes}
@@ -105,7 +105,7 @@ module _ (tree : List Object) (peer : Peer) (c : CommandFields) (i : ℕ) (o : O
       pub done_at : execution tree peer c ≡ record { tree = set tree i (changed o peer r); status = statuses.Ok; count = count; parameters = out }
       done_at =
           exec_ok tree peer c o found_at r asked (rw (← puts.0) short)
-          ∙ ap (λ t. record { tree = t; status = statuses.Ok; count = answer_count tree o r; parameters = answer tree o r }) (placed (changed o peer r) (changed_ono o peer r))
+          ∙ ap (λ t. record { tree = t; status = statuses.Ok; count = parameter_count tree o r; parameters = answer tree o r }) (placed (changed o peer r) (changed_ono o peer r))
           ∙ ap (λ n. record { tree = set tree i (changed o peer r); status = statuses.Ok; count = n; parameters = answer tree o r }) (sym puts.1)
           ∙ ap (λ xs. record { tree = set tree i (changed o peer r); status = statuses.Ok; count = count; parameters = xs }) (sym puts.0)
 

@@ -3,6 +3,7 @@ use Rattle.std.proofs.Common.{◌≡◌, ℕ, ◌≤◌, length, arith, Bool, tr
 use Rattle.std.specs.Prelude.{Option, Some, None, not}
 use Rattle.std.specs.List.{position}
 use Rattle.oca_types.specs.Peers.{CommandFields}
+use Rattle.oca_types.specs.declared.class.Class.TheVariants as class
 use Rattle.oca_types.specs.declared.class.Method.{Method}
 use Rattle.oca_types.specs.declared.class.MethodKind.{MethodKind}
 use Rattle.oca_types.specs.declared.class.MethodKind.TheVariants.{Known, LeftOut, Unknown}
@@ -10,11 +11,12 @@ use Rattle.oca_types.specs.Methods.{access}
 use Rattle.oca_types.specs.declared.status.Status.TheVariants as statuses
 use Rattle.oca_tree.specs.declared.object.Lock.{Lock}
 use Rattle.oca_tree.specs.declared.object.Object.{Object}
-use Rattle.oca_tree.specs.declared.object.Value.{Value}
+use Rattle.oca_tree.specs.declared.object.Value.{Value as Held}
 use Rattle.oca_tree.specs.declared.object.Value.TheVariants as values
 use Rattle.oca_tree.specs.declared.request.SwitchRequest.TheVariants as switches
-use Rattle.oca_tree.specs.declared.setting.LocalValue.{LocalValue}
-use Rattle.oca_tree.specs.declared.setting.LocalValue.TheVariants as local
+use Rattle.oca_model.specs.declared.value.Value.{Value}
+use Rattle.oca_model.specs.declared.value.Value.TheVariants as to_set
+use Rattle.oca_model.specs.Values.{class_of_value}
 use Rattle.oca_tree.specs.declared.setting.SetFault.{SetFault}
 use Rattle.oca_tree.specs.declared.setting.SetFault.TheVariants as faults
 use Rattle.oca_tree.specs.Objects.{class_of, object_of, has_number, with_object}
@@ -22,36 +24,59 @@ use Rattle.oca_tree.specs.Locks.{lock_refuses}
 use Rattle.oca_tree.specs.Places.{is_block_value}
 use Rattle.oca_tree.specs.Requests.{request_of, is_out_of_range, is_invalid}
 use Rattle.oca_tree.specs.Execution.{Execution, changed, execution, answer, joined, parameters, switch_parameters, kind_at, request_at, is_locked}
-use Rattle.oca_tree.specs.Settings.{request_for, is_set_by, fault_at, fault_in, set_fault, front, set_where, after_set, AnyPeerSetsTheSame, status_for, SetsTheSame, FrontSetsAsPeersDo}
+use Rattle.oca_tree.specs.Settings.{request_for, is_of_its_class, fault_at, fault_in, set_fault, front, set_where, after_set, AnyPeerSetsTheSame, status_for, SetsTheSame, FrontSetsAsPeersDo}
 use Rattle.oca_tree.specs.Trees.{IsTree}
 use Rattle.oca_tree.proofs.Asked.{FitsPositions}
-use Rattle.oca_tree.proofs.Takes.{taken}
 use Rattle.oca_tree.proofs.Executing.{found_at, within_at, sound_at, placed, known_access, request_ok, exec_refused, exec_ok}
 use Rattle.oca_tree.proofs.Sound.{changed_place, changed_ono, changed_sound, written_tree}
 
 pub any_peer : AnyPeerSetsTheSame
 unfolding changed
-any_peer o peer (local.State n) = refl
-any_peer o peer (local.Position n) = refl
-any_peer o peer (local.Truth truth) = refl
-any_peer o peer (local.Number n) = refl
+any_peer o peer (to_set.Mute s) = refl
+any_peer o peer (to_set.Polarity s) = refl
+any_peer o peer (to_set.Switch n) = refl
+any_peer o peer (to_set.Boolean b) = refl
+any_peer o peer (to_set.Int8 n) = refl
+any_peer o peer (to_set.Int16 n) = refl
+any_peer o peer (to_set.Int32 n) = refl
+any_peer o peer (to_set.Int64 n) = refl
+any_peer o peer (to_set.Uint8 n) = refl
+any_peer o peer (to_set.Uint16 n) = refl
+any_peer o peer (to_set.Uint32 n) = refl
+any_peer o peer (to_set.Uint64 n) = refl
 
-valid : (lockable : Bool) (lock : Option Lock) (value : LocalValue) → is_invalid lockable lock (request_for value) ≡ false
+valid : (lockable : Bool) (lock : Option Lock) (value : Value) → is_invalid lockable lock (request_for value) ≡ false
 unfolding is_invalid
-valid lockable lock (local.State n) = refl
-valid lockable lock (local.Position n) = refl
-valid lockable lock (local.Truth truth) = refl
-valid lockable lock (local.Number n) = refl
+valid lockable lock (to_set.Mute s) = refl
+valid lockable lock (to_set.Polarity s) = refl
+valid lockable lock (to_set.Switch n) = refl
+valid lockable lock (to_set.Boolean b) = refl
+valid lockable lock (to_set.Int8 n) = refl
+valid lockable lock (to_set.Int16 n) = refl
+valid lockable lock (to_set.Int32 n) = refl
+valid lockable lock (to_set.Int64 n) = refl
+valid lockable lock (to_set.Uint8 n) = refl
+valid lockable lock (to_set.Uint16 n) = refl
+valid lockable lock (to_set.Uint32 n) = refl
+valid lockable lock (to_set.Uint64 n) = refl
 
-fits : (held : Value) (value : LocalValue) → FitsPositions held (request_for value)
+fits : (held : Held) (value : Value) → FitsPositions held (request_for value)
 unfolding FitsPositions
-fits held (local.State n) = tt
-fits held (local.Position n) = tt
-fits held (local.Truth truth) = tt
-fits held (local.Number n) = tt
+fits held (to_set.Mute s) = tt
+fits held (to_set.Polarity s) = tt
+fits held (to_set.Switch n) = tt
+fits held (to_set.Boolean b) = tt
+fits held (to_set.Int8 n) = tt
+fits held (to_set.Int16 n) = tt
+fits held (to_set.Int32 n) = tt
+fits held (to_set.Int64 n) = tt
+fits held (to_set.Uint8 n) = tt
+fits held (to_set.Uint16 n) = tt
+fits held (to_set.Uint32 n) = tt
+fits held (to_set.Uint64 n) = tt
 
-in_range : (held : Value) (value : LocalValue) → fault_at held value ≡ None → is_out_of_range held (request_for value) ≡ false
-in_range held value e = by (is_block_value held) (is_set_by held value) (is_out_of_range held (request_for value)) e
+in_range : (held : Held) (value : Value) → fault_at held value ≡ None → is_out_of_range held (request_for value) ≡ false
+in_range held value e = by (is_block_value held) (is_of_its_class (class_of held) value) (is_out_of_range held (request_for value)) e
   where
     by : (a b out : Bool) → cond a (Some faults.NoSetting) (cond (not b) (Some faults.OtherKind) (cond out (Some faults.OutOfRange) None)) ≡ None → out ≡ false
     by a b false h = refl
@@ -63,15 +88,15 @@ in_range held value e = by (is_block_value held) (is_set_by held value) (is_out_
 abbrev to : ℕ → CommandFields
 to number = record { handle = 0; target = number; level = 0; index = 0; count = 0; params = [] }
 
-pub fault_none : (tree : List Object) (number : ℕ) (value : LocalValue) → object_of tree number ≡ None → set_fault tree number value ≡ Some faults.NoObject
+pub fault_none : (tree : List Object) (number : ℕ) (value : Value) → object_of tree number ≡ None → set_fault tree number value ≡ Some faults.NoObject
 unfolding set_fault
 fault_none tree number value e = ap (λ x. fault_in x value) e
 
-pub unset : (tree : List Object) (number : ℕ) (value : LocalValue) (f : SetFault) → set_fault tree number value ≡ Some f → after_set tree number value ≡ tree
+pub unset : (tree : List Object) (number : ℕ) (value : Value) (f : SetFault) → set_fault tree number value ≡ Some f → after_set tree number value ≡ tree
 unfolding after_set
 unset tree number value f e = rw e refl
 
-module _ (tree : List Object) (number i : ℕ) (o : Object) (place : Some i ≡ position (has_number number) tree) (here : o ≡ get_or tree i o) (value : LocalValue) where
+module _ (tree : List Object) (number i : ℕ) (o : Object) (place : Some i ≡ position (has_number number) tree) (here : o ≡ get_or tree i o) (value : Value) where
   found : object_of tree number ≡ Some o
   found = found_at tree front (to number) i o place here
 
@@ -94,7 +119,7 @@ module _ (tree : List Object) (number i : ℕ) (o : Object) (place : Some i ≡ 
 
 -- ---- the front sets as a peer's command does
 
-no_switch_answer : (held : Value) (n : ℕ) → switch_parameters held (switches.SetPosition n) ≡ []
+no_switch_answer : (held : Held) (n : ℕ) → switch_parameters held (switches.SetPosition n) ≡ []
 no_switch_answer values.Block n = refl
 no_switch_answer (values.Mute state) n = refl
 no_switch_answer (values.Polarity state) n = refl
@@ -102,17 +127,54 @@ no_switch_answer (values.Switch switch) n = refl
 no_switch_answer (values.Boolean truth) n = refl
 no_switch_answer (values.Number range) n = refl
 
-no_answer : (tree : List Object) (o : Object) (value : LocalValue) → parameters tree o (request_for value) ≡ []
+no_answer : (tree : List Object) (o : Object) (value : Value) → parameters tree o (request_for value) ≡ []
 unfolding parameters
-no_answer tree o (local.State n) = refl
-no_answer tree o (local.Position n) = no_switch_answer o.value n
-no_answer tree o (local.Truth truth) = refl
-no_answer tree o (local.Number n) = refl
+no_answer tree o (to_set.Mute s) = refl
+no_answer tree o (to_set.Polarity s) = refl
+no_answer tree o (to_set.Switch n) = no_switch_answer o.value n
+no_answer tree o (to_set.Boolean b) = refl
+no_answer tree o (to_set.Int8 n) = refl
+no_answer tree o (to_set.Int16 n) = refl
+no_answer tree o (to_set.Int32 n) = refl
+no_answer tree o (to_set.Int64 n) = refl
+no_answer tree o (to_set.Uint8 n) = refl
+no_answer tree o (to_set.Uint16 n) = refl
+no_answer tree o (to_set.Uint32 n) = refl
+no_answer tree o (to_set.Uint64 n) = refl
 
--- an object that takes a value is no block
-no_block : (held : Value) (value : LocalValue) → is_set_by held value ≡ true → is_block_value held ≡ false
-unfolding is_set_by
-no_block values.Block value e = cc
+-- a value is one of its own class, which is none of a block
+own_class : (value : Value) → is_of_its_class (class_of_value value) value ≡ true
+unfolding is_of_its_class
+own_class (to_set.Mute s) = refl
+own_class (to_set.Polarity s) = refl
+own_class (to_set.Switch n) = refl
+own_class (to_set.Boolean b) = refl
+own_class (to_set.Int8 n) = refl
+own_class (to_set.Int16 n) = refl
+own_class (to_set.Int32 n) = refl
+own_class (to_set.Int64 n) = refl
+own_class (to_set.Uint8 n) = refl
+own_class (to_set.Uint16 n) = refl
+own_class (to_set.Uint32 n) = refl
+own_class (to_set.Uint64 n) = refl
+
+no_block : (held : Held) (value : Value) → class_of held ≡ class_of_value value → is_block_value held ≡ false
+unfolding class_of
+no_block values.Block value e = absurd (no_block_value value e)
+  where
+    no_block_value : (v : Value) → class.Block ≡ class_of_value v → ⊥
+    no_block_value (to_set.Mute s) h = cc
+    no_block_value (to_set.Polarity s) h = cc
+    no_block_value (to_set.Switch n) h = cc
+    no_block_value (to_set.Boolean b) h = cc
+    no_block_value (to_set.Int8 n) h = cc
+    no_block_value (to_set.Int16 n) h = cc
+    no_block_value (to_set.Int32 n) h = cc
+    no_block_value (to_set.Int64 n) h = cc
+    no_block_value (to_set.Uint8 n) h = cc
+    no_block_value (to_set.Uint16 n) h = cc
+    no_block_value (to_set.Uint32 n) h = cc
+    no_block_value (to_set.Uint64 n) h = cc
 no_block (values.Mute state) value e = refl
 no_block (values.Polarity state) value e = refl
 no_block (values.Switch switch) value e = refl
@@ -120,19 +182,19 @@ no_block (values.Boolean truth) value e = refl
 no_block (values.Number range) value e = refl
 
 -- then the fault is whether the value is out of range
-fault_taken : (held : Value) (value : LocalValue) (out : Bool) → is_set_by held value ≡ true → is_out_of_range held (request_for value) ≡ out →
-    fault_at held value ≡ cond out (Some faults.OutOfRange) None
-fault_taken held value out takes e = rw (no_block held value takes, takes, e) refl
+fault_taken : (held : Held) (value : Value) (out : Bool) → class_of held ≡ class_of_value value →
+    is_out_of_range held (request_for value) ≡ out → fault_at held value ≡ cond out (Some faults.OutOfRange) None
+fault_taken held value out same e =
+    let takes : is_of_its_class (class_of held) value ≡ true =
+    ap (λ c. is_of_its_class c value) same ∙ own_class value in
+    rw (no_block held value same, takes, e) refl
 
 pub as_peers : FrontSetsAsPeersDo
 unfolding set_fault after_set
-as_peers tree peer c o value found free asked = by_kind (kind_at (Some o) c) refl free asked
+as_peers tree peer c o value found same free asked = by_kind (kind_at (Some o) c) refl free asked
   where
-    takes : is_set_by o.value value ≡ true
-    takes = taken o c value asked
-
     fault_is : (out : Bool) → is_out_of_range o.value (request_for value) ≡ out → set_fault tree c.target value ≡ cond out (Some faults.OutOfRange) None
-    fault_is out e = ap (λ x. fault_in x value) found ∙ fault_taken o.value value out takes e
+    fault_is out e = ap (λ x. fault_in x value) found ∙ fault_taken o.value value out same e
 
     set_here : is_out_of_range o.value (request_for value) ≡ false → after_set tree c.target value ≡ set_where None tree (Some o) value
     set_here e = ap (λ f. set_where f tree (object_of tree c.target) value) (fault_is false e) ∙ ap (λ x. set_where None tree x value) found

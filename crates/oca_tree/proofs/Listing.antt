@@ -15,7 +15,7 @@ or_false : (t : Bool) → (t || false) ≡ t
 or_false true = refl
 or_false false = refl
 
--- what is listed of a block is told by indices
+-- what is listed of a block, by indices
 module _ (tree : List Object) (sound : IsTree tree) (b : ℕ) (inside : b < length tree) where
   abbrev number : Object → ℕ
   number d = (get_or tree b d).ono.0

@@ -1,42 +1,34 @@
 -- A device understands a set request as setting its value.
 use Rattle.std.proofs.Common.{◌≡◌, ℕ, Bool, true, false, List, [], length, refl, sym, ap, ◌∙◌, append-nil}
-use Rattle.std.specs.Prelude.{Option, Some, None, ℤ, pos, ◌<◌, ◌^◌, FitsSigned}
+use Rattle.std.specs.Prelude.{Option, Some, None, ℤ, pos}
 use Rattle.std.specs.Option.{option_map}
 use Rattle.std.specs.Int.{Width, w8, w16, w32, w64, byte_len, from_be_bytes, cast_signed}
-use Rattle.oca_types.specs.declared.words.MethodId.{MethodId}
-use Rattle.oca_types.specs.declared.words.Peer.{Peer}
 use Rattle.oca_types.specs.declared.class.Class.{Class}
 use Rattle.oca_types.specs.declared.class.Class.TheVariants as class
-use Rattle.oca_types.specs.declared.class.Method.TheVariants.{SetState, SetPosition, SetSetting}
-use Rattle.oca_types.specs.declared.class.MethodKind.{MethodKind}
+use Rattle.oca_types.specs.declared.class.Method.TheVariants.{SetState}
 use Rattle.oca_types.specs.declared.class.MethodKind.TheVariants.{Known}
 use Rattle.oca_types.specs.Methods.{method_kind, access}
 use Rattle.oca_types.specs.Numbers.{unsigned_encoding, signed_encoding}
 use Rattle.oca_types.specs.Reading.{unsigned_at, signed_at}
-use Rattle.oca_types.specs.Peers.{CommandFields}
 use Rattle.oca_types.proofs.Fixed.{unsigned_some, signed_some, fixed_u8, fixed_u16, fixed_u32, fixed_u64, fixed_i8, fixed_i16, fixed_i32, fixed_i64}
 use Rattle.oca_tree.specs.declared.object.NumberKind.{NumberKind}
 use Rattle.oca_tree.specs.declared.object.NumberKind.TheVariants as kinds
-use Rattle.oca_tree.specs.declared.object.Object.{Object}
 use Rattle.oca_tree.specs.declared.object.Value.{Value as Held}
 use Rattle.oca_tree.specs.declared.object.Value.TheVariants as held
 use Rattle.oca_model.specs.declared.value.MuteState.{MuteState}
 use Rattle.oca_model.specs.declared.value.PolarityState.{PolarityState}
 use Rattle.oca_model.specs.declared.value.MuteState.TheVariants.{Muted, Unmuted}
 use Rattle.oca_model.specs.declared.value.PolarityState.TheVariants.{NonInverted, Inverted}
-use Rattle.oca_tree.specs.declared.request.Request.{Request as Understood}
 use Rattle.oca_tree.specs.declared.request.Request.TheVariants as requests
-use Rattle.oca_tree.specs.declared.request.SwitchRequest.TheVariants as switches
 use Rattle.oca_tree.specs.Kinds.{number_class, number_at}
 use Rattle.oca_tree.specs.Objects.{class_of}
-use Rattle.oca_tree.specs.Parameters.{whole}
 use Rattle.oca_tree.specs.Requests.{request_of, setting_request}
-use Rattle.oca_tree.specs.Execution.{kind_at, request_at}
+use Rattle.oca_tree.specs.Execution.{kind_at}
 use Rattle.oca_tree.specs.Settings.{request_for}
 use Rattle.oca_model.specs.declared.value.Value.{Value}
 use Rattle.oca_model.specs.declared.value.Value.TheVariants.{Mute, Polarity, Switch, Boolean, Int8, Int16, Int32, Int64, Uint8, Uint16, Uint32, Uint64}
 use Rattle.oca_model.specs.Values.{mute_number, polarity_number, class_of_value, value_encoding, set_method, IsOfItsType}
-use Rattle.oca_tree.specs.SetRequests.{local_of, command_of, SetsTo, IsUnderstood}
+use Rattle.oca_tree.specs.SetRequests.{command_of, IsUnderstood}
 
 -- ---- integer actuators
 
@@ -108,7 +100,7 @@ unfolding request_of unsigned_at
 polarity_set o NonInverted = refl
 polarity_set o Inverted = refl
 
-understood : (o : Held) (v : Value) → IsOfItsType v → class_of o ≡ class_of_value v → request_of o (set_method v) 1 (value_encoding v) ≡ Some (request_for (local_of v))
+understood : (o : Held) (v : Value) → IsOfItsType v → class_of o ≡ class_of_value v → request_of o (set_method v) 1 (value_encoding v) ≡ Some (request_for v)
 unfolding request_of value_encoding number_at
 understood o (Mute s) fits e = mute_set o s
 understood o (Polarity s) fits e = polarity_set o s

@@ -1,5 +1,7 @@
 -- How a tree is built (the order of the faults is the profile's).
-use Rattle.std.specs.Prelude.{◌≡◌, ℕ, ◌+◌, ◌==◌, ◌||◌, not, Bool, true, false, if◌then◌else◌, nat_lt, nat_le, List, [], ◌∷◌, ◌++◌, length, map, replicate, codes, Option, Some, None, is_some, Result, Ok, Err, ℤ, int_lt, pos}
+use Rattle.std.specs.Prelude.{◌≡◌, ℕ, ◌+◌, ◌==◌, ◌||◌, not, Bool, true, false, if◌then◌else◌, nat_lt, nat_le, List, []}
+use Rattle.std.specs.Prelude.{◌∷◌, ◌++◌, length, map, replicate, codes, Option, Some, None, is_some, Result, Ok, Err, ℤ}
+use Rattle.std.specs.Prelude.{int_lt, pos}
 use Rattle.std.specs.List.{list_any}
 use Rattle.oca_tree.specs.declared.object.NumberKind.{NumberKind}
 use Rattle.oca_tree.specs.declared.object.NumberKind.TheVariants as kinds
@@ -17,7 +19,8 @@ use Rattle.oca_tree.specs.Places.{places, is_block, depth}
 -- ---- the object that is added
 
 abbrev pub number : NumberKind → ℤ → ℤ → ℤ → Value
-number kind setting least greatest = values.Number (record { kind = kind; setting = setting; least = least; greatest = greatest })
+number kind setting least greatest =
+    values.Number (record { kind = kind; setting = setting; least = least; greatest = greatest })
 
 -- a switch whose positions are all enabled
 abbrev pub switch : List (List ℕ) → ℕ → Value
@@ -72,9 +75,11 @@ has_bad_name _ = false
 
 -- limits the wrong way round, a setting outside them, other than 1 to 16 positions, a position that is not there
 unfoldable pub is_bad_value : Value → Bool
-is_bad_value (values.Number range) = int_lt range.greatest range.least || int_lt range.setting range.least || int_lt range.greatest range.setting
+is_bad_value (values.Number range) =
+    int_lt range.greatest range.least || int_lt range.setting range.least || int_lt range.greatest range.setting
 is_bad_value (values.Switch switch) =
-    (length switch.names.items == 0) || nat_lt 16 (length switch.names.items) || nat_le (length switch.names.items) switch.position
+    (length switch.names.items == 0) || nat_lt 16 (length switch.names.items)
+    || nat_le (length switch.names.items) switch.position
 is_bad_value _ = false
 
 -- the fault of the first line whose condition holds
@@ -99,5 +104,6 @@ add_fault room tree container ono spec = first_fault (
 -- applies. Memory is not asked for: a builder has its room from the start.
 abbrev pub Adds : {X : Type 0} → Result X AddFault → Store → Store → ℕ → ℕ → Spec → Type 0
 Adds (Ok _) old new container ono spec =
-    (add_fault old.room old.list container ono spec ≡ None) × (new ≡ record old { list = old.list ++ object_of_spec container ono spec ∷ [] })
+    (add_fault old.room old.list container ono spec ≡ None)
+    × (new ≡ record old { list = old.list ++ object_of_spec container ono spec ∷ [] })
 Adds (Err e) old new container ono spec = (new ≡ old) × (add_fault old.room old.list container ono spec ≡ Some e)

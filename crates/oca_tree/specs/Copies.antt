@@ -1,4 +1,4 @@
--- What is told of an object, so that it can be made again (profile).
+-- What is read of an object so that the same object can be added again (profile).
 use Rattle.std.specs.Prelude.{◌≡◌, ℕ, Bool, List, [], map, Option, Some, None}
 use Rattle.std.specs.Option.{option_map}
 use Rattle.oca_tree.specs.declared.object.Object.{Object}
@@ -11,7 +11,7 @@ use Rattle.oca_tree.specs.Readers.{value_setting}
 use Rattle.oca_tree.specs.Building.{value_of, object_of_spec}
 use Rattle.oca_tree.specs.Starts.{flags_of, restored}
 
--- ---- what is told
+-- ---- what is read
 
 -- what was stored of an object: its label, whether it is enabled, and of a switch the flags of its positions
 pub record Stored : Type 0 where
@@ -60,9 +60,9 @@ all_unlocked tree = map unlocked tree
 
 -- ---- made again
 
--- The Spec and the Start say of an object what is told of it: its role, whether it can be locked, its class, how it is
+-- The Spec and the Start describe the object: its role, whether it can be locked, its class, how it is
 -- set, the names of its positions, and what was stored.
-pub record AreToldOf (o : Object) (spec : Spec) (start : Start) : Type 0 where
+pub record Describe (o : Object) (spec : Spec) (start : Start) : Type 0 where
   pub role : spec.role.now ≡ o.role
   pub lockable : spec.lockable ≡ o.lockable
   pub class : class_of (value_of spec.kind) ≡ class_of o.value
@@ -70,7 +70,7 @@ pub record AreToldOf (o : Object) (spec : Spec) (start : Start) : Type 0 where
   pub names : names_in (value_of spec.kind) ≡ names_in o.value
   pub stored : stored_in start ≡ stored_of o
 
--- What is told of an object makes it again, but for its lock.
-abbrev pub ToldMakesAgain : Type 0
-ToldMakesAgain = (o : Object) (spec : Spec) (start : Start) → AreToldOf o spec start →
+-- An object that is added by its description is the same, but for its lock.
+abbrev pub DescriptionMakesAgain : Type 0
+DescriptionMakesAgain = (o : Object) (spec : Spec) (start : Start) → Describe o spec start →
     restored start (object_of_spec o.container.0 o.ono.0 spec) ≡ unlocked o

@@ -1,6 +1,6 @@
 -- What a command does to a tree, and what is answered (AES70-2; the order of the statuses is the profile's).
-use Rattle.std.specs.Prelude.{ℕ, ◌-◌, ◌==◌, Bool, true, false, if◌then◌else◌, List, [], ◌∷◌, ◌++◌, length, nat_lt, slice_index_or, slice_set, Option, Some, None, is_none}
-use Rattle.std.specs.List.{flat_map}
+use Rattle.std.specs.Prelude.{ℕ, ◌-◌, ◌==◌, Bool, true, false, if◌then◌else◌, List, [], ◌∷◌, ◌++◌, length, nat_lt}
+use Rattle.std.specs.Prelude.{slice_index_or, slice_set, Option, Some, None, is_none}
 use Rattle.std.specs.Int.{w8, w16, w32}
 use Rattle.oca_types.specs.declared.words.Peer.{Peer}
 use Rattle.oca_types.specs.declared.status.Status.{Status}
@@ -13,6 +13,7 @@ use Rattle.oca_types.specs.Texts.{text_encoding}
 use Rattle.oca_types.specs.Classes.{class_identification_encoding}
 use Rattle.oca_types.specs.Methods.{method_kind}
 use Rattle.oca_types.specs.Peers.{CommandFields}
+use Rattle.oca_model.specs.Lists.{list_encoding}
 use Rattle.oca_model.specs.Values.{mute_number, polarity_number}
 use Rattle.oca_model.specs.declared.value.MuteState.{MuteState}
 use Rattle.oca_model.specs.declared.value.MuteState.TheVariants.{Muted, Unmuted}
@@ -43,10 +44,6 @@ identification_encoding o = unsigned_encoding w32 o.ono.0 ++ class_identificatio
 abbrev pub block_member_encoding : Object → List ℕ
 block_member_encoding o = identification_encoding o ++ unsigned_encoding w32 o.container.0
 
--- OcaList: the number of the items, then the items
-abbrev pub list_encoding : {X : Type 0} → (X → List ℕ) → List X → List ℕ
-list_encoding item xs = unsigned_encoding w16 (length xs) ++ flat_map item xs
-
 -- ---- what each method answers
 
 -- no other value has a state
@@ -58,10 +55,12 @@ state_encoding _ = []
 abbrev pub position_parameters : Switch → SwitchRequest → List (List ℕ)
 -- the position, the least and the greatest
 position_parameters switch switches.GetPosition =
-    unsigned_encoding w16 switch.position ∷ unsigned_encoding w16 0 ∷ unsigned_encoding w16 (length switch.names.items - 1) ∷ []
+    unsigned_encoding w16 switch.position ∷ unsigned_encoding w16 0
+    ∷ unsigned_encoding w16 (length switch.names.items - 1) ∷ []
 position_parameters switch (switches.GetPositionName n) = text_encoding (slice_index_or switch.names.items n []) ∷ []
 position_parameters switch switches.GetPositionNames = list_encoding text_encoding switch.names.items ∷ []
-position_parameters switch (switches.GetPositionEnabled n) = bool_encoding (slice_index_or switch.enableds.items n false) ∷ []
+position_parameters switch (switches.GetPositionEnabled n) =
+    bool_encoding (slice_index_or switch.enableds.items n false) ∷ []
 position_parameters switch switches.GetPositionEnableds = list_encoding bool_encoding switch.enableds.items ∷ []
 position_parameters switch _ = []
 
@@ -73,7 +72,8 @@ switch_parameters _ request = []
 abbrev pub setting_parameters : Value → List (List ℕ)
 setting_parameters (values.Boolean truth) = bool_encoding truth ∷ []
 setting_parameters (values.Number range) =
-    number_encoding range.kind range.setting ∷ number_encoding range.kind range.least ∷ number_encoding range.kind range.greatest ∷ []
+    number_encoding range.kind range.setting ∷ number_encoding range.kind range.least
+    ∷ number_encoding range.kind range.greatest ∷ []
 setting_parameters _ = []
 
 -- the parameters of the answer, each encoded; what sets or locks answers its status alone
@@ -102,8 +102,8 @@ abbrev pub answer : List Object → Object → Request → List ℕ
 answer tree o request = joined (parameters tree o request)
 
 -- how many parameters the answer has (ParamCount)
-abbrev pub answer_count : List Object → Object → Request → ℕ
-answer_count tree o request = length (parameters tree o request)
+abbrev pub parameter_count : List Object → Object → Request → ℕ
+parameter_count tree o request = length (parameters tree o request)
 
 -- ---- what each method changes
 
@@ -123,9 +123,11 @@ changed_polarity state _ = state
 
 abbrev pub changed_switch : Switch → SwitchRequest → Switch
 changed_switch switch (switches.SetPosition n) = record switch { position = n }
-changed_switch switch (switches.SetPositionName n text) = record switch { names = record { items = slice_set switch.names.items n text } }
+changed_switch switch (switches.SetPositionName n text) =
+    record switch { names = record { items = slice_set switch.names.items n text } }
 changed_switch switch (switches.SetPositionNames texts) = record switch { names = record { items = texts } }
-changed_switch switch (switches.SetPositionEnabled n truth) = record switch { enableds = record { items = slice_set switch.enableds.items n truth } }
+changed_switch switch (switches.SetPositionEnabled n truth) =
+    record switch { enableds = record { items = slice_set switch.enableds.items n truth } }
 changed_switch switch (switches.SetPositionEnableds truths) = record switch { enableds = truths }
 changed_switch switch _ = switch
 
@@ -174,9 +176,9 @@ abbrev pub is_unknown : MethodKind → Bool
 is_unknown Unknown = true
 is_unknown _ = false
 
-abbrev pub is_left_out : MethodKind → Bool
-is_left_out LeftOut = true
-is_left_out _ = false
+abbrev pub is_kind_left_out : MethodKind → Bool
+is_kind_left_out LeftOut = true
+is_kind_left_out _ = false
 
 -- whether a lock refuses the method
 abbrev pub is_locked : Option Object → MethodKind → Peer → Bool
@@ -193,13 +195,14 @@ abbrev pub first_that_applies : List (Bool × Status) → Status
 first_that_applies [] = status.Ok
 first_that_applies (line ∷ lines) = if line.0 then line.1 else first_that_applies lines
 
--- the profile's order of the refusals: no such object, no such method, a method that is left out, a lock of another peer,
--- parameters that are not the method's, a value out of range, a lock that cannot be made or is not there, a long answer
+-- the profile's order of the refusals: no such object, no such method, a method that is left out, a lock of another
+-- peer, parameters that are not the method's, a value out of range, a lock that cannot be made or is not there, a long
+-- answer
 abbrev pub status_lines : List Object → Peer → Option Object → MethodKind → Option Request → List (Bool × Status)
 status_lines tree peer o method request =
     (is_none o, status.BadOno)
     ∷ (is_unknown method, status.BadMethod)
-    ∷ (is_left_out method, status.NotImplemented)
+    ∷ (is_kind_left_out method, status.NotImplemented)
     ∷ (is_locked o method peer, status.Locked)
     ∷ (is_none request, status.ParameterError)
     ∷ (on_both (λ o r. is_out_of_range o.value r) o request, status.ParameterOutOfRange)
@@ -225,7 +228,12 @@ refused tree status = record { tree = tree; status = status; count = 0; paramete
 
 abbrev pub carried_out : List Object → Peer → Object → Request → Execution
 carried_out tree peer o r =
-    record { tree = with_object tree (changed o peer r); status = status.Ok; count = answer_count tree o r; parameters = answer tree o r }
+    record {
+      tree = with_object tree (changed o peer r);
+      status = status.Ok;
+      count = parameter_count tree o r;
+      parameters = answer tree o r;
+    }
 
 -- a command is carried out where its status is OK, and else refused
 abbrev pub by_status : List Object → Peer → Option Object → Option Request → Status → Execution

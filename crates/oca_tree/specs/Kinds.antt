@@ -7,7 +7,8 @@ use Rattle.oca_types.specs.declared.class.Class.TheVariants as class
 use Rattle.oca_types.specs.Numbers.{unsigned_encoding, signed_encoding}
 use Rattle.oca_types.specs.Reading.{unsigned_at, signed_at}
 use Rattle.oca_tree.specs.declared.object.NumberKind.{NumberKind}
-use Rattle.oca_tree.specs.declared.object.NumberKind.TheVariants.{Int8, Int16, Int32, Int64, Uint8, Uint16, Uint32, Uint64}
+use Rattle.oca_tree.specs.declared.object.NumberKind.TheVariants.{Int8, Int16, Int32, Int64, Uint8, Uint16, Uint32}
+use Rattle.oca_tree.specs.declared.object.NumberKind.TheVariants.{Uint64}
 
 -- the class of actuators of an integer type
 abbrev pub number_class : NumberKind → Class

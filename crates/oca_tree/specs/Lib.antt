@@ -2,7 +2,6 @@ pub mod Kinds
 pub mod Places
 pub mod Objects
 pub mod Locks
-pub mod Parameters
 pub mod Requests
 pub mod Execution
 pub mod Written

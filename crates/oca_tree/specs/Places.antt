@@ -33,10 +33,11 @@ is_block ps number = option_map_or (λ p. p.block) (place_at ps number) false
 -- the number and those of the containers above it, as far as they are there, in at most so many steps
 unfoldable pub chain_within : ℕ → List Place → ℕ → List ℕ
 chain_within zero ps number = []
-chain_within (suc steps) ps number = option_map_or (λ p. number ∷ chain_within steps ps p.container) (place_at ps number) []
+chain_within (suc steps) ps number =
+    option_map_or (λ p. number ∷ chain_within steps ps p.container) (place_at ps number) []
 
--- the whole chain: an object, its container, the container of that, and so on up to the root. Since containers stand before
--- their members, it has no more steps than there are objects.
+-- the whole chain: an object, its container, the container of that, and so on up to the root. Since containers stand
+-- before their members, it has no more steps than there are objects.
 abbrev pub chain : List Place → ℕ → List ℕ
 chain ps number = chain_within (length ps) ps number
 
@@ -44,11 +45,12 @@ chain ps number = chain_within (length ps) ps number
 abbrev pub depth : List Place → ℕ → ℕ
 depth ps number = length (chain ps number)
 
--- The chain of containers that begins with this number reaches the block: the number is the block's, or the chain of the
--- object's container reaches it.
+-- The chain of containers that begins with this number reaches the block: the number is the block's, or the chain of
+-- the object's container reaches it.
 pub data ChainReaches (ps : List Place) (block : ℕ) : ℕ → Type 0 where
   here : (p : Place) → place_at ps block ≡ Some p → ChainReaches ps block block
-  above : (number : ℕ) (p : Place) → place_at ps number ≡ Some p → ChainReaches ps block p.container → ChainReaches ps block number
+  above : (number : ℕ) (p : Place) → place_at ps number ≡ Some p → ChainReaches ps block p.container →
+      ChainReaches ps block number
 
 -- whether it does; in every tree this is the relation above
 abbrev pub reaches : List Place → ℕ → ℕ → Bool

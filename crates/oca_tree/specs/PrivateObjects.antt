@@ -21,10 +21,12 @@ pub record HasRoom {S : Type 0} (map : IndexMap Ono Object S) (indices capacity 
   pub containers : room ≤ capacity
   pub both : indices ≡ index_map_len map
 
--- the index of the container of each, counted from 0 among those before it; nothing where none of them is it, as for the root
+-- the index of the container of each, counted from 0 among those before it; nothing where none of them is it, as for
+-- the root
 abbrev pub containers_behind : List Place → List Place → List (Option ℕ)
 containers_behind before [] = []
-containers_behind before (p ∷ ps) = position (λ q. q.number == p.container) before ∷ containers_behind (before ++ p ∷ []) ps
+containers_behind before (p ∷ ps) =
+    position (λ q. q.number == p.container) before ∷ containers_behind (before ++ p ∷ []) ps
 
 abbrev pub containers : List Place → List (Option ℕ)
 containers ps = containers_behind [] ps

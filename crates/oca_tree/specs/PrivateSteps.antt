@@ -1,5 +1,6 @@
 -- What the tree's own functions say to one another. No public clause cites it.
-use Rattle.std.specs.Prelude.{◌≡◌, ℕ, ◌==◌, Bool, true, false, if◌then◌else◌, List, [], ◌∷◌, ◌++◌, map, length, ◌+◌, ◌<◌, nat_lt, Option, Some, None, Result, Ok, Err}
+use Rattle.std.specs.Prelude.{◌≡◌, ℕ, ◌==◌, Bool, true, false, if◌then◌else◌, List, [], ◌∷◌, ◌++◌, map, length, ◌+◌}
+use Rattle.std.specs.Prelude.{◌<◌, nat_lt, Option, Some, None, Result, Ok, Err}
 use Rattle.std.specs.List.{flat_map, filter}
 use Rattle.oca_types.specs.declared.words.Peer.{Peer}
 use Rattle.oca_types.specs.declared.fault.PutFault.{PutFault}
@@ -22,13 +23,14 @@ use Rattle.oca_tree.specs.declared.builder.Spec.{Spec}
 use Rattle.oca_tree.specs.declared.start.Start.{Start}
 use Rattle.oca_tree.specs.declared.start.StartFault.{StartFault}
 use Rattle.oca_tree.specs.declared.start.StartFault.TheVariants.{BadFlags}
-use Rattle.oca_tree.specs.declared.setting.LocalValue.{LocalValue}
+use Rattle.oca_model.specs.declared.value.Value.{Value as Setting}
 use Rattle.oca_tree.specs.declared.setting.SetFault.{SetFault}
 use Rattle.oca_tree.specs.Places.{places, reaches}
 use Rattle.oca_tree.specs.Objects.{Store}
 use Rattle.oca_tree.specs.Locks.{lock_refuses}
 use Rattle.oca_tree.specs.Requests.{request_of, is_out_of_range, is_invalid}
-use Rattle.oca_tree.specs.Execution.{identification_encoding, block_member_encoding, joined, answer, kind_at, request_at, status_of, by_status, refused, execution}
+use Rattle.oca_tree.specs.Execution.{identification_encoding, block_member_encoding, joined, answer, kind_at}
+use Rattle.oca_tree.specs.Execution.{request_at, status_of, by_status, refused, execution}
 use Rattle.oca_tree.specs.Written.{is_ok}
 use Rattle.oca_tree.specs.Trees.{IsTree, IsSoundValue}
 use Rattle.oca_tree.specs.Building.{add_fault, object_of_spec, is_bad_value}
@@ -77,7 +79,8 @@ counted_as count (Err _) = Err status.BufferOverflow
 -- All parameters were appended, and there are so many of them; or there is no room for them.
 abbrev pub PutsAll : Result ℕ Status → List ℕ → List ℕ → List (List ℕ) → Type 0
 PutsAll (Ok count) old new parameters = (new ≡ old ++ joined parameters) × (count ≡ length parameters)
-PutsAll (Err s) old new parameters = (s ≡ status.BufferOverflow) × (most_parameter_bytes < length old + length (joined parameters))
+PutsAll (Err s) old new parameters =
+    (s ≡ status.BufferOverflow) × (most_parameter_bytes < length old + length (joined parameters))
 
 -- whether a method of this access only reads
 abbrev pub only_reads : Access → Bool
@@ -90,11 +93,14 @@ plain_request method = if only_reads (access method) then request_of values.Bloc
 
 -- The object has the method, and no lock keeps the peer from it.
 abbrev pub MayCall : Method → Object → Peer → CommandFields → Type 0
-MayCall method o peer c = (kind_at (Some o) c ≡ Known method (access method)) × (lock_refuses o.lock peer (access method) ≡ false)
+MayCall method o peer c =
+    (kind_at (Some o) c ≡ Known method (access method)) × (lock_refuses o.lock peer (access method) ≡ false)
 
 -- The command is refused at the object, whatever the tree.
 abbrev pub IsRefusedAt : Status → Object → Peer → CommandFields → Type 0
-IsRefusedAt s o peer c = (tree : List Object) → by_status tree peer (Some o) (request_at (Some o) (kind_at (Some o) c) c) (status_of tree peer (Some o) c) ≡ refused tree s
+IsRefusedAt s o peer c = (tree : List Object) →
+    by_status tree peer (Some o) (request_at (Some o) (kind_at (Some o) c) c) (status_of tree peer (Some o) c)
+    ≡ refused tree s
 
 abbrev pub IsMethodFor : Result Method Status → Object → Peer → CommandFields → Type 0
 IsMethodFor (Ok method) o peer c = MayCall method o peer c
@@ -105,12 +111,15 @@ abbrev pub IsRequestFor : Result Request Status → Object → Peer → CommandF
 IsRequestFor (Ok r) o peer c =
     (request_at (Some o) (kind_at (Some o) c) c ≡ Some r)
     × (is_out_of_range o.value r ≡ false) × (is_invalid o.lockable o.lock r ≡ false)
-    × ((tree : List Object) → status_of tree peer (Some o) c ≡ (if nat_lt most_parameter_bytes (length (answer tree o r)) then status.BufferOverflow else status.Ok))
+    × ((tree : List Object) →
+    status_of tree peer (Some o) c
+    ≡ (if nat_lt most_parameter_bytes (length (answer tree o r)) then status.BufferOverflow else status.Ok))
 IsRequestFor (Err s) o peer c = IsRefusedAt s o peer c × (is_ok s ≡ false)
 
 -- A command was carried out, or refused with nothing changed, as its execution says.
 abbrev pub Executes : Result ℕ Status → List Object → List Object → List ℕ → Peer → CommandFields → Type 0
-Executes (Ok count) old new out peer c = execution old peer c ≡ record { tree = new; status = status.Ok; count = count; parameters = out }
+Executes (Ok count) old new out peer c =
+    execution old peer c ≡ record { tree = new; status = status.Ok; count = count; parameters = out }
 Executes (Err s) old new out peer c = (execution old peer c ≡ refused old s) × (new ≡ old) × (is_ok s ≡ false)
 
 -- A value is made where it is in range.
@@ -121,20 +130,23 @@ MakesValue (Some v) value = (v ≡ value) × (is_bad_value value ≡ false) × I
 -- An object was made for a place that is free, or the first line that applies refuses it.
 abbrev pub Makes : Result Object AddFault → Store → ℕ → ℕ → Spec → Type 0
 Makes (Ok o) old container ono spec =
-    (add_fault old.room old.list container ono spec ≡ None) × (o ≡ object_of_spec container ono spec) × IsTree (old.list ++ o ∷ []) × IsSoundValue o.value
+    (add_fault old.room old.list container ono spec ≡ None) × (o ≡ object_of_spec container ono spec)
+    × IsTree (old.list ++ o ∷ []) × IsSoundValue o.value
 Makes (Err e) old container ono spec = add_fault old.room old.list container ono spec ≡ Some e
 
 -- Flags of positions were put into a value, or are not as many as it has.
 abbrev pub RestoresFlags : {X : Type 0} → Result X StartFault → Value → Value → List Bool → Type 0
-RestoresFlags (Ok _) old new flags = (has_other_flags (Some flags) old ≡ false) × (new ≡ with_flags (Some flags) old) × IsSoundValue new
+RestoresFlags (Ok _) old new flags =
+    (has_other_flags (Some flags) old ≡ false) × (new ≡ with_flags (Some flags) old) × IsSoundValue new
 RestoresFlags (Err e) old new flags = (e ≡ BadFlags) × (has_other_flags (Some flags) old ≡ true)
 
 -- What was stored was put into an object, or does not fit it.
 abbrev pub Restores : {X : Type 0} → Result X StartFault → Object → Object → Start → Type 0
-Restores (Ok _) old new start = (start_fault old.value start ≡ None) × (new ≡ restored start old) × IsSoundValue new.value
+Restores (Ok _) old new start =
+    (start_fault old.value start ≡ None) × (new ≡ restored start old) × IsSoundValue new.value
 Restores (Err e) old new start = start_fault old.value start ≡ Some e
 
--- The request that a value stands for can be carried out at an object that holds this, or the first fault refuses it.
-abbrev pub ChecksSetting : Result Request SetFault → Value → LocalValue → Type 0
+-- The request of a value's set method can be carried out at an object that holds this, or the first fault refuses it.
+abbrev pub ChecksSetting : Result Request SetFault → Value → Setting → Type 0
 ChecksSetting (Ok r) held value = (fault_at held value ≡ None) × (r ≡ request_for value)
 ChecksSetting (Err e) held value = fault_at held value ≡ Some e

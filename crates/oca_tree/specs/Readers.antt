@@ -1,6 +1,7 @@
 -- What is read of a tree.
 use Rattle.std.specs.Prelude.{ℕ, map, List, Option, Some, None, slice_get}
 use Rattle.std.specs.Option.{option_map, option_and_then}
+use Rattle.oca_types.specs.declared.class.Class.{Class}
 use Rattle.oca_tree.specs.declared.object.Object.{Object}
 use Rattle.oca_tree.specs.declared.object.Lock.{Lock}
 use Rattle.oca_tree.specs.declared.object.Value.{Value}
@@ -22,6 +23,10 @@ info_at tree n = option_map info_of (slice_get tree n)
 -- what the objects are that an iterator has left
 abbrev pub infos_left : ObjectInfos → List ObjectInfo
 infos_left infos = map info_of infos.rest.now
+
+-- the class of the object with this number
+abbrev pub class_at : List Object → ℕ → Option Class
+class_at tree number = option_map (λ o. class_of o.value) (object_of tree number)
 
 abbrev pub lock_at : List Object → ℕ → Option Lock
 lock_at tree number = option_and_then (λ o. o.lock) (object_of tree number)

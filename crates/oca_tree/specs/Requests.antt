@@ -1,5 +1,6 @@
 -- What a command asks: a method with its parameters (AES70-2; the numbers of methods are the profile's).
-use Rattle.std.specs.Prelude.{ℕ, ◌==◌, ◌&&◌, ◌||◌, not, Bool, false, if◌then◌else◌, List, length, nat_lt, slice_index_or, Option, Some, None, is_none, int_le}
+use Rattle.std.specs.Prelude.{ℕ, ◌==◌, ◌&&◌, ◌||◌, not, Bool, false, if◌then◌else◌, List, length, nat_lt}
+use Rattle.std.specs.Prelude.{slice_index_or, Option, Some, None, is_none, int_le}
 use Rattle.std.specs.Option.{option_map}
 use Rattle.std.specs.Int.{w8, w16}
 use Rattle.oca_types.specs.declared.class.Method.{Method}
@@ -14,7 +15,7 @@ use Rattle.oca_tree.specs.declared.request.Request.{Request}
 use Rattle.oca_tree.specs.declared.request.Request.TheVariants as requests
 use Rattle.oca_tree.specs.declared.request.SwitchRequest.{SwitchRequest}
 use Rattle.oca_tree.specs.declared.request.SwitchRequest.TheVariants as switches
-use Rattle.oca_tree.specs.Parameters.{whole, pair_at, list_at}
+use Rattle.oca_model.specs.Parameters.{whole, pair_at, list_at}
 use Rattle.oca_tree.specs.Kinds.{number_at}
 
 -- ---- how parameters are given
@@ -35,48 +36,67 @@ positions (values.Switch switch) = length switch.names.items
 positions _ = 0
 
 abbrev pub setting_request : Value → ℕ → List ℕ → Option Request
-setting_request (values.Boolean _) count params = option_map requests.SetBoolean (with_parameters 1 bool_at count params)
-setting_request (values.Number range) count params = option_map requests.SetNumber (with_parameters 1 (number_at range.kind) count params)
+setting_request (values.Boolean _) count params =
+    option_map requests.SetBoolean (with_parameters 1 bool_at count params)
+setting_request (values.Number range) count params =
+    option_map requests.SetNumber (with_parameters 1 (number_at range.kind) count params)
 setting_request _ count params = None
 
 abbrev pub position_name_request : ℕ → List ℕ → Option Request
-position_name_request count params = option_map (λ x. requests.Switch (switches.SetPositionName x.0 x.1)) (with_parameters 2 (pair_at (unsigned_at w16) text_at) count params)
+position_name_request count params =
+    option_map (λ x. requests.Switch (switches.SetPositionName x.0 x.1))
+    (with_parameters 2 (pair_at (unsigned_at w16) text_at) count params)
 
 abbrev pub position_enabled_request : ℕ → List ℕ → Option Request
-position_enabled_request count params = option_map (λ x. requests.Switch (switches.SetPositionEnabled x.0 x.1)) (with_parameters 2 (pair_at (unsigned_at w16) bool_at) count params)
+position_enabled_request count params =
+    option_map (λ x. requests.Switch (switches.SetPositionEnabled x.0 x.1))
+    (with_parameters 2 (pair_at (unsigned_at w16) bool_at) count params)
 
 -- a list has exactly as many items as the switch has positions
 abbrev pub position_names_request : Value → ℕ → List ℕ → Option Request
-position_names_request value count params = option_map (λ x. requests.Switch (switches.SetPositionNames x)) (with_parameters 1 (list_at text_at (positions value)) count params)
+position_names_request value count params =
+    option_map (λ x. requests.Switch (switches.SetPositionNames x))
+    (with_parameters 1 (list_at text_at (positions value)) count params)
 
 abbrev pub position_enableds_request : Value → ℕ → List ℕ → Option Request
-position_enableds_request value count params = option_map (λ x. requests.Switch (switches.SetPositionEnableds (record { items = x }))) (with_parameters 1 (list_at bool_at (positions value)) count params)
+position_enableds_request value count params =
+    option_map (λ x. requests.Switch (switches.SetPositionEnableds (record { items = x })))
+    (with_parameters 1 (list_at bool_at (positions value)) count params)
 
 unfoldable pub request_of : Value → Method → ℕ → List ℕ → Option Request
-request_of value methods.GetClassIdentification count params = without_parameters requests.GetClassIdentification count params
+request_of value methods.GetClassIdentification count params =
+    without_parameters requests.GetClassIdentification count params
 request_of value methods.GetLockable count params = without_parameters requests.GetLockable count params
 request_of value methods.LockTotal count params = without_parameters requests.LockTotal count params
 request_of value methods.Unlock count params = without_parameters requests.Unlock count params
 request_of value methods.GetRole count params = without_parameters requests.GetRole count params
 request_of value methods.LockReadonly count params = without_parameters requests.LockReadonly count params
 request_of value methods.GetEnabled count params = without_parameters requests.GetEnabled count params
-request_of value methods.SetEnabled count params = option_map requests.SetEnabled (with_parameters 1 bool_at count params)
+request_of value methods.SetEnabled count params =
+    option_map requests.SetEnabled (with_parameters 1 bool_at count params)
 request_of value methods.GetLabel count params = without_parameters requests.GetLabel count params
 request_of value methods.SetLabel count params = option_map requests.SetLabel (with_parameters 1 text_at count params)
 request_of value methods.GetOwner count params = without_parameters requests.GetOwner count params
 request_of value methods.GetMembers count params = without_parameters requests.GetMembers count params
 request_of value methods.GetMembersRecursive count params = without_parameters requests.GetMembersRecursive count params
 request_of value methods.GetState count params = without_parameters requests.GetState count params
-request_of value methods.SetState count params = option_map requests.SetState (with_parameters 1 (unsigned_at w8) count params)
-request_of value methods.GetPosition count params = without_parameters (requests.Switch switches.GetPosition) count params
-request_of value methods.SetPosition count params = option_map (λ n. requests.Switch (switches.SetPosition n)) (with_parameters 1 (unsigned_at w16) count params)
-request_of value methods.GetPositionName count params = option_map (λ n. requests.Switch (switches.GetPositionName n)) (with_parameters 1 (unsigned_at w16) count params)
+request_of value methods.SetState count params =
+    option_map requests.SetState (with_parameters 1 (unsigned_at w8) count params)
+request_of value methods.GetPosition count params =
+    without_parameters (requests.Switch switches.GetPosition) count params
+request_of value methods.SetPosition count params =
+    option_map (λ n. requests.Switch (switches.SetPosition n)) (with_parameters 1 (unsigned_at w16) count params)
+request_of value methods.GetPositionName count params =
+    option_map (λ n. requests.Switch (switches.GetPositionName n)) (with_parameters 1 (unsigned_at w16) count params)
 request_of value methods.SetPositionName count params = position_name_request count params
-request_of value methods.GetPositionNames count params = without_parameters (requests.Switch switches.GetPositionNames) count params
+request_of value methods.GetPositionNames count params =
+    without_parameters (requests.Switch switches.GetPositionNames) count params
 request_of value methods.SetPositionNames count params = position_names_request value count params
-request_of value methods.GetPositionEnabled count params = option_map (λ n. requests.Switch (switches.GetPositionEnabled n)) (with_parameters 1 (unsigned_at w16) count params)
+request_of value methods.GetPositionEnabled count params =
+    option_map (λ n. requests.Switch (switches.GetPositionEnabled n)) (with_parameters 1 (unsigned_at w16) count params)
 request_of value methods.SetPositionEnabled count params = position_enabled_request count params
-request_of value methods.GetPositionEnableds count params = without_parameters (requests.Switch switches.GetPositionEnableds) count params
+request_of value methods.GetPositionEnableds count params =
+    without_parameters (requests.Switch switches.GetPositionEnableds) count params
 request_of value methods.SetPositionEnableds count params = position_enableds_request value count params
 request_of value methods.GetSetting count params = without_parameters requests.GetSetting count params
 request_of value methods.SetSetting count params = setting_request value count params

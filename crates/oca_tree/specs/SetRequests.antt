@@ -1,33 +1,15 @@
 -- What a device makes of the request of a panel that sets a value.
-use Rattle.std.specs.Prelude.{◌≡◌, ℕ, false, List, Some, pos}
+use Rattle.std.specs.Prelude.{◌≡◌, ℕ, false, List, Some}
 use Rattle.oca_types.specs.declared.words.Peer.{Peer}
 use Rattle.oca_types.specs.Peers.{CommandFields}
 use Rattle.oca_model.specs.declared.value.Value.{Value}
-use Rattle.oca_model.specs.declared.value.Value.TheVariants.{Mute, Polarity, Switch, Boolean, Int8, Int16, Int32, Int64, Uint8, Uint16, Uint32, Uint64}
 use Rattle.oca_model.specs.declared.value_request.ValueRequest.{ValueRequest}
-use Rattle.oca_model.specs.Values.{mute_number, polarity_number, class_of_value, value_encoding, set_method, IsOfItsType}
+use Rattle.oca_model.specs.Values.{class_of_value, value_encoding, set_method, IsOfItsType}
 use Rattle.oca_model.specs.ValueRequests.{Asks}
 use Rattle.oca_tree.specs.declared.object.Object.{Object}
-use Rattle.oca_tree.specs.declared.setting.LocalValue.{LocalValue}
-use Rattle.oca_tree.specs.declared.setting.LocalValue.TheVariants as local
 use Rattle.oca_tree.specs.Objects.{class_of, object_of}
 use Rattle.oca_tree.specs.Execution.{execution, kind_at, request_at, is_locked}
 use Rattle.oca_tree.specs.Settings.{request_for, after_set}
-
--- the value as the device's own front would set it: by the number of a state, a position, a truth or a number
-abbrev pub local_of : Value → LocalValue
-local_of (Mute state) = local.State (mute_number state)
-local_of (Polarity state) = local.State (polarity_number state)
-local_of (Switch position) = local.Position position
-local_of (Boolean truth) = local.Truth truth
-local_of (Int8 setting) = local.Number setting
-local_of (Int16 setting) = local.Number setting
-local_of (Int32 setting) = local.Number setting
-local_of (Int64 setting) = local.Number setting
-local_of (Uint8 setting) = local.Number (pos setting)
-local_of (Uint16 setting) = local.Number (pos setting)
-local_of (Uint32 setting) = local.Number (pos setting)
-local_of (Uint64 setting) = local.Number (pos setting)
 
 -- the command that a request is, of an object and under a handle
 abbrev pub command_of : ℕ → ℕ → ValueRequest → CommandFields
@@ -46,12 +28,17 @@ SetsTo value request = Asks (class_of_value value) (set_method value) request 1 
 
 -- A device understands a set request of an object of the value's class as setting that very value.
 abbrev pub IsUnderstood : Type 0
-IsUnderstood = (value : Value) (request : ValueRequest) (handle target : ℕ) (o : Object) → IsOfItsType value → SetsTo value request → class_of o.value ≡ class_of_value value
-    → let c = command_of handle target request in request_at (Some o) (kind_at (Some o) c) c ≡ Some (request_for (local_of value))
+IsUnderstood = (value : Value) (request : ValueRequest) (handle target : ℕ) (o : Object) → IsOfItsType value →
+    SetsTo value request → class_of o.value ≡ class_of_value value
+    → let c = command_of handle target request in request_at (Some o) (kind_at (Some o) c) c ≡ Some (request_for value)
 
 -- Executing it, where no lock refuses it, sets the object as the device's own front would: to that value, or not at all
 -- where it is out of range.
 abbrev pub IsCarriedOut : Type 0
-IsCarriedOut = (value : Value) (request : ValueRequest) (handle : ℕ) (tree : List Object) (peer : Peer) (target : ℕ) (o : Object) → IsOfItsType value → SetsTo value request
+IsCarriedOut =
+    (value : Value) (request : ValueRequest) (handle : ℕ) (tree : List Object) (peer : Peer) (target : ℕ) (o : Object) →
+    IsOfItsType value → SetsTo value request
     → object_of tree target ≡ Some o → class_of o.value ≡ class_of_value value
-    → let c = command_of handle target request in is_locked (Some o) (kind_at (Some o) c) peer ≡ false → (execution tree peer c).tree ≡ after_set tree target (local_of value)
+    → let c = command_of handle target request in
+    is_locked (Some o) (kind_at (Some o) c) peer ≡ false →
+    (execution tree peer c).tree ≡ after_set tree target value

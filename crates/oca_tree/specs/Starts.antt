@@ -1,5 +1,6 @@
 -- What was stored of an object and is handed back when the object is added (profile).
-use Rattle.std.specs.Prelude.{◌≡◌, ℕ, ◌==◌, not, Bool, true, false, if◌then◌else◌, List, [], ◌∷◌, ◌++◌, length, Option, Some, None, Result, Ok, Err}
+use Rattle.std.specs.Prelude.{◌≡◌, ℕ, ◌==◌, not, Bool, true, false, if◌then◌else◌, List, [], ◌∷◌, ◌++◌, length, Option}
+use Rattle.std.specs.Prelude.{Some, None, Result, Ok, Err}
 use Rattle.std.specs.Option.{option_copied, option_map, option_or}
 use Rattle.oca_tree.specs.declared.object.Object.{Object}
 use Rattle.oca_tree.specs.declared.object.Value.{Value}
@@ -26,7 +27,8 @@ with_flags _ value = value
 
 -- the object with its label, whether it is enabled, and the flags of its positions
 abbrev pub restored : Start → Object → Object
-restored start o = record o { label = start.label.now; enabled = start.enabled; value = with_flags (flags_of start) o.value }
+restored start o =
+    record o { label = start.label.now; enabled = start.enabled; value = with_flags (flags_of start) o.value }
 
 -- ---- when it is refused
 
@@ -39,7 +41,8 @@ has_other_flags (Some flags) value = not (length flags == positions value)
 -- flags that are not as many as the positions.
 unfoldable pub start_fault : Value → Start → Option StartFault
 start_fault value start =
-    if is_long start.label.now then Some faults.BadLabel else (if has_other_flags (flags_of start) value then Some faults.BadFlags else None)
+    if is_long start.label.now then Some faults.BadLabel
+    else (if has_other_flags (flags_of start) value then Some faults.BadFlags else None)
 
 -- THE FAULT of an addition with what was stored: that of the addition without it, and behind all those its own.
 abbrev pub add_with_fault : ℕ → List Object → ℕ → ℕ → Spec → Start → Option StartFault
@@ -52,11 +55,14 @@ abbrev pub AddsWith : {X : Type 0} → Result X StartFault → Store → Store �
 AddsWith (Ok _) old new container ono spec start =
     (add_with_fault old.room old.list container ono spec start ≡ None)
     × (new ≡ record old { list = old.list ++ restored start (object_of_spec container ono spec) ∷ [] })
-AddsWith (Err e) old new container ono spec start = (new ≡ old) × (add_with_fault old.room old.list container ono spec start ≡ Some e)
+AddsWith (Err e) old new container ono spec start =
+    (new ≡ old) × (add_with_fault old.room old.list container ono spec start ≡ Some e)
 
--- A builder of this room begins with the root alone, restored, where what was stored of it has no fault and memory is there.
+-- A builder of this room begins with the root alone, restored, where what was stored of it has no fault and memory is
+-- there.
 abbrev pub BeginsWith : Result Store StartFault → ℕ → Start → Type 0
-BeginsWith (Ok built) room start = (start_fault values.Block start ≡ None) × (built ≡ record { room = room; list = restored start root ∷ [] })
+BeginsWith (Ok built) room start =
+    (start_fault values.Block start ≡ None) × (built ≡ record { room = room; list = restored start root ∷ [] })
 BeginsWith (Err e) room start = option_or (start_fault values.Block start) (Some (faults.Add NoMemory)) ≡ Some e
 
 -- ---- nothing stored
@@ -71,4 +77,5 @@ pub record IsPlain (start : Start) : Type 0 where
 abbrev pub PlainAddsTheSame : Type 0
 PlainAddsTheSame = (start : Start) → IsPlain start → (room : ℕ) (tree : List Object) (container ono : ℕ) (spec : Spec) →
     (restored start (object_of_spec container ono spec) ≡ object_of_spec container ono spec)
-    × (add_with_fault room tree container ono spec start ≡ option_map faults.Add (add_fault room tree container ono spec))
+    × (add_with_fault room tree container ono spec start
+    ≡ option_map faults.Add (add_fault room tree container ono spec))

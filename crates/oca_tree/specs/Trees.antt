@@ -1,5 +1,6 @@
 -- What holds of every tree.
-use Rattle.std.specs.Prelude.{ℕ, ◌↔◌, ◌≡◌, ◌≤◌, ◌<◌, true, List, [], ◌∷◌, ◌++◌, length, Option, Some, None, ◌≤ℤ◌, IsTrue, Bool}
+use Rattle.std.specs.Prelude.{ℕ, ◌↔◌, ◌≡◌, ◌≤◌, ◌<◌, true, List, [], ◌∷◌, ◌++◌, length, Option, Some, None, ◌≤ℤ◌}
+use Rattle.std.specs.Prelude.{IsTrue, Bool}
 use Rattle.std.specs.List.{All}
 use Rattle.oca_tree.specs.declared.object.Object.{Object}
 use Rattle.oca_tree.specs.declared.object.Lock.{Lock}
@@ -38,15 +39,16 @@ pub record IsSound (o : Object) : Type 0 where
   pub value : IsSoundValue o.value
   pub lock : IsSoundLock o.lockable o.lock
 
--- An object can be added at this place: its number is free and none of those that are reserved, and its container is a block
--- that stands before it and is at most at depth 7.
+-- An object can be added at this place: its number is free and none of those that are reserved, and its container is a
+-- block that stands before it and is at most at depth 7.
 pub record IsFree (ps : List Place) (p : Place) : Type 0 where
   pub number : 4096 ≤ p.number
   pub untaken : place_at ps p.number ≡ None
   pub container : is_block ps p.container ≡ true
   pub shallow : depth ps p.container < 8
 
--- The first place is that of the root block, which has the number 100 and no container, and each other was free when it was taken.
+-- The first place is that of the root block, which has the number 100 and no container, and each other was free when it
+-- was taken.
 pub data IsBuilt : List Place → Type 0 where
   root : IsBuilt (record { number = 100; container = 0; block = true } ∷ [])
   next : (ps : List Place) (p : Place) → IsBuilt ps → IsFree ps p → IsBuilt (ps ++ p ∷ [])
@@ -56,7 +58,8 @@ pub record IsTree (tree : List Object) : Type 0 where
   pub objects : All IsSound tree
   pub few : length tree ≤ 4096
 
--- The objects that are listed as descendants of a block are those whose chain of containers reaches it: the test by which they
--- are chosen answers exactly that.
+-- The objects that are listed as descendants of a block are those whose chain of containers reaches it: the test by
+-- which they are chosen answers exactly that.
 abbrev pub DescendantsFollowChains : List Object → Type 0
-DescendantsFollowChains tree = (block container : ℕ) → IsTrue (reaches (places tree) block container) ↔ ChainReaches (places tree) block container
+DescendantsFollowChains tree =
+    (block container : ℕ) → IsTrue (reaches (places tree) block container) ↔ ChainReaches (places tree) block container

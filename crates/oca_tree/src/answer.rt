@@ -1,12 +1,15 @@
 //! Writing the parameters of an answer.
-ghost use Rattle.std.specs.Prelude.{◌≡◌, ◌≤◌, ◌<◌, ◌+◌, ◌++◌, Bool, [], length, take, drop, slice_index_or, true, false, IfSome, IfNone, IfOk};
+ghost use Rattle.std.specs.Prelude.{◌≡◌, ◌≤◌, ◌<◌, ◌+◌, ◌++◌, Bool, [], length, take, drop, slice_index_or, true};
+ghost use Rattle.std.specs.Prelude.{false, IfSome, IfNone, IfOk};
 ghost use Rattle.std.specs.List.{flat_map, filter};
 ghost use Rattle.std.specs.Int.{w8, w16};
 ghost use Rattle.oca_types.specs.Numbers.{bool_encoding, unsigned_encoding};
 ghost use Rattle.oca_types.specs.Putting.{Puts};
 ghost use Rattle.oca_types.specs.Texts.{text_encoding};
 ghost use Rattle.oca_tree.specs.Requests.{is_out_of_range};
-ghost use Rattle.oca_tree.specs.Execution.{list_encoding, state_encoding, position_parameters, switch_parameters, setting_parameters, parameters, joined};
+ghost use Rattle.oca_model.specs.Lists.{list_encoding};
+ghost use Rattle.oca_tree.specs.Execution.{state_encoding, position_parameters, switch_parameters, setting_parameters};
+ghost use Rattle.oca_tree.specs.Execution.{parameters, joined};
 ghost use Rattle.oca_model.specs.Values.{mute_number, polarity_number};
 ghost use Rattle.oca_tree.specs.Requests.{is_bad_position};
 ghost use Rattle.oca_tree.specs.Trees.{IsTree, IsSoundValue, IsSoundSwitch, IsSoundRange};
@@ -44,7 +47,9 @@ fn is_member(objects: &Objects, at: usize, place: usize) -> bool
     requires tree { IsTree objects.now.list }
     requires within { at < length objects.now.list }
     requires block { place < length objects.now.list }
-    ensures { (d : AnObject) → result ≡ is_listed objects.now.list (slice_index_or objects.now.list place d).ono.0 false (slice_index_or objects.now.list at d) }
+    ensures { (d : AnObject) →
+        result ≡ is_listed objects.now.list (slice_index_or objects.now.list place d).ono.0 false
+        (slice_index_or objects.now.list at d) }
 {
     match objects.container_at(at) {
         Some(container) => container == place,
@@ -58,7 +63,9 @@ fn lies_in(objects: &Objects, at: usize, place: usize) -> bool
     requires tree { IsTree objects.now.list }
     requires within { at < length objects.now.list }
     requires block { place < length objects.now.list }
-    ensures { (d : AnObject) → result ≡ is_listed objects.now.list (slice_index_or objects.now.list place d).ono.0 true (slice_index_or objects.now.list at d) }
+    ensures { (d : AnObject) →
+        result ≡ is_listed objects.now.list (slice_index_or objects.now.list place d).ono.0 true
+        (slice_index_or objects.now.list at d) }
 {
     let mut current = at;
     for _ in 0..objects.len() {
@@ -73,13 +80,15 @@ fn lies_in(objects: &Objects, at: usize, place: usize) -> bool
     false
 }
 
-/// Whether the object at index `at` is listed for the block at index `place`: as a member of it, or where all are listed
-/// as one that lies in it.
+/// Whether the object at index `at` is listed for the block at index `place`: as a member of it, or where all are
+/// listed as one that lies in it.
 fn is_listed(objects: &Objects, at: usize, place: usize, deep: bool) -> bool
     requires tree { IsTree objects.now.list }
     requires within { at < length objects.now.list }
     requires block { place < length objects.now.list }
-    ensures { (d : AnObject) → result ≡ is_listed objects.now.list (slice_index_or objects.now.list place d).ono.0 deep (slice_index_or objects.now.list at d) }
+    ensures { (d : AnObject) →
+        result ≡ is_listed objects.now.list (slice_index_or objects.now.list place d).ono.0 deep
+        (slice_index_or objects.now.list at d) }
 {
     if deep {
         lies_in(objects, at, place)
@@ -100,8 +109,10 @@ fn put_items(
     requires tree { IsTree objects.now.list }
     requires within { place < length objects.now.list }
     requires here { block.now ≡ slice_index_or objects.now.list place block.now }
-    ensures puts { Puts result out.old.items out.new.items (flat_map (item_encoding deep) (filter (is_listed objects.now.list block.now.ono.0 deep) objects.now.list)) }
-    ensures count { IfOk result (λ n. n ≡ length (filter (is_listed objects.now.list block.now.ono.0 deep) objects.now.list)) }
+    ensures puts { Puts result out.old.items out.new.items
+        (flat_map (item_encoding deep) (filter (is_listed objects.now.list block.now.ono.0 deep) objects.now.list)) }
+    ensures count { IfOk result (λ n. n
+        ≡ length (filter (is_listed objects.now.list block.now.ono.0 deep) objects.now.list)) }
 {
     let mut count = 0u16;
     for at in place + 1..objects.len() {
@@ -122,8 +133,8 @@ fn write_u16(bytes: &mut [u8], at: usize, value: u16)
     bytes[at..at + 2].copy_from_slice(&value.to_be_bytes());
 }
 
-/// The members of a block, or all that lie in it however deep. Where they are too long for the room, that is told before
-/// any is looked for. Their number is written once they are put.
+/// The members of a block, or all that lie in it however deep. Where they are too long for the room, that is answered
+/// before any is looked for. Their number is written once they are put.
 #[inline(never)]
 fn put_members(
     out: &mut Params,
@@ -135,7 +146,9 @@ fn put_members(
     requires tree { IsTree objects.now.list }
     requires within { place < length objects.now.list }
     requires here { block.now ≡ slice_index_or objects.now.list place block.now }
-    ensures { Puts result out.old.items out.new.items (list_encoding (item_encoding deep) (filter (is_listed objects.now.list block.now.ono.0 deep) objects.now.list)) }
+    ensures { Puts result out.old.items out.new.items
+        (list_encoding (item_encoding deep)
+        (filter (is_listed objects.now.list block.now.ono.0 deep) objects.now.list)) }
 {
     let start = out.len();
     if MOST_PARAMETER_BYTES - start < 2 + objects.listed_bytes_at(place, deep) as usize {
@@ -306,8 +319,8 @@ fn put_setting(out: &mut Params, value: &Value) -> Result<u8, Status>
     }
 }
 
-/// Appends the parameters of the answer of the object, which stands at index `place`, and says how many they are, unless
-/// it is too long. Inlined, it is one jump table with the one that made the request.
+/// Appends the parameters of the answer of the object, which stands at index `place`, and says how many they are,
+/// unless it is too long. Inlined, it is one jump table with the one that made the request.
 #[inline(always)]
 #[tactic(auto, unfolding(crate::specs::Execution::parameters))]
 pub(crate) fn put_answer(

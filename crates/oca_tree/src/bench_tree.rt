@@ -15,7 +15,8 @@ use std::alloc::Global;
 /// Adds an object that nothing refuses.
 fn add(builder: &mut TreeBuilder, container: Ono, ono: Ono, spec: &Spec<'_>) -> Result<(), AddFault>
     requires { add_fault builder.old.room builder.old.list container.0 ono.0 spec.now ≡ None }
-    ensures ok { OnOk result (builder.new ≡ record builder.old { list = builder.old.list ++ object_of_spec container.0 ono.0 spec.now ∷ [] }) }
+    ensures ok { OnOk result (builder.new
+        ≡ record builder.old { list = builder.old.list ++ object_of_spec container.0 ono.0 spec.now ∷ [] }) }
     ensures err { IfErr result (λ e. e ≡ NoMemory) }
 {
     builder.add(container, ono, spec)

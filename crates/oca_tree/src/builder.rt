@@ -1,5 +1,6 @@
 //! Building a tree, object by object.
-ghost use Rattle.std.specs.Prelude.{◌≡◌, ◌≤◌, ◌<◌, [], ◌∷◌, length, map, replicate, true, false, Some, None, IfOk, IfErr, OnOk, MatchOption};
+ghost use Rattle.std.specs.Prelude.{◌≡◌, ◌≤◌, ◌<◌, [], ◌∷◌, length, map, replicate, true, false, Some, None, IfOk};
+ghost use Rattle.std.specs.Prelude.{IfErr, OnOk, MatchOption};
 ghost use Rattle.std.specs.List.{list_any};
 ghost use Rattle.oca_tree.specs.Kinds.{IsOfType};
 ghost use Rattle.oca_tree.specs.Building.{Adds, value_of, switch, number, has_bad_name, is_long, root};
@@ -494,9 +495,9 @@ impl TreeBuilder {
         Ok(())
     }
 
-    /// Adds an object as [`add`](TreeBuilder::add) does, with what was stored of it: its label, whether it is enabled, and
-    /// which of its positions are. It is refused as there, by `StartFault::Add`, and where nothing refuses it there, by
-    /// the first of `BadLabel` and `BadFlags` that applies; it is then unchanged. It asks for no memory.
+    /// Adds an object as [`add`](TreeBuilder::add) does, with what was stored of it: its label, whether it is enabled,
+    /// and which of its positions are. It is refused as there, by `StartFault::Add`, and where nothing refuses it
+    /// there, by the first of `BadLabel` and `BadFlags` that applies; it is then unchanged. It asks for no memory.
     pub fn add_with(
         &mut self,
         container: Ono,

@@ -45,7 +45,8 @@ fn check_request<'a>(
     method: Method,
 ) -> Result<Request<'a>, Status>
     requires { IsSound object.now }
-    ensures { (peer : Peer) → MayCall method object.now peer (fields_of command.now) → IsRequestFor result object.now peer (fields_of command.now) }
+    ensures { (peer : Peer) → MayCall method object.now peer (fields_of command.now) →
+        IsRequestFor result object.now peer (fields_of command.now) }
 {
     let Some(request) = Request::read(&object.value, method, command.count, command.params) else {
         return Err(Status::ParameterError);
@@ -59,8 +60,8 @@ fn check_request<'a>(
     Ok(request)
 }
 
-/// Carries out any method of the object at this index, which the peer may call. It stands apart, so that `Tree::execute` is
-/// short enough to be inlined.
+/// Carries out any method of the object at this index, which the peer may call. It stands apart, so that
+/// `Tree::execute` is short enough to be inlined.
 #[inline(never)]
 fn carry_out_at(
     objects: &mut Objects,
@@ -72,7 +73,8 @@ fn carry_out_at(
     out: &mut Params,
 ) -> Result<u8, Status>
     requires place { position (has_number command.now.target.0) objects.old.list ≡ Some at }
-    requires method { (d : AnObject) → MayCall method (slice_index_or objects.old.list at d) peer (fields_of command.now) }
+    requires method { (d : AnObject) →
+        MayCall method (slice_index_or objects.old.list at d) peer (fields_of command.now) }
     requires empty { out.old.items ≡ [] }
     requires tree { IsTree objects.old.list }
     requires count { marks.old.locks ≡ lock_count objects.old.list }
@@ -96,8 +98,8 @@ fn is_write(method: Method) -> bool
 }
 
 /// Carries out a command, if it is not refused, and puts the answer into empty parameters. `marks` count the locks that
-/// are held and say where an object was found last, and `writes` is then whether the method of a command that was not refused
-/// writes. What only reads and has no parameters is answered at once.
+/// are held and say where an object was found last, and `writes` is then whether the method of a command that was not
+/// refused writes. What only reads and has no parameters is answered at once.
 pub(crate) fn carry_out(
     objects: &mut Objects,
     marks: &mut Marks,

@@ -2,7 +2,7 @@
 ghost use Rattle.std.specs.Prelude.{◌≡◌, ◌≤◌};
 ghost use Rattle.std.specs.Option.{option_map};
 ghost use Rattle.oca_types.specs.Reading.{text_at};
-ghost use Rattle.oca_tree.specs.Parameters.{whole, items_at};
+ghost use Rattle.oca_model.specs.Parameters.{whole, items_at};
 
 use crate::take::take_texts;
 use arrayvec::ArrayVec;
@@ -21,7 +21,7 @@ impl<'a> Model for HeldText<'a> {
     ghost Value = { List ℕ };
 
     ghost use Rattle.oca_types.specs.Reading.{text_at};
-    ghost use Rattle.oca_tree.specs.Parameters.{whole, or_empty};
+    ghost use Rattle.oca_model.specs.Parameters.{whole, or_empty};
 
     ghost view = { λ h. or_empty (whole (text_at h.bytes.now)) };
 
@@ -64,12 +64,13 @@ impl<'a> Model for HeldTexts<'a> {
     ghost Value = { List (List ℕ) };
 
     ghost use Rattle.oca_types.specs.Reading.{text_at};
-    ghost use Rattle.oca_tree.specs.Parameters.{whole, items_at, or_empty};
+    ghost use Rattle.oca_model.specs.Parameters.{whole, items_at, or_empty};
 
     ghost view = { λ h. or_empty (whole (items_at text_at h.number h.bytes.now)) };
 
     ghost invariant = { λ h. (h.number ≤ 16)
-        × (whole (items_at text_at h.number h.bytes.now) ≡ Some (or_empty (whole (items_at text_at h.number h.bytes.now)))) };
+        × (whole (items_at text_at h.number h.bytes.now)
+        ≡ Some (or_empty (whole (items_at text_at h.number h.bytes.now)))) };
 }
 
 impl<'a> HeldTexts<'a> {

@@ -1,7 +1,7 @@
 //! What the definitions of a tree say of one another.
-ghost use Rattle.oca_tree.specs.Copies.{ToldMakesAgain};
+ghost use Rattle.oca_tree.specs.Copies.{DescriptionMakesAgain};
 ghost use Rattle.oca_tree.specs.SetRequests.{IsUnderstood, IsCarriedOut};
-ghost use Rattle.oca_tree.specs.Settings.{AnyPeerSetsTheSame, FrontSetsAsPeersDo};
+ghost use Rattle.oca_tree.specs.Settings.{AnyPeerSetsTheSame, EachSettingIsAValue, FrontSetsAsPeersDo};
 ghost use Rattle.oca_tree.specs.Starts.{PlainAddsTheSame};
 ghost use Rattle.oca_tree.specs.Trees.{DescendantsFollowChains};
 
@@ -17,10 +17,11 @@ pub fn law_of_descendants(tree: &Tree)
 
 /// Laws: what is set at the device's own front is the same in whichever peer's name, and it is what a peer's command
 /// sets that asks the same and that no lock refuses; and the front is refused exactly where that command's status is
-/// not OK.
+/// not OK. Whatever a peer's command can set an object to is a value that the front can set it to.
 pub fn law_of_settings()
     ensures any_peer { AnyPeerSetsTheSame }
     ensures as_peers { FrontSetsAsPeersDo }
+    ensures each { EachSettingIsAValue }
 {}
 
 /// Laws: what [`set_request`](oca_model::set_request) gives, sent to an object of the value's class, is understood by a
@@ -33,15 +34,15 @@ pub fn law_of_set_requests()
     law_of_settings();
 }
 
-/// Law: with the default of [`Start`](crate::Start) an object is added as without it: it is the same object, and the faults are
-/// the same.
+/// Law: with the default of [`Start`](crate::Start) an object is added as without it: it is the same object, and the
+/// faults are the same.
 pub fn law_of_starts()
     ensures { PlainAddsTheSame }
 {}
 
-/// Law: an object that is added with what is told of it is the same object, but for its lock. What is told stands in
+/// Law: an object that is added with what is read of it is the same object, but for its lock. It is read by
 /// [`Tree::object_at`](Tree::object_at), [`is_lockable`](Tree::is_lockable), [`setting_of`](Tree::setting_of),
 /// [`position_names_of`](Tree::position_names_of) and [`start_of`](Tree::start_of).
 pub fn law_of_copies()
-    ensures { ToldMakesAgain }
+    ensures { DescriptionMakesAgain }
 {}

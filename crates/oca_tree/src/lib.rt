@@ -9,6 +9,7 @@ mod answer;
 mod bench_tree;
 mod builder;
 mod change;
+mod description;
 mod execute;
 mod held;
 mod infos;
@@ -25,7 +26,6 @@ mod same;
 mod setting;
 mod start;
 mod take;
-mod told;
 mod tree;
 
 pub use bench_tree::{bench, bench_with_channels};
@@ -35,8 +35,8 @@ pub use laws::{
     law_of_copies, law_of_descendants, law_of_set_requests, law_of_settings, law_of_starts,
 };
 pub use object::{Lock, LockKind};
-pub use oca_model::{MuteState, PolarityState};
+pub use oca_model::{MuteState, PolarityState, Value};
 pub use room::Room;
-pub use setting::{LocalValue, SetFault};
+pub use setting::SetFault;
 pub use start::{Start, StartFault};
 pub use tree::{Done, ObjectInfo, Setting, Tree};

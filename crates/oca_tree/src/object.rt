@@ -108,15 +108,13 @@ impl Value {
             _ => false,
         }
     }
-}
 
-impl Object {
-    /// The object's class.
+    /// The class of the objects that hold such a value.
     #[tactic(auto, unfolding(crate::specs::Objects::class_of))]
     pub(crate) fn class(&self) -> Class
-        ensures { result ≡ class_of self.now.value }
+        ensures { result ≡ class_of self.now }
     {
-        match &self.value {
+        match self {
             Value::Block => Class::Block,
             Value::Mute(_) => Class::Mute,
             Value::Polarity(_) => Class::Polarity,
@@ -124,6 +122,15 @@ impl Object {
             Value::Boolean(_) => Class::Boolean,
             Value::Number(range) => number_class(range.kind),
         }
+    }
+}
+
+impl Object {
+    /// The object's class.
+    pub(crate) fn class(&self) -> Class
+        ensures { result ≡ class_of self.now.value }
+    {
+        self.value.class()
     }
 
     /// Whether the lock of another peer refuses this access.

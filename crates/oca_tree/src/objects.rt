@@ -1,5 +1,6 @@
 //! The objects of a tree: in order of adding, and found by their numbers.
-ghost use Rattle.std.specs.Prelude.{◌≡◌, ◌<◌, ◌≤◌, ◌+◌, [], ◌∷◌, ◌++◌, length, slice_index_or, slice_set, is_some, false, None, Some, IfOk, IfNone, IfSome, option_copied, vec_len, vec_capacity};
+ghost use Rattle.std.specs.Prelude.{◌≡◌, ◌<◌, ◌≤◌, ◌+◌, [], ◌∷◌, ◌++◌, length, slice_index_or, slice_set, is_some};
+ghost use Rattle.std.specs.Prelude.{false, None, Some, IfOk, IfNone, IfSome, option_copied, vec_len, vec_capacity};
 ghost use Rattle.std.specs.List.{position};
 ghost use Rattle.indexmap.specs.IndexMap.{values, spare, index_map_len};
 ghost use Rattle.oca_tree.specs.Objects.{has_number, object_of};
@@ -165,7 +166,9 @@ impl Objects {
         requires tree { IsTree self.old.list }
         requires range { (d : Item) → is_out_of_range (slice_index_or self.old.list at d).value request ≡ false }
         requires count { marks.old.locks ≡ lock_count self.old.list }
-        ensures objects { (d : Item) → self.new.list ≡ slice_set self.old.list at (changed (slice_index_or self.old.list at d) peer request.entry) }
+        ensures objects { (d : Item) →
+            self.new.list
+            ≡ slice_set self.old.list at (changed (slice_index_or self.old.list at d) peer request.entry) }
         ensures count { marks.new.locks ≡ lock_count self.new.list }
     {
         change(&mut self.map[at], marks, peer, request);

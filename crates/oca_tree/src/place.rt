@@ -10,13 +10,14 @@ use crate::marks::Marks;
 use crate::objects::Objects;
 use oca_types::Ono;
 
-/// As `index_of` of `Objects`, with what follows for the object there: the index of the object with this number, counted
-/// from 0 in order of adding.
+/// As `index_of` of `Objects`, with what follows for the object there: the index of the object with this number,
+/// counted from 0 in order of adding.
 pub(crate) fn index_of(objects: &Objects, ono: Ono) -> Option<usize>
     ensures index { result ≡ position (has_number ono.0) objects.now.list }
     ensures within { IfSome result (λ at. at < length objects.now.list) }
     ensures absent { IfNone result (object_of objects.now.list ono.0 ≡ None) }
-    ensures found { IfSome result (λ at. (d : Object) → object_of objects.now.list ono.0 ≡ Some (slice_index_or objects.now.list at d)) }
+    ensures found { IfSome result (λ at. (d : Object) →
+        object_of objects.now.list ono.0 ≡ Some (slice_index_or objects.now.list at d)) }
 {
     objects.index_of(ono)
 }
@@ -28,14 +29,15 @@ pub(crate) fn index_from(objects: &Objects, marks: &mut Marks, ono: Ono) -> Opti
     ensures index { result ≡ position (has_number ono.0) objects.now.list }
     ensures within { IfSome result (λ at. at < length objects.now.list) }
     ensures absent { IfNone result (object_of objects.now.list ono.0 ≡ None) }
-    ensures found { IfSome result (λ at. (d : Object) → object_of objects.now.list ono.0 ≡ Some (slice_index_or objects.now.list at d)) }
+    ensures found { IfSome result (λ at. (d : Object) →
+        object_of objects.now.list ono.0 ≡ Some (slice_index_or objects.now.list at d)) }
     ensures locks { marks.new.locks ≡ marks.old.locks }
 {
     search_from(objects, marks, ono)
 }
 
-/// Looks for the number where one was found last, and then among all, and marks where it was found: an index that is read
-/// in one place is not tested again.
+/// Looks for the number where one was found last, and then among all, and marks where it was found: an index that is
+/// read in one place is not tested again.
 fn search_from(objects: &Objects, marks: &mut Marks, ono: Ono) -> Option<usize>
     requires { IsTree objects.now.list }
     ensures index { result ≡ position (has_number ono.0) objects.now.list }

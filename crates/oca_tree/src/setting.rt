@@ -3,29 +3,18 @@ ghost use Rattle.std.specs.Prelude.{◌≡◌, OnErr};
 ghost use Rattle.std.specs.Result.{result_err};
 ghost use Rattle.oca_tree.specs.Locks.{lock_count};
 ghost use Rattle.oca_tree.specs.Trees.{IsTree, IsSoundValue};
-ghost use Rattle.oca_tree.specs.Settings.{request_for, is_set_by, set_fault, after_set, front};
+ghost use Rattle.oca_tree.specs.Settings.{request_for, is_of_its_class, set_fault, after_set, front};
 ghost use Rattle.oca_tree.specs.PrivateSteps.{ChecksSetting};
 
+use crate::answer::{mute_number, polarity_number};
 use crate::marks::Marks;
-use crate::object::Value;
+use crate::object::Value as Held;
 use crate::objects::Objects;
 use crate::place::index_from;
 use crate::request::{Request, SwitchRequest};
-use oca_types::{Ono, Peer};
+use oca_model::Value;
+use oca_types::{Class, Ono, Peer};
 use thiserror::Error;
-
-/// What an object is set to at the device's own front.
-#[derive(Clone, Copy, Debug, PartialEq, Eq)]
-pub enum LocalValue {
-    /// The number of the state of a mute or a polarity: 1 or 2.
-    State(u8),
-    /// The position of a switch, counted from 0.
-    Position(u16),
-    /// The setting of a Boolean actuator.
-    Truth(bool),
-    /// The setting of an integer actuator.
-    Number(i128),
-}
 
 /// Why an object was not set, the first in this order that applies. The numbers are promised (*profile*).
 #[derive(Clone, Copy, Debug, PartialEq, Eq, Error)]
@@ -36,10 +25,10 @@ pub enum SetFault {
     /// The object is a block, which has no setting.
     #[error("a block has no setting")]
     NoSetting = 2,
-    /// The object is set by another kind of value.
+    /// The object is of another class than the value.
     #[error("the object is set by another kind of value")]
     OtherKind = 3,
-    /// The state is not listed, the position is not there or disabled, or the number is outside its limits.
+    /// The position is not there or disabled, or the number is outside its limits.
     #[error("the value is out of range")]
     OutOfRange = 4,
 }
@@ -55,41 +44,56 @@ const _: () = prove!(SetFault::OutOfRange as u8 == 4);
 /// The peer in whose name the front asks: what is set is the same for each peer.
 const FRONT: Peer = Peer { ip: 0, port: 0 };
 
-/// The request that a value stands for.
-fn request_for(value: LocalValue) -> Request<'static>
+/// The request of the set method of the value's class.
+fn request_for(value: Value) -> Request<'static>
     ensures { result ≡ request_for value }
 {
     match value {
-        LocalValue::State(number) => Request::SetState(number),
-        LocalValue::Position(position) => Request::Switch(SwitchRequest::SetPosition(position)),
-        LocalValue::Truth(truth) => Request::SetBoolean(truth),
-        LocalValue::Number(number) => Request::SetNumber(number),
+        Value::Mute(state) => Request::SetState(mute_number(state)),
+        Value::Polarity(state) => Request::SetState(polarity_number(state)),
+        Value::Switch(position) => Request::Switch(SwitchRequest::SetPosition(position)),
+        Value::Boolean(truth) => Request::SetBoolean(truth),
+        Value::Int8(setting) => Request::SetNumber(i128::from(setting)),
+        Value::Int16(setting) => Request::SetNumber(i128::from(setting)),
+        Value::Int32(setting) => Request::SetNumber(i128::from(setting)),
+        Value::Int64(setting) => Request::SetNumber(i128::from(setting)),
+        Value::Uint8(setting) => Request::SetNumber(i128::from(setting)),
+        Value::Uint16(setting) => Request::SetNumber(i128::from(setting)),
+        Value::Uint32(setting) => Request::SetNumber(i128::from(setting)),
+        Value::Uint64(setting) => Request::SetNumber(i128::from(setting)),
     }
 }
 
-/// Whether the set method of the object's class takes such a value.
-#[tactic(auto, unfolding(crate::specs::Settings::is_set_by))]
-fn is_set_by(held: &Value, value: LocalValue) -> bool
-    ensures { result ≡ is_set_by held.now value }
+/// Whether the value is one of the class.
+#[tactic(auto, unfolding(crate::specs::Settings::is_of_its_class))]
+fn is_of_its_class(class: Class, value: Value) -> bool
+    ensures { result ≡ is_of_its_class class value }
 {
-    match held {
-        Value::Block => false,
-        Value::Mute(_) | Value::Polarity(_) => matches!(value, LocalValue::State(_)),
-        Value::Switch(_) => matches!(value, LocalValue::Position(_)),
-        Value::Boolean(_) => matches!(value, LocalValue::Truth(_)),
-        Value::Number(_) => matches!(value, LocalValue::Number(_)),
+    match value {
+        Value::Mute(_) => matches!(class, Class::Mute),
+        Value::Polarity(_) => matches!(class, Class::Polarity),
+        Value::Switch(_) => matches!(class, Class::Switch),
+        Value::Boolean(_) => matches!(class, Class::Boolean),
+        Value::Int8(_) => matches!(class, Class::Int8),
+        Value::Int16(_) => matches!(class, Class::Int16),
+        Value::Int32(_) => matches!(class, Class::Int32),
+        Value::Int64(_) => matches!(class, Class::Int64),
+        Value::Uint8(_) => matches!(class, Class::Uint8),
+        Value::Uint16(_) => matches!(class, Class::Uint16),
+        Value::Uint32(_) => matches!(class, Class::Uint32),
+        Value::Uint64(_) => matches!(class, Class::Uint64),
     }
 }
 
 /// What is asked of an object that holds this value, or why it cannot be set so.
-fn check_setting(held: &Value, value: LocalValue) -> Result<Request<'static>, SetFault>
+fn check_setting(held: &Held, value: Value) -> Result<Request<'static>, SetFault>
     requires { IsSoundValue held.now }
     ensures { ChecksSetting result held.now value }
 {
     if held.is_block() {
         return Err(SetFault::NoSetting);
     }
-    if !is_set_by(held, value) {
+    if !is_of_its_class(held.class(), value) {
         return Err(SetFault::OtherKind);
     }
     let request = request_for(value);
@@ -104,13 +108,13 @@ pub(crate) fn set(
     objects: &mut Objects,
     marks: &mut Marks,
     ono: Ono,
-    value: LocalValue,
+    value: Value,
 ) -> Result<(), SetFault>
     requires tree { IsTree objects.old.list }
     requires count { marks.old.locks ≡ lock_count objects.old.list }
     ensures objects { objects.new.list ≡ after_set objects.old.list ono.0 value }
     ensures refused { OnErr result (objects.new.list ≡ objects.old.list) }
-    ensures told { result_err result ≡ set_fault objects.old.list ono.0 value }
+    ensures fault { result_err result ≡ set_fault objects.old.list ono.0 value }
     ensures tree { IsTree objects.new.list }
     ensures count { marks.new.locks ≡ lock_count objects.new.list }
 {

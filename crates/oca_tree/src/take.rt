@@ -5,7 +5,7 @@ ghost use Rattle.std.specs.Option.{option_map};
 ghost use Rattle.oca_types.specs.Reading.{unsigned_at, bool_at, text_at};
 ghost use Rattle.oca_types.specs.Taking.{bytes_left, ReadsAs};
 ghost use Rattle.oca_tree.specs.Kinds.{number_at};
-ghost use Rattle.oca_tree.specs.Parameters.{whole, pair_at, items_at, list_at};
+ghost use Rattle.oca_model.specs.Parameters.{whole, pair_at, items_at, list_at};
 ghost use Rattle.oca_tree.specs.Requests.{with_parameters};
 
 use crate::held::{HeldText, HeldTexts};
@@ -131,7 +131,8 @@ pub(crate) fn position_and_bool(count: u8, params: &[u8]) -> Option<(u16, bool)>
 /// So many texts.
 pub(crate) fn take_texts(cursor: &mut Cursor<'_>, number: usize) -> Option<ArrayVec<Text, 16>>
     requires { number ≤ 16 }
-    ensures { option_map (λ v. (v.items, bytes_left cursor.new)) result ≡ items_at text_at number (bytes_left cursor.old) }
+    ensures { option_map (λ v. (v.items, bytes_left cursor.new)) result
+        ≡ items_at text_at number (bytes_left cursor.old) }
 {
     let mut texts = ArrayVec::new();
     for _ in 0..number {
@@ -146,7 +147,8 @@ pub(crate) fn take_texts(cursor: &mut Cursor<'_>, number: usize) -> Option<Array
 /// So many Booleans.
 fn take_bools(cursor: &mut Cursor<'_>, number: usize) -> Option<ArrayVec<bool, 16>>
     requires { number ≤ 16 }
-    ensures { option_map (λ v. (v.items, bytes_left cursor.new)) result ≡ items_at bool_at number (bytes_left cursor.old) }
+    ensures { option_map (λ v. (v.items, bytes_left cursor.new)) result
+        ≡ items_at bool_at number (bytes_left cursor.old) }
 {
     let mut truths = ArrayVec::new();
     for _ in 0..number {

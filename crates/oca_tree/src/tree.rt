@@ -8,19 +8,20 @@ ghost use Rattle.oca_tree.specs.Trees.{IsTree};
 ghost use Rattle.oca_tree.specs.Execution.{execution};
 ghost use Rattle.oca_tree.specs.Written.{wrote};
 ghost use Rattle.oca_tree.specs.Settings.{after_set, set_fault};
-ghost use Rattle.oca_tree.specs.Readers.{info_of, info_at, infos_left, lock_at, value_setting, setting_at};
+ghost use Rattle.oca_tree.specs.Readers.{info_of, info_at, infos_left, class_at, lock_at, value_setting, setting_at};
 ghost use Rattle.oca_tree.specs.Copies.{stored_in, stored_at, names_at, lockable_at, all_unlocked};
 
 use crate::answer::{mute_number, polarity_number};
+use crate::description::{class_in, lockable_in, position_names_in, start_in};
 use crate::execute::carry_out;
 use crate::infos::ObjectInfos;
 use crate::marks::Marks;
-use crate::object::{Lock, Object, Value};
+use crate::object::{Lock, Object, Value as Held};
 use crate::objects::Objects;
 use crate::same::same_objects;
-use crate::setting::{LocalValue, SetFault, set};
+use crate::setting::{SetFault, set};
 use crate::start::Start;
-use crate::told::{lockable_in, position_names_in, start_in};
+use oca_model::Value;
 use oca_types::{Class, Command, Ono, Params, Peer, Status, Text};
 use std::marker::Model;
 
@@ -31,8 +32,8 @@ pub struct Done {
     pub status: Status,
     /// ParamCount: how many parameters the answer has, 0 where the status is not OK.
     pub count: u8,
-    /// Whether the command wrote to its object: the status is OK, and its method is one that writes. One that takes the lock or
-    /// gives it back does not.
+    /// Whether the command wrote to its object: the status is OK, and its method is one that writes. One that takes the
+    /// lock or gives it back does not.
     pub wrote: bool,
 }
 
@@ -140,12 +141,12 @@ impl Tree {
         }
     }
 
-    /// Sets the object with this number at the device's own front: as the set method of its class sets it at a peer that no
-    /// lock refuses. A refusal changes no object.
-    pub fn set(&mut self, ono: Ono, value: LocalValue) -> Result<(), SetFault>
+    /// Sets the object with this number at the device's own front: as the set method of its class sets it at a peer
+    /// that no lock refuses. A refusal changes no object.
+    pub fn set(&mut self, ono: Ono, value: Value) -> Result<(), SetFault>
         ensures tree { self.new ≡ after_set self.old ono.0 value }
         ensures refused { OnErr result (self.new ≡ self.old) }
-        ensures told { result_err result ≡ set_fault self.old ono.0 value }
+        ensures fault { result_err result ≡ set_fault self.old ono.0 value }
     {
         set(&mut self.objects, &mut self.marks, ono, value)
     }
@@ -159,8 +160,9 @@ impl Tree {
         }
     }
 
-    /// How many objects there are, the root counted: 1 to 4,096. With it comes what holds of every tree: distinct numbers, blocks
-    /// that stand before what they contain, settings in their ranges, and locks of lockable objects alone.
+    /// How many objects there are, the root counted: 1 to 4,096. With it comes what holds of every tree: distinct
+    /// numbers, blocks that stand before what they contain, settings in their ranges, and locks of lockable objects
+    /// alone.
     pub fn len(&self) -> usize
         ensures len { result ≡ length self.now }
         ensures sound { IsTree self.now }
@@ -208,6 +210,14 @@ impl Tree {
         ensures { result ≡ lock_count self.now }
     {
         self.marks.locks
+    }
+
+    /// The class of the object with this number, which is that of the values that [`set`](Tree::set) sets it to;
+    /// nothing where it is not there.
+    pub fn class_of(&self, ono: Ono) -> Option<Class>
+        ensures { result ≡ class_at self.now ono.0 }
+    {
+        class_in(&self.objects, ono)
     }
 
     /// How the object with this number is set; nothing for a block and where it is not there.
@@ -273,16 +283,16 @@ fn lock_in(objects: &Objects, ono: Ono) -> Option<Lock>
 
 /// How a value is set.
 #[tactic(auto, unfolding(crate::specs::Readers::value_setting))]
-fn value_setting(value: &Value) -> Option<Setting>
+fn value_setting(value: &Held) -> Option<Setting>
     ensures { result ≡ value_setting value.now }
 {
     match value {
-        Value::Block => None,
-        Value::Mute(state) => Some(Setting::State(mute_number(*state))),
-        Value::Polarity(state) => Some(Setting::State(polarity_number(*state))),
-        Value::Switch(switch) => Some(Setting::Position(switch.position)),
-        Value::Boolean(truth) => Some(Setting::Truth(*truth)),
-        Value::Number(range) => Some(Setting::Number {
+        Held::Block => None,
+        Held::Mute(state) => Some(Setting::State(mute_number(*state))),
+        Held::Polarity(state) => Some(Setting::State(polarity_number(*state))),
+        Held::Switch(switch) => Some(Setting::Position(switch.position)),
+        Held::Boolean(truth) => Some(Setting::Truth(*truth)),
+        Held::Number(range) => Some(Setting::Number {
             setting: range.setting,
             least: range.least,
             greatest: range.greatest,

@@ -38,13 +38,13 @@ pub enum Answered {
 pub fn call<R: Net + Clock>(alloc: Global, rt: &R, name: &str) -> Answered {
     match name {
         "nothing" => Answered::Done,
-        "tree-builder-new" => said(TreeBuilder::new(alloc).is_ok()),
+        "tree-builder-new" => done_or_no_memory(TreeBuilder::new(alloc).is_ok()),
         "tree-builder-with-room" => with_room(alloc),
-        "bench" => said(bench(alloc).is_ok()),
-        "sessions-new" => said(Sessions::new(alloc, Window::default()).is_ok()),
+        "bench" => done_or_no_memory(bench(alloc).is_ok()),
+        "sessions-new" => done_or_no_memory(Sessions::new(alloc, Window::default()).is_ok()),
         "device-new" => device_new(alloc),
         "device-with-sizes" => device_with_sizes(alloc),
-        "outbox-new" => said(Outbox::new(alloc).is_ok()),
+        "outbox-new" => done_or_no_memory(Outbox::new(alloc).is_ok()),
         "memory-end-new" => memory_end_new(alloc),
         "udp-end-bind" => udp_end_bind(alloc, rt),
         "run-pair" => paired(alloc),
@@ -53,7 +53,7 @@ pub fn call<R: Net + Clock>(alloc: Global, rt: &R, name: &str) -> Answered {
 }
 
 /// Whether it was done, or memory was refused.
-fn said(done: bool) -> Answered {
+fn done_or_no_memory(done: bool) -> Answered {
     if done {
         Answered::Done
     } else {
@@ -64,7 +64,7 @@ fn said(done: bool) -> Answered {
 /// Room for as many objects as there can be.
 fn with_room(alloc: Global) -> Answered {
     match Room::new(4096) {
-        Some(room) => said(TreeBuilder::with_room(alloc, room).is_ok()),
+        Some(room) => done_or_no_memory(TreeBuilder::with_room(alloc, room).is_ok()),
         None => Answered::Wrong,
     }
 }
@@ -74,7 +74,7 @@ fn device_new(alloc: Global) -> Answered {
     let Ok(tree) = bench(alloc) else {
         return Answered::NoMemory;
     };
-    said(Device::new(alloc, tree, Window::default()).is_ok())
+    done_or_no_memory(Device::new(alloc, tree, Window::default()).is_ok())
 }
 
 /// A device over the bench objects, for 64 peers.
@@ -86,7 +86,7 @@ fn device_with_sizes(alloc: Global) -> Answered {
         return Answered::Wrong;
     };
     let window = Window::default();
-    said(Device::with_sizes(alloc, tree, Sizes { window, peers }).is_ok())
+    done_or_no_memory(Device::with_sizes(alloc, tree, Sizes { window, peers }).is_ok())
 }
 
 /// An end with one scripted datagram.
@@ -106,7 +106,7 @@ fn memory_end_new(alloc: Global) -> Answered {
     }) else {
         return Answered::NoMemory;
     };
-    said(MemoryEnd::new(alloc, script, 4, None).is_ok())
+    done_or_no_memory(MemoryEnd::new(alloc, script, 4, None).is_ok())
 }
 
 /// An end at 127.0.0.1 and a port of the system's choice.

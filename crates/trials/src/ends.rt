@@ -144,8 +144,8 @@ fn serve_end(
     Ok((report, end.taken().len() as u64))
 }
 
-/// Whether a device has the objects and sessions of one for which nothing failed, and answers duplicates of all commands
-/// alike.
+/// Whether a device has the objects and sessions of one for which nothing failed, and answers duplicates of all
+/// commands alike.
 fn is_plain(alloc: Global, device: &mut Device) -> Result<bool, NoMemory> {
     let mut plain = serve_bench(alloc, NOWHERE, None)?;
     are_alike(alloc, &mut plain.device, device)
@@ -222,8 +222,8 @@ fn bears_a_failed_receive(alloc: Global, whole: Report, failed: usize) -> Result
     }
 }
 
-/// Whether a device of which this send fails is the one of which none does, its report counts the failure, and one packet
-/// fewer was taken.
+/// Whether a device of which this send fails is the one of which none does, its report counts the failure, and one
+/// packet fewer was taken.
 fn bears_a_failed_send(
     alloc: Global,
     whole: Report,

@@ -1,7 +1,7 @@
 //! The fields of the lines of schedules and of histories.
 use oca_script::field::{first_field, number, peer};
-use oca_tree::LocalValue;
-use oca_types::{Ono, Peer};
+use oca_tree::Value;
+use oca_types::{Class, Ono, Peer};
 use std::alloc::Global;
 
 /// Why a line is refused.
@@ -115,23 +115,30 @@ impl<'a> Fields<'a> {
         }
     }
 
-    /// What is set at the front, and to what: `ONO KIND VALUE`.
-    pub fn local(&mut self) -> Result<(Ono, LocalValue), LineFault> {
+    /// What is set at the local front panel, and to what: `ONO CLASS VALUE`.
+    pub fn local(&mut self) -> Result<(Ono, Value), LineFault> {
         let ono = Ono(self.number()?);
-        let kind = self.next()?;
-        let value = if kind == b"state".as_slice() {
-            LocalValue::State(self.byte()?)
-        } else if kind == b"position".as_slice() {
-            LocalValue::Position(self.short_number()?)
-        } else if kind == b"truth".as_slice() {
-            LocalValue::Truth(self.truth()?)
-        } else if kind == b"number".as_slice() {
-            LocalValue::Number(self.integer()?)
-        } else {
+        let word = self.next()?;
+        let Some(class) = class(word) else {
             return Err(LineFault::Form);
         };
+        let value = self.value(class)?;
         self.end()?;
         Ok((ono, value))
+    }
+
+    /// A value of the class.
+    fn value(&mut self, class: Class) -> Result<Value, LineFault> {
+        let found = match class {
+            Class::Mute | Class::Polarity => Value::of_state(class, self.byte()?),
+            Class::Switch => Some(Value::Switch(self.short_number()?)),
+            Class::Boolean => Some(Value::Boolean(self.truth()?)),
+            _ => Value::of_integer(class, self.integer()?),
+        };
+        match found {
+            Some(value) => Ok(value),
+            None => Err(LineFault::Number),
+        }
     }
 
     /// A truth: 0 or 1.
@@ -150,6 +157,32 @@ impl<'a> Fields<'a> {
             _ => Err(LineFault::Number),
         }
     }
+}
+
+/// The words for the classes that are set.
+const CLASSES: &[(&str, Class)] = &[
+    ("mute", Class::Mute),
+    ("polarity", Class::Polarity),
+    ("switch", Class::Switch),
+    ("boolean", Class::Boolean),
+    ("int8", Class::Int8),
+    ("int16", Class::Int16),
+    ("int32", Class::Int32),
+    ("int64", Class::Int64),
+    ("uint8", Class::Uint8),
+    ("uint16", Class::Uint16),
+    ("uint32", Class::Uint32),
+    ("uint64", Class::Uint64),
+];
+
+/// The class with this word.
+fn class(word: &[u8]) -> Option<Class> {
+    for (its, class) in CLASSES {
+        if its.as_bytes() == word {
+            return Some(*class);
+        }
+    }
+    None
 }
 
 /// The integer that the digits write.

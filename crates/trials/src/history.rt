@@ -2,10 +2,10 @@
 //!
 //! `history W PEERS CHANNELS` begins a history of a device over the bench objects, with reply windows of size W, room
 //! for PEERS sessions and CHANNELS channel strips behind the bench's own objects. The lines after it are its events, in
-//! order: `N P HEX` is a datagram of the peer P at the moment N, `N quiet` a clock reading, and
-//! `set ONO state|position|truth|number VALUE` a change at the device's own front.
+//! order: `N P HEX` is a datagram of the peer P at the moment N, `N quiet` a clock reading, and `set ONO CLASS VALUE` a
+//! change at the local front panel, CLASS being `mute`, `polarity`, `switch`, `boolean`, `int8` and so on to `uint64`.
 //!
-//! What is printed: `history`, and for each event what the device said of it; its packets, each behind `> `; `written`
+//! What is printed: `history`, and for each event its verdict; its packets, each behind `> `; `written`
 //! and the objects that a datagram wrote to, where there are any; `sessions` and how many it has; and `objects` with
 //! each object that has a setting or a lock: its number, `=`, its setting or `-`, and behind `/t` or `/r` the holder of
 //! its total or its read-only lock.
@@ -16,7 +16,7 @@ use crate::lines::{
 use crate::world::print_text;
 use oca_device::{Device, Outbox};
 use oca_script::field::{moment, peer};
-use oca_tree::{AddFault, LocalValue, Lock, LockKind, Setting, Tree, bench_with_channels};
+use oca_tree::{AddFault, Lock, LockKind, Setting, Tree, Value, bench_with_channels};
 use oca_types::{Ono, Peer, Peers, Sizes, Window};
 use std::alloc::Global;
 
@@ -36,7 +36,7 @@ enum Happens {
     /// The clock is read.
     Quiet(u64),
     /// An object is set at the front.
-    Set(Ono, LocalValue),
+    Set(Ono, Value),
 }
 
 /// A line.
@@ -212,7 +212,7 @@ impl History {
         self.put_state()
     }
 
-    /// Hands the device a datagram, and notes what it said, its packets and what it wrote to.
+    /// Hands the device a datagram, and notes the verdict, its packets and what it wrote to.
     fn hear(&mut self, alloc: Global, from: Peer, bytes: &[u8], now: u64) -> Result<(), Full> {
         let verdict = self.device.datagram(from, bytes, now, &mut self.outbox);
         put_verdict(&mut self.out, verdict)?;
@@ -221,7 +221,7 @@ impl History {
     }
 
     /// Sets an object at the front, and notes what came of it.
-    fn set(&mut self, ono: Ono, value: LocalValue) -> Result<(), Full> {
+    fn set(&mut self, ono: Ono, value: Value) -> Result<(), Full> {
         match self.device.set(ono, value) {
             Ok(()) => put(&mut self.out, "set\n"),
             Err(fault) => put_set_fault(&mut self.out, fault),

@@ -35,10 +35,10 @@ use world::worlds;
 /// Runs the trial that the words name, with its status.
 fn main(rt: HostRuntime) -> ExitCode {
     let Ok(args) = env::args(&rt) else {
-        return said(&rt, "no memory", 1);
+        return exit_with(&rt, "no memory", 1);
     };
     let Ok(words) = args.collect::<Vec<String>>(rt.alloc()) else {
-        return said(&rt, "no memory", 1);
+        return exit_with(&rt, "no memory", 1);
     };
     match words.as_slice() {
         [_] => damaged(&rt),
@@ -47,10 +47,10 @@ fn main(rt: HostRuntime) -> ExitCode {
         [_, verb, kind, objects, sessions, count, way] if verb.as_str() == "bench" => {
             match size_of(objects.as_str(), sessions.as_str()) {
                 Some(size) => measured(&rt, kind.as_str(), size, count.as_str(), way.as_str()),
-                None => said(&rt, "bad words", 2),
+                None => exit_with(&rt, "bad words", 2),
             }
         }
-        _ => said(&rt, "bad words", 2),
+        _ => exit_with(&rt, "bad words", 2),
     }
 }
 
@@ -60,7 +60,7 @@ fn of_one_word<R: Runtime + AllocGlobal>(rt: &R, verb: &str) -> ExitCode {
         "calls" => names(rt),
         "world" => schedules(rt),
         "events" => events(rt),
-        _ => said(rt, "bad words", 2),
+        _ => exit_with(rt, "bad words", 2),
     }
 }
 
@@ -69,12 +69,12 @@ fn of_two_words<R: Runtime + AllocGlobal + Net>(rt: &R, verb: &str, word: &str) 
     match verb {
         "call" => one_call(rt, word),
         "echo" => echoed(rt, word),
-        _ => said(rt, "bad words", 2),
+        _ => exit_with(rt, "bad words", 2),
     }
 }
 
 /// Prints a line where it is no fault, and else on standard error.
-fn said<R: Runtime>(rt: &R, text: &str, status: u8) -> ExitCode {
+fn exit_with<R: Runtime>(rt: &R, text: &str, status: u8) -> ExitCode {
     let _ = if status == 0 {
         println!(rt; "{text}")
     } else {
@@ -88,7 +88,7 @@ fn damaged<R: Runtime + AllocGlobal>(rt: &R) -> ExitCode {
     match wrong(rt) {
         Ok(0) => ExitCode::SUCCESS,
         Ok(_) => ExitCode::FAILURE,
-        Err(NoMemory) => said(rt, "no memory", 1),
+        Err(NoMemory) => exit_with(rt, "no memory", 1),
     }
 }
 
@@ -127,11 +127,11 @@ fn tell_ends<R: Runtime>(rt: &R, name: &str, tally: &ends::Tally) {
 /// A bare loop at a socket.
 fn echoed<R: Runtime + Net>(rt: &R, count: &str) -> ExitCode {
     let Ok(count) = count.parse::<u32>() else {
-        return said(rt, "bad words", 2);
+        return exit_with(rt, "bad words", 2);
     };
     match echo::echo(rt, count) {
         Ok(()) => ExitCode::SUCCESS,
-        Err(_) => said(rt, "socket failed", 1),
+        Err(_) => exit_with(rt, "socket failed", 1),
     }
 }
 
@@ -139,7 +139,7 @@ fn echoed<R: Runtime + Net>(rt: &R, count: &str) -> ExitCode {
 fn schedules<R: Runtime + AllocGlobal>(rt: &R) -> ExitCode {
     match io::read_to_string(rt.alloc(), rt.reader()) {
         Ok(text) => ended(rt, worlds(rt, text.as_str())),
-        Err(_) => said(rt, "read failed", 1),
+        Err(_) => exit_with(rt, "read failed", 1),
     }
 }
 
@@ -147,16 +147,16 @@ fn schedules<R: Runtime + AllocGlobal>(rt: &R) -> ExitCode {
 fn events<R: Runtime + AllocGlobal>(rt: &R) -> ExitCode {
     match io::read_to_string(rt.alloc(), rt.reader()) {
         Ok(text) => ended(rt, histories(rt, text.as_str())),
-        Err(_) => said(rt, "read failed", 1),
+        Err(_) => exit_with(rt, "read failed", 1),
     }
 }
 
-/// The status of a run over lines, whose fault is told on standard error.
+/// The status of a run over lines, whose fault is written to standard error.
 fn ended<R: Runtime>(rt: &R, run: Result<(), RunFault>) -> ExitCode {
     match run {
         Ok(()) => ExitCode::SUCCESS,
-        Err(RunFault::NoMemory) => said(rt, "no memory", 1),
-        Err(RunFault::Write) => said(rt, "write failed", 1),
+        Err(RunFault::NoMemory) => exit_with(rt, "no memory", 1),
+        Err(RunFault::Write) => exit_with(rt, "write failed", 1),
         Err(RunFault::Line(number, fault)) => {
             let word = fault.word();
             let _ = eprintln!(rt; "line {number}: {word}");
@@ -176,10 +176,10 @@ fn names<R: Runtime + AllocGlobal>(rt: &R) -> ExitCode {
 /// One call that takes memory.
 fn one_call<R: Runtime + AllocGlobal + Net>(rt: &R, name: &str) -> ExitCode {
     match call(rt.alloc(), rt, name) {
-        Answered::Done => said(rt, "done", 0),
-        Answered::NoMemory => said(rt, "no memory", 1),
-        Answered::Wrong => said(rt, "wrong", 3),
-        Answered::Unknown => said(rt, "bad words", 2),
+        Answered::Done => exit_with(rt, "done", 0),
+        Answered::NoMemory => exit_with(rt, "no memory", 1),
+        Answered::Wrong => exit_with(rt, "wrong", 3),
+        Answered::Unknown => exit_with(rt, "bad words", 2),
     }
 }
 
@@ -206,16 +206,16 @@ fn measured<R: Runtime + AllocGlobal>(
         "setting" => Kind::Setting,
         "others" => Kind::Others,
         "members" => Kind::Members,
-        _ => return said(rt, "bad words", 2),
+        _ => return exit_with(rt, "bad words", 2),
     };
     let (Ok(count), true) = (count.parse::<u32>(), way == "served" || way == "made") else {
-        return said(rt, "bad words", 2);
+        return exit_with(rt, "bad words", 2);
     };
     match core_bench::run(rt.alloc(), kind, size, count, way == "served") {
         Ok(packets) => {
             let _ = println!(rt; "{packets} packets");
             ExitCode::SUCCESS
         }
-        Err(_) => said(rt, "no memory", 1),
+        Err(_) => exit_with(rt, "no memory", 1),
     }
 }

@@ -8,10 +8,10 @@
 //!     N submit LINK ONO LEVEL INDEX COUNT HEX      N due LINK
 //!     N to-device K                                N to-link K
 //!     N other P HEX                                N tick
-//!     take LINK H                                  set ONO state|position|truth|number VALUE
+//!     take LINK H                                  set ONO CLASS VALUE
 //!
-//! The last sets an object at the device's own front: VALUE is the number of a state, a position, 0 or 1, or an
-//! integer.
+//! The last sets an object at the local front panel: CLASS is `mute`, `polarity`, `switch`, `boolean`, `int8` and so on
+//! to `uint64`, and VALUE the number of a state, a position, 0 or 1, or an integer of the type.
 use crate::fields::{Fields, LineFault, number_32};
 use oca_pair::{Start, Step};
 use oca_script::field::{moment, number, peer};

@@ -55,6 +55,7 @@ fn tables_of_rows(rt: HostRuntime) {
         starts::first_wrong_words(rt.alloc()),
     );
     none_in(&rt, "stored", starts::first_wrong_stored(rt.alloc()));
+    none_in(&rt, "numbers of values", front::first_wrong_number());
     none_in(&rt, "accesses", locks::wrong_access(rt.alloc()));
     none_in(&rt, "lockings", locks::wrong_locking(rt.alloc()));
     none_in(&rt, "unlockings", locks::wrong_unlocking(rt.alloc()));

@@ -3,7 +3,7 @@ use Rattle.std.specs.Prelude.{map}
 use Rattle.oca_session.specs.Table.{Table}
 use Rattle.oca_device.specs.States.{state_after}
 use Rattle.oca_device.specs.Groups.{groups_of}
-use Rattle.oca_device.specs.LawByEvents.{summary_of, answers}
+use Rattle.oca_device.specs.LawByEvents.{summary_of, answers_by_events}
 use Rattle.oca_device.specs.Answers.{packets_of}
 use Rattle.oca_device.proofs.GroupLaws.{are_groups}
 use Rattle.oca_device.proofs.Fitting.{answers_fit}
@@ -23,8 +23,8 @@ returns-clause-law c = λ w tree E H d happens represents.
       written_is = λ happened. represents.written ∙ written_same exact w tree happened;
       answers_are = λ e H' h'. answers_same exact w tree e h';
       packets_are = λ e H' h'. (
-        groups_of (answers w tree H'),
-        are_groups (answers w tree H') (answers_fit w tree H'),
+        groups_of (answers_by_events w tree H'),
+        are_groups (answers_by_events w tree H') (answers_fit w tree H'),
         ap packets_of (answers_same exact w tree e h'),
       );
       verdict_is = λ p bytes now H' h'. verdict_same exact w tree p bytes now h';

@@ -16,7 +16,7 @@ const THE_DESK: Part = Bytes(&[
     0, 1, 0, 1, 0, 3, 0, 2,
 ]);
 
-/// The member of the root is told.
+/// The member of the root is listed.
 const ROOT: &[Step] = &[Answers(A, 0, MEMBERS, EXECUTED, THE_DESK)];
 
 /// GetMembersRecursive of the root under handle 1.
@@ -34,7 +34,7 @@ const ALL_BELOW: Part = Bytes(&[
     0, 0, 0x10, 6, 0, 5, 0, 1, 0, 1, 0, 1, 0, 1, 0, 6, 0, 2, 0, 0, 0x10, 0,
 ]);
 
-/// All that is below the root is told.
+/// All that is below the root is listed.
 const ALL: &[Step] = &[Answers(A, 0, ALL_OF_ROOT, EXECUTED, ALL_BELOW)];
 
 /// The parameters of the response to GetMembers of the root: 32 bytes.
@@ -55,7 +55,7 @@ const BELOW_THE_BLOCK: &[u8] = &[
     0, 1, 0, 0, 0x10, 2, 0, 4, 0, 1, 0, 1, 0, 1, 0, 2, 0, 2, 0, 0, 0x10, 0,
 ];
 
-/// Direct members are told without those below them, and all below a block without what stands beside it.
+/// Direct members are listed without those below them, and all below a block without what stands beside it.
 const LEVELS: &[Step] = &[
     Answers(
         A,
@@ -93,7 +93,7 @@ const SIXTY_FIVE: &[Part] = &[
     ),
 ];
 
-/// 65 actuators are told in a datagram of 1,452 bytes.
+/// 65 actuators are listed in a datagram of 1,452 bytes.
 const MOST: &[Step] = &[
     Length(SIXTY_FIVE, 1452),
     Groups(A, 0, &[ALL_OF_ROOT], EXECUTED, &[SIXTY_FIVE]),

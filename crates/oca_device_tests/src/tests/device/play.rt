@@ -18,7 +18,7 @@ pub enum Step {
     /// A peer sends a datagram at a moment; later steps look at the packets.
     Hears(u16, u64, &'static [Part], Verdict),
     /// A sends GetState of 4097 under each handle from the first on and before the second at 0. Each is executed and
-    /// told to be Muted.
+    /// answered as Muted.
     TellsMuted(u32, u32),
     /// Each peer from the first on and before the second sends this at a moment, and gets the packet.
     EachAnswers(u16, u16, u64, Part, Verdict, Part),
@@ -104,7 +104,7 @@ fn answers(
         && is_packet(&bench.outbox, 0, &[reply])
 }
 
-/// Whether GetState of A under each of these handles is executed and told to be Muted.
+/// Whether GetState of A under each of these handles is executed and answered as Muted.
 fn tells_muted(bench: &mut Bench, first: u32, after: u32) -> bool {
     for handle in first..after {
         let reply = Part::State(handle, 1);

@@ -125,7 +125,7 @@ const ELSEWHERE: Peer = Peer {
     port: 9001,
 };
 
-/// Each peer has a window of its own, and peers are told apart by address and port.
+/// Each peer has a window of its own, and peers differ by address and port.
 const APART: &[Step] = &[
     Hears(A, 0, Opened),
     Hears(B, 0, Opened),

@@ -55,7 +55,7 @@ fn reply_to(command: &Command<'_>) -> Reply {
 }
 
 /// Whose reply a duplicate got.
-fn told(reply: &Reply) -> Served {
+fn served_by(reply: &Reply) -> Served {
     if reply.params.as_slice() == [reply.count].as_slice() {
         Served::Kept(reply.count)
     } else {
@@ -76,7 +76,7 @@ fn serve_with(sessions: &mut Sessions, peer: Peer, command: &Command<'_>, reply:
             sessions.keep(peer, command, reply);
             Served::Executed
         }
-        Judged::Kept(kept) => told(kept),
+        Judged::Kept(kept) => served_by(kept),
         Judged::Reused => Served::Reused,
         Judged::Old => Served::Old,
     }

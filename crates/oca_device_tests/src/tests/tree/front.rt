@@ -1,11 +1,13 @@
-//! Setting objects at the device's own front.
+//! Setting objects at the local front panel.
 use super::script::Over::Bench;
 use super::script::Row::{Calls, Holds, Locked, Puts, Sends};
 use super::script::{At, Script, Wrong, wrong_script};
 use super::words::*;
-use oca_tree::{LocalValue, Lock, LockKind, SetFault, Setting};
-use oca_types::Status;
+use oca_tree::{Lock, LockKind, MuteState, PolarityState, SetFault, Setting, Value};
+use oca_types::{Class, Status};
 use std::alloc::Global;
+
+const UNMUTE: Value = Value::Mute(MuteState::Unmuted);
 
 const MUTED: Option<Setting> = Some(Setting::State(1));
 
@@ -15,38 +17,38 @@ const FIRST: Option<Setting> = Some(Setting::Position(0));
 
 // Each kind of object once over the bench device.
 const SETTINGS: &[At] = &[
-    At(4097, &[Puts(LocalValue::State(2), Ok(())), Holds(UNMUTED)]),
+    At(4097, &[Puts(UNMUTE, Ok(())), Holds(UNMUTED)]),
     At(
         4098,
         &[
-            Puts(LocalValue::State(2), Ok(())),
+            Puts(Value::Polarity(PolarityState::Inverted), Ok(())),
             Holds(Some(Setting::State(2))),
         ],
     ),
     At(
         4099,
         &[
-            Puts(LocalValue::Position(1), Ok(())),
+            Puts(Value::Switch(1), Ok(())),
             Holds(Some(Setting::Position(1))),
         ],
     ),
     At(
         4101,
         &[
-            Puts(LocalValue::Truth(true), Ok(())),
+            Puts(Value::Boolean(true), Ok(())),
             Holds(Some(Setting::Truth(true))),
         ],
     ),
     At(
         4100,
         &[
-            Puts(LocalValue::Number(-600), Ok(())),
+            Puts(Value::Int16(-600), Ok(())),
             Holds(Some(Setting::Number {
                 setting: -600,
                 least: -600,
                 greatest: 600,
             })),
-            Puts(LocalValue::Number(600), Ok(())),
+            Puts(Value::Int16(600), Ok(())),
             Holds(Some(Setting::Number {
                 setting: 600,
                 least: -600,
@@ -65,58 +67,48 @@ const TRIM_OF_0: Option<Setting> = Some(Setting::Number {
 
 // Each fault over the bench device, in the order in which they are looked for: nothing changes.
 const REFUSALS: &[At] = &[
-    At(
-        9,
-        &[
-            Puts(LocalValue::State(2), Err(SetFault::NoObject)),
-            Holds(None),
-        ],
-    ),
-    At(
-        4096,
-        &[
-            Puts(LocalValue::State(2), Err(SetFault::NoSetting)),
-            Holds(None),
-        ],
-    ),
+    At(9, &[Puts(UNMUTE, Err(SetFault::NoObject)), Holds(None)]),
+    At(4096, &[Puts(UNMUTE, Err(SetFault::NoSetting)), Holds(None)]),
     At(
         4097,
         &[
-            Puts(LocalValue::Truth(true), Err(SetFault::OtherKind)),
+            Puts(Value::Boolean(true), Err(SetFault::OtherKind)),
             Holds(MUTED),
-            Puts(LocalValue::Number(3), Err(SetFault::OtherKind)),
+            Puts(Value::Int16(3), Err(SetFault::OtherKind)),
+            Holds(MUTED),
+            Puts(
+                Value::Polarity(PolarityState::Inverted),
+                Err(SetFault::OtherKind),
+            ),
             Holds(MUTED),
         ],
     ),
     At(
         4099,
-        &[
-            Puts(LocalValue::State(1), Err(SetFault::OtherKind)),
-            Holds(FIRST),
-        ],
+        &[Puts(UNMUTE, Err(SetFault::OtherKind)), Holds(FIRST)],
     ),
     At(
-        4097,
+        4100,
         &[
-            Puts(LocalValue::State(0), Err(SetFault::OutOfRange)),
-            Holds(MUTED),
-            Puts(LocalValue::State(3), Err(SetFault::OutOfRange)),
-            Holds(MUTED),
+            Puts(Value::Int8(7), Err(SetFault::OtherKind)),
+            Holds(TRIM_OF_0),
+            Puts(Value::Uint16(7), Err(SetFault::OtherKind)),
+            Holds(TRIM_OF_0),
         ],
     ),
     At(
         4099,
         &[
-            Puts(LocalValue::Position(3), Err(SetFault::OutOfRange)),
+            Puts(Value::Switch(3), Err(SetFault::OutOfRange)),
             Holds(FIRST),
         ],
     ),
     At(
         4100,
         &[
-            Puts(LocalValue::Number(601), Err(SetFault::OutOfRange)),
+            Puts(Value::Int16(601), Err(SetFault::OutOfRange)),
             Holds(TRIM_OF_0),
-            Puts(LocalValue::Number(-601), Err(SetFault::OutOfRange)),
+            Puts(Value::Int16(-601), Err(SetFault::OutOfRange)),
             Holds(TRIM_OF_0),
         ],
     ),
@@ -127,7 +119,7 @@ const DISABLED: &[At] = &[At(
     4099,
     &[
         Sends(SET_POSITION_ENABLED, 2, &[0, 2, 0], Status::Ok),
-        Puts(LocalValue::Position(2), Err(SetFault::OutOfRange)),
+        Puts(Value::Switch(2), Err(SetFault::OutOfRange)),
         Holds(FIRST),
     ],
 )];
@@ -137,7 +129,7 @@ const LOCKED: &[At] = &[At(
     4100,
     &[
         Calls(A, LOCK_TOTAL, (0, &[]), (Status::Ok, 0, &[])),
-        Puts(LocalValue::Number(7), Ok(())),
+        Puts(Value::Int16(7), Ok(())),
         Holds(Some(Setting::Number {
             setting: 7,
             least: -600,
@@ -177,4 +169,49 @@ const SCRIPTS: &[Script] = &[
 /// The first script that goes otherwise, and where.
 pub fn wrong(alloc: Global) -> Option<(&'static str, Wrong)> {
     wrong_script(alloc, SCRIPTS)
+}
+
+// The value of a class whose state has a number.
+const STATES: &[(Class, u8, Option<Value>)] = &[
+    (Class::Mute, 0, None),
+    (Class::Mute, 1, Some(Value::Mute(MuteState::Muted))),
+    (Class::Mute, 2, Some(UNMUTE)),
+    (Class::Mute, 3, None),
+    (
+        Class::Polarity,
+        1,
+        Some(Value::Polarity(PolarityState::NonInverted)),
+    ),
+    (Class::Switch, 1, None),
+    (Class::Block, 1, None),
+];
+
+// The value of a class that is an integer.
+const INTEGERS: &[(Class, i128, Option<Value>)] = &[
+    (Class::Int8, -128, Some(Value::Int8(-128))),
+    (Class::Int8, -129, None),
+    (Class::Int16, 32767, Some(Value::Int16(32767))),
+    (Class::Uint8, -1, None),
+    (
+        Class::Uint64,
+        18446744073709551615,
+        Some(Value::Uint64(18446744073709551615)),
+    ),
+    (Class::Int64, 18446744073709551615, None),
+    (Class::Boolean, 1, None),
+];
+
+/// The first of these rows that comes out otherwise.
+pub fn first_wrong_number() -> Option<usize> {
+    for (at, (class, number, want)) in STATES.iter().enumerate() {
+        if Value::of_state(*class, *number) != *want {
+            return Some(at);
+        }
+    }
+    for (at, (class, number, want)) in INTEGERS.iter().enumerate() {
+        if Value::of_integer(*class, *number) != *want {
+            return Some(STATES.len() + at);
+        }
+    }
+    None
 }

@@ -1,8 +1,8 @@
 //! Trees that are built by a table, and scripts of commands over them.
 use super::words::{A, BLOCK, Called};
 use oca_tree::{
-    AddFault, LocalValue, Lock, Room, SetFault, Setting, Spec, Start, StartFault, Tree,
-    TreeBuilder, bench, bench_with_channels,
+    AddFault, Lock, Room, SetFault, Setting, Spec, Start, StartFault, Tree, TreeBuilder, Value,
+    bench, bench_with_channels,
 };
 use oca_types::{Class, Command, Handle, MethodId, Ono, Params, Peer, Status, class_fields};
 use std::alloc::Global;
@@ -21,7 +21,7 @@ pub enum Row {
     /// A calls a method without parameters: status, ParamCount and how many bytes the parameters have.
     Measures(Called, Status, u8, usize),
     /// The object is set at the front.
-    Puts(LocalValue, Result<(), SetFault>),
+    Puts(Value, Result<(), SetFault>),
     /// How the object is set.
     Holds(Option<Setting>),
     /// The lock of the object.
@@ -79,8 +79,8 @@ pub struct Script {
     pub parts: &'static [At],
 }
 
-/// What went otherwise than a table says: of the script's part at an index the row at an index; behind the last part the
-/// addition at an index, or the last number of all where there was no tree.
+/// What went otherwise than a table says: of the script's part at an index the row at an index; behind the last part
+/// the addition at an index, or the last number of all where there was no tree.
 pub type Wrong = (usize, usize);
 
 /// What is no part of a script.

@@ -5,7 +5,7 @@ use super::script::Row::{Len, Reads};
 use super::script::{Addition, At, Script, Wrong, first_wrong_addition, wrong_script};
 use super::words::*;
 use oca_tree::{AddFault, Kind, Room, Spec, Start, StartFault, Tree, TreeBuilder, bench};
-use oca_types::Ono;
+use oca_types::{Class, Ono};
 use std::alloc::Global;
 
 /// What nothing stored stands for.
@@ -155,10 +155,11 @@ pub fn first_wrong_words(alloc: Global) -> Option<usize> {
     None
 }
 
-/// What is told of an object: its number, its label, whether it is enabled and can be locked, and the flags and the names
-/// of its positions.
-struct Told {
+/// What is read of an object: its number, its label, its class, whether it is enabled and can be locked, and the flags
+/// and the names of its positions.
+struct Described {
     ono: u32,
+    class: Class,
     label: &'static str,
     enabled: bool,
     lockable: bool,
@@ -166,25 +167,28 @@ struct Told {
     names: &'static [&'static str],
 }
 
-const TOLD: &[Told] = &[
-    Told {
+const DESCRIBED: &[Described] = &[
+    Described {
         ono: 100,
+        class: Class::Block,
         label: "Hi",
         enabled: true,
         lockable: true,
         flags: None,
         names: &[],
     },
-    Told {
+    Described {
         ono: 4096,
+        class: Class::Switch,
         label: "Hi",
         enabled: false,
         lockable: true,
         flags: Some(&[true, false, false]),
         names: &["Line", "Mic", "Off"],
     },
-    Told {
+    Described {
         ono: 4097,
+        class: Class::Boolean,
         label: "",
         enabled: true,
         lockable: false,
@@ -217,7 +221,7 @@ fn stored_tree(alloc: Global) -> Option<Tree> {
 }
 
 /// Whether these are the names of its positions.
-fn are_names(tree: &Tree, row: &Told) -> bool {
+fn are_names(tree: &Tree, row: &Described) -> bool {
     let names = tree.position_names_of(Ono(row.ono));
     names.len() == row.names.len()
         && names
@@ -226,8 +230,8 @@ fn are_names(tree: &Tree, row: &Told) -> bool {
             .all(|(name, wanted)| name.as_str() == *wanted)
 }
 
-/// Whether this is told.
-fn is_told(tree: &Tree, row: &Told) -> bool {
+/// Whether this is read.
+fn is_read(tree: &Tree, row: &Described) -> bool {
     let Some(start) = tree.start_of(Ono(row.ono)) else {
         return false;
     };
@@ -235,25 +239,28 @@ fn is_told(tree: &Tree, row: &Told) -> bool {
         && start.enabled == row.enabled
         && start.position_enableds == row.flags
         && tree.is_lockable(Ono(row.ono)) == Some(row.lockable)
+        && tree.class_of(Ono(row.ono)) == Some(row.class)
         && are_names(tree, row)
 }
 
-/// Whether nothing is told of an object that is not there.
-fn is_untold(tree: &Tree, ono: u32) -> bool {
-    tree.start_of(Ono(ono)).is_none() && tree.is_lockable(Ono(ono)).is_none()
+/// Whether nothing is read of an object that is not there.
+fn is_absent(tree: &Tree, ono: u32) -> bool {
+    tree.start_of(Ono(ono)).is_none()
+        && tree.is_lockable(Ono(ono)).is_none()
+        && tree.class_of(Ono(ono)).is_none()
 }
 
-/// The first row that is not told; of no object is anything told.
-fn first_wrong_told(tree: &Tree) -> Option<usize> {
-    for (at, row) in TOLD.iter().enumerate() {
-        if !is_told(tree, row) {
+/// The first row that is read otherwise; of no object is anything read.
+fn first_wrong_description(tree: &Tree) -> Option<usize> {
+    for (at, row) in DESCRIBED.iter().enumerate() {
+        if !is_read(tree, row) {
             return Some(at);
         }
     }
-    if is_untold(tree, 4098) {
+    if is_absent(tree, 4098) {
         None
     } else {
-        Some(TOLD.len())
+        Some(DESCRIBED.len())
     }
 }
 
@@ -265,12 +272,13 @@ fn is_compared(alloc: Global, tree: &Tree) -> bool {
     }
 }
 
-/// The first row that is not told of what was stored; the last number where trees are compared otherwise, or there is none.
+/// The first row that is read otherwise of what was stored; the last number where trees are compared otherwise, or
+/// there is none.
 pub fn first_wrong_stored(alloc: Global) -> Option<usize> {
     match stored_tree(alloc) {
         Some(tree) => {
             if is_compared(alloc, &tree) {
-                first_wrong_told(&tree)
+                first_wrong_description(&tree)
             } else {
                 Some(usize::MAX)
             }

@@ -161,8 +161,8 @@ fn takes(link: &mut Link, handle: u32, want: Option<Gave>) -> bool {
 }
 
 /// Whether this is the handle, or there is none.
-fn is_number(told: Option<Handle>, want: Option<u32>) -> bool {
-    match told {
+fn is_number(found: Option<Handle>, want: Option<u32>) -> bool {
+    match found {
         Some(handle) => want == Some(handle.0),
         None => want.is_none(),
     }

@@ -28,7 +28,8 @@ fn an_end_in_memory_keeps_no_time(rt: HostRuntime) {
     );
 }
 
-/// Whether an end on this machine hears nothing, at a moment no earlier than it said before and no later than it says then.
+/// Whether an end on this machine hears nothing, at a moment no earlier than it said before and no later than it says
+/// then.
 fn is_timed(rt: &HostRuntime) -> bool {
     let Some(mut end) = end_here(rt) else {
         return false;

@@ -53,7 +53,7 @@ fn all_scripted(alloc: Global, entries: &[Entry]) -> Option<Vec<Scripted>> {
 }
 
 /// Asks for an end that tells.
-fn is_told<E: End>(_end: &E) -> bool
+fn is_given<E: End>(_end: &E) -> bool
     requires { IsTrue (E.state _end.now).tells }
 {
     true
@@ -67,7 +67,7 @@ fn end_of(
     fail_send: Option<u64>,
 ) -> Option<MemoryEnd> {
     let end = MemoryEnd::new(alloc, all_scripted(alloc, entries)?, room, fail_send).ok()?;
-    if is_told(&end) { Some(end) } else { None }
+    if is_given(&end) { Some(end) } else { None }
 }
 
 /// Whether this was delivered for the entry.

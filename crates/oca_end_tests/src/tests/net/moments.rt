@@ -93,8 +93,8 @@ fn moments_are_milliseconds_since_bind(rt: HostRuntime) {
 /// Until when a receive waits.
 #[derive(Clone, Copy)]
 enum Until {
-    /// For 50 ms, as a receive does that is told nothing.
-    Unsaid,
+    /// For 50 ms, as a receive does that is given no moment.
+    NoMoment,
     /// For so many milliseconds.
     After(u64),
     /// Until a moment that is past.
@@ -121,7 +121,7 @@ use Step::*;
 /// The fewest milliseconds that a receive takes in which no datagram comes.
 fn least(until: Until) -> u64 {
     match until {
-        Unsaid => 49,
+        NoMoment => 49,
         After(wait) => wait.saturating_sub(1),
         Past => 0,
     }
@@ -133,7 +133,7 @@ fn time_quiet(end: &mut UdpEnd<'_, HostRuntime>, until: Until) -> Option<u64> {
     packet.try_extend_from_slice(&[1]).ok()?;
     let begun = end.now();
     let heard = match until {
-        Unsaid => end.receive(&mut packet),
+        NoMoment => end.receive(&mut packet),
         After(wait) => end.receive_by(&mut packet, begun.saturating_add(wait)),
         Past => end.receive_by(&mut packet, 0),
     };
@@ -223,8 +223,8 @@ fn wrong_script(rt: &HostRuntime, scripts: &[Script]) -> Option<(&'static str, u
     None
 }
 
-// A receive that is told no moment waits 50 ms.
-const UNSAID: &[Step] = &[Quiet(&[Unsaid; 6], 80)];
+// A receive that is given no moment waits 50 ms.
+const NO_MOMENT: &[Step] = &[Quiet(&[NoMoment; 6], 80)];
 
 // A wait ends with its moment, and before it where a datagram comes.
 const BY_A_MOMENT: &[Step] = &[
@@ -237,7 +237,7 @@ const BY_A_MOMENT: &[Step] = &[
 const BY_THE_PAST: &[Step] = &[
     TwentyPast(200),
     Echoes(&[1, 2], 0),
-    Quiet(&[Unsaid], u64::MAX),
+    Quiet(&[NoMoment], u64::MAX),
 ];
 
 // Each wait has its own time, whatever those before it had: far, near and none in turn.
@@ -245,7 +245,7 @@ const IN_TURN: &[Step] = &[
     Quiet(&[After(400)], u64::MAX),
     Quiet(&[After(20), After(20), After(20)], 60),
     TwentyPast(200),
-    Quiet(&[Unsaid, Unsaid, Unsaid], 90),
+    Quiet(&[NoMoment, NoMoment, NoMoment], 90),
     Quiet(&[After(20), After(20), After(20)], 60),
     Quiet(&[After(400)], u64::MAX),
     TwentyPast(200),
@@ -254,7 +254,7 @@ const IN_TURN: &[Step] = &[
 
 /// The scripts.
 const SCRIPTS: &[Script] = &[
-    ("a_quiet_receive_takes_50_milliseconds", UNSAID),
+    ("a_quiet_receive_takes_50_milliseconds", NO_MOMENT),
     ("a_receive_waits_until_its_moment", BY_A_MOMENT),
     (
         "a_receive_by_a_moment_that_is_past_does_not_wait",
@@ -268,14 +268,14 @@ fn scripts(rt: HostRuntime) {
     assert_eq!(rt; wrong_script(&rt, SCRIPTS), None);
 }
 
-/// A system whose clock tells what it is set to, and nothing where it is not set.
+/// A system whose clock gives what it is set to, and nothing where it is not set.
 #[derive(Drop)]
-struct Told<'a> {
+struct SetClock<'a> {
     system: &'a HostRuntime,
     time: Cell<Option<Duration>>,
 }
 
-impl Clock for Told<'_> {
+impl Clock for SetClock<'_> {
     fn monotonic(&self) -> io::Result<Duration> {
         match self.time.get() {
             Some(time) => Ok(time),
@@ -288,7 +288,7 @@ impl Clock for Told<'_> {
     }
 }
 
-impl Net for Told<'_> {
+impl Net for SetClock<'_> {
     type Stream = TcpStream;
 
     type Listener = TcpListener;
@@ -306,45 +306,45 @@ impl Net for Told<'_> {
     }
 }
 
-/// Whether the end says this moment, asked and in a receive, where the clock tells so many milliseconds or nothing.
-fn is_said(
-    end: &mut UdpEnd<'_, Told<'_>>,
-    told: &Told<'_>,
+/// Whether the end gives this moment, asked and in a receive, where the clock gives so many milliseconds or nothing.
+fn is_moment(
+    end: &mut UdpEnd<'_, SetClock<'_>>,
+    net: &SetClock<'_>,
     clock: Option<u64>,
     moment: u64,
 ) -> bool {
-    told.time.set(clock.map(Duration::from_millis));
+    net.time.set(clock.map(Duration::from_millis));
     let mut packet = Packet::new();
     end.now() == moment && quiet(end.receive_by(&mut packet, 0)) == Some(moment)
 }
 
-/// The first reading of the clock for which the end says another moment.
-fn first_unsaid(
-    end: &mut UdpEnd<'_, Told<'_>>,
-    told: &Told<'_>,
+/// The first reading of the clock for which the end gives another moment.
+fn first_wrong_reading(
+    end: &mut UdpEnd<'_, SetClock<'_>>,
+    net: &SetClock<'_>,
     readings: &[(Option<u64>, u64)],
 ) -> Option<usize> {
     for (at, (clock, moment)) in readings.iter().enumerate() {
-        if !is_said(end, told, *clock, *moment) {
+        if !is_moment(end, net, *clock, *moment) {
             return Some(at);
         }
     }
     None
 }
 
-/// The same of an end that is bound when the clock tells 1,000 ms; the last number where there is none.
-fn unsaid(rt: &HostRuntime, readings: &[(Option<u64>, u64)]) -> Option<usize> {
-    let told = Told {
+/// The same of an end that is bound when the clock gives 1,000 ms; the last number where there is none.
+fn wrong_reading(rt: &HostRuntime, readings: &[(Option<u64>, u64)]) -> Option<usize> {
+    let net = SetClock {
         system: rt,
         time: Cell::new(Some(Duration::from_millis(1_000))),
     };
-    match UdpEnd::bind(rt.alloc(), &told, LOCALHOST, 0) {
-        Ok(mut end) => first_unsaid(&mut end, &told, readings),
+    match UdpEnd::bind(rt.alloc(), &net, LOCALHOST, 0) {
+        Ok(mut end) => first_wrong_reading(&mut end, &net, readings),
         Err(_) => Some(usize::MAX),
     }
 }
 
-// Where the clock goes back, and where it can't be read, the latest moment is said again.
+// Where the clock goes back, and where it can't be read, the latest moment is given again.
 const READINGS: &[(Option<u64>, u64)] = &[
     (Some(1_000), 0),
     (Some(3_007), 2_007),
@@ -356,10 +356,10 @@ const READINGS: &[(Option<u64>, u64)] = &[
 
 #[test]
 fn moments_do_not_go_back(rt: HostRuntime) {
-    assert_eq!(rt; unsaid(&rt, READINGS), None);
+    assert_eq!(rt; wrong_reading(&rt, READINGS), None);
 }
 
-/// Whether an end at this clock hears nothing for 40 ms, and then says moments that are no earlier.
+/// Whether an end at this clock hears nothing for 40 ms, and then gives moments that are no earlier.
 fn is_quiet_until(end: &mut UdpEnd<'_, CountsSleep<'_, HostRuntime>>) -> bool {
     let mut packet = Packet::new();
     match quiet(end.receive_by(&mut packet, 40)) {
@@ -376,7 +376,7 @@ fn is_not_before(clock: &CountsSleep<'_, HostRuntime>, before: Duration) -> bool
     }
 }
 
-/// Whether a clock that counts sleep is not behind the system's, and an end over it says moments that rise with it.
+/// Whether a clock that counts sleep is not behind the system's, and an end over it gives moments that rise with it.
 fn counts_sleep(rt: &HostRuntime) -> Option<bool> {
     let before = rt.monotonic().ok()?;
     let clock = CountsSleep(rt);

@@ -132,7 +132,7 @@ fn faults_read(alloc: Global) -> bool {
         && error_reads(alloc, BindError::NoMemory, "no memory")
 }
 
-/// What is refused or told otherwise.
+/// What is refused or answered otherwise.
 fn first_wrong(rt: &HostRuntime) -> Option<&'static str> {
     if is_taken_once(rt) != Some([true; 3]) {
         return Some("a_port_in_use_is_refused");

@@ -251,7 +251,7 @@ const WHOLE: &[Step] = &[
     Hears(Plain, First, &[3; LARGEST]),
 ];
 
-// A send to port 0 is refused, and one to every host, and the last one's reason is said. The end goes on.
+// A send to port 0 is refused, and one to every host, and the last one's reason is given. The end goes on.
 const REFUSED: &[Step] = &[
     LastFailure(None),
     Sends(First, Nobody, &[1], false),

@@ -92,8 +92,8 @@ const CASES: &[Case] = &[
             sessions: 1,
         }),
     },
-    // A datagram that found no room is executed when it comes again, and its answer is taken: its peer kept its session,
-    // since only the second of its datagrams was admitted.
+    // A datagram that found no room is executed when it comes again, and its answer is taken: its peer kept its
+    // session, since only the second of its datagrams was admitted.
     Case {
         name: "a_datagram_without_room",
         network: ONE_LINK,

@@ -3,7 +3,7 @@ use super::KEEP_ALIVE;
 use oca_control::{ControlFault, Reception};
 use oca_device::Verdict;
 use oca_pair::{Outcome, Step};
-use oca_tree::{LocalValue, SetFault};
+use oca_tree::{SetFault, Value};
 use oca_types::{Handle, LOOPBACK, MethodId, Ono, Peer};
 use std::alloc::Global;
 
@@ -81,8 +81,8 @@ pub enum Row {
     ToLink(usize, u64, Seen),
     /// The bytes of a peer are delivered to the device at a moment.
     Other(Peer, &'static [u8], u64, Seen),
-    /// 4097 is set at the device's own front.
-    Sets(LocalValue, Seen),
+    /// The object with this number is set at the local front panel.
+    Sets(u32, Value, Seen),
     /// The answer under a handle is taken.
     Takes(u32, Seen),
     /// Such steps, with the numbers from the first to below the second.
@@ -221,11 +221,11 @@ fn add_row(script: &mut Script, row: Row) -> Option<()> {
         Row::ToDevice(k, now, want) => add(script, (Step::ToDevice { k, now }, want)),
         Row::ToLink(k, now, want) => add(script, (Step::ToLink { k, now }, want)),
         Row::Other(from, bytes, now, want) => add(script, (Step::Other { from, bytes, now }, want)),
-        Row::Sets(value, want) => add(
+        Row::Sets(ono, value, want) => add(
             script,
             (
                 Step::Local {
-                    ono: Ono(4097),
+                    ono: Ono(ono),
                     value,
                 },
                 want,

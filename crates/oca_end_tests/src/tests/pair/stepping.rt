@@ -3,13 +3,17 @@ use super::rows::Row::*;
 use super::rows::{EXECUTED, Each, Row, Seen};
 use super::schedules::{Case, Network, ONE_LINK, Ran, wrong_case};
 use oca_pair::PairFault;
-use oca_tree::{LocalValue, SetFault};
+use oca_tree::{MuteState, SetFault, Value};
 use std::alloc::Global;
 
 const CHANGES: &[Row] = &[
-    Sets(LocalValue::State(2), Seen::Set),
-    Sets(LocalValue::State(3), Seen::NotSet(SetFault::OutOfRange)),
-    Sets(LocalValue::Truth(true), Seen::NotSet(SetFault::OtherKind)),
+    Sets(4097, Value::Mute(MuteState::Unmuted), Seen::Set),
+    Sets(4099, Value::Switch(3), Seen::NotSet(SetFault::OutOfRange)),
+    Sets(
+        4097,
+        Value::Boolean(true),
+        Seen::NotSet(SetFault::OtherKind),
+    ),
     Gets(0, Seen::Submitted(1)),
     Due(0, Seen::Sent(0)),
     ToDevice(0, 1, EXECUTED),

@@ -1,4 +1,5 @@
-//! A device and a link at two sockets of one process, turn by turn: what is sent lies at the socket until it is received.
+//! A device and a link at two sockets of one process, turn by turn: what is sent lies at the socket until it is
+//! received.
 use oca_control::{DriveReport, Link, drive};
 use oca_device::{Device, Outbox, serve};
 use oca_net::UdpEnd;

@@ -24,8 +24,8 @@ const TWO: Answer = (
 /// The root alone.
 const ROOT: Answer = (0, 1, &[0, 1, 0, 0, 0, 100, 0, 3, 0, 1, 0, 1, 0, 3, 0, 2]);
 
-/// What each object answers, in the order in which they are asked: the root, the block 4096, and the mute 4098, which is
-/// locked.
+/// What each object answers, in the order in which they are asked: the root, the block 4096, and the mute 4098, which
+/// is locked.
 const ANSWERS: &[Answer] = &[BLOCK, ROLE, TWO, BLOCK, ROLE, ROOT, (3, 0, &[])];
 
 /// The same, where the inner block has too many members, and the mute says what it is.

@@ -10,16 +10,16 @@ pub returns-in_default-clause-objects : goal.returns-in_default-clause-objects
 returns-in_default-clause-objects c =
     sym (unset c.args.objects.now.list c.args.ono.0 c.args.value _ (fault_none c.args.objects.now.list c.args.ono.0 c.args.value c.in_default.ensures.absent))
 
-pub returns-in_default-clause-told : goal.returns-in_default-clause-told
-returns-in_default-clause-told c = sym (fault_none c.args.objects.now.list c.args.ono.0 c.args.value c.in_default.ensures.absent)
+pub returns-in_default-clause-fault : goal.returns-in_default-clause-fault
+returns-in_default-clause-fault c = sym (fault_none c.args.objects.now.list c.args.ono.0 c.args.value c.in_default.ensures.absent)
 
 pub returns-in_err-request-clause-objects : goal.returns-in_err-request-clause-objects
 returns-in_err-request-clause-objects c =
     let there = fault_there c.args.objects.now.list c.args.ono.0 c.in-Some.at c.object_at.result.now c.in-Some.ensures.index c.object_at.ensures c.args.value in
     sym (unset c.args.objects.now.list c.args.ono.0 c.args.value _ (there ∙ c.in_err-request.ensures))
 
-pub returns-in_err-request-clause-told : goal.returns-in_err-request-clause-told
-returns-in_err-request-clause-told c =
+pub returns-in_err-request-clause-fault : goal.returns-in_err-request-clause-fault
+returns-in_err-request-clause-fault c =
     let p = err_from_is_err_and c.from_residual.result c.from_residual.ensures.1 in
     let there = fault_there c.args.objects.now.list c.args.ono.0 c.in-Some.at c.object_at.result.now c.in-Some.ensures.index c.object_at.ensures c.args.value in
     rw (p.1, p.2) (sym (there ∙ c.in_err-request.ensures))
@@ -32,8 +32,8 @@ returns-clause-objects c =
     ∙ ap (λ r. set c.args.objects.now.list c.in-Some.at (changed o front r)) c.in_ok-request.ensures.1 in
     new ∙ sym (set_there c.args.objects.now.list c.args.ono.0 c.in-Some.at o c.in-Some.ensures.index c.object_at.ensures c.args.value c.in_ok-request.ensures.0)
 
-pub returns-clause-told : goal.returns-clause-told
-returns-clause-told c =
+pub returns-clause-fault : goal.returns-clause-fault
+returns-clause-fault c =
     let there = fault_there c.args.objects.now.list c.args.ono.0 c.in-Some.at c.object_at.result.now c.in-Some.ensures.index c.object_at.ensures c.args.value in
     sym (there ∙ c.in_ok-request.ensures.0)
 

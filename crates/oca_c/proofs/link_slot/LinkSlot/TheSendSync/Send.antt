@@ -11,12 +11,12 @@ use Rattle.std_alloc.proofs.SendSync.{quiet, lies}
 use Rattle.std_heap.proofs.Global.TheSendSync as handle
 use Rattle.std.specs.Prelude.{Option, None, Some}
 use Rattle.std.specs.Global.{Global}
-use Rattle.oca_c.specs.LinkSlots.{slot_owns}
+use Rattle.oca_c.specs.LinkSlots.{link_owns}
 use Rattle.oca_c.specs.contracts.link.LinkBehind as Inner
 use Rattle.oca_c.proofs.link.LinkBehind.TheSendSync.{the_send as inner}
 use Rattle.oca_c.specs.contracts.link_slot.LinkSlot.{the_row, the_type}
 
-keyless : (a : Global) (p : Ptr) (o : Option (Inner.the_row).Denot) → Keyless (slot_owns a p o)
+keyless : (a : Global) (p : Ptr) (o : Option (Inner.the_row).Denot) → Keyless (link_owns a p o)
 keyless a p None = tt
 keyless a p (Some x) = (lies Inner.the_row inner p x, heap.frees.frees a (raw (lone (Inner.the_row).mir)) p)
 

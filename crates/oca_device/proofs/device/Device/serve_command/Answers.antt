@@ -13,7 +13,7 @@ use Rattle.oca_tree.specs.declared.object.Object.{Object}
 use Rattle.oca_tree.specs.Execution.{execution}
 use Rattle.oca_session.specs.Accepted.{Entry, Judgement, Fresh, Duplicate, Reused, Old}
 use Rattle.oca_session.specs.Table.{session_of, with_sessions, changed, with_accepted, AgreesAt, Table}
-use Rattle.oca_device.specs.Notes.{Executed, accepted, run, is_known, last_moment}
+use Rattle.oca_device.specs.Notes.{Executed, accepted, run, is_noted, last_noted}
 use Rattle.oca_device.specs.States.{State, judged_in, after_command, reply_of}
 use Rattle.oca_device.specs.Answers.{response, answer_to_command, plus, count_of_command}
 use Rattle.oca_device.specs.Outboxes.{KeptPackets, first_packets}
@@ -56,7 +56,7 @@ agreed_in w s p tree old self e h known =
 
 -- a fresh command was executed, and retained with its reply
 fresh_served : {written now_written : List ℕ} (w : DeviceSizes) (s : State) (p : Peer) (command : CommandFields) (tree : List Object) (old : Table) (new_tree : List Object) (new : Table) (reply : Reply) →
-    IsIn w (device_with tree old written) s → is_known s.moment s.notes p ≡ true → last_moment (run p s.notes) ≡ s.moment →
+    IsIn w (device_with tree old written) s → is_noted s.moment s.notes p ≡ true → last_noted (run p s.notes) ≡ s.moment →
     new_tree ≡ (execution tree p command).tree → reply ≡ reply_of s.tree p command →
     new ≡ with_sessions old (changed p (with_accepted w.window (accepted (run p s.notes) ++ (record { command = command; reply = reply }) ∷ [])) old.sessions) →
     IsIn w (device_with new_tree new now_written) (after_command Fresh p command s)

@@ -4,7 +4,7 @@ use Rattle.std.specs.List.{AllByRecursion}
 use Rattle.oca_types.specs.Sizes.{DeviceSizes}
 use Rattle.oca_pdu.specs.Datagrams.{messages_left}
 use Rattle.oca_session.specs.Table.{session_of}
-use Rattle.oca_device.specs.Notes.{run, last_moment}
+use Rattle.oca_device.specs.Notes.{run, last_noted}
 use Rattle.oca_device.specs.States.{State}
 use Rattle.oca_device.specs.Devices.{IsIn}
 use Rattle.oca_device.specs.PrivateServing.{AreGrouped, IsShort, all_commands}
@@ -21,6 +21,6 @@ invariant-loop-message l =
       short : AllByRecursion IsShort rest;
       few : l.counts.executed + l.counts.kept + l.counts.old + l.counts.reused + all_commands rest ≤ 86;
       within : length l.self.written ≤ l.counts.executed + l.counts.kept + l.counts.old + l.counts.reused;
-      served : (w : DeviceSizes) (s : State) → IsIn w l.fn.self s → last_moment (run l.from s.notes) ≡ s.moment →
+      served : (w : DeviceSizes) (s : State) → IsIn w l.fn.self s → last_noted (run l.from s.notes) ≡ s.moment →
           IsHalfway w l.from l.self rest (messages_left l.fn.messages) s l.fn.outbox l.outbox l.counts;
     }

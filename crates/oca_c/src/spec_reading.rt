@@ -2,9 +2,10 @@
 ghost use Rattle.std.specs.Prelude.{◌≡◌, ◌≤◌, length, map, take, IfSome, IsSome};
 ghost use Rattle.std.specs.Option.{option_copied};
 ghost use Rattle.oca_tree.specs.Readers.{info_at};
-ghost use Rattle.oca_c.specs.CSpecs.{AreSettingWords, FitsBits, FitsSetting, FitsSpec, HasBits, IsNumberWords, IsSpecOf, TellsSpec, alone, says};
+ghost use Rattle.oca_c.specs.CSpecs.{AreSettingWords, FitsBits, FitsSetting, FitsSpec, HasBits, IsNumberWords};
+ghost use Rattle.oca_c.specs.CSpecs.{IsSpecOf, WritesSpec, alone, is_yes};
 ghost use Rattle.oca_c.specs.Numbers.{answer_number};
-ghost use Rattle.oca_c.specs.Told.{class_number};
+ghost use Rattle.oca_c.specs.Outputs.{class_number};
 
 use crate::answer::Answer;
 use crate::name::{MOST_POSITIONS, Name, names_with};
@@ -115,7 +116,8 @@ fn number_limits(
 /// The bytes that say which positions are enabled, where there are any and as many as positions.
 fn enableds_of(flags: Option<&[bool]>, positions: usize) -> Option<[u8; MOST_POSITIONS]>
     requires { positions ≤ 16 }
-    ensures bytes { IfSome result (λ bytes. IfSome (option_copied flags.entry) (λ them. (length them ≡ positions) × (map says (take positions bytes) ≡ them))) }
+    ensures bytes { IfSome result (λ bytes. IfSome (option_copied flags.entry) (λ them. (length them ≡ positions)
+        × (map is_yes (take positions bytes) ≡ them))) }
     ensures fits { IfSome (option_copied flags.entry) (λ them. length them ≡ positions) → IsSome result }
 {
     match flags {
@@ -125,9 +127,9 @@ fn enableds_of(flags: Option<&[bool]>, positions: usize) -> Option<[u8; MOST_POS
     }
 }
 
-/// What an object is told to be; nothing where it has no room in the struct.
+/// What an object is; nothing where it has no room in the struct.
 fn spec_of(tree: &Tree, object: &ObjectInfo) -> Option<SpecWords>
-    ensures told { IfSome result (λ w. IsSpecOf tree.now object.now w) }
+    ensures writes { IfSome result (λ w. IsSpecOf tree.now object.now w) }
     ensures fits { FitsSpec tree.now object.now.ono.0 → IsSome result }
 {
     let names = tree.position_names_of(object.ono);
@@ -160,15 +162,15 @@ fn spec_of(tree: &Tree, object: &ObjectInfo) -> Option<SpecWords>
 }
 
 /// Tells of the object at this index what it is; nothing is written where there is none or it has no room.
-pub fn tell_spec(tree: &Tree, index: usize, told: &mut SpecWords) -> Answer
-    ensures { TellsSpec tree.now (info_at tree.now index) told.old told.new (answer_number result) }
+pub fn read_spec(tree: &Tree, index: usize, out: &mut SpecWords) -> Answer
+    ensures { WritesSpec tree.now (info_at tree.now index) out.old out.new (answer_number result) }
 {
     let Some(object) = tree.object_at(index) else {
         return Answer::Nothing;
     };
     match spec_of(tree, &object) {
         Some(words) => {
-            *told = words;
+            *out = words;
             Answer::Done
         }
         None => Answer::TooSmall,

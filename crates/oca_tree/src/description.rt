@@ -1,12 +1,13 @@
-//! What is told of an object, so that it can be made again.
+//! What is read of an object so that the same object can be added again.
 ghost use Rattle.std.specs.Prelude.{◌≡◌};
 ghost use Rattle.std.specs.Option.{option_copied, option_map};
 ghost use Rattle.oca_tree.specs.Copies.{stored_in, stored_of, stored_at, flags_in, names_in, names_at, lockable_at};
+ghost use Rattle.oca_tree.specs.Readers.{class_at};
 
 use crate::object::{Object, Value};
 use crate::objects::Objects;
 use crate::start::Start;
-use oca_types::{Ono, Text};
+use oca_types::{Class, Ono, Text};
 
 /// The flags of its positions, of a switch.
 #[tactic(auto, unfolding(crate::specs::Copies::flags_in))]
@@ -58,6 +59,16 @@ pub(crate) fn position_names_in(objects: &Objects, ono: Ono) -> &[Text]
     match objects.find(ono) {
         Some(object) => names_in(&object.value),
         None => &[],
+    }
+}
+
+/// The class of the object with this number.
+pub(crate) fn class_in(objects: &Objects, ono: Ono) -> Option<Class>
+    ensures { result ≡ class_at objects.now.list ono.0 }
+{
+    match objects.find(ono) {
+        Some(object) => Some(object.class()),
+        None => None,
     }
 }
 

@@ -1,0 +1,89 @@
+//! What C calls to read the parameters of answers, and to encode a text. Nothing here has a handle.
+ghost use Rattle.std.specs.Prelude.{◌≡◌};
+ghost use Rattle.oca_types.specs.Reading.{text_at};
+ghost use Rattle.oca_model.specs.Answers.{names_in};
+ghost use Rattle.oca_model.specs.Members.{class_id_in, class_with, members_in};
+ghost use Rattle.oca_model.specs.Parameters.{whole};
+ghost use Rattle.oca_c.specs.AnswerCalls.{WritesClass, WritesEncoding, WritesMembers, WritesNames, WritesText};
+ghost use Rattle.oca_c.specs.AnswerCalls.{number_of_class};
+
+use crate::answer::Answer;
+use crate::answer_words::{ClassId, Members, Names, number_with};
+use crate::name::{Name, text_of};
+use crate::words::put_bytes;
+use oca_model::{read_class_fields, read_members, read_names, read_text};
+use oca_types::{Params, Text, put_text};
+
+/// Reads the text that is all of the parameters, as of an answer to GetRole, GetLabel or GetPositionName.
+#[unsafe(no_mangle)]
+pub extern "C" fn oca_text_read(params: &[u8], text: &mut Name) -> u32
+    ensures { WritesText (whole (text_at params.now)) text.old text.new result }
+{
+    let Some(found) = read_text(params) else {
+        return Answer::NoValue.number();
+    };
+    *text = Name::of(found.as_str());
+    Answer::Done.number()
+}
+
+/// Reads the names that an answer to GetPositionNames gives.
+#[unsafe(no_mangle)]
+pub extern "C" fn oca_names_read(params: &[u8], names: &mut Names) -> u32
+    ensures { WritesNames (names_in params.now) names.old names.new result }
+{
+    let Some(found) = read_names(params) else {
+        return Answer::NoValue.number();
+    };
+    *names = Names::of(found.as_slice());
+    Answer::Done.number()
+}
+
+/// Reads the numbers of the members that an answer to GetMembers gives.
+#[unsafe(no_mangle)]
+pub extern "C" fn oca_members_read(params: &[u8], members: &mut Members) -> u32
+    ensures { WritesMembers (members_in params.now) members.old members.new result }
+{
+    let Some(found) = read_members(params) else {
+        return Answer::NoValue.number();
+    };
+    *members = Members::of(found.as_slice());
+    Answer::Done.number()
+}
+
+/// Reads the identifier of the class that an answer to GetClassIdentification gives.
+#[unsafe(no_mangle)]
+pub extern "C" fn oca_class_read(params: &[u8], id: &mut ClassId) -> u32
+    ensures { WritesClass (class_id_in params.now) id.old id.new result }
+{
+    let Some(found) = read_class_fields(params) else {
+        return Answer::NoValue.number();
+    };
+    *id = ClassId::of(found.as_slice());
+    Answer::Done.number()
+}
+
+/// The number of the class whose identifier has these fields; 0 for one that is not of this profile.
+#[unsafe(no_mangle)]
+pub extern "C" fn oca_class_with(fields: &[u16]) -> u32
+    ensures { result ≡ number_of_class (class_with fields.now) }
+{
+    number_with(fields)
+}
+
+/// Encodes a text, as SetLabel has it for its one parameter: 2 to 66 bytes.
+#[unsafe(no_mangle)]
+pub extern "C" fn oca_text_put(text: &Name, out: &mut [u8], len: &mut usize) -> u32
+    ensures { WritesEncoding text.now out.old out.new len.new result }
+{
+    let Some(text) = text_of(text) else {
+        return Answer::NoValue.number();
+    };
+    let Some(text) = Text::new(text) else {
+        return Answer::NoValue.number();
+    };
+    let mut params = Params::new();
+    match put_text(&mut params, &text) {
+        Ok(()) => put_bytes(params.as_slice(), out, len).number(),
+        Err(_) => unreachable!(),
+    }
+}

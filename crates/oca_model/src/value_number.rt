@@ -1,0 +1,43 @@
+//! The value of a class that has a number.
+ghost use Rattle.oca_model.specs.ValueNumbers.{integer_in, state_in, IsValueWith};
+
+use crate::value::{MuteState, PolarityState, Value};
+use oca_types::Class;
+
+impl Value {
+    /// The value of a mute or a polarity whose state has this number; nothing where no state of the class has it.
+    pub fn of_state(class: Class, number: u8) -> Option<Value>
+        ensures { IsValueWith state_in class number result }
+    {
+        match class {
+            Class::Mute => match number {
+                1 => Some(Value::Mute(MuteState::Muted)),
+                2 => Some(Value::Mute(MuteState::Unmuted)),
+                _ => None,
+            },
+            Class::Polarity => match number {
+                1 => Some(Value::Polarity(PolarityState::NonInverted)),
+                2 => Some(Value::Polarity(PolarityState::Inverted)),
+                _ => None,
+            },
+            _ => None,
+        }
+    }
+
+    /// The value of an integer actuator that is this number; nothing where the number is none of the class's type.
+    pub fn of_integer(class: Class, number: i128) -> Option<Value>
+        ensures { IsValueWith integer_in class number result }
+    {
+        match class {
+            Class::Int8 => i8::try_from(number).ok().map(Value::Int8),
+            Class::Int16 => i16::try_from(number).ok().map(Value::Int16),
+            Class::Int32 => i32::try_from(number).ok().map(Value::Int32),
+            Class::Int64 => i64::try_from(number).ok().map(Value::Int64),
+            Class::Uint8 => u8::try_from(number).ok().map(Value::Uint8),
+            Class::Uint16 => u16::try_from(number).ok().map(Value::Uint16),
+            Class::Uint32 => u32::try_from(number).ok().map(Value::Uint32),
+            Class::Uint64 => u64::try_from(number).ok().map(Value::Uint64),
+            _ => None,
+        }
+    }
+}
