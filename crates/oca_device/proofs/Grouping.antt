@@ -5,7 +5,7 @@ use Rattle.std.proofs.lemmas.Bool.{le-leb, leb-true, lt-ltb, le-ltb, ltb-true, l
 use Rattle.std.proofs.lemmas.List.{append_assoc, take_more, take_all, take-append-le, length-take-le, length-map, length-append, map-append}
 use Rattle.std.proofs.lemmas.Grind.{take-set_at}
 use Rattle.oca_pdu.specs.declared.message.Form.{Form}
-use Rattle.oca_pdu.specs.Messages.{ResponseFields, Msg, Response, KeepAlive, Pdu, Commands, Responses, OneKeepAlive}
+use Rattle.oca_pdu.specs.Messages.{ResponseFields, Msg, Command, Response, KeepAlive, Pdu, Commands, Responses, OneKeepAlive}
 use Rattle.oca_pdu.specs.Encoding.{pdu_encoding}
 use Rattle.arrayvec.specs.ArrayVec.{ArrayVec}
 use Rattle.oca_pdu.specs.Writing.{IsResponses, responses_size}
