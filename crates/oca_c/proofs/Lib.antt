@@ -1,4 +1,3 @@
 mod Behind
 mod DeviceAsBox
 mod LinkAsBox
-pub mod SpecsAgain
