@@ -1,3 +1,4 @@
 mod Behind
 mod DeviceAsBox
 mod LinkAsBox
+pub mod SpecsAgain

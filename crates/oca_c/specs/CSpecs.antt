@@ -13,10 +13,12 @@ use Rattle.oca_tree.specs.declared.start.StartFault.{StartFault}
 use Rattle.oca_tree.specs.declared.tree.ObjectInfo.{ObjectInfo}
 use Rattle.oca_tree.specs.declared.tree.Setting.{Setting}
 use Rattle.oca_tree.specs.declared.tree.Setting.TheVariants as settings
-use Rattle.oca_tree.specs.Objects.{Store}
-use Rattle.oca_tree.specs.Starts.{AddsWith, BeginsWith, flags_of}
-use Rattle.oca_tree.specs.Copies.{Stored, stored_at, names_at, lockable_at}
-use Rattle.oca_tree.specs.Readers.{setting_at}
+use Rattle.oca_tree.specs.Objects.{Store, object_of}
+use Rattle.oca_tree.specs.Building.{object_of_spec}
+use Rattle.oca_tree.specs.Trees.{IsSoundValue}
+use Rattle.oca_tree.specs.Starts.{AddsWith, BeginsWith, flags_of, restored}
+use Rattle.oca_tree.specs.Copies.{Stored, stored_at, names_at, lockable_at, unlocked}
+use Rattle.oca_tree.specs.Readers.{info_of, setting_at}
 use Rattle.oca_model.specs.declared.value.Value.{Value}
 use Rattle.oca_model.specs.declared.value.Value.TheVariants as values
 use Rattle.oca_model.specs.declared.reading.Ranged.{Ranged}
@@ -304,3 +306,13 @@ abbrev pub WritesSpec : List Object → Option ObjectInfo → SpecWords → Spec
 WritesSpec tree None old new number = (number ≡ 13) × (new ≡ old)
 WritesSpec tree (Some info) old new number =
     ((number ≡ 0) × IsSpecOf tree info new) ⊎ ((number ≡ 14) × (new ≡ old) × (FitsSpec tree info.ono.0 → ⊥))
+
+-- ---- an addition of what was written
+
+-- AN ADDITION OF WHAT WAS WRITTEN of an object of a tree makes the same object again, but for its lock: so say the
+-- Spec and the Start that the struct gives, into the same container and under the same number.
+abbrev pub WrittenMakesAgain : Type 0
+WrittenMakesAgain = (tree : List Object) (o : Object) (w : SpecWords) (spec : Spec) (start : Start) →
+    object_of tree o.ono.0 ≡ Some o → IsSoundValue o.value → IsSpecOf tree (info_of o) w →
+    GivesSpec w spec → GivesStart w spec.kind start →
+    restored start (object_of_spec o.container.0 o.ono.0 spec) ≡ unlocked o

@@ -49,7 +49,7 @@ IsWords value words = (words.class_number ≡ (words_of value).class_number) × 
 
 -- These are the words of that value; or of none.
 abbrev pub AreWordsOf : ValueWords → Option Value → Type 0
-AreWordsOf words (Some value) = IsWords value words
+AreWordsOf words (Some value) = IsOfItsType value × IsWords value words
 AreWordsOf words None = (value : Value) → IsOfItsType value → IsWords value words → ⊥
 
 -- ---- the words of a reading

@@ -14,6 +14,7 @@ mod device_handle;
 mod device_slot;
 mod front_calls;
 mod front_values;
+mod laws;
 mod limits;
 mod link;
 mod link_calls;

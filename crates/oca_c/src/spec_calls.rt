@@ -7,11 +7,12 @@ ghost use Rattle.oca_tree.specs.Readers.{info_at};
 ghost use Rattle.oca_device.specs.States.{state_after};
 ghost use Rattle.oca_device.specs.Events.{Event};
 ghost use Rattle.oca_c.specs.Calls.{HandleBuilds, HandleRuns, RefusesBuilding, RefusesClosed, RefusesRunning};
-ghost use Rattle.oca_c.specs.CSpecs.{HandleAddsSpec, OpensOver, OpensWith, WritesSpec};
+ghost use Rattle.oca_c.specs.CSpecs.{HandleAddsSpec, OpensOver, OpensWith, WritesSpec, WrittenMakesAgain};
 
 use crate::answer::Answer;
 use crate::device::DeviceBehind;
 use crate::device_handle::DeviceHandle;
+use crate::laws::law_of_specs;
 use crate::name::text_of;
 use crate::spec_adding::start_with;
 use crate::spec_words::{SPEC_SIZE, SpecWords};
@@ -78,7 +79,9 @@ pub extern "C" fn oca_device_add(
     ensures started { RefusesRunning handle.old.slot.inner handle.new.slot.inner result }
     ensures adds { (B : Store) → HandleBuilds handle.old.slot.inner B →
         HandleAddsSpec result handle.new.slot.inner B container ono spec.now }
+    ensures again { WrittenMakesAgain }
 {
+    law_of_specs();
     let Some(mut behind) = handle.take(alloc) else {
         return Answer::Closed.number();
     };
@@ -100,7 +103,9 @@ pub extern "C" fn oca_device_spec(
     ensures kept { handle.new.slot.inner ≡ handle.old.slot.inner }
     ensures writes { (w : DeviceSizes) (T : List Object) (E : List Event) → HandleRuns w handle.old.slot.inner T E →
         WritesSpec (state_after w T E).tree (info_at (state_after w T E).tree index) spec.old spec.new result }
+    ensures again { WrittenMakesAgain }
 {
+    law_of_specs();
     let Some(behind) = handle.take(alloc) else {
         return Answer::Closed.number();
     };

@@ -72,8 +72,8 @@ full_between (x ∷ groups) h (b ∷ before) after p q e = full_between groups h
 
 -- ---- one more answer
 
-abbrev said_by : List Pdu → List Msg
-said_by groups = flat_map messages_of groups
+abbrev messages_of_groups : List Pdu → List Msg
+messages_of_groups groups = flat_map messages_of groups
 
 -- groups, apart from what they hold
 abbrev AreSound : List Pdu → Type 0
@@ -81,7 +81,7 @@ AreSound groups = AllByRecursion IsGroup groups × AreFull groups
 
 pub record Grown (groups before : List Pdu) (m : Msg) : Type 0 where
   pub sound : AreSound groups
-  pub said : said_by groups ≡ said_by before ++ m ∷ []
+  pub adds : messages_of_groups groups ≡ messages_of_groups before ++ m ∷ []
 
 below : (n : ℕ) → nat_le n 1472 ≡ true → n ≤ 1472
 below n h = grind (arith, nat_tests)
@@ -99,11 +99,11 @@ last_response rs r g few = by (nat_le (length (pdu_encoding (Responses (rs ++ r 
         Grown (cond b (Responses (rs ++ r ∷ []) ∷ []) (Responses rs ∷ Responses (r ∷ []) ∷ [])) (Responses rs ∷ []) (Response r)
     by true e = record {
       sound = (((some_more rs r, below (length (pdu_encoding (Responses (rs ++ r ∷ [])))) e), tt), (tt, tt));
-      said = append-nil (map (λ x. Response x) (rs ++ r ∷ [])) ∙ map-append (λ x. Response x) rs (r ∷ []) ∙ ap (λ (ms : List Msg). ms ++ Response r ∷ []) (sym (append-nil (map (λ x. Response x) rs)));
+      adds = append-nil (map (λ x. Response x) (rs ++ r ∷ [])) ∙ map-append (λ x. Response x) rs (r ∷ []) ∙ ap (λ (ms : List Msg). ms ++ Response r ∷ []) (sym (append-nil (map (λ x. Response x) rs)));
     }
     by false e = record {
       sound = ((g, ((omega arith, omega (arith, size_one r)), tt)), (above (length (pdu_encoding (Responses (rs ++ r ∷ [])))) e, (tt, tt)));
-      said = ap (λ (ms : List Msg). ms ++ Response r ∷ []) (sym (append-nil (map (λ x. Response x) rs)));
+      adds = ap (λ (ms : List Msg). ms ++ Response r ∷ []) (sym (append-nil (map (λ x. Response x) rs)));
     }
 
 one_group : (m : Msg) → IsAnswerMessage m → IsGroup (pdu_of m)
@@ -113,10 +113,10 @@ one_group (KeepAlive form) a = tt
 
 last_grown : (p : Pdu) (m : Msg) → IsGroup p → IsAnswerMessage m → Grown (last_with p m) (p ∷ []) m
 last_grown (Responses rs) (Response r) g a = last_response rs r g a
-last_grown (Responses rs) (KeepAlive form) g a = record { sound = ((g, (tt, tt)), (tt, (tt, tt))); said = ap (λ (ms : List Msg). ms ++ KeepAlive form ∷ []) (sym (append-nil (map (λ x. Response x) rs))) }
+last_grown (Responses rs) (KeepAlive form) g a = record { sound = ((g, (tt, tt)), (tt, (tt, tt))); adds = ap (λ (ms : List Msg). ms ++ KeepAlive form ∷ []) (sym (append-nil (map (λ x. Response x) rs))) }
 last_grown (Responses rs) (Command respond c) g a = absurd a
-last_grown (OneKeepAlive form) (Response r) g a = record { sound = ((tt, (one_group (Response r) a, tt)), (tt, (tt, tt))); said = refl }
-last_grown (OneKeepAlive form) (KeepAlive f) g a = record { sound = ((tt, (tt, tt)), (tt, (tt, tt))); said = refl }
+last_grown (OneKeepAlive form) (Response r) g a = record { sound = ((tt, (one_group (Response r) a, tt)), (tt, (tt, tt))); adds = refl }
+last_grown (OneKeepAlive form) (KeepAlive f) g a = record { sound = ((tt, (tt, tt)), (tt, (tt, tt))); adds = refl }
 last_grown (OneKeepAlive form) (Command respond c) g a = absurd a
 last_grown (Commands respond cs) m g a = absurd g
 
@@ -145,7 +145,7 @@ from_grown p (q ∷ groups) m h a =
     let rest = from_grown q groups m (h.0.1, h.1.1) a in
     record {
       sound = ((h.0.0, rest.sound.0), (still_first p q groups m h.0.1.0 h.1.0, rest.sound.1));
-      said = ap (λ (ms : List Msg). messages_of p ++ ms) rest.said ∙ sym (append_assoc (messages_of p) (said_by (q ∷ groups)) (m ∷ []));
+      adds = ap (λ (ms : List Msg). messages_of p ++ ms) rest.adds ∙ sym (append_assoc (messages_of p) (messages_of_groups (q ∷ groups)) (m ∷ []));
     }
 
 one_message : (m : Msg) → messages_of (pdu_of m) ≡ m ∷ []
@@ -154,24 +154,24 @@ one_message (Response r) = refl
 one_message (KeepAlive form) = refl
 
 answer_grown : (groups : List Pdu) (m : Msg) → AreSound groups → IsAnswerMessage m → Grown (with_answer groups m) groups m
-answer_grown [] m h a = record { sound = ((one_group m a, tt), (tt, tt)); said = append-nil (messages_of (pdu_of m)) ∙ one_message m }
+answer_grown [] m h a = record { sound = ((one_group m a, tt), (tt, tt)); adds = append-nil (messages_of (pdu_of m)) ∙ one_message m }
 answer_grown (p ∷ groups) m h a = from_grown p groups m h a
 
 pub record Built (groups before : List Pdu) (ms : List Msg) : Type 0 where
   pub sound : AreSound groups
-  pub said : said_by groups ≡ said_by before ++ ms
+  pub adds : messages_of_groups groups ≡ messages_of_groups before ++ ms
 
 built : (groups : List Pdu) (ms : List Msg) → AreSound groups → AllByRecursion IsAnswerMessage ms → Built (with_answers groups ms) groups ms
-built groups [] h a = record { sound = h; said = sym (append-nil (said_by groups)) }
+built groups [] h a = record { sound = h; adds = sym (append-nil (messages_of_groups groups)) }
 built groups (m ∷ ms) h a =
     let one = answer_grown groups m h a.0 in
     let rest = built (with_answer groups m) ms one.sound a.1 in
-    record { sound = rest.sound; said = rest.said ∙ ap (λ (xs : List Msg). xs ++ ms) one.said ∙ append_assoc (said_by groups) (m ∷ []) ms }
+    record { sound = rest.sound; adds = rest.adds ∙ ap (λ (xs : List Msg). xs ++ ms) one.adds ∙ append_assoc (messages_of_groups groups) (m ∷ []) ms }
 
 pub are_groups : (answers : List Msg) → AllByRecursion IsAnswerMessage answers → AreGroups answers (groups_of answers)
 are_groups answers a =
     let all = built [] answers (tt, tt) a in
-    record { in_order = all.said; each = all.sound.0; full = full_between (groups_of answers) all.sound.1 }
+    record { in_order = all.adds; each = all.sound.0; full = full_between (groups_of answers) all.sound.1 }
 
 -- ---- there are no others
 
@@ -219,13 +219,13 @@ parts (r ∷ rs) (s ∷ ss) X Y e =
 
 -- a group that could have taken the next response
 not_full : (rs ss : List ResponseFields) (groups : List Pdu) (r : ResponseFields) (more : List ResponseFields) (Z : List Msg) →
-    AllByRecursion IsGroup groups → FullFirst (Responses rs) groups → IsGroup (Responses ss) → ss ≡ rs ++ r ∷ more → said_by groups ≡ Response r ∷ Z → ⊥
+    AllByRecursion IsGroup groups → FullFirst (Responses rs) groups → IsGroup (Responses ss) → ss ≡ rs ++ r ∷ more → messages_of_groups groups ≡ Response r ∷ Z → ⊥
 not_full rs ss [] r more Z all full g e f = cc
 not_full rs ss (OneKeepAlive form ∷ groups) r more Z all full g e f = cc
 not_full rs ss (Commands respond cs ∷ groups) r more Z all full g e f = all.0
 not_full rs ss (Responses [] ∷ groups) r more Z all full g e f = omega (arith, all.0.0)
 not_full rs ss (Responses (x ∷ xs) ∷ groups) r more Z all full g e f =
-    contradiction (same_response x r (messages xs ++ said_by groups) Z f)
+    contradiction (same_response x r (messages xs ++ messages_of_groups groups) Z f)
   where
     longer_fits : size (rs ++ r ∷ []) ≤ size ss
     longer_fits = subst (λ (ys : List ResponseFields). size (rs ++ r ∷ []) ≤ size ys) (append_assoc rs (r ∷ []) more ∙ sym e) (size_more (rs ++ r ∷ []) more)
@@ -233,31 +233,31 @@ not_full rs ss (Responses (x ∷ xs) ∷ groups) r more Z all full g e f =
     contradiction : x ≡ r → ⊥
     contradiction q = omega (arith, longer_fits, g.1, subst (λ (y : ResponseFields). 1472 < length (pdu_encoding (Responses (rs ++ y ∷ [])))) q full)
 
-nothing_said : (p : Pdu) (groups : List Pdu) → IsGroup p → [] ≡ said_by (p ∷ groups) → ⊥
-nothing_said (Responses []) groups g e = omega (arith, g.0)
-nothing_said (Responses (r ∷ rs)) groups g e = cc
-nothing_said (OneKeepAlive form) groups g e = cc
-nothing_said (Commands respond cs) groups g e = g
+no_message : (p : Pdu) (groups : List Pdu) → IsGroup p → [] ≡ messages_of_groups (p ∷ groups) → ⊥
+no_message (Responses []) groups g e = omega (arith, g.0)
+no_message (Responses (r ∷ rs)) groups g e = cc
+no_message (OneKeepAlive form) groups g e = cc
+no_message (Commands respond cs) groups g e = g
 
 alive_or : Pdu → Msg → Pdu
 alive_or d (KeepAlive form) = OneKeepAlive form
 alive_or d (Response r) = d
 alive_or d (Command respond c) = d
 
-pub unique : (ps qs : List Pdu) → AreSound ps → AreSound qs → said_by ps ≡ said_by qs → ps ≡ qs
+pub unique : (ps qs : List Pdu) → AreSound ps → AreSound qs → messages_of_groups ps ≡ messages_of_groups qs → ps ≡ qs
 unfolding alive_or head_or
 unique [] [] h k e = refl
-unique [] (q ∷ qs) h k e = absurd (nothing_said q qs k.0.0 e)
-unique (p ∷ ps) [] h k e = absurd (nothing_said p ps h.0.0 (sym e))
+unique [] (q ∷ qs) h k e = absurd (no_message q qs k.0.0 e)
+unique (p ∷ ps) [] h k e = absurd (no_message p ps h.0.0 (sym e))
 unique (OneKeepAlive f ∷ ps) (OneKeepAlive g ∷ qs) h k e =
     ap (λ (x : Pdu). x ∷ ps) (ap (λ (l : List Msg). alive_or (OneKeepAlive f) (head_or (KeepAlive f) l)) e)
-    ∙ ap (λ (x : List Pdu). OneKeepAlive g ∷ x) (unique ps qs (h.0.1, h.1.1) (k.0.1, k.1.1) (same_tail (KeepAlive f) (KeepAlive g) (said_by ps) (said_by qs) e))
+    ∙ ap (λ (x : List Pdu). OneKeepAlive g ∷ x) (unique ps qs (h.0.1, h.1.1) (k.0.1, k.1.1) (same_tail (KeepAlive f) (KeepAlive g) (messages_of_groups ps) (messages_of_groups qs) e))
 unique (OneKeepAlive f ∷ ps) (Responses [] ∷ qs) h k e = absurd (omega (arith, k.0.0.0))
 unique (OneKeepAlive f ∷ ps) (Responses (r ∷ rs) ∷ qs) h k e = absurd cc
 unique (Responses [] ∷ ps) (OneKeepAlive g ∷ qs) h k e = absurd (omega (arith, h.0.0.0))
 unique (Responses (r ∷ rs) ∷ ps) (OneKeepAlive g ∷ qs) h k e = absurd cc
 unique (Responses rs ∷ ps) (Responses ss ∷ qs) h k e =
-    elim (parts rs ss (said_by ps) (said_by qs) e) [
+    elim (parts rs ss (messages_of_groups ps) (messages_of_groups qs) e) [
       | same f g ↦ ap (λ (x : List ResponseFields). Responses x ∷ ps) f ∙ ap (λ (x : List Pdu). Responses ss ∷ x) (unique ps qs (h.0.1, h.1.1) (k.0.1, k.1.1) g)
       | longer r more Z f g ↦ absurd (not_full rs ss ps r more Z h.0.1 h.1.0 k.0.0 f g)
       | shorter r more Z f g ↦ absurd (not_full ss rs qs r more Z k.0.1 k.1.0 h.0.0 f g)

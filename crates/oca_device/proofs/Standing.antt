@@ -174,7 +174,7 @@ module _ (w : DeviceSizes) (tree : List Object) (p : Peer) (ms : List Msg) (s : 
   pub counts_let_in : counts_of_messages w p ms (let_in p ms s) ≡ all_counted w A ms
   counts_let_in = messages_counted w p ms (let_in p ms s) (let_in_known p ms s) executed_distinct ∙ ap (λ (x : List CommandFields). all_counted w x ms) same_executed
 
--- what a datagram of messages makes of a state, and what is answered and said of it
+-- what a datagram of messages makes of a state, and what is answered, and the verdict
 abbrev saying_changes : DeviceSizes → Peer → List Msg → ℕ → List Arrival → List Change → List Change
 saying_changes w p ms t D C = C ++ map (Executes p) (accepted_of w (accepted_by w t p D) (cond (has_room w t p D) ms []))
 
@@ -284,8 +284,8 @@ written_same exact w tree (datagram {E} {H} p bytes now b ps is h) =
 
 -- ---- one thing alone happened
 
-same_said : (p : Peer) (now : ℕ) (xs ys : List Msg) (H K : List Happening) → xs ≡ ys → H ≡ K → Says p xs ∷ Passes now ∷ H ≡ Says p ys ∷ Passes now ∷ K
-same_said p now xs ys H K e f = ap (λ (x : List Msg). Says p x ∷ Passes now ∷ H) e ∙ ap (λ (x : List Happening). Says p ys ∷ Passes now ∷ x) f
+same_happenings : (p : Peer) (now : ℕ) (xs ys : List Msg) (H K : List Happening) → xs ≡ ys → H ≡ K → Says p xs ∷ Passes now ∷ H ≡ Says p ys ∷ Passes now ∷ K
+same_happenings p now xs ys H K e f = ap (λ (x : List Msg). Says p x ∷ Passes now ∷ H) e ∙ ap (λ (x : List Happening). Says p ys ∷ Passes now ∷ x) f
 
 pub happened_once : OneListOfMessages → {E : List Event} {H K : List Happening} → Happened E H → Happened E K → H ≡ K
 happened_once one nothing nothing = refl
@@ -295,4 +295,4 @@ happened_once one (malformed p bytes now b is_other h) (malformed q xs t c is_ot
 happened_once one (malformed p bytes now b is_other h) (datagram q xs t c ps is k) = absurd (is_other ps is)
 happened_once one (datagram p bytes now b ps is h) (malformed q xs t c is_other k) = absurd (is_other ps is)
 happened_once one (datagram {H = H} p bytes now b ps is h) (datagram {H = K} q xs t c qs is' k) =
-    same_said p now (flat_map messages_of ps) (flat_map messages_of qs) H K (one bytes ps qs is is') (happened_once one h k)
+    same_happenings p now (flat_map messages_of ps) (flat_map messages_of qs) H K (one bytes ps qs is is') (happened_once one h k)

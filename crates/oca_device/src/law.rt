@@ -4,7 +4,7 @@ ghost use Rattle.oca_device.specs.LawByEvents.{EveryDeviceStandsByEvents, Someth
 
 use oca_pdu::{law_one_list_of_messages, law_reading};
 
-/// Over every list of datagrams, clock readings and changes at the front, what a device is and answers is said by these
+/// Over every list of datagrams, clock readings and local changes, what a device is and answers is given by these
 /// alone. A well-formed datagram is admitted where its peer is known, which was last heard at most 120,000 ms ago, or
 /// fewer peers are than were chosen. The objects are those after executing each command that a session accepts once, in
 /// order of arrival, setting what the front set between them, and releasing the locks of each peer that is silent for

@@ -27,7 +27,7 @@ use Rattle.oca_control.specs.declared.fault.ControlFault.{ControlFault}
 use Rattle.oca_control.specs.declared.fault.ControlFault.TheVariants as faults
 use Rattle.oca_control.specs.Links.{LinkState, Request, command_under, submission_under, submission, handle_after, after_submission, submitted, Decision, GivesCommand, GivesKeepAlive, GivesNothing, IsLost, decision_among, decision, after_due, gone_on, hears_content, received, taken, present}
 use Rattle.oca_pair.specs.Networks.{SentDatagram, SubmittedCommand, TakenAnswer, device_address}
-use Rattle.oca_pair.specs.Steps.{sendings, submitted_by, given_by, content_of, taken_by}
+use Rattle.oca_pair.specs.Steps.{sendings_in, submitted_by, given_by, content_read, taken_by}
 use Rattle.oca_pair.specs.Premises.{RequestFits}
 use Rattle.oca_pair.specs.Laws.{Execution, answer_of, handles_of, AreConsecutive}
 use Rattle.oca_pair.proofs.Core.{each_map, each_append}
@@ -59,7 +59,7 @@ executed_now p at objects c r ns = by_same (same_peer p p) (same_self p)
 
 -- what is sent back for these answers
 back_of : (law : WrittenIsReadBack) (p : Peer) (g : Past) (r : ResponseFields) → ResponseFits r → length r.params ≤ 1452 → IsTrueAnswer p r.handle (answer_in r) g →
-    AllByRecursion (λ (d : SentDatagram). d.peer ≡ p → IsBack p g d.bytes) (sendings p (packets_of (Response r ∷ [])))
+    AllByRecursion (λ (d : SentDatagram). d.peer ≡ p → IsBack p g d.bytes) (sendings_in p (packets_of (Response r ∷ [])))
 back_of law p g r fits short t = ((λ same. inl (r, t, read_response law r fits short)), tt)
 
 -- what the state and the answers are, and what follows from that
@@ -67,11 +67,11 @@ settled : (p : Peer) (next : Option ℕ) (us : List Untaken) (g : Past) (out bac
     (s : State) (answers : List Msg) → state_of (and_then (Datagram p bytes now) g) ≡ s →
     answers_to_reading g.sizes p (read_datagram bytes) (looked_at now g) ≡ answers →
     AreOwn p (and_then (Datagram p bytes now) g) s.notes →
-    AllByRecursion (λ (d : SentDatagram). d.peer ≡ p → IsBack p (and_then (Datagram p bytes now) g) d.bytes) (sendings p (packets_of answers)) →
+    AllByRecursion (λ (d : SentDatagram). d.peer ≡ p → IsBack p (and_then (Datagram p bytes now) g) d.bytes) (sendings_in p (packets_of answers)) →
     Fair p next us g out back handed →
-    Fair p next us (and_then (Datagram p bytes now) g) out (back ++ sendings p (packets g.sizes g.tree g.events (Datagram p bytes now))) handed
+    Fair p next us (and_then (Datagram p bytes now) g) out (back ++ sendings_in p (packets g.sizes g.tree g.events (Datagram p bytes now))) handed
 settled p next us g out back handed bytes now s answers state_is answers_are own new f =
-    fair_then p next us g out back handed (Datagram p bytes now) (sendings p (packets g.sizes g.tree g.events (Datagram p bytes now)))
+    fair_then p next us g out back handed (Datagram p bytes now) (sendings_in p (packets g.sizes g.tree g.events (Datagram p bytes now)))
     (owned ((state_of (and_then (Datagram p bytes now) g)).notes) (ap (λ (x : State). x.notes) state_is) own)
     (sent (packets g.sizes g.tree g.events (Datagram p bytes now)) (ap packets_of answers_are) new) f
   where
@@ -79,8 +79,8 @@ settled p next us g out back handed bytes now s answers state_is answers_are own
     owned ns e a = rw e a
 
     sent : (ps : List (List ℕ)) → ps ≡ packets_of answers →
-        AllByRecursion (λ (d : SentDatagram). d.peer ≡ p → IsBack p (and_then (Datagram p bytes now) g) d.bytes) (sendings p (packets_of answers)) →
-        AllByRecursion (λ (d : SentDatagram). d.peer ≡ p → IsBack p (and_then (Datagram p bytes now) g) d.bytes) (sendings p ps)
+        AllByRecursion (λ (d : SentDatagram). d.peer ≡ p → IsBack p (and_then (Datagram p bytes now) g) d.bytes) (sendings_in p (packets_of answers)) →
+        AllByRecursion (λ (d : SentDatagram). d.peer ≡ p → IsBack p (and_then (Datagram p bytes now) g) d.bytes) (sendings_in p ps)
     sent ps e a = rw e a
 
 -- the state after a message that was read, and the answers to it
@@ -99,7 +99,7 @@ answers_read w p m bytes now g room read admitted =
 pub fair_command : (law : WrittenIsReadBack) (p : Peer) (next : Option ℕ) (us : List Untaken) (g : Past) (out back : List SentDatagram) (handed : List TakenAnswer) (c : CommandFields) (now : ℕ) →
     IsSendable c → IsSubmitted p c g.submitted → Fair p next us g out back handed →
     let e : Event = Datagram p (pdu_encoding (Commands true (c ∷ []))) now in
-    Fair p next us (and_then e g) out (back ++ sendings p (packets g.sizes g.tree g.events e)) handed
+    Fair p next us (and_then e g) out (back ++ sendings_in p (packets g.sizes g.tree g.events e)) handed
 fair_command law p next us g out back handed c now sendable sub f = by_room (admits g.sizes (looked_at now g) p) refl
   where
     bytes : List ℕ
@@ -131,7 +131,7 @@ fair_command law p next us g out back handed c now sendable sub f = by_room (adm
     honest = record { came = record { later = []; before = g.events; now = now; events = refl; objects = refl }; submitted = sub; reply = refl }
 
     by_judgement : (j : Judgement) → judged_in g.sizes s2 p c ≡ j → admits g.sizes (looked_at now g) p ≡ true →
-        Fair p next us g' out (back ++ sendings p (packets g.sizes g.tree g.events e)) handed
+        Fair p next us g' out (back ++ sendings_in p (packets g.sizes g.tree g.events e)) handed
     by_judgement Fresh q room =
         let state_is : state_of g' ≡ after_command Fresh p c s2 = after_read g.sizes p m bytes now g true read room ∙ ap (λ j. after_command j p c s2) q in
         let answers_are : answers_to_reading g.sizes p (read_datagram bytes) (looked_at now g) ≡ response c.handle x.reply ∷ [] =
@@ -172,7 +172,7 @@ fair_command law p next us g out back handed c now sendable sub f = by_room (adm
         settled p next us g out back handed bytes now s2 [] (after_read g.sizes p m bytes now g true read room ∙ ap (λ j. after_command j p c s2) q)
         (answers_read g.sizes p m bytes now g true read room ∙ ap (λ j. answer_to_command j p c s2 ++ []) q) own2 tt f
 
-    by_room : (b : Bool) → admits g.sizes (looked_at now g) p ≡ b → Fair p next us g' out (back ++ sendings p (packets g.sizes g.tree g.events e)) handed
+    by_room : (b : Bool) → admits g.sizes (looked_at now g) p ≡ b → Fair p next us g' out (back ++ sendings_in p (packets g.sizes g.tree g.events e)) handed
     by_room true room = by_judgement (judged_in g.sizes s2 p c) refl room
     by_room false room =
         settled p next us g out back handed bytes now (looked_at now g) [] (after_read g.sizes p m bytes now g false read room)
@@ -181,7 +181,7 @@ fair_command law p next us g out back handed c now sendable sub f = by_room (adm
 pub fair_keep_alive : (law : WrittenIsReadBack) (p : Peer) (next : Option ℕ) (us : List Untaken) (g : Past) (out back : List SentDatagram) (handed : List TakenAnswer) (now : ℕ) →
     Fair p next us g out back handed →
     let e : Event = Datagram p (pdu_encoding (OneKeepAlive (Seconds 5))) now in
-    Fair p next us (and_then e g) out (back ++ sendings p (packets g.sizes g.tree g.events e)) handed
+    Fair p next us (and_then e g) out (back ++ sendings_in p (packets g.sizes g.tree g.events e)) handed
 fair_keep_alive law p next us g out back handed now f = by_room (admits g.sizes (looked_at now g) p) refl
   where
     bytes : List ℕ
@@ -196,7 +196,7 @@ fair_keep_alive law p next us g out back handed now f = by_room (admits g.sizes 
     read : read_datagram bytes ≡ Ok (m ∷ [])
     read = read_keep_alive law
 
-    by_room : (b : Bool) → admits g.sizes (looked_at now g) p ≡ b → Fair p next us (and_then e g) out (back ++ sendings p (packets g.sizes g.tree g.events e)) handed
+    by_room : (b : Bool) → admits g.sizes (looked_at now g) p ≡ b → Fair p next us (and_then e g) out (back ++ sendings_in p (packets g.sizes g.tree g.events e)) handed
     by_room true room =
         settled p next us g out back handed bytes now (noted p (Heartbeat (time_of (Seconds 5))) (let_in p m now g)) (m ∷ []) (after_read g.sizes p m bytes now g true read room)
         (answers_read g.sizes p m bytes now g true read room) ((λ same. tt), ((λ same. tt), owns_then p g e (state_of g).notes f.own)) ((λ same. inr read), tt) f
@@ -381,10 +381,10 @@ submitted_due p g t (x ∷ xs) a u e = by_test (submitted_due p g t xs a.1 u) (i
     by_test rest false q = rest q
 
 abbrev Outs : Peer → Past → Decision → Type 0
-Outs p g d = AllByRecursion (λ (x : SentDatagram). x.peer ≡ p → IsOut p g.submitted x.bytes) (sendings p (given_by d))
+Outs p g d = AllByRecursion (λ (x : SentDatagram). x.peer ≡ p → IsOut p g.submitted x.bytes) (sendings_in p (given_by d))
 
 given_out_is : (p : Peer) (now : ℕ) (l : LinkState) (g : Past) → AllByRecursion (IsFair p g) l.untaken →
-    AllByRecursion (λ (d : SentDatagram). d.peer ≡ p → IsOut p g.submitted d.bytes) (sendings p (given_by (decision now l)))
+    AllByRecursion (λ (d : SentDatagram). d.peer ≡ p → IsOut p g.submitted d.bytes) (sendings_in p (given_by (decision now l)))
 given_out_is p now l g a = by_lost l.lost
   where
     by_many : (u : Untaken) → IsSubmitted p u.command g.submitted → (b : Bool) → Outs p g (cond b (GivesCommand u.command) IsLost)
@@ -404,27 +404,27 @@ given_out_is p now l g a = by_lost l.lost
     by_lost false = by_first (first_due (present now l) l.untaken) refl
 
 pub fair_gone_on : (p : Peer) (now : ℕ) (l : LinkState) (g : Past) (out back : List SentDatagram) (handed : List TakenAnswer) → Fair p l.next l.untaken g out back handed →
-    Fair p (gone_on now l).next (gone_on now l).untaken g (out ++ sendings p (given_by (decision now l))) back handed
+    Fair p (gone_on now l).next (gone_on now l).untaken g (out ++ sendings_in p (given_by (decision now l))) back handed
 fair_gone_on p now l g out back handed f = by_decision (decision now l) (given_out_is p now l g f.untaken)
   where
     with_untaken : (us : List Untaken) (more : List SentDatagram) → AllByRecursion (IsFair p g) us → AllByRecursion (λ (d : SentDatagram). d.peer ≡ p → IsOut p g.submitted d.bytes) more →
         Fair p l.next us g (out ++ more) back handed
     with_untaken us more a new = record { fits = f.fits; own = f.own; outgoing = each_append _ out more f.outgoing new; incoming = f.incoming; untaken = a; was_taken = f.was_taken; sendable = f.sendable; unique = f.unique; rising = f.rising }
 
-    by_decision : (d : Decision) → AllByRecursion (λ (x : SentDatagram). x.peer ≡ p → IsOut p g.submitted x.bytes) (sendings p (given_by d)) →
-        Fair p (after_due d (present now l) l).next (after_due d (present now l) l).untaken g (out ++ sendings p (given_by d)) back handed
-    by_decision (GivesCommand c) new = with_untaken (map (given_out (present now l) c.handle) l.untaken) (sendings p (given_by (GivesCommand c))) (fair_given_out p g (present now l) c.handle l.untaken f.untaken) new
-    by_decision GivesKeepAlive new = with_untaken l.untaken (sendings p (given_by GivesKeepAlive)) f.untaken new
+    by_decision : (d : Decision) → AllByRecursion (λ (x : SentDatagram). x.peer ≡ p → IsOut p g.submitted x.bytes) (sendings_in p (given_by d)) →
+        Fair p (after_due d (present now l) l).next (after_due d (present now l) l).untaken g (out ++ sendings_in p (given_by d)) back handed
+    by_decision (GivesCommand c) new = with_untaken (map (given_out (present now l) c.handle) l.untaken) (sendings_in p (given_by (GivesCommand c))) (fair_given_out p g (present now l) c.handle l.untaken f.untaken) new
+    by_decision GivesKeepAlive new = with_untaken l.untaken (sendings_in p (given_by GivesKeepAlive)) f.untaken new
     by_decision GivesNothing new = with_untaken l.untaken [] f.untaken new
     by_decision IsLost new = with_untaken l.untaken [] f.untaken new
 
 -- another sends to the device
 pub fair_sent : (p q : Peer) (next : Option ℕ) (us : List Untaken) (g : Past) (out back : List SentDatagram) (handed : List TakenAnswer) (packets : List (List ℕ)) →
-    (q ≡ p → ⊥) → Fair p next us g out back handed → Fair p next us g (out ++ sendings q packets) back handed
+    (q ≡ p → ⊥) → Fair p next us g out back handed → Fair p next us g (out ++ sendings_in q packets) back handed
 fair_sent p q next us g out back handed packets other f = record {
   fits = f.fits;
   own = f.own;
-  outgoing = each_append _ out (sendings q packets) f.outgoing (none packets);
+  outgoing = each_append _ out (sendings_in q packets) f.outgoing (none packets);
   incoming = f.incoming;
   untaken = f.untaken;
   was_taken = f.was_taken;
@@ -433,7 +433,7 @@ fair_sent p q next us g out back handed packets other f = record {
   rising = f.rising;
 }
   where
-    none : (packets : List (List ℕ)) → AllByRecursion (λ (d : SentDatagram). d.peer ≡ p → IsOut p g.submitted d.bytes) (sendings q packets)
+    none : (packets : List (List ℕ)) → AllByRecursion (λ (d : SentDatagram). d.peer ≡ p → IsOut p g.submitted d.bytes) (sendings_in q packets)
     none [] = tt
     none (b ∷ bs) = ((λ same. absurd (other same)), none bs)
 
@@ -448,7 +448,7 @@ fair_answered p g h a t (u ∷ us) f = ((f.0.0, by_test (nat_eq u.command.handle
     by_test true false q = f.0.1
     by_test false c q = f.0.1
 
-pub fair_hears : (p : Peer) (bytes : List ℕ) (g : Past) (us : List Untaken) → IsBack p g bytes → AllByRecursion (IsFair p g) us → AllByRecursion (IsFair p g) (hears_content (content_of bytes) us)
+pub fair_hears : (p : Peer) (bytes : List ℕ) (g : Past) (us : List Untaken) → IsBack p g bytes → AllByRecursion (IsFair p g) us → AllByRecursion (IsFair p g) (hears_content (content_read bytes) us)
 fair_hears p bytes g us (inl (r, t, read)) f = rw read (fair_answered p g r.handle (answer_in r) t us f)
 fair_hears p bytes g us (inr read) f = rw read f
 
@@ -469,14 +469,14 @@ fair_untaken p next us vs g out back handed more a new f = record {
 
 pub fair_received : (p : Peer) (bytes : List ℕ) (now : ℕ) (l : LinkState) (g : Past) (out back : List SentDatagram) (handed : List TakenAnswer) → IsBack p g bytes →
     Fair p l.next l.untaken g out back handed →
-    Fair p l.next (received device_address (content_of bytes) now l).untaken g out back handed
+    Fair p l.next (received device_address (content_read bytes) now l).untaken g out back handed
 fair_received p bytes now l g out back handed b f = by_from (same_peer device_address l.device)
   where
     with_us : (us : List Untaken) → AllByRecursion (IsFair p g) us → Fair p l.next us g out back handed
     with_us us a = record { fits = f.fits; own = f.own; outgoing = f.outgoing; incoming = f.incoming; untaken = a; was_taken = f.was_taken; sendable = f.sendable; unique = f.unique; rising = f.rising }
 
-    by_from : (b : Bool) → Fair p l.next (cond b (hears_content (content_of bytes) l.untaken) l.untaken) g out back handed
-    by_from true = with_us (hears_content (content_of bytes) l.untaken) (fair_hears p bytes g l.untaken b f.untaken)
+    by_from : (b : Bool) → Fair p l.next (cond b (hears_content (content_read bytes) l.untaken) l.untaken) g out back handed
+    by_from true = with_us (hears_content (content_read bytes) l.untaken) (fair_hears p bytes g l.untaken b f.untaken)
     by_from false = f
 
 -- ---- an answer is taken

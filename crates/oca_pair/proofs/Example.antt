@@ -78,10 +78,10 @@ carries_third = record { peer = refl; untaken = held 3; held = (2, lit< tt, refl
 abbrev bytes_of : ℕ → List ℕ
 bytes_of h = pdu_encoding (Commands true (command_under h get_state ∷ []))
 
-abbrev said : ℕ → Result (List Msg) PduFault
-said h = Ok (Command true (command_under h get_state) ∷ [])
+abbrev command_read : ℕ → Result (List Msg) PduFault
+command_read h = Ok (Command true (command_under h get_state) ∷ [])
 
-read_of : WrittenIsReadBack → (h : ℕ) → h < 2 ^ 32 → read_datagram (bytes_of h) ≡ said h
+read_of : WrittenIsReadBack → (h : ℕ) → h < 2 ^ 32 → read_datagram (bytes_of h) ≡ command_read h
 read_of law h low =
     read_command law (command_under h get_state)
     (record { fits = record { handle = low; target = fits.target; level = fits.level; index = fits.index; count = fits.count; size = lit< tt }; short = lit≤ tt })
@@ -96,7 +96,7 @@ KeepsWhere first third =
 keeps : WrittenIsReadBack → KeepsWhere (read_datagram (bytes_of 1)) (read_datagram (bytes_of 3))
 keeps law =
     subst (λ (r : Result (List Msg) PduFault). KeepsWhere r (read_datagram (bytes_of 3))) (sym (read_of law 1 (lit< tt)))
-    (subst (λ (r : Result (List Msg) PduFault). KeepsWhere (said 1) r) (sym (read_of law 3 (lit< tt))) refl)
+    (subst (λ (r : Result (List Msg) PduFault). KeepsWhere (command_read 1) r) (sym (read_of law 3 (lit< tt))) refl)
 
 -- and there is room for it at 400, when it has come before
 abbrev RoomWhere : Result (List Msg) PduFault → Result (List Msg) PduFault → Type 0
@@ -108,7 +108,7 @@ RoomWhere first third =
 finds_room : WrittenIsReadBack → RoomWhere (read_datagram (bytes_of 1)) (read_datagram (bytes_of 3))
 finds_room law =
     subst (λ (r : Result (List Msg) PduFault). RoomWhere r (read_datagram (bytes_of 3))) (sym (read_of law 1 (lit< tt)))
-    (subst (λ (r : Result (List Msg) PduFault). RoomWhere (said 1) r) (sym (read_of law 3 (lit< tt))) refl)
+    (subst (λ (r : Result (List Msg) PduFault). RoomWhere (command_read 1) r) (sym (read_of law 3 (lit< tt))) refl)
 
 -- so the third command, delivered once more, is answered
 pub repeated_is_answered : WrittenIsReadBack → (tree : List Object) → IsAnswered 2 400 (the_network tree) sent_third third
@@ -165,7 +165,7 @@ KeepsInTheCrowd command beat =
 pub crowded_keeps : WrittenIsReadBack → (tree : List Object) → KeepsItsSession controller (after_steps crowded (opening the_sizes 3 tree the_starts))
 crowded_keeps law tree =
     subst (λ (r : Result (List Msg) PduFault). KeepsInTheCrowd r (read_datagram alive)) (sym (read_of law 1 (lit< tt)))
-    (subst (λ (r : Result (List Msg) PduFault). KeepsInTheCrowd (said 1) r) (sym (read_keep_alive law)) refl)
+    (subst (λ (r : Result (List Msg) PduFault). KeepsInTheCrowd (command_read 1) r) (sym (read_keep_alive law)) refl)
 
 -- And that command is answered then, although more peers came since the device was made than there is room for.
 abbrev before_room : List Step
@@ -192,7 +192,7 @@ RoomInTheCrowd command beat =
 room_in_the_crowd : WrittenIsReadBack → RoomInTheCrowd (read_datagram (bytes_of 1)) (read_datagram alive)
 room_in_the_crowd law =
     subst (λ (r : Result (List Msg) PduFault). RoomInTheCrowd r (read_datagram alive)) (sym (read_of law 1 (lit< tt)))
-    (subst (λ (r : Result (List Msg) PduFault). RoomInTheCrowd (said 1) r) (sym (read_keep_alive law)) refl)
+    (subst (λ (r : Result (List Msg) PduFault). RoomInTheCrowd (command_read 1) r) (sym (read_keep_alive law)) refl)
 
 pub crowded_is_answered : WrittenIsReadBack → (tree : List Object) → IsAnswered 0 200000 (after_steps before_room (opening the_sizes 3 tree the_starts)) sent_first first
 crowded_is_answered law tree =

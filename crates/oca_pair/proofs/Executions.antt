@@ -21,7 +21,7 @@ use Rattle.oca_device.proofs.Messages.{executed_of, fresh_state, fresh_known, fr
 use Rattle.oca_device.proofs.Sessions.{same_room, let_in, let_in_known, let_in_executed}
 use Rattle.oca_device.proofs.Standing.{Stands, passing}
 use Rattle.oca_pair.specs.Happenings.{sayings, happenings}
-use Rattle.oca_pair.specs.Laws.{Execution, execution_of, executions}
+use Rattle.oca_pair.specs.Laws.{Execution, execution_of, executions_in}
 use Rattle.oca_pair.proofs.ByEvents.{stands_by}
 
 -- what a note says of an execution
@@ -37,17 +37,17 @@ executed_for p (n ∷ notes) = (if same_peer n.peer p then executed_in n.what el
 
 -- ---- changes one after another
 
-executions_both : (p : Peer) (tree : List Object) (xs ys : List Change) → executions p tree (xs ++ ys) ≡ executions p (law.objects tree xs) ys ++ executions p tree xs
-executions_both p tree [] ys = sym (append-nil (executions p tree ys))
+executions_both : (p : Peer) (tree : List Object) (xs ys : List Change) → executions_in p tree (xs ++ ys) ≡ executions_in p (law.objects tree xs) ys ++ executions_in p tree xs
+executions_both p tree [] ys = sym (append-nil (executions_in p tree ys))
 executions_both p tree (Releases q ∷ xs) ys = executions_both p (released tree q) xs ys
 executions_both p tree (Sets ono value ∷ xs) ys = executions_both p (after_set tree ono value) xs ys
 executions_both p tree (Executes q c ∷ xs) ys =
     let here : List Execution = cond (same_peer q p) (execution_of tree q c ∷ []) [] in
     let next : List Object = (execution tree q c).tree in
     ap (λ (x : List Execution). x ++ here) (executions_both p next xs ys)
-    ∙ append_assoc (executions p (law.objects next xs) ys) (executions p next xs) here
+    ∙ append_assoc (executions_in p (law.objects next xs) ys) (executions_in p next xs) here
 
-executions_released : (p : Peer) (tree : List Object) (ps : List Peer) → executions p tree (map Releases ps) ≡ []
+executions_released : (p : Peer) (tree : List Object) (ps : List Peer) → executions_in p tree (map Releases ps) ≡ []
 executions_released p tree [] = refl
 executions_released p tree (q ∷ ps) = executions_released p (released tree q) ps
 
@@ -62,14 +62,14 @@ none_noted p q what s e = ap (λ (x : List Execution). cond (same_peer q p) x []
     by_test false = refl
 
 messages_executed : (w : DeviceSizes) (p q : Peer) (ms : List Msg) (s : State) → is_noted s.moment s.notes q ≡ true →
-    executed_for p (after_messages w q ms s).notes ≡ executions p s.tree (map (Executes q) (accepted_of w (executed_of q s.notes) ms)) ++ executed_for p s.notes
+    executed_for p (after_messages w q ms s).notes ≡ executions_in p s.tree (map (Executes q) (accepted_of w (executed_of q s.notes) ms)) ++ executed_for p s.notes
 messages_executed w p q [] s k = refl
 messages_executed w p q (Command respond c ∷ ms) s k =
     ap (λ (x : State). executed_for p (after_messages w q ms x).notes) (after_judged w q c s)
     ∙ by_accepted (accepts_handle w cs c.handle)
     (messages_executed w p q ms (fresh_state q c s) (fresh_known q c s)
-    ∙ ap (λ (B : List CommandFields). executions p next (map (Executes q) (accepted_of w B ms)) ++ (here ++ executed_for p s.notes)) (fresh_executed q c s k)
-    ∙ sym (append_assoc (executions p next (map (Executes q) (accepted_of w (cs ++ c ∷ []) ms))) here (executed_for p s.notes)))
+    ∙ ap (λ (B : List CommandFields). executions_in p next (map (Executes q) (accepted_of w B ms)) ++ (here ++ executed_for p s.notes)) (fresh_executed q c s k)
+    ∙ sym (append_assoc (executions_in p next (map (Executes q) (accepted_of w (cs ++ c ∷ []) ms))) here (executed_for p s.notes)))
     (messages_executed w p q ms s k)
   where
     cs : List CommandFields
@@ -83,27 +83,27 @@ messages_executed w p q (Command respond c ∷ ms) s k =
 
     by_accepted : (b : Bool) →
         executed_for p (after_messages w q ms (fresh_state q c s)).notes
-        ≡ executions p s.tree (map (Executes q) (c ∷ accepted_of w (cs ++ c ∷ []) ms)) ++ executed_for p s.notes →
-        executed_for p (after_messages w q ms s).notes ≡ executions p s.tree (map (Executes q) (accepted_of w cs ms)) ++ executed_for p s.notes →
+        ≡ executions_in p s.tree (map (Executes q) (c ∷ accepted_of w (cs ++ c ∷ []) ms)) ++ executed_for p s.notes →
+        executed_for p (after_messages w q ms s).notes ≡ executions_in p s.tree (map (Executes q) (accepted_of w cs ms)) ++ executed_for p s.notes →
         executed_for p (after_messages w q ms (cond b (fresh_state q c s) s)).notes
-        ≡ executions p s.tree (map (Executes q) (cond b (c ∷ accepted_of w (cs ++ c ∷ []) ms) (accepted_of w cs ms))) ++ executed_for p s.notes
+        ≡ executions_in p s.tree (map (Executes q) (cond b (c ∷ accepted_of w (cs ++ c ∷ []) ms) (accepted_of w cs ms))) ++ executed_for p s.notes
     by_accepted true f g = f
     by_accepted false f g = g
 messages_executed w p q (KeepAlive form ∷ ms) s k =
     messages_executed w p q ms (kept_alive q (time_of form) s) (alive_known q (time_of form) s)
-    ∙ ap (λ (B : List CommandFields). executions p s.tree (map (Executes q) (accepted_of w B ms)) ++ executed_for p (kept_alive q (time_of form) s).notes) (alive_executed q (time_of form) s k)
-    ∙ ap (λ (x : List Execution). executions p s.tree (map (Executes q) (accepted_of w (executed_of q s.notes) ms)) ++ x) (none_noted p q (Heartbeat (time_of form)) s refl)
+    ∙ ap (λ (B : List CommandFields). executions_in p s.tree (map (Executes q) (accepted_of w B ms)) ++ executed_for p (kept_alive q (time_of form) s).notes) (alive_executed q (time_of form) s k)
+    ∙ ap (λ (x : List Execution). executions_in p s.tree (map (Executes q) (accepted_of w (executed_of q s.notes) ms)) ++ x) (none_noted p q (Heartbeat (time_of form)) s refl)
 messages_executed w p q (Response r ∷ ms) s k = messages_executed w p q ms s k
 
 -- ---- events
 
-passing_executed : (w : DeviceSizes) (p : Peer) (tree : List Object) (now : ℕ) (H : List Happening) → executions p tree (changes w (Passes now ∷ H)) ≡ executions p tree (changes w H)
+passing_executed : (w : DeviceSizes) (p : Peer) (tree : List Object) (now : ℕ) (H : List Happening) → executions_in p tree (changes w (Passes now ∷ H)) ≡ executions_in p tree (changes w H)
 passing_executed w p tree now H =
     let C : List Change = changes w H in
     let ps : List Peer = lapsed_peers w (clock (Passes now ∷ H)) H in
-    executions_both p tree C (map Releases ps) ∙ ap (λ (x : List Execution). x ++ executions p tree C) (executions_released p (law.objects tree C) ps)
+    executions_both p tree C (map Releases ps) ∙ ap (λ (x : List Execution). x ++ executions_in p tree C) (executions_released p (law.objects tree C) ps)
 
-pub executions_are : (w : DeviceSizes) (p : Peer) (tree : List Object) (E : List Event) → executions p tree (changes w (happenings E)) ≡ executed_for p (state_after w tree E).notes
+pub executions_are : (w : DeviceSizes) (p : Peer) (tree : List Object) (E : List Event) → executions_in p tree (changes w (happenings E)) ≡ executed_for p (state_after w tree E).notes
 executions_are w p tree [] = refl
 executions_are w p tree (Tick now ∷ E) = passing_executed w p tree now (happenings E) ∙ executions_are w p tree E
 executions_are w p tree (Local ono value ∷ E) = executions_both p tree (changes w (happenings E)) (Sets ono value ∷ []) ∙ executions_are w p tree E
@@ -132,24 +132,24 @@ executions_are w p tree (Datagram q bytes now ∷ E) = by_read (passing_executed
         let_in_executed w q ms s1 (admitted w H1) (stands1.bridged.each q)
         ∙ ap (λ (m : ℕ). accepted_by w m q (admitted w H1)) stands1.clock_is
 
-    by_room : (ms : List Msg) (b : Bool) → executions p tree C ≡ executed_for p s1.notes →
-        executions p tree (C ++ map (Executes q) (accepted_of w A (cond b ms [])))
+    by_room : (ms : List Msg) (b : Bool) → executions_in p tree C ≡ executed_for p s1.notes →
+        executions_in p tree (C ++ map (Executes q) (accepted_of w A (cond b ms [])))
         ≡ executed_for p (let x : State = cond b (after_messages w q ms (let_in q ms s1)) s1 in x).notes
-    by_room ms false e = ap (executions p tree) (append-nil C) ∙ e
+    by_room ms false e = ap (executions_in p tree) (append-nil C) ∙ e
     by_room ms true e =
         executions_both p tree C (map (Executes q) (accepted_of w A ms))
-        ∙ ap (λ (x : List Object). executions p x (map (Executes q) (accepted_of w A ms)) ++ executions p tree C) (sym stands1.tree_is)
-        ∙ ap (λ (B : List CommandFields). executions p s1.tree (map (Executes q) (accepted_of w B ms)) ++ executions p tree C) (sym (same_accepted ms))
-        ∙ ap (λ (x : List Execution). executions p s1.tree (map (Executes q) (accepted_of w (executed_of q (let_in q ms s1).notes) ms)) ++ x)
+        ∙ ap (λ (x : List Object). executions_in p x (map (Executes q) (accepted_of w A ms)) ++ executions_in p tree C) (sym stands1.tree_is)
+        ∙ ap (λ (B : List CommandFields). executions_in p s1.tree (map (Executes q) (accepted_of w B ms)) ++ executions_in p tree C) (sym (same_accepted ms))
+        ∙ ap (λ (x : List Execution). executions_in p s1.tree (map (Executes q) (accepted_of w (executed_of q (let_in q ms s1).notes) ms)) ++ x)
         (e ∙ sym (none_noted p q (Admitted ms) s1 refl))
         ∙ sym (messages_executed w p q ms (let_in q ms s1) (let_in_known q ms s1))
 
     same : admits w s1 q ≡ has_room w t q (admitted w H1)
     same = same_room w s1 q (admitted w H1) stands1.bridged ∙ ap (λ (m : ℕ). has_room w m q (admitted w H1)) stands1.clock_is
 
-    by_read : executions p tree C ≡ executed_for p s1.notes → (r : Result (List Msg) PduFault) →
-        executions p tree (changes w (sayings q r ++ H1)) ≡ executed_for p (after_reading w q r s1).notes
+    by_read : executions_in p tree C ≡ executed_for p s1.notes → (r : Result (List Msg) PduFault) →
+        executions_in p tree (changes w (sayings q r ++ H1)) ≡ executed_for p (after_reading w q r s1).notes
     by_read e (Err f) = e
     by_read e (Ok ms) =
-        ap (λ b. executions p tree (C ++ map (Executes q) (accepted_of w A (cond b ms [])))) (sym same)
+        ap (λ b. executions_in p tree (C ++ map (Executes q) (accepted_of w A (cond b ms [])))) (sym same)
         ∙ by_room ms (admits w s1 q) e

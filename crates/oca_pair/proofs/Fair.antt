@@ -19,7 +19,7 @@ use Rattle.oca_device.specs.Answers.{packets}
 use Rattle.oca_control.specs.Answers.{AnswerFields, answer_in}
 use Rattle.oca_control.specs.Untaken.{Untaken}
 use Rattle.oca_pair.specs.Networks.{SentDatagram, SubmittedCommand, TakenAnswer}
-use Rattle.oca_pair.specs.Steps.{sendings}
+use Rattle.oca_pair.specs.Steps.{sendings_in}
 use Rattle.oca_pair.specs.Laws.{handles_of, AreConsecutive}
 use Rattle.oca_pair.proofs.Core.{each_map, each_append, has}
 use Rattle.oca_pair.proofs.Lists.{in_more}
@@ -147,18 +147,18 @@ fair_then p next us g out back handed e more own new f = record {
 }
 
 -- the datagrams for another peer are not for this one
-pub none_for : (P : List ℕ → Type 0) (p q : Peer) → q ≢ p → (packets : List (List ℕ)) → AllByRecursion (λ d. d.peer ≡ p → P d.bytes) (sendings q packets)
+pub none_for : (P : List ℕ → Type 0) (p q : Peer) → q ≢ p → (packets : List (List ℕ)) → AllByRecursion (λ d. d.peer ≡ p → P d.bytes) (sendings_in q packets)
 none_for P p q other [] = tt
 none_for P p q other (b ∷ bs) = ((λ same. absurd (other same)), none_for P p q other bs)
 
 -- A datagram of another peer comes.
 pub fair_other : (p q : Peer) (next : Option ℕ) (us : List Untaken) (g : Past) (out back : List SentDatagram) (handed : List TakenAnswer) (bytes : List ℕ) (now : ℕ) (packets : List (List ℕ)) →
-    q ≢ p → Fair p next us g out back handed → Fair p next us (and_then (Datagram q bytes now) g) out (back ++ sendings q packets) handed
+    q ≢ p → Fair p next us g out back handed → Fair p next us (and_then (Datagram q bytes now) g) out (back ++ sendings_in q packets) handed
 fair_other p q next us g out back handed bytes now packets other f =
     let e : Event = Datagram q bytes now in
     let s1 : State = moved_to (max (state_of g).moment now) (state_of g) in
     let grows : Grows q s1.moment s1.notes (after_reading g.sizes q (read_datagram bytes) s1).notes = grows_reading g.sizes q (read_datagram bytes) s1 in
-    fair_then p next us g out back handed e (sendings q packets)
+    fair_then p next us g out back handed e (sendings_in q packets)
     (grown grows.more (after_reading g.sizes q (read_datagram bytes) s1).notes grows.is grows.own)
     (none_for (IsBack p (and_then e g)) p q other packets) f
   where

@@ -27,7 +27,7 @@ use Rattle.oca_control.proofs.InTime.{clock_from, sent_from, in_time_made}
 use Rattle.oca_pair.specs.declared.outcome.Outcome.TheVariants as outcomes
 use Rattle.oca_pair.specs.declared.start.Start.{Start}
 use Rattle.oca_pair.specs.Networks.{Network, PeerLink, SentDatagram, SubmittedCommand, TakenAnswer, device_address, started, opening}
-use Rattle.oca_pair.specs.Steps.{Step, Submit, Due, ToDevice, ToLink, Other, Take, has_link, with_link, submitted_by, after_submit, submit_outcome, given_by, after_due_step, after_delivery, content_of, hears_datagram, after_reception, taken_by, after_take, after_step, after_steps, on_link, outcome_of}
+use Rattle.oca_pair.specs.Steps.{Step, Submit, Due, ToDevice, ToLink, Other, Take, has_link, with_link, submitted_by, after_submit, submit_outcome, given_by, after_due_step, after_delivery, content_read, hears_datagram, after_reception, taken_by, after_take, after_step, after_steps, on_link, outcome_of}
 use Rattle.oca_pair.specs.Steps as steps
 use Rattle.oca_pair.specs.Premises.{are_apart, Fit}
 use Rattle.oca_pair.specs.RoundTrip.{IsAnswerTo, GotItsAnswer, ComesBack, RoundTrips}
@@ -136,13 +136,13 @@ runs_step first s i p calls step n g = one step
         runs_link first s i p calls n (after_submit k r now (Some l) n) k l (λ l. Submits r now (submission r l)) (λ l. after_submission (submission r l) r now l) [] e refl none_more
         (refl, refl) (λ same h a. a) g
 
-    gives : (l : PeerLink) (now : ℕ) (d : Decision) → l.peer ≡ p → (h : ℕ) → AreSentBy p (n.to_device ++ steps.sendings l.peer (given_by d)) (sendings 0 h calls) →
-        AreSentBy p (n.to_device ++ steps.sendings l.peer (given_by d)) (sending_of h (due_answer d) (record { at = max (clock 0 calls) now; bytes = due_bytes d }) (sendings 0 h calls))
+    gives : (l : PeerLink) (now : ℕ) (d : Decision) → l.peer ≡ p → (h : ℕ) → AreSentBy p (n.to_device ++ steps.sendings_in l.peer (given_by d)) (sendings 0 h calls) →
+        AreSentBy p (n.to_device ++ steps.sendings_in l.peer (given_by d)) (sending_of h (due_answer d) (record { at = max (clock 0 calls) now; bytes = due_bytes d }) (sendings 0 h calls))
     gives l now (GivesCommand c) same h a = by_test (nat_eq h c.handle)
       where
-        by_test : (b : Bool) → AreSentBy p (n.to_device ++ steps.sendings l.peer (given_by (GivesCommand c)))
+        by_test : (b : Bool) → AreSentBy p (n.to_device ++ steps.sendings_in l.peer (given_by (GivesCommand c)))
             (cond b ((let x : Sending = record { at = max (clock 0 calls) now; bytes = due_bytes (GivesCommand c) } in x) ∷ sendings 0 h calls) (sendings 0 h calls))
-        by_test true = (in_behind _ n.to_device (steps.sendings l.peer (given_by (GivesCommand c))) (inl (ap (λ (q : Peer). let d : SentDatagram = record { peer = q; bytes = due_bytes (GivesCommand c) } in d) same)), a)
+        by_test true = (in_behind _ n.to_device (steps.sendings_in l.peer (given_by (GivesCommand c))) (inl (ap (λ (q : Peer). let d : SentDatagram = record { peer = q; bytes = due_bytes (GivesCommand c) } in d) same)), a)
         by_test false = a
     gives l now GivesKeepAlive same h a = a
     gives l now GivesNothing same h a = a
@@ -153,7 +153,7 @@ runs_step first s i p calls step n g = one step
     by_due k now None e = runs_none first s i p calls n k (λ l. GivesOut now (due_answer (decision now l)) (due_bytes (decision now l))) e g
     by_due k now (Some l) e =
         runs_link first s i p calls n (after_due_step k now (Some l) n) k l (λ l. GivesOut now (due_answer (decision now l)) (due_bytes (decision now l))) (gone_on now)
-        (steps.sendings l.peer (given_by (decision now l.link))) e refl refl (refl, refl, refl) (gives l now (decision now l.link)) g
+        (steps.sendings_in l.peer (given_by (decision now l.link))) e refl refl (refl, refl, refl) (gives l now (decision now l.link)) g
 
     by_delivery : (now : ℕ) (o : Option SentDatagram) → Runs first s i p calls (after_delivery now o n)
     by_delivery now None = g
@@ -166,13 +166,13 @@ runs_step first s i p calls step n g = one step
         there = slice_get-map (hears_datagram d now) n.links i ∙ ap (λ (o : Option PeerLink). option_map (hears_datagram d now) o) g.there
 
         y : PeerLink
-        y = record { peer = g.link.peer; link = received device_address (content_of d.bytes) now g.link.link }
+        y = record { peer = g.link.peer; link = received device_address (content_read d.bytes) now g.link.link }
 
         is : (b : Bool) → same_peer g.link.peer d.peer ≡ b → Some (hears_datagram d now g.link) ≡ Some (cond b y g.link)
         is b q = ap (λ (c : Bool). Some (cond c y g.link)) q
 
         by_test : (b : Bool) → same_peer g.link.peer d.peer ≡ b →
-            Runs first s i p (cond b (Receives device_address d.bytes (content_of d.bytes) now (reception device_address (content_of d.bytes) g.link.link) ∷ []) [] ++ calls) (after_reception now (Some d) n)
+            Runs first s i p (cond b (Receives device_address d.bytes (content_read d.bytes) now (reception device_address (content_read d.bytes) g.link.link) ∷ []) [] ++ calls) (after_reception now (Some d) n)
         by_test true q = record { link = y; there = there ∙ is true q; peer = g.peer; made = (g.link.link, g.made, refl); sent = g.sent }
         by_test false q = record { link = g.link; there = there ∙ is false q; peer = g.peer; made = g.made; sent = g.sent }
 

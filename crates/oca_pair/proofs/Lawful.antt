@@ -28,10 +28,10 @@ use Rattle.oca_pair.specs.declared.start.Start.{Start}
 use Rattle.oca_pair.specs.Networks.{Network, PeerLink, SentDatagram, SubmittedCommand, TakenAnswer, opening}
 use Rattle.oca_pair.specs.Steps as steps
 use Rattle.oca_control.specs.Links.{Request}
-use Rattle.oca_pair.specs.Steps.{Step, Submit, Due, ToDevice, ToLink, Other, Take, has_link, sendings, after_submit, after_due_step, after_delivery, after_reception, after_take, after_step, after_steps}
+use Rattle.oca_pair.specs.Steps.{Step, Submit, Due, ToDevice, ToLink, Other, Take, has_link, sendings_in, after_submit, after_due_step, after_delivery, after_reception, after_take, after_step, after_steps}
 use Rattle.oca_pair.specs.Happenings.{happenings}
 use Rattle.oca_pair.specs.Premises.{are_apart, Fit, KeepsItsSession, FindsRoom}
-use Rattle.oca_pair.specs.Laws.{Execution, executions, executions_for, executions_under, IsAnswerOfItsCommand, handles_of, AreConsecutive, AnswersItsCommands, CarriesUntaken, IsAnswered, AnswersUntaken, ExecutesOnce}
+use Rattle.oca_pair.specs.Laws.{Execution, executions_in, executions_for, executions_under, IsAnswerOfItsCommand, handles_of, AreConsecutive, AnswersItsCommands, CarriesUntaken, IsAnswered, AnswersUntaken, ExecutesOnce}
 use Rattle.oca_pair.proofs.Core.{IsServed}
 use Rattle.oca_pair.proofs.Lists.{IsIn, contains_in, in_contains, each_at, each_in, equal_is}
 use Rattle.oca_pair.proofs.Arrivals.{Keeps, keeps_before, looked_at, found_room}
@@ -200,7 +200,7 @@ answered_now law w s f n k now d next us u c wide there fair kept good held comm
         ⊎ ((v ≡ verdicts.Served 0 1 0 0) × (executed_for p s'.notes ≡ executed_for p (state_of g).notes) × IsIn x (executed_for p (state_of g).notes)) →
         x.command ≡ c → reply ≡ x.reply → IsAnswered k now n d c
     made s' reply x v state_is answers_are verdict_is kind command reply_is =
-        let after : executions p n.tree (changes n.sizes (happenings (e ∷ n.events))) ≡ executed_for p s'.notes =
+        let after : executions_in p n.tree (changes n.sizes (happenings (e ∷ n.events))) ≡ executed_for p s'.notes =
         executions_are n.sizes p n.tree (e ∷ n.events) ∙ ap (λ (s : State). executed_for p s.notes) state_is in
         record {
           execution = x;
@@ -213,7 +213,7 @@ answered_now law w s f n k now d next us u c wide there fair kept good held comm
               in_contains x (executions_for p n) (subst (λ (xs : List Execution). IsIn x xs) (sym was) q.2),
             )
           ]);
-          sent = rw there (ap (λ ps. n.to_links ++ sendings p ps) (ap packets_of answers_are ∙ ap (λ r. packets_of (response c.handle r ∷ [])) reply_is));
+          sent = rw there (ap (λ ps. n.to_links ++ sendings_in p ps) (ap packets_of answers_are ∙ ap (λ r. packets_of (response c.handle r ∷ [])) reply_is));
         }
 
     verdict_read : verdict n.sizes n.tree n.events d.peer d.bytes now ≡ served (plus (count_of_command (judged_in n.sizes s2 p c)) (counts 0 0 0 0))

@@ -21,7 +21,7 @@ use Rattle.oca_control.specs.Untaken.{Untaken, answer_under, without_handle}
 use Rattle.oca_control.specs.Links.{Request, submission, after_submission, Decision, GivesCommand, GivesKeepAlive, GivesNothing, IsLost, decision, after_due, gone_on, hears_content, received, taken, present}
 use Rattle.oca_pair.specs.declared.start.Start.{Start}
 use Rattle.oca_pair.specs.Networks.{Network, PeerLink, SentDatagram, SubmittedCommand, TakenAnswer, device_address, started, opening}
-use Rattle.oca_pair.specs.Steps.{Step, Submit, Due, ToDevice, ToLink, Other, Take, has_link, sendings, submitted_by, after_submit, given_by, after_due_step, after_delivery, content_of, hears_datagram, after_reception, after_take, after_step, after_steps}
+use Rattle.oca_pair.specs.Steps.{Step, Submit, Due, ToDevice, ToLink, Other, Take, has_link, sendings_in, submitted_by, after_submit, given_by, after_due_step, after_delivery, content_read, hears_datagram, after_reception, after_take, after_step, after_steps}
 use Rattle.oca_pair.specs.Steps as steps
 use Rattle.oca_pair.specs.Premises.{is_of_another_peer, are_apart, RequestFits, StepFits, StartFits, Fit}
 use Rattle.oca_pair.proofs.Core.{each_map, none_passes, has}
@@ -62,7 +62,7 @@ apart_put (x ∷ xs) (suc k) l y e s a =
 pub hears_peer : (d : SentDatagram) (now : ℕ) (z : PeerLink) → (hears_datagram d now z).peer ≡ z.peer
 hears_peer d now z = by_test (same_peer z.peer d.peer)
   where
-    by_test : (b : Bool) → (let y : PeerLink = cond b (record { peer = z.peer; link = received device_address (content_of d.bytes) now z.link }) z in y).peer ≡ z.peer
+    by_test : (b : Bool) → (let y : PeerLink = cond b (record { peer = z.peer; link = received device_address (content_read d.bytes) now z.link }) z in y).peer ≡ z.peer
     by_test true = refl
     by_test false = refl
 
@@ -241,15 +241,15 @@ sound_reception s now n g d k e = record { apart = apart_hears d now n.links g.a
     one z w = by_test (same_peer z.peer d.peer) refl
       where
         y : PeerLink
-        y = record { peer = z.peer; link = received device_address (content_of d.bytes) now z.link }
+        y = record { peer = z.peer; link = received device_address (content_read d.bytes) now z.link }
 
         good_heard : (f : ℕ) → IsBack z.peer (past n) d.bytes → Good s f z.peer z.link.next z.link.untaken n.submitted (accepted_by z.peer (past n)) →
-            Good s f z.peer z.link.next (hears_content (content_of d.bytes) z.link.untaken) n.submitted (accepted_by z.peer (past n))
+            Good s f z.peer z.link.next (hears_content (content_read d.bytes) z.link.untaken) n.submitted (accepted_by z.peer (past n))
         good_heard f (inl (r, t, read)) q = rw read (good_answered s f z.peer z.link.next z.link.untaken n.submitted (accepted_by z.peer (past n)) r.handle (answer_in r) q)
         good_heard f (inr read) q = rw read q
 
         good_received : (f : ℕ) (b : Bool) → IsBack z.peer (past n) d.bytes → Good s f z.peer z.link.next z.link.untaken n.submitted (accepted_by z.peer (past n)) →
-            Good s f z.peer z.link.next (cond b (hears_content (content_of d.bytes) z.link.untaken) z.link.untaken) n.submitted (accepted_by z.peer (past n))
+            Good s f z.peer z.link.next (cond b (hears_content (content_read d.bytes) z.link.untaken) z.link.untaken) n.submitted (accepted_by z.peer (past n))
         good_received f true back q = good_heard f back q
         good_received f false back q = q
 
@@ -276,7 +276,7 @@ sound_reception s now n g d k e = record { apart = apart_hears d now n.links g.a
 
 -- of another peer
 sound_elsewhere : (s : ℕ) (n : Network) (q : Peer) (bytes : List ℕ) (now : ℕ) (packets : List (List ℕ)) (z : PeerLink) → same_peer q z.peer ≡ false → LinkSound s n z →
-    Fair z.peer z.link.next z.link.untaken (and_then (Datagram q bytes now) (past n)) n.to_device (n.to_links ++ sendings q packets) n.taken
+    Fair z.peer z.link.next z.link.untaken (and_then (Datagram q bytes now) (past n)) n.to_device (n.to_links ++ sendings_in q packets) n.taken
     × (Keeps z.peer (and_then (Datagram q bytes now) (past n)) → Kept z.peer (and_then (Datagram q bytes now) (past n)))
     × (0 < s → Keeps z.peer (and_then (Datagram q bytes now) (past n)) →
     (f : ℕ) × Good s f z.peer z.link.next z.link.untaken n.submitted (accepted_by z.peer (and_then (Datagram q bytes now) (past n))))
@@ -294,7 +294,7 @@ sound_elsewhere s n q bytes now packets z other w = (
 -- of the link itself
 own_fair : (law : WrittenIsReadBack) (p : Peer) (next : Option ℕ) (us : List Untaken) (g : Past) (out back : List SentDatagram) (handed : List TakenAnswer) (bytes : List ℕ) (now : ℕ) →
     IsOut p g.submitted bytes → Fair p next us g out back handed →
-    Fair p next us (and_then (Datagram p bytes now) g) out (back ++ sendings p (packets g.sizes g.tree g.events (Datagram p bytes now))) handed
+    Fair p next us (and_then (Datagram p bytes now) g) out (back ++ sendings_in p (packets g.sizes g.tree g.events (Datagram p bytes now))) handed
 own_fair law p next us g out back handed bytes now (inl (c, sub, is)) f =
     rw is (fair_command law p next us g out back handed c now (sendable_of c sub) sub f)
   where
@@ -329,7 +329,7 @@ own_kept law s f p next us g out back handed bytes now (inr is) fair keeps k =
     grown B (inr (x, r, m_is, new, grows)) good = cc
 
 sound_own : (law : WrittenIsReadBack) (s : ℕ) (n : Network) (bytes : List ℕ) (now : ℕ) (z : PeerLink) → IsOut z.peer n.submitted bytes → LinkSound s n z →
-    Fair z.peer z.link.next z.link.untaken (and_then (Datagram z.peer bytes now) (past n)) n.to_device (n.to_links ++ sendings z.peer (packets n.sizes n.tree n.events (Datagram z.peer bytes now))) n.taken
+    Fair z.peer z.link.next z.link.untaken (and_then (Datagram z.peer bytes now) (past n)) n.to_device (n.to_links ++ sendings_in z.peer (packets n.sizes n.tree n.events (Datagram z.peer bytes now))) n.taken
     × (Keeps z.peer (and_then (Datagram z.peer bytes now) (past n)) → Kept z.peer (and_then (Datagram z.peer bytes now) (past n)))
     × (0 < s → Keeps z.peer (and_then (Datagram z.peer bytes now) (past n)) →
     (f : ℕ) × Good s f z.peer z.link.next z.link.untaken n.submitted (accepted_by z.peer (and_then (Datagram z.peer bytes now) (past n))))
@@ -346,7 +346,7 @@ sound_own law s n bytes now z out w = (
 -- what is known of a link after a datagram of the peer q with these bytes came, and these packets were sent back
 abbrev AfterDatagram : ℕ → Network → PeerLink → Peer → List ℕ → ℕ → Type 0
 AfterDatagram s n z q bytes now =
-    Fair z.peer z.link.next z.link.untaken (and_then (Datagram q bytes now) (past n)) n.to_device (n.to_links ++ sendings q (packets n.sizes n.tree n.events (Datagram q bytes now))) n.taken
+    Fair z.peer z.link.next z.link.untaken (and_then (Datagram q bytes now) (past n)) n.to_device (n.to_links ++ sendings_in q (packets n.sizes n.tree n.events (Datagram q bytes now))) n.taken
     × (Keeps z.peer (and_then (Datagram q bytes now) (past n)) → Kept z.peer (and_then (Datagram q bytes now) (past n)))
     × (0 < s → Keeps z.peer (and_then (Datagram q bytes now) (past n)) →
     (f : ℕ) × Good s f z.peer z.link.next z.link.untaken n.submitted (accepted_by z.peer (and_then (Datagram q bytes now) (past n))))

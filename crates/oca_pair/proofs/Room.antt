@@ -8,7 +8,7 @@ use Rattle.oca_types.specs.Peers.{same_peer}
 use Rattle.oca_types.specs.Sizes.{DeviceSizes}
 use Rattle.oca_device.specs.Notes.{peers_except}
 use Rattle.oca_device.specs.LawByEvents.{Happening, Passes, Says, Sets, Arrival, clock, session, is_open, is_known, opened, known, has_room, admitted}
-use Rattle.oca_pair.specs.Premises.{is_among, SpeakLately, FewFindRoom}
+use Rattle.oca_pair.specs.Premises.{is_among_peers, SpeakLately, FewFindRoom}
 use Rattle.oca_pair.proofs.Core.{each_map, each_append}
 use Rattle.oca_pair.proofs.Lists.{same_is, same_turned, not_true, differs}
 
@@ -74,7 +74,7 @@ one_out y (x ∷ xs) d = by_test (same_peer x y) refl (one_out y xs d.1)
         rw all (omega arith)
     by_test false e r = omega arith
 
-few : (ys xs : List Peer) → Differ xs → AllByRecursion (λ x. is_among ys x ≡ true) xs → length xs ≤ length ys
+few : (ys xs : List Peer) → Differ xs → AllByRecursion (λ x. is_among_peers ys x ≡ true) xs → length xs ≤ length ys
 few [] [] d a = omega arith
 few [] (x ∷ xs) d a = let wrong = a.0 in cc
 few (y ∷ ys) xs d a =
@@ -82,20 +82,20 @@ few (y ∷ ys) xs d a =
     let one : length xs ≤ suc (length (peers_except y xs)) = one_out y xs d in
     omega arith
   where
-    later_than : (q : Peer) → same_peer q y ≡ false → (same_peer y q || is_among ys q) ≡ true → is_among ys q ≡ true
-    later_than q e t = sym (ap (λ b. b || is_among ys q) (turned q y e)) ∙ t
+    later_than : (q : Peer) → same_peer q y ≡ false → (same_peer y q || is_among_peers ys q) ≡ true → is_among_peers ys q ≡ true
+    later_than q e t = sym (ap (λ b. b || is_among_peers ys q) (turned q y e)) ∙ t
 
-    others : (xs : List Peer) → AllByRecursion (λ x. is_among (y ∷ ys) x ≡ true) xs → AllByRecursion (λ x. is_among ys x ≡ true) (peers_except y xs)
+    others : (xs : List Peer) → AllByRecursion (λ x. is_among_peers (y ∷ ys) x ≡ true) xs → AllByRecursion (λ x. is_among_peers ys x ≡ true) (peers_except y xs)
     others [] a = tt
     others (x ∷ xs) a = by_test (same_peer x y) refl (others xs a.1)
       where
-        by_test : (b : Bool) → same_peer x y ≡ b → AllByRecursion (λ x. is_among ys x ≡ true) (peers_except y xs) → AllByRecursion (λ x. is_among ys x ≡ true) (cond (not b) (x ∷ peers_except y xs) (peers_except y xs))
+        by_test : (b : Bool) → same_peer x y ≡ b → AllByRecursion (λ x. is_among_peers ys x ≡ true) (peers_except y xs) → AllByRecursion (λ x. is_among_peers ys x ≡ true) (cond (not b) (x ∷ peers_except y xs) (peers_except y xs))
         by_test true e r = r
         by_test false e r = (later_than x e a.0, r)
 
 -- An arrival of the 120,000 ms before t is of one of the peers.
 abbrev IsLatelyOf : List Peer → ℕ → Arrival → Type 0
-IsLatelyOf peers t a = t - a.at ≤ 120000 → is_among peers a.from ≡ true
+IsLatelyOf peers t a = t - a.at ≤ 120000 → is_among_peers peers a.from ≡ true
 
 arrive_lately : (w : DeviceSizes) (peers : List Peer) (t : ℕ) (H : List Happening) → SpeakLately peers t H → AllByRecursion (IsLatelyOf peers t) (admitted w H)
 arrive_lately w peers t [] s = tt
@@ -109,19 +109,19 @@ arrive_lately w peers t (Says p ms ∷ H) s = by_room (has_room w (clock H) p (a
     by_room false r = r
 
 -- so each peer that is known at t is one of them
-known_among : (peers : List Peer) (t : ℕ) (q : Peer) (D : List Arrival) → AllByRecursion (IsLatelyOf peers t) D → is_known t q D ≡ true → is_among peers q ≡ true
+known_among : (peers : List Peer) (t : ℕ) (q : Peer) (D : List Arrival) → AllByRecursion (IsLatelyOf peers t) D → is_known t q D ≡ true → is_among_peers peers q ≡ true
 known_among peers t q [] l e = cc
 known_among peers t q (a ∷ D) l e = by_peer (λ h. known_among peers t q D l.1 h) (same_peer a.from q) refl e
   where
     near : (n : ℕ) → nat_le n 120000 ≡ true → n ≤ 120000
     near n h = grind (arith, nat_tests)
 
-    by_time : (b : Bool) → nat_le (t - a.at) 120000 ≡ b → a.from ≡ q → is_open (cond b (a ∷ session a.at q D) []) ≡ true → is_among peers q ≡ true
-    by_time true h same e = ap (is_among peers) (sym same) ∙ l.0 (near (t - a.at) h)
+    by_time : (b : Bool) → nat_le (t - a.at) 120000 ≡ b → a.from ≡ q → is_open (cond b (a ∷ session a.at q D) []) ≡ true → is_among_peers peers q ≡ true
+    by_time true h same e = ap (is_among_peers peers) (sym same) ∙ l.0 (near (t - a.at) h)
     by_time false h same e = cc
 
-    by_peer : (is_known t q D ≡ true → is_among peers q ≡ true) → (b : Bool) → same_peer a.from q ≡ b → is_open (cond (not b) (session t q D) (cond (nat_le (t - a.at) 120000) (a ∷ session a.at q D) [])) ≡ true →
-        is_among peers q ≡ true
+    by_peer : (is_known t q D ≡ true → is_among_peers peers q ≡ true) → (b : Bool) → same_peer a.from q ≡ b → is_open (cond (not b) (session t q D) (cond (nat_le (t - a.at) 120000) (a ∷ session a.at q D) [])) ≡ true →
+        is_among_peers peers q ≡ true
     by_peer before false h e = before e
     by_peer before true h e = by_time (nat_le (t - a.at) 120000) refl (same_is a.from q h) e
 

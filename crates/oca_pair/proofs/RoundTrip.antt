@@ -24,7 +24,7 @@ use Rattle.oca_control.specs.Untaken.{Untaken, new_untaken, answered, hears_all,
 use Rattle.oca_control.specs.Links.{LinkState, Request, command_under, submission, after_submission, Decision, GivesCommand, GivesKeepAlive, GivesNothing, IsLost, decision, after_due, gone_on, hears_content, received, taken, present}
 use Rattle.oca_pair.specs.declared.start.Start.{Start}
 use Rattle.oca_pair.specs.Networks.{Network, PeerLink, SentDatagram, SubmittedCommand, TakenAnswer, device_address, started, opening}
-use Rattle.oca_pair.specs.Steps.{Step, Submit, Due, ToDevice, ToLink, Other, Take, has_link, sendings, with_link, submitted_by, after_submit, after_due_step, after_delivery, messages_read, content_of, hears_datagram, after_reception, taken_by, after_take, after_step, after_steps}
+use Rattle.oca_pair.specs.Steps.{Step, Submit, Due, ToDevice, ToLink, Other, Take, has_link, sendings_in, with_link, submitted_by, after_submit, after_due_step, after_delivery, messages_read, content_read, hears_datagram, after_reception, taken_by, after_take, after_step, after_steps}
 use Rattle.oca_pair.specs.Steps as steps
 use Rattle.oca_pair.specs.Premises.{are_apart, StepFits, Fit}
 use Rattle.oca_pair.specs.Laws.{Execution, executions_under, executions_for, answer_of, IsExecutedNow, WasExecuted, CarriesUntaken, IsAnswered}
@@ -70,7 +70,7 @@ grown_step step n = one step
 
     by_delivery : (now : ℕ) (o : Option SentDatagram) → Grown n (after_delivery now o n)
     by_delivery now None = grown_not n
-    by_delivery now (Some d) = record { sent = sendings d.peer (packets n.sizes n.tree n.events (Datagram d.peer d.bytes now)); to_links = refl; more = []; submitted = none_more }
+    by_delivery now (Some d) = record { sent = sendings_in d.peer (packets n.sizes n.tree n.events (Datagram d.peer d.bytes now)); to_links = refl; more = []; submitted = none_more }
 
     by_reception : (now : ℕ) (o : Option SentDatagram) → Grown n (after_reception now o n)
     by_reception now None = grown_not n
@@ -151,7 +151,7 @@ to_device_step step n a = one step
     hearing : (d : SentDatagram) (now : ℕ) (l : PeerLink) → l.link.device ≡ device_address → (hears_datagram d now l).link.device ≡ device_address
     hearing d now l q = by_test (same_peer l.peer d.peer)
       where
-        by_test : (b : Bool) → (let y : PeerLink = cond b (record { peer = l.peer; link = received device_address (content_of d.bytes) now l.link }) l in y).link.device ≡ device_address
+        by_test : (b : Bool) → (let y : PeerLink = cond b (record { peer = l.peer; link = received device_address (content_read d.bytes) now l.link }) l in y).link.device ≡ device_address
         by_test true = q
         by_test false = q
 
@@ -286,8 +286,8 @@ stands_step i h p step n g = one step
     hearing : (d : SentDatagram) (now : ℕ) (l : PeerLink) → holds h (hears_datagram d now l).link.untaken ≡ holds h l.link.untaken
     hearing d now l = by_test (same_peer l.peer d.peer)
       where
-        by_test : (b : Bool) → (let y : PeerLink = cond b (record { peer = l.peer; link = received device_address (content_of d.bytes) now l.link }) l in holds h y.link.untaken) ≡ holds h l.link.untaken
-        by_test true = holds_received (same_peer device_address l.link.device) (content_of d.bytes) h l.link.untaken
+        by_test : (b : Bool) → (let y : PeerLink = cond b (record { peer = l.peer; link = received device_address (content_read d.bytes) now l.link }) l in holds h y.link.untaken) ≡ holds h l.link.untaken
+        by_test true = holds_received (same_peer device_address l.link.device) (content_read d.bytes) h l.link.untaken
         by_test false = refl
 
     heard : (d : SentDatagram) (now : ℕ) → IsKept p h g.link.link.untaken n.taken → IsKept p h (hears_datagram d now g.link).link.untaken n.taken
@@ -382,7 +382,7 @@ honest_of p g x (n ∷ ns) own i = by_test (same_peer n.peer p) refl i (honest_o
 
 -- so the response with its reply is read as what it is
 read_sent : WrittenIsReadBack → (p : Peer) (h : ℕ) (x : Execution) (g : Past) → h < 2 ^ 32 → IsHonest p x g →
-    content_of (pdu_encoding (pdu_of (response h x.reply))) ≡ Some (Response (response_to h x.reply) ∷ [])
+    content_read (pdu_encoding (pdu_of (response h x.reply))) ≡ Some (Response (response_to h x.reply) ∷ [])
 read_sent law p h x g low t =
     let small = reply_fits x.objects p x.command h low in
     ap messages_read (read_response law (response_to h x.reply) (rw t.reply small.0) (rw t.reply small.1))
@@ -398,7 +398,7 @@ pub record Arrives (i : ℕ) (c : CommandFields) (l : PeerLink) (m m' : Network)
   pub got : IsKept l.peer c.handle l.link.untaken m.taken → GotItsAnswer i c l.peer m'
 
 arrives : (s i later : ℕ) (m : Network) (x : SentDatagram) (r : ResponseFields) (l : PeerLink) (c : CommandFields) → Sound s (arrived later x m) →
-    slice_get m.links i ≡ Some l → l.link.device ≡ device_address → l.peer ≡ x.peer → content_of x.bytes ≡ Some (Response r ∷ []) → r.handle ≡ c.handle →
+    slice_get m.links i ≡ Some l → l.link.device ≡ device_address → l.peer ≡ x.peer → content_read x.bytes ≡ Some (Response r ∷ []) → r.handle ≡ c.handle →
     IsSubmitted l.peer c m.submitted → Arrives i c l m (arrived later x m)
 arrives s i later m x r l c sound there device peer content handle sub = record { held = holding; got = got }
   where
@@ -406,7 +406,7 @@ arrives s i later m x r l c sound there device peer content handle sub = record 
     m' = arrived later x m
 
     l' : PeerLink
-    l' = record { peer = l.peer; link = received device_address (content_of x.bytes) later l.link }
+    l' = record { peer = l.peer; link = received device_address (content_read x.bytes) later l.link }
 
     there' : slice_get m'.links i ≡ Some l'
     there' =
@@ -418,7 +418,7 @@ arrives s i later m x r l c sound there device peer content handle sub = record 
 
     untaken_is : l'.link.untaken ≡ map (answered c.handle (answer_in r)) l.link.untaken
     untaken_is =
-        ap (λ b. cond b (hears_content (content_of x.bytes) l.link.untaken) l.link.untaken) (same_of device_address l.link.device (sym device))
+        ap (λ b. cond b (hears_content (content_read x.bytes) l.link.untaken) l.link.untaken) (same_of device_address l.link.device (sym device))
         ∙ ap (λ o. hears_content o l.link.untaken) content ∙ ap (λ h. map (answered h (answer_in r)) l.link.untaken) handle
 
     is_its : (a : AnswerFields) → IsTrueAnswer l.peer c.handle a (past m') → IsAnswerTo c l.peer a m'

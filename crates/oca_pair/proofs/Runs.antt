@@ -30,7 +30,7 @@ use Rattle.oca_pair.specs.declared.pair.Transcript.{Transcript}
 use Rattle.oca_pair.specs.declared.start.Start.{Start}
 use Rattle.oca_pair.specs.Networks.{Network, PeerLink, SentDatagram, device_address}
 use Rattle.oca_pair.specs.Premises.{is_of_another_peer, are_apart}
-use Rattle.oca_pair.specs.Steps.{Step, Submit, Due, ToDevice, ToLink, Take, has_link, sendings, with_link, submit_outcome, after_submit, given_by, due_outcome, after_due_step, after_delivery, delivery_outcome, content_of, messages_read, hears_datagram, after_reception, reception_outcomes, reception_outcome, take_outcome, after_take, after_step, after_steps, on_link, outcomes_of, one_later, first_missing}
+use Rattle.oca_pair.specs.Steps.{Step, Submit, Due, ToDevice, ToLink, Take, has_link, sendings_in, with_link, submit_outcome, after_submit, given_by, due_outcome, after_due_step, after_delivery, delivery_outcome, content_read, messages_read, hears_datagram, after_reception, reception_outcomes, reception_outcome, take_outcome, after_take, after_step, after_steps, on_link, outcomes_of, one_later, first_missing}
 use Rattle.oca_pair.proofs.Lists.{same_self}
 use Rattle.oca_pair.specs.Transcripts.{IsTranscript}
 use Rattle.oca_pair.specs.PrivateRunning.{AreOfLinks, Shows, Took, is_of_peer, heard, first_heard}
@@ -41,7 +41,7 @@ are_bytes : (bytes : List ℕ) → ((i : ℕ) → get_or bytes i 0 < 256) → Ar
 are_bytes [] fits = tt
 are_bytes (b ∷ bytes) fits = (fits 0, are_bytes bytes (λ i. fits (suc i)))
 
-pub content_is : ReadingIsExact → (bytes : List ℕ) → ((i : ℕ) → get_or bytes i 0 < 256) → IsContent (content_of bytes) bytes
+pub content_is : ReadingIsExact → (bytes : List ℕ) → ((i : ℕ) → get_or bytes i 0 < 256) → IsContent (content_read bytes) bytes
 content_is law bytes fits = by (read_datagram bytes) refl
   where
     exact : ReadsExactly bytes
@@ -106,15 +106,15 @@ pub one_answers : (d : SentDatagram) (links : List PeerLink) (r : Reception) →
 one_answers d [] r e = cc
 one_answers d (l ∷ links) r e = by_test (one_answers d links r) (same_peer l.peer d.peer) e
   where
-    by_test : (first_heard d links ≡ Some r → reception_outcomes d links ≡ outcomes.Link r ∷ []) → (b : Bool) → option_or (if b then Some (reception device_address (content_of d.bytes) l.link) else None) (first_heard d links) ≡ Some r → (if b then outcomes.Link (reception device_address (content_of d.bytes) l.link) ∷ [] else reception_outcomes d links) ≡ outcomes.Link r ∷ []
-    by_test later true e = let same : reception device_address (content_of d.bytes) l.link ≡ r = cc in ap (λ (x : Reception). outcomes.Link x ∷ []) same
+    by_test : (first_heard d links ≡ Some r → reception_outcomes d links ≡ outcomes.Link r ∷ []) → (b : Bool) → option_or (if b then Some (reception device_address (content_read d.bytes) l.link) else None) (first_heard d links) ≡ Some r → (if b then outcomes.Link (reception device_address (content_read d.bytes) l.link) ∷ [] else reception_outcomes d links) ≡ outcomes.Link r ∷ []
+    by_test later true e = let same : reception device_address (content_read d.bytes) l.link ≡ r = cc in ap (λ (x : Reception). outcomes.Link x ∷ []) same
     by_test later false e = later e
 
 pub none_answers : (d : SentDatagram) (links : List PeerLink) → first_heard d links ≡ None → has_link d.peer links ≡ false
 none_answers d [] e = refl
 none_answers d (l ∷ links) e = by_test (none_answers d links) (same_peer l.peer d.peer) e
   where
-    by_test : (first_heard d links ≡ None → has_link d.peer links ≡ false) → (b : Bool) → option_or (if b then Some (reception device_address (content_of d.bytes) l.link) else None) (first_heard d links) ≡ None → (b || has_link d.peer links) ≡ false
+    by_test : (first_heard d links ≡ None → has_link d.peer links ≡ false) → (b : Bool) → option_or (if b then Some (reception device_address (content_read d.bytes) l.link) else None) (first_heard d links) ≡ None → (b || has_link d.peer links) ≡ false
     by_test later true e = cc
     by_test later false e = later e
 
@@ -130,7 +130,7 @@ pub hearing_links : (d : SentDatagram) (now : ℕ) (links : List PeerLink) (p : 
 hearing_links d now [] p = refl
 hearing_links d now (l ∷ links) p = ap (λ (b : Bool). b || has_link p (map (hears_datagram d now) links)) (by_test (same_peer l.peer d.peer)) ∙ ap (λ (b : Bool). same_peer l.peer p || b) (hearing_links d now links p)
   where
-    by_test : (b : Bool) → (let x : PeerLink = if b then record { peer = l.peer; link = received device_address (content_of d.bytes) now l.link } else l in same_peer x.peer p) ≡ same_peer l.peer p
+    by_test : (b : Bool) → (let x : PeerLink = if b then record { peer = l.peer; link = received device_address (content_read d.bytes) now l.link } else l in same_peer x.peer p) ≡ same_peer l.peer p
     by_test true = refl
     by_test false = refl
 
@@ -142,7 +142,7 @@ pub of_links_more : (links : List PeerLink) (xs ys : List SentDatagram) → AreO
 of_links_more links [] ys a b = b
 of_links_more links (d ∷ xs) ys a b = (a.0, of_links_more links xs ys a.1 b)
 
-pub sendings_of_links : (links : List PeerLink) (p : Peer) (packets : List (List ℕ)) → has_link p links ≡ true → AreOfLinks links (sendings p packets)
+pub sendings_of_links : (links : List PeerLink) (p : Peer) (packets : List (List ℕ)) → has_link p links ≡ true → AreOfLinks links (sendings_in p packets)
 sendings_of_links links p [] h = tt
 sendings_of_links links p (b ∷ packets) h = (h, sendings_of_links links p packets h)
 
@@ -226,7 +226,7 @@ one_of l (x ∷ xs) (suc i) e = later (same_peer x.peer l.peer) (has_link l.peer
 -- what `due` did: the outcome, and the datagrams that were sent
 pub took_due : (old new : Running) (n : Network) (i now : ℕ) (l : PeerLink) (o : Outcome) → Shows old n → slice_get old.links.items i ≡ Some l →
     due_outcome (length old.to_device.items) (decision now l.link) ≡ o →
-    new.device ≡ old.device → new.to_links.items ≡ old.to_links.items → new.to_device.items ≡ old.to_device.items ++ sendings l.peer (given_by (decision now l.link)) →
+    new.device ≡ old.device → new.to_links.items ≡ old.to_links.items → new.to_device.items ≡ old.to_device.items ++ sendings_in l.peer (given_by (decision now l.link)) →
     new.links.items ≡ slice_set old.links.items i (record { peer = l.peer; link = gone_on now l.link }) → Took (Ok o) (Due i now) n new
 took_due old new n i now l o h at is device to_links to_device set =
     let at' : slice_get n.links i ≡ Some l = there old n i l h at in
@@ -238,10 +238,10 @@ took_due old new n i now l o h at is device to_links to_device set =
       subst (λ (x : Option PeerLink). Shows new (after_due_step i now x n)) (sym at') (record {
         device = subst (λ d. Represents n.sizes d n.tree n.events) (sym device) h.device;
         links = set ∙ ap (λ (xs : List PeerLink). with_link i l (gone_on now l.link) xs) h.links;
-        to_device = to_device ∙ ap (λ (xs : List SentDatagram). xs ++ sendings l.peer given) h.to_device;
+        to_device = to_device ∙ ap (λ (xs : List SentDatagram). xs ++ sendings_in l.peer given) h.to_device;
         to_links = to_links ∙ h.to_links;
-        sent = of_links_kept n.links (with_link i l (gone_on now l.link) n.links) (n.to_device ++ sendings l.peer given) kept
-            (of_links_more n.links n.to_device (sendings l.peer given) h.sent (sendings_of_links n.links l.peer given (one_of l n.links i at')));
+        sent = of_links_kept n.links (with_link i l (gone_on now l.link) n.links) (n.to_device ++ sendings_in l.peer given) kept
+            (of_links_more n.links n.to_device (sendings_in l.peer given) h.sent (sendings_of_links n.links l.peer given (one_of l n.links i at')));
         answered = of_links_kept n.links (with_link i l (gone_on now l.link) n.links) n.to_links kept h.answered;
       }),
     )
@@ -253,19 +253,19 @@ pub took_sent : (old new : Running) (n : Network) (i now : ℕ) (l : PeerLink) (
 took_sent old new n i now l number p bytes h at count owner given device to_links to_device set =
     took_due old new n i now l (outcomes.Sent number) h at
     (sent_outcome (length old.to_device.items) (decision now l.link) bytes given ∙ ap (λ (k : ℕ). outcomes.Sent k) (sym count))
-    device to_links (to_device ∙ ap (λ (x : Peer). old.to_device.items ++ sendings x (bytes ∷ [])) owner ∙ ap (λ (xs : List (List ℕ)). old.to_device.items ++ sendings l.peer xs) (sym given)) set
+    device to_links (to_device ∙ ap (λ (x : Peer). old.to_device.items ++ sendings_in x (bytes ∷ [])) owner ∙ ap (λ (xs : List (List ℕ)). old.to_device.items ++ sendings_in l.peer xs) (sym given)) set
 
 pub took_nothing : (old new : Running) (n : Network) (i now : ℕ) (l : PeerLink) → Shows old n → slice_get old.links.items i ≡ Some l → decision now l.link ≡ GivesNothing → Relinked old new →
     new.links.items ≡ slice_set old.links.items i (record { peer = l.peer; link = gone_on now l.link }) → Took (Ok outcomes.Nothing) (Due i now) n new
 took_nothing old new n i now l h at is same set =
     took_due old new n i now l outcomes.Nothing h at (ap (λ (d : Decision). due_outcome (length old.to_device.items) d) is) same.device same.to_links
-    (same.to_device ∙ sym (append-nil old.to_device.items) ∙ ap (λ (d : Decision). old.to_device.items ++ sendings l.peer (given_by d)) (sym is)) set
+    (same.to_device ∙ sym (append-nil old.to_device.items) ∙ ap (λ (d : Decision). old.to_device.items ++ sendings_in l.peer (given_by d)) (sym is)) set
 
 pub took_lost : (old new : Running) (n : Network) (i now : ℕ) (l : PeerLink) → Shows old n → slice_get old.links.items i ≡ Some l → decision now l.link ≡ IsLost → Relinked old new →
     new.links.items ≡ slice_set old.links.items i (record { peer = l.peer; link = gone_on now l.link }) → Took (Ok outcomes.Lost) (Due i now) n new
 took_lost old new n i now l h at is same set =
     took_due old new n i now l outcomes.Lost h at (ap (λ (d : Decision). due_outcome (length old.to_device.items) d) is) same.device same.to_links
-    (same.to_device ∙ sym (append-nil old.to_device.items) ∙ ap (λ (d : Decision). old.to_device.items ++ sendings l.peer (given_by d)) (sym is)) set
+    (same.to_device ∙ sym (append-nil old.to_device.items) ∙ ap (λ (d : Decision). old.to_device.items ++ sendings_in l.peer (given_by d)) (sym is)) set
 
 -- ---- deliveries
 
@@ -274,7 +274,7 @@ pub took_to_device : (old new : Running) (n : Network) (k now : ℕ) (d : SentDa
     ((w : DeviceSizes) (T : List Object) (E : List Event) → Represents w old.device T E → Represents w new.device T (Datagram p bytes now ∷ E)) →
     ((w : DeviceSizes) (T : List Object) (E : List Event) → Represents w old.device T E → answers ≡ packets w T E (Datagram p bytes now)) →
     ((w : DeviceSizes) (T : List Object) (E : List Event) → Represents w old.device T E → v ≡ verdict w T E p bytes now) →
-    new.links.items ≡ old.links.items → new.to_device.items ≡ old.to_device.items → new.to_links.items ≡ old.to_links.items ++ sendings p answers →
+    new.links.items ≡ old.links.items → new.to_device.items ≡ old.to_device.items → new.to_links.items ≡ old.to_links.items ++ sendings_in p answers →
     Took (Ok (outcomes.Device v)) (ToDevice k now) n new
 took_to_device old new n k now d p bytes v answers h at owner content represents answered told links to_device to_links =
     let x : SentDatagram = record { peer = p; bytes = bytes } in
@@ -288,9 +288,9 @@ took_to_device old new n k now d p bytes v answers h at owner content represents
         device = represents n.sizes n.tree n.events h.device;
         links = links ∙ h.links;
         to_device = to_device ∙ h.to_device;
-        to_links = to_links ∙ ap (λ (xs : List SentDatagram). xs ++ sendings p answers) h.to_links ∙ ap (λ (xs : List (List ℕ)). n.to_links ++ sendings p xs) are;
+        to_links = to_links ∙ ap (λ (xs : List SentDatagram). xs ++ sendings_in p answers) h.to_links ∙ ap (λ (xs : List (List ℕ)). n.to_links ++ sendings_in p xs) are;
         sent = h.sent;
-        answered = of_links_more n.links n.to_links (sendings p all) h.answered (sendings_of_links n.links p all (of_a_link n.links n.to_device k x h.sent at'));
+        answered = of_links_more n.links n.to_links (sendings_in p all) h.answered (sendings_of_links n.links p all (of_a_link n.links n.to_device k x h.sent at'));
       }),
     )
 
@@ -321,20 +321,20 @@ no_deaf old n k d p bytes h at owner content silent =
 -- ---- packets that are sent back
 
 pub sent_next : (p : Peer) (packets : List (List ℕ)) (i : ℕ) (bytes : List ℕ) (before now later : List SentDatagram) → Some bytes ≡ slice_get packets i →
-    now ≡ before ++ sendings p (take i packets) → later ≡ now ++ (record { peer = p; bytes = bytes }) ∷ [] → later ≡ before ++ sendings p (take (i + 1) packets)
+    now ≡ before ++ sendings_in p (take i packets) → later ≡ now ++ (record { peer = p; bytes = bytes }) ∷ [] → later ≡ before ++ sendings_in p (take (i + 1) packets)
 sent_next p packets i bytes before now later at is more =
-    let one : sendings p (take (i + 1) packets) ≡ sendings p (take i packets) ++ (record { peer = p; bytes = bytes }) ∷ [] = next packets i (sym at) in
+    let one : sendings_in p (take (i + 1) packets) ≡ sendings_in p (take i packets) ++ (record { peer = p; bytes = bytes }) ∷ [] = next packets i (sym at) in
     more ∙ ap (λ (xs : List SentDatagram). xs ++ (record { peer = p; bytes = bytes }) ∷ []) is
-    ∙ append_assoc before (sendings p (take i packets)) ((record { peer = p; bytes = bytes }) ∷ []) ∙ ap (λ (xs : List SentDatagram). before ++ xs) (sym one)
+    ∙ append_assoc before (sendings_in p (take i packets)) ((record { peer = p; bytes = bytes }) ∷ []) ∙ ap (λ (xs : List SentDatagram). before ++ xs) (sym one)
   where
-    next : (packets : List (List ℕ)) (i : ℕ) → slice_get packets i ≡ Some bytes → sendings p (take (i + 1) packets) ≡ sendings p (take i packets) ++ (record { peer = p; bytes = bytes }) ∷ []
+    next : (packets : List (List ℕ)) (i : ℕ) → slice_get packets i ≡ Some bytes → sendings_in p (take (i + 1) packets) ≡ sendings_in p (take i packets) ++ (record { peer = p; bytes = bytes }) ∷ []
     next [] i e = cc
     next (x ∷ xs) zero e = let same : x ≡ bytes = cc in ap (λ (b : List ℕ). let y : SentDatagram = record { peer = p; bytes = b } in y ∷ []) same
     next (x ∷ xs) (suc i) e = rest (next xs i e)
       where
-        rest : sendings p (take (i + 1) xs) ≡ sendings p (take i xs) ++ (record { peer = p; bytes = bytes }) ∷ [] → sendings p (take (suc i + 1) (x ∷ xs)) ≡ sendings p (take (suc i) (x ∷ xs)) ++ (record { peer = p; bytes = bytes }) ∷ []
+        rest : sendings_in p (take (i + 1) xs) ≡ sendings_in p (take i xs) ++ (record { peer = p; bytes = bytes }) ∷ [] → sendings_in p (take (suc i + 1) (x ∷ xs)) ≡ sendings_in p (take (suc i) (x ∷ xs)) ++ (record { peer = p; bytes = bytes }) ∷ []
         rest e = let step : suc i + 1 ≡ suc (i + 1) = omega arith in
-            ap (λ (k : ℕ). sendings p (take k (x ∷ xs))) step ∙ ap (λ (ys : List SentDatagram). (record { peer = p; bytes = x }) ∷ ys) e
+            ap (λ (k : ℕ). sendings_in p (take k (x ∷ xs))) step ∙ ap (λ (ys : List SentDatagram). (record { peer = p; bytes = x }) ∷ ys) e
 
 -- ---- starts
 

@@ -19,7 +19,8 @@ use Rattle.oca_control.specs.Answering.{IsAskedEvery, IsGivenOutInTime}
 use Rattle.oca_pair.specs.declared.outcome.Outcome.TheVariants as outcomes
 use Rattle.oca_pair.specs.declared.start.Start.{Start}
 use Rattle.oca_pair.specs.Networks.{Network, PeerLink, SentDatagram, device_address, opening}
-use Rattle.oca_pair.specs.Steps.{Step, Submit, Due, ToDevice, ToLink, Other, Tick, Local, Take, content_of, after_step}
+use Rattle.oca_pair.specs.Steps.{Step, Submit, Due, ToDevice, ToLink, Other, Tick, Local, Take, content_read}
+use Rattle.oca_pair.specs.Steps.{after_step}
 use Rattle.oca_pair.specs.Steps.{after_steps, outcome_of}
 use Rattle.oca_pair.specs.Premises.{are_apart, StepFits, Fit, KeepsItsSession, FindsRoom}
 use Rattle.oca_pair.specs.RoundTrip.{GotItsAnswer, asked, ComesBack}
@@ -35,7 +36,7 @@ called call None = []
 -- the link receives a datagram that is for its peer
 abbrev pub received_from : ℕ → SentDatagram → PeerLink → List Call
 received_from now d l =
-    let content : Option (List Msg) = content_of d.bytes in
+    let content : Option (List Msg) = content_read d.bytes in
     if same_peer l.peer d.peer
     then Receives device_address d.bytes content now (reception device_address content l.link) ∷ []
     else []

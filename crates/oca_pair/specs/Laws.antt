@@ -42,17 +42,17 @@ abbrev pub execution_of : List Object → Peer → CommandFields → Execution
 execution_of tree p c = record { objects = tree; command = c; reply = reply_of tree p c }
 
 -- the executions for a peer among changes of these objects, the latest first
-abbrev pub executions : Peer → List Object → List Change → List Execution
-executions p tree [] = []
-executions p tree (Releases q ∷ more) = executions p (released tree q) more
-executions p tree (Sets ono value ∷ more) = executions p (after_set tree ono value) more
-executions p tree (Executes q c ∷ more) =
-    executions p (execution tree q c).tree more
+abbrev pub executions_in : Peer → List Object → List Change → List Execution
+executions_in p tree [] = []
+executions_in p tree (Releases q ∷ more) = executions_in p (released tree q) more
+executions_in p tree (Sets ono value ∷ more) = executions_in p (after_set tree ono value) more
+executions_in p tree (Executes q c ∷ more) =
+    executions_in p (execution tree q c).tree more
     ++ (if same_peer q p then execution_of tree q c ∷ [] else [])
 
 -- THE EXECUTIONS for a peer by what happened to the device, the latest first.
 abbrev pub executions_for : Peer → Network → List Execution
-executions_for p n = executions p n.tree (changes n.sizes (happenings n.events))
+executions_for p n = executions_in p n.tree (changes n.sizes (happenings n.events))
 
 -- those of the commands under a handle
 abbrev pub executions_under : ℕ → List Execution → List Execution

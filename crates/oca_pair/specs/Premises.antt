@@ -1,4 +1,4 @@
--- WHAT THE LAWS ASK of a schedule (profile), said by the steps and by the datagrams that came to the device.
+-- WHAT THE LAWS ASK of a schedule (profile), by the steps and by the datagrams that came to the device.
 use Rattle.std.specs.Prelude.{◌≡◌, ℕ, ◌-◌, ◌<◌, ◌≤◌, ◌^◌, Bool, true, not, ◌&&◌, List, [], ◌∷◌, filter, length}
 use Rattle.std.specs.List.{list_any, list_all, AllByRecursion}
 use Rattle.oca_types.specs.declared.words.Peer.{Peer}
@@ -61,14 +61,14 @@ FindsRoom p now n =
     has_room n.sizes (clock came) p (admitted n.sizes came) ≡ true
 
 -- ---- few peers speak
-abbrev pub is_among : List Peer → Peer → Bool
-is_among peers p = list_any (λ q. same_peer q p) peers
+abbrev pub is_among_peers : List Peer → Peer → Bool
+is_among_peers peers p = list_any (λ q. same_peer q p) peers
 
 -- Each well-formed datagram of the 120,000 ms before t came from one of these peers.
 abbrev pub SpeakLately : List Peer → ℕ → List Happening → Type 0
 SpeakLately peers t [] = Unit {0}
 SpeakLately peers t (Says p messages ∷ before) =
-    (t - clock before ≤ longest_silence → is_among peers p ≡ true) × SpeakLately peers t before
+    (t - clock before ≤ longest_silence → is_among_peers peers p ≡ true) × SpeakLately peers t before
 SpeakLately peers t (Passes now ∷ before) = SpeakLately peers t before
 SpeakLately peers t (Sets ono value ∷ before) = SpeakLately peers t before
 
@@ -77,5 +77,5 @@ SpeakLately peers t (Sets ono value ∷ before) = SpeakLately peers t before
 abbrev pub FewFindRoom : Type 0
 FewFindRoom =
     (w : DeviceSizes) (H : List Happening) (peers : List Peer) (p : Peer) →
-    length peers ≤ w.peers → SpeakLately peers (clock H) H → is_among peers p ≡ true →
+    length peers ≤ w.peers → SpeakLately peers (clock H) H → is_among_peers peers p ≡ true →
     has_room w (clock H) p (admitted w H) ≡ true

@@ -15,7 +15,7 @@ use Rattle.oca_pair.specs.declared.running.Running.{Running}
 use Rattle.oca_pair.specs.declared.running.StepFault.{StepFault}
 use Rattle.oca_pair.specs.declared.running.StepFault.TheVariants as faults
 use Rattle.oca_pair.specs.Networks.{Network, PeerLink, SentDatagram, device_address}
-use Rattle.oca_pair.specs.Steps.{Step, has_link, is_there, after_step, outcome_of, given_by, content_of}
+use Rattle.oca_pair.specs.Steps.{Step, has_link, is_there, after_step, outcome_of, given_by, content_read}
 
 -- each datagram is of the peer of a link
 abbrev pub AreOfLinks : List PeerLink → List SentDatagram → Type 0
@@ -49,7 +49,7 @@ is_of_peer p x = same_peer x.peer p
 
 -- what a link answers to a datagram, where it is for the link's peer
 abbrev pub heard : SentDatagram → PeerLink → Option Reception
-heard d l = if same_peer l.peer d.peer then Some (reception device_address (content_of d.bytes) l.link) else None
+heard d l = if same_peer l.peer d.peer then Some (reception device_address (content_read d.bytes) l.link) else None
 
 -- the answer of the first link of the datagram's peer
 abbrev pub first_heard : SentDatagram → List PeerLink → Option Reception

@@ -60,8 +60,8 @@ is_there (Local ono value) n = true
 is_there (Take link handle) n = is_some (slice_get n.links link)
 
 -- the datagrams of a peer with these bytes
-abbrev pub sendings : Peer → List (List ℕ) → List SentDatagram
-sendings p packets = map (λ bytes. record { peer = p; bytes = bytes }) packets
+abbrev pub sendings_in : Peer → List (List ℕ) → List SentDatagram
+sendings_in p packets = map (λ bytes. record { peer = p; bytes = bytes }) packets
 
 -- the links where the one of this number is in this state
 abbrev pub with_link : ℕ → PeerLink → LinkState → List PeerLink → List PeerLink
@@ -94,7 +94,7 @@ abbrev pub after_due_step : ℕ → ℕ → Option PeerLink → Network → Netw
 after_due_step i now None n = n
 after_due_step i now (Some l) n = record n {
   links = with_link i l (gone_on now l.link) n.links;
-  to_device = n.to_device ++ sendings l.peer (given_by (decision now l.link));
+  to_device = n.to_device ++ sendings_in l.peer (given_by (decision now l.link));
 }
 
 abbrev pub due_outcome : ℕ → Decision → Outcome
@@ -108,7 +108,7 @@ abbrev pub after_delivery : ℕ → Option SentDatagram → Network → Network
 after_delivery now None n = n
 after_delivery now (Some d) n = record n {
   events = Datagram d.peer d.bytes now ∷ n.events;
-  to_links = n.to_links ++ sendings d.peer (packets n.sizes n.tree n.events (Datagram d.peer d.bytes now));
+  to_links = n.to_links ++ sendings_in d.peer (packets n.sizes n.tree n.events (Datagram d.peer d.bytes now));
 }
 
 -- ---- TO LINK: the datagram comes to the link that its peer names, from the device's address
@@ -117,14 +117,14 @@ abbrev pub messages_read : Result (List Msg) PduFault → Option (List Msg)
 messages_read (Ok messages) = Some messages
 messages_read (Err fault) = None
 
-abbrev pub content_of : List ℕ → Option (List Msg)
-content_of bytes = messages_read (read_datagram bytes)
+abbrev pub content_read : List ℕ → Option (List Msg)
+content_read bytes = messages_read (read_datagram bytes)
 
 abbrev pub hears_datagram : SentDatagram → ℕ → PeerLink → PeerLink
 hears_datagram d now l =
     if same_peer l.peer d.peer then record {
       peer = l.peer;
-      link = received device_address (content_of d.bytes) now l.link;
+      link = received device_address (content_read d.bytes) now l.link;
     } else l
 
 abbrev pub after_reception : ℕ → Option SentDatagram → Network → Network
@@ -134,7 +134,7 @@ after_reception now (Some d) n = record n { links = map (hears_datagram d now) n
 abbrev pub reception_outcomes : SentDatagram → List PeerLink → List Outcome
 reception_outcomes d [] = []
 reception_outcomes d (l ∷ links) =
-    if same_peer l.peer d.peer then outcomes.Link (reception device_address (content_of d.bytes) l.link) ∷ []
+    if same_peer l.peer d.peer then outcomes.Link (reception device_address (content_read d.bytes) l.link) ∷ []
     else reception_outcomes d links
 
 -- ---- TAKE: the answer is taken from the link, where it has one

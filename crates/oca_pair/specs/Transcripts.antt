@@ -54,7 +54,7 @@ RunsSchedule result sizes span tree starts steps =
     IsRunOf result starts (map step_of steps) (opening sizes span tree starts)
 
 -- the number of a fault
-abbrev pub fault_number : PairFault → ℕ
-fault_number faults.NoMemory = 1
-fault_number (faults.BadStep k) = 2
-fault_number faults.SamePeer = 3
+abbrev pub pair_fault_number : PairFault → ℕ
+pair_fault_number faults.NoMemory = 1
+pair_fault_number (faults.BadStep k) = 2
+pair_fault_number faults.SamePeer = 3

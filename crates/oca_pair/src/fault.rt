@@ -1,6 +1,6 @@
 //! Why a schedule does not run.
 ghost use Rattle.std.specs.Prelude.{◌≡◌};
-ghost use Rattle.oca_pair.specs.Transcripts.{fault_number};
+ghost use Rattle.oca_pair.specs.Transcripts.{pair_fault_number};
 
 use std::error::Error;
 use std::fmt;
@@ -20,7 +20,7 @@ pub enum PairFault {
 impl PairFault {
     /// The number of the fault.
     pub fn number(&self) -> u8
-        ensures { result ≡ fault_number self.now }
+        ensures { result ≡ pair_fault_number self.now }
     {
         match self {
             PairFault::NoMemory => 1,

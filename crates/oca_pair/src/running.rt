@@ -6,7 +6,7 @@ ghost use Rattle.oca_control.specs.Links.{taken};
 ghost use Rattle.oca_control.specs.Untaken.{answer_under};
 ghost use Rattle.oca_pair.specs.Networks.{Network, SentDatagram, started, opening, device_address};
 ghost use Rattle.oca_pair.specs.Steps.{Submit, Due as DueStep, ToDevice, ToLink, Other, Tick as TickStep, Local, Take};
-ghost use Rattle.oca_pair.specs.Steps.{sendings, hears_datagram, submit_outcome, content_of, take_outcome};
+ghost use Rattle.oca_pair.specs.Steps.{sendings_in, hears_datagram, submit_outcome, content_read, take_outcome};
 ghost use Rattle.oca_pair.specs.PrivateRunning.{first_heard};
 
 use crate::given::Given;
@@ -104,9 +104,12 @@ impl PeerLink {
 
     /// Takes a datagram of the device in.
     fn datagram(&mut self, bytes: &[u8], now: u64) -> Reception
-        ensures answer { result ≡ reception device_address (content_of bytes.now) self.old.link }
+        ensures answer { result ≡ reception device_address (content_read bytes.now) self.old.link }
         ensures link { self.new
-            ≡ record { peer = self.old.peer; link = received device_address (content_of bytes.now) now self.old.link } }
+            ≡ record {
+              peer = self.old.peer;
+              link = received device_address (content_read bytes.now) now self.old.link;
+            } }
     {
         law_reading();
         self.link.datagram(DEVICE, bytes, now)
@@ -371,7 +374,7 @@ fn add(list: &mut Vec<Sent>, sent: Sent) -> Result<(), NoMemory>
     }
 }
 
-/// Each link of the peer hears the datagram, and the first one's answer is told.
+/// Each link of the peer hears the datagram, and the first one's answer is noted.
 fn hear(links: &mut Vec<PeerLink>, peer: Peer, bytes: &[u8], now: u64) -> Option<Reception>
     ensures links { let d : SentDatagram = record { peer = peer; bytes = bytes.now } in
         links.new.items ≡ map (hears_datagram d now) links.old.items }
@@ -388,7 +391,7 @@ fn hear(links: &mut Vec<PeerLink>, peer: Peer, bytes: &[u8], now: u64) -> Option
 
 /// Sends all packets of the outbox to the link of a peer.
 fn send_back(outbox: &Outbox, peer: Peer, to_links: &mut Vec<Sent>) -> Result<(), NoMemory>
-    ensures { IfOk result (λ u. to_links.new.items ≡ to_links.old.items ++ sendings peer outbox.now) }
+    ensures { IfOk result (λ u. to_links.new.items ≡ to_links.old.items ++ sendings_in peer outbox.now) }
 {
     for i in 0..outbox.len() {
         match outbox.get(i) {

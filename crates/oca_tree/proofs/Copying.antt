@@ -156,7 +156,7 @@ clash e = cc
 no_switch : (c : Class) → is_switch c ≡ false → c ≡ class.Switch → ⊥
 no_switch c other e = clash (ap is_switch (sym e) ∙ other)
 
--- what tells the same is the same value, with the flags of the other
+-- what has the same class, setting and names is the same value, with the flags of the other
 plainly : (v w : Value) → is_switch (class_of w) ≡ false → class_of v ≡ class_of w → value_setting v ≡ value_setting w → names_in v ≡ names_in w → v ≡ w
 plainly v w other e f g =
     sym (itself v) ∙ same_again (class_of v) (class_of w) (value_setting v) (value_setting w) (names_in v) (names_in w) (flags_in v) e f g

@@ -1,6 +1,6 @@
 use Rattle.std.proofs.Common.{◌≡◌, ◌++◌, take}
-use Rattle.oca_pair.specs.Steps.{sendings}
+use Rattle.oca_pair.specs.Steps.{sendings_in}
 use Rattle.oca_pair.proofs.running.send_back.Given as goal
 
 abbrev pub invariant-loop-i : goal.invariant-loop-i
-invariant-loop-i l = l.to_links.items ≡ l.fn.to_links.items ++ sendings l.peer (take l.i l.outbox)
+invariant-loop-i l = l.to_links.items ≡ l.fn.to_links.items ++ sendings_in l.peer (take l.i l.outbox)

@@ -1,17 +1,17 @@
 use Rattle.std.proofs.Common.{arith, ap, ◌∙◌}
 use Rattle.oca_control.specs.Links.{LinkState, reception, received}
 use Rattle.oca_pair.specs.Networks.{PeerLink, device_address}
-use Rattle.oca_pair.specs.Steps.{content_of}
+use Rattle.oca_pair.specs.Steps.{content_read}
 use Rattle.oca_pair.proofs.Runs.{content_is}
 use Rattle.oca_pair.proofs.running.PeerLink.datagram.Goals as goal
 
 pub returns-clause-answer : goal.returns-clause-answer
 returns-clause-answer c =
-    c.datagram.ensures.answer (content_of c.args.bytes.now) (content_is c.law_reading.ensures c.args.bytes.now (λ i. omega (arith, c.type_inv.bytes i)))
-    ∙ ap (λ (x : PeerLink). reception device_address (content_of c.args.bytes.now) x.link) c.self.view_is
+    c.datagram.ensures.answer (content_read c.args.bytes.now) (content_is c.law_reading.ensures c.args.bytes.now (λ i. omega (arith, c.type_inv.bytes i)))
+    ∙ ap (λ (x : PeerLink). reception device_address (content_read c.args.bytes.now) x.link) c.self.view_is
 
 pub returns-clause-link : goal.returns-clause-link
 returns-clause-link c =
     ap (λ (l : LinkState). let x : PeerLink = record { peer = c.self.inside.peer; link = l } in x)
-    (c.datagram.ensures.link (content_of c.args.bytes.now) (content_is c.law_reading.ensures c.args.bytes.now (λ i. omega (arith, c.type_inv.bytes i))))
-    ∙ ap (λ (x : PeerLink). let y : PeerLink = record { peer = x.peer; link = received device_address (content_of c.args.bytes.now) c.args.now x.link } in y) c.self.view_is
+    (c.datagram.ensures.link (content_read c.args.bytes.now) (content_is c.law_reading.ensures c.args.bytes.now (λ i. omega (arith, c.type_inv.bytes i))))
+    ∙ ap (λ (x : PeerLink). let y : PeerLink = record { peer = x.peer; link = received device_address (content_read c.args.bytes.now) c.args.now x.link } in y) c.self.view_is
