@@ -10,7 +10,7 @@ use Rattle.oca_script.specs.declared.fault.ReplayFault.TheVariants as replays
 use Rattle.oca_script.specs.Faults.{fault_word}
 use Rattle.oca_textree.specs.declared.fault.TreeFault.{TreeFault}
 use Rattle.oca_textree.specs.declared.fault.TreeFault.TheVariants as trees
-use Rattle.oca_textree.specs.Faults.{fault_word as object_word}
+use Rattle.oca_textree.specs.Faults.{object_fault_word as object_word}
 use Rattle.oca_script.specs.Fields.{split_at}
 use Rattle.oca_program.specs.declared.fault.RunFault.{RunFault}
 use Rattle.oca_program.specs.declared.fault.RunFault.TheVariants.{BadWords, Line, Object, NoMemory, Read, Write, TooMuch, Socket}

@@ -22,10 +22,12 @@ use Rattle.std.specs.Option.{option_map}
 
 -- ---- words: no space, no quote and no control character
 
+-- no space, no quote and no control character: a field as it stands
 abbrev pub Word : List ℕ → Type 0
 Word [] = Unit {0}
 Word (b ∷ bs) = (35 ≤ b) × Word bs
 
+-- two words in a row are a word
 pub word-append : (xs ys : List ℕ) → Word xs → Word ys → Word (xs ++ ys)
 word-append [] ys h k = k
 word-append (x ∷ xs) ys h k = (h.0, word-append xs ys h.1 k)
@@ -102,9 +104,11 @@ digit-more n ds h d =
 digits-of : (n : ℕ) → n < 2 ^ 64 → Digits n (decimal n)
 digits-of n h = decimal_by_steps Digits digit-one digit-more n h
 
+-- a decimal number is a word
 pub word-decimal : (n : ℕ) → n < 2 ^ 64 → Word (decimal n)
 word-decimal n h = numeric-word (decimal n) (digits-of n h).digits
 
+-- a decimal number that is small enough is read back
 pub number-decimal : (most largest n : ℕ) → n < 2 ^ 64 → n ≤ largest → length (decimal n) ≤ most → number_of most largest (decimal n) ≡ Some n
 unfolding number_of at_most
 number-decimal most largest n h small few =
@@ -114,6 +118,7 @@ number-decimal most largest n h small few =
     let bounded : nat_le n largest ≡ true = grind (arith, nat_tests, small) in
     rw (counted, value, bounded) refl
 
+-- an object's number is read back
 pub ono-decimal : (n : ℕ) → n < 2 ^ 32 → ono_of (decimal n) ≡ Some n
 ono-decimal n h = number-decimal 10 4294967295 n (omega arith) (omega arith) (length-decimal-le 10 n (omega arith) (omega arith) (omega arith))
 
@@ -140,10 +145,12 @@ signed-back (negsuc k) h =
     let small : suc k < 2 ^ 64 = omega (arith, ints, above) in
     ap (option_map (λ n. neg_ℤ (pos n))) (number-64 (suc k) small)
 
+-- an integer is a word
 pub word-signed : (z : ℤ) → IsInteger z → Word (signed_decimal z)
 word-signed (pos n) h = let below = h.below in word-decimal n (omega (arith, ints, below))
 word-signed (negsuc k) h = let above = h.above in (omega arith, word-decimal (suc k) (omega (arith, ints, above)))
 
+-- an integer within its limits is read back
 pub integer-back : (low high z : ℤ) → IsInteger z → low ≤ℤ z → z ≤ℤ high → integer_of low high (signed_decimal z) ≡ Some z
 unfolding integer_of
 integer-back low high z h a b =
@@ -154,12 +161,14 @@ integer-back low high z h a b =
 
 -- ---- texts in quotes
 
+-- a text in quotes is the next field
 pub field-quoted : (t rest : List ℕ) → Free 34 t → field_at (Some ((34 ∷ t ++ 34 ∷ []) ++ 32 ∷ rest)) ≡ Ok (t, Some rest)
 unfolding field_at
 field-quoted t rest free =
     let found : split_at 34 ((t ++ 34 ∷ []) ++ 32 ∷ rest) ≡ Some (t, 32 ∷ rest) = ap (split_at 34) (append_assoc t (34 ∷ []) (32 ∷ rest)) ∙ free-after 34 t (32 ∷ rest) free in
     rw found refl
 
+-- a text in quotes is the last field
 pub field-quoted-last : (t : List ℕ) → Free 34 t → field_at (Some (34 ∷ t ++ 34 ∷ [])) ≡ Ok (t, None)
 unfolding field_at
 field-quoted-last t free =
@@ -177,6 +186,7 @@ pub digits-word : (ds : List ℕ) → Digits16 ds → Word ds
 digits-word [] h = tt
 digits-word (d ∷ ds) h = let big = h.0 in (omega (arith, big), digits-word ds h.1)
 
+-- no byte below the digits stands in hexadecimal digits
 pub digits-free : (s : ℕ) (ds : List ℕ) → s < 45 → Digits16 ds → Free s ds
 digits-free s [] low h = tt
 digits-free s (b ∷ bs) low h =
@@ -211,10 +221,12 @@ pairs-digits i (h ∷ l ∷ rest) bytes e =
     let s = both (decode_pairs (i + 2) rest) (λ (more : List ℕ). Ok (p.0 ∷ more)) bytes p.2 in
     (digit-big h i q.0 q.1, (digit-big l (i + 1) r.0 r.1, pairs-digits (i + 2) rest s.0 s.1))
 
+-- bytes are written in hexadecimal digits
 pub digits-hex_text : (bs : List ℕ) → IsBytes bs → Digits16 (hex_text bs)
 digits-hex_text [] h = (omega arith, tt)
 digits-hex_text (b ∷ bs) h = pairs-digits 0 (encode_lower (b ∷ bs)) (b ∷ bs) (decode_pairs-encode_with lower_digits IsDigits-lower_digits 0 (b ∷ bs) h)
 
+-- hexadecimal digits are a word
 pub word-hex_text : (bs : List ℕ) → IsBytes bs → Word (hex_text bs)
 word-hex_text bs h = digits-word (hex_text bs) (digits-hex_text bs h)
 
@@ -229,6 +241,7 @@ starts : (b : ℕ) (bs : List ℕ) → bytes_eq (encode_lower (b ∷ bs)) (codes
 unfolding encode_with
 starts b bs = dash (slice_index lower_digits (b / 16)) (slice_index lower_digits (b % 16)) (encode_with lower_digits bs)
 
+-- bytes are read back from their hexadecimal digits
 pub hex-back : (bs : List ℕ) → IsBytes bs → hex_of (hex_text bs) ≡ Some bs
 unfolding hex_of
 hex-back [] h = refl
@@ -238,6 +251,7 @@ hex-back (b ∷ bs) h =
     let value : decode_of (encode_lower (b ∷ bs)) ≡ Ok (b ∷ bs) = decode_of-encode_lower (b ∷ bs) h in
     rw (other, some) (ap result_ok value)
 
+-- 64 bytes have at most 128 hexadecimal digits
 pub length-hex : (bs : List ℕ) → length bs ≤ 64 → length (hex_text bs) ≤ 128
 length-hex [] h = omega arith
 length-hex (b ∷ bs) h = omega (arith, length-encode_lower (b ∷ bs))

@@ -21,8 +21,8 @@ use Rattle.oca_script.specs.Fields.{split_at, split_on}
 use Rattle.oca_script.proofs.PartLemmas.{Free, free-after}
 use Rattle.oca_textree.specs.declared.fault.ObjectFault.{ObjectFault}
 use Rattle.oca_textree.specs.declared.fault.ObjectFault.TheVariants as fault
-use Rattle.oca_textree.specs.Lines.{Taken, field_at, then_by, or_fault, class_of_word, one_of, refusal, has_control}
-use Rattle.oca_textree.specs.Stored.{Said, said_at, start_at, Ending, ending_at, start_refusal, stored_with, stored_by, after_line, behind, rooted}
+use Rattle.oca_textree.specs.Lines.{Taken, field_at, then_by, some_or_fault, class_of_word, one_of, refusal, has_control}
+use Rattle.oca_textree.specs.Stored.{Said, said_at, start_at, Ending, ending_at, start_refusal, stored_with, stored_by, after_line, after_word, rooted}
 use Rattle.oca_textree.specs.Texts.{after_lines, go_on, line_before, lines_behind, rooted_by, from_root, objects_of_text}
 use Rattle.oca_textree.specs.Written.{lock_word, truth_word, text_field, kept_label, place_fields, object_line, root_line, line_of, text_of, IsShortText, IsNamed, IsReadBack}
 use Rattle.oca_textree.proofs.SplitLemmas.{split-more}
@@ -151,12 +151,12 @@ kept tree o h named sound =
     rw (ends, a, b, v) refl
 
 then-last : {B : Type 0} (f : Result Taken ObjectFault) (g : Said → Result B ObjectFault)
-    → then_by f (λ c. then_by (or_fault fault.Class (class_of_word c.0)) (λ k. then_by (said_at k c.1) g))
-    ≡ then_by (then_by f (λ c. then_by (or_fault fault.Class (class_of_word c.0)) (λ k. said_at k c.1))) g
+    → then_by f (λ c. then_by (some_or_fault fault.Class (class_of_word c.0)) (λ k. then_by (said_at k c.1) g))
+    ≡ then_by (then_by f (λ c. then_by (some_or_fault fault.Class (class_of_word c.0)) (λ k. said_at k c.1))) g
 then-last (Err e) g = refl
 then-last (Ok c) g = by (class_of_word c.0)
   where
-    by : (o : Option Class) → then_by (or_fault fault.Class o) (λ k. then_by (said_at k c.1) g) ≡ then_by (then_by (or_fault fault.Class o) (λ k. said_at k c.1)) g
+    by : (o : Option Class) → then_by (some_or_fault fault.Class o) (λ k. then_by (said_at k c.1) g) ≡ then_by (then_by (some_or_fault fault.Class o) (λ k. said_at k c.1)) g
     by None = refl
     by (Some k) = refl
 
@@ -407,7 +407,7 @@ first-free : (o : Object) → IsNamed o → Free 10 (first-text o)
 unfolding first-text
 first-free o named = shown-free (codes "root " ++ (truth_word o.enabled ++ 32 ∷ text_field o.label)) (start-shown o.enabled o.label named.label)
 
-behind-root : (o : Object) → behind (codes "root") (first-text o) ≡ Some (truth_word o.enabled ++ 32 ∷ text_field o.label)
+behind-root : (o : Object) → after_word (codes "root") (first-text o) ≡ Some (truth_word o.enabled ++ 32 ∷ text_field o.label)
 unfolding first-text
 behind-root o = refl
 
@@ -424,12 +424,12 @@ tree-back (o ∷ os) h rooted named =
     ap objects_of_text text ∙ whole o os rest found (behind-root o) (rooted-back o stands rooted.0 rooted.1 is) (lines-back 2 (o ∷ []) os (omega arith) h (All-tail IsNamed o os named))
   where
     whole : (o : Object) (os : List Object) (rest : List ℕ) → split_at 10 (first-text o ++ 10 ∷ rest) ≡ Some (first-text o, rest)
-        → behind (codes "root") (first-text o) ≡ Some (truth_word o.enabled ++ 32 ∷ text_field o.label)
+        → after_word (codes "root") (first-text o) ≡ Some (truth_word o.enabled ++ 32 ∷ text_field o.label)
         → rooted_by (truth_word o.enabled ++ 32 ∷ text_field o.label) ≡ Ok (unlocked o ∷ [])
         → after_lines 2 (unlocked o ∷ []) (split_on 10 rest) ≡ Ok (all_unlocked (o ∷ os))
         → objects_of_text (first-text o ++ 10 ∷ rest) ≡ Ok (all_unlocked (o ∷ os))
     whole o os rest found word root lines =
-        ap (λ (p : Option (List ℕ × List ℕ)). from_root (behind (codes "root") (line_before p (first-text o ++ 10 ∷ rest))) (first-text o ++ 10 ∷ rest)) found
+        ap (λ (p : Option (List ℕ × List ℕ)). from_root (after_word (codes "root") (line_before p (first-text o ++ 10 ∷ rest))) (first-text o ++ 10 ∷ rest)) found
         ∙ ap (λ (x : Option (List ℕ)). from_root x (first-text o ++ 10 ∷ rest)) word
         ∙ ap (λ (p : Option (List ℕ × List ℕ)). go_on (rooted_by (truth_word o.enabled ++ 32 ∷ text_field o.label)) 1 (λ tree. after_lines 2 tree (lines_behind p))) found
         ∙ ap (λ (r : Result (List Object) ObjectFault). go_on r 1 (λ tree. after_lines 2 tree (split_on 10 rest))) root

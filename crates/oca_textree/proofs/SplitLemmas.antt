@@ -15,7 +15,7 @@ use Rattle.oca_tree.specs.declared.object.Object.{Object}
 use Rattle.oca_tree.specs.Objects.{Store}
 use Rattle.oca_textree.specs.declared.fault.TreeFault.{TreeFault}
 use Rattle.oca_textree.specs.declared.fault.TreeFault.TheVariants.{Line, NoMemory}
-use Rattle.oca_textree.specs.Lines.{names_after, is_text, place_of}
+use Rattle.oca_textree.specs.Lines.{names_after, is_text, position_named}
 use Rattle.oca_textree.specs.Stored.{after_line}
 use Rattle.oca_textree.specs.Texts.{after_lines, go_on}
 use Rattle.oca_textree.specs.PrivateLines.{IsRead, IsReadSoFar, names_view}
@@ -37,9 +37,11 @@ split_on-by sep (b ∷ bs) =
     joined None = refl
     joined (Some p) = refl
 
+-- without a separator there is one part
 pub split-one : (sep : ℕ) (s : List ℕ) → split_at sep s ≡ None → split_on sep s ≡ s ∷ []
 split-one sep s e = split_on-by sep s ∙ ap (cut sep s) e
 
+-- the first part, and those behind its separator
 pub split-more : (sep : ℕ) (s front rest : List ℕ) → split_at sep s ≡ Some (front, rest) → split_on sep s ≡ front ∷ split_on sep rest
 split-more sep s front rest e = split_on-by sep s ∙ ap (cut sep s) e
 
@@ -72,7 +74,8 @@ step p l = elim (cases_lt p l) [
   | inr h ↦ let a : nat_lt p l ≡ false = grind (arith, nat_tests) in let b : nat_lt (1 + p) (suc l) ≡ false = grind (arith, nat_tests) in rw (a, b) refl
 ]
 
-pub place-position : (name : List ℕ) (xs : List (Bor (List ℕ))) → position (λ x. bytes_eq x.now name) xs ≡ place_of name (map (λ x. x.now) xs)
+-- the first name that is the same stands at its position
+pub place-position : (name : List ℕ) (xs : List (Bor (List ℕ))) → position (λ x. bytes_eq x.now name) xs ≡ position_named name (map (λ x. x.now) xs)
 place-position name [] = refl
 place-position name (x ∷ xs) = by_test (bytes_eq x.now name) ∙ ap (λ (r : Option ℕ). cond (bytes_eq x.now name) (Some 0) (option_map (λ n. 1 + n) r)) (place-position name xs)
   where
@@ -84,6 +87,7 @@ place-position name (x ∷ xs) = by_test (bytes_eq x.now name) ∙ ap (λ (r : O
 
 -- ---- names, one after another
 
+-- a fault of one name is that of all
 pub names-failed : (old ns : List (List ℕ)) (all rest front after : List ℕ) (f : ObjectFault)
     → names_after old (split_on 44 all) ≡ names_after ns (split_on 44 rest) → Some (front, after) ≡ split_at 44 rest
     → Err f ≡ names_after ns (front ∷ []) → Err f ≡ names_after old (split_on 44 all)
@@ -91,10 +95,12 @@ names-failed old ns all rest front after f so found e =
     sym (so ∙ ap (names_after ns) (split-more 44 rest front after (sym found)) ∙ names-more ns front (split_on 44 after)
     ∙ ap (λ (r : Result (List (List ℕ)) ObjectFault). go_on_with r (split_on 44 after)) (sym e))
 
+-- a fault of the names is returned as it is
 pub names-err : (r : Result Unit ObjectFault) (f : ObjectFault) (names : List (Bor (List ℕ))) (x : Result (List (List ℕ)) ObjectFault)
     → r ≡ Err f → Err f ≡ x → names_view r names ≡ x
 names-err r f names x is e = ap (λ (q : Result Unit ObjectFault). names_view q names) is ∙ e
 
+-- after a name, the names that are left
 pub names-on : (old ns more : List (List ℕ)) (all rest front after : List ℕ)
     → names_after old (split_on 44 all) ≡ names_after ns (split_on 44 rest) → Some (front, after) ≡ split_at 44 rest
     → Ok more ≡ names_after ns (front ∷ []) → names_after old (split_on 44 all) ≡ names_after more (split_on 44 after)
@@ -102,6 +108,7 @@ names-on old ns more all rest front after so found e =
     so ∙ ap (names_after ns) (split-more 44 rest front after (sym found)) ∙ names-more ns front (split_on 44 after)
     ∙ ap (λ (r : Result (List (List ℕ)) ObjectFault). go_on_with r (split_on 44 after)) (sym e)
 
+-- the last name ends them
 pub names-last : (old ns : List (List ℕ)) (all rest : List ℕ) (r : Result (List (List ℕ)) ObjectFault)
     → names_after old (split_on 44 all) ≡ names_after ns (split_on 44 rest) → split_at 44 rest ≡ None
     → r ≡ names_after ns (rest ∷ []) → r ≡ names_after old (split_on 44 all)
@@ -118,6 +125,7 @@ lines-failed said rest front after tree n f so found e =
     so ∙ ap (after_lines n tree) (split-more 10 rest front after (sym found))
     ∙ ap (λ (r : Result (List Object) ObjectFault). go_on r n (λ t. after_lines (n + 1) t (split_on 10 after))) e
 
+-- after a line, the lines that are left
 pub lines-on : (said : Said) (rest front after : List ℕ) (tree next : List Object) (n : ℕ)
     → said ≡ after_lines n tree (split_on 10 rest) → Some (front, after) ≡ split_at 10 rest
     → after_line tree front ≡ Ok next → said ≡ after_lines (n + 1) next (split_on 10 after)

@@ -66,6 +66,7 @@ none-of : (o : Option Object) → option_map place_of o ≡ None → o ≡ None
 none-of None e = refl
 none-of (Some x) e = absurd (cc)
 
+-- a number that no place has, no object has
 pub none-before : (front : List Object) (n : ℕ) → place_at (places front) n ≡ None → object_of front n ≡ None
 none-before front n e = none-of (object_of front n) (sym (place_at_places front n) ∙ e)
 
@@ -75,6 +76,7 @@ found-in front back o none =
     let same : (o.ono.0 == o.ono.0) ≡ true = eq-eqb o.ono.0 o.ono.0 refl in
     find-append (has_number o.ono.0) front (o ∷ back) ∙ (rw (none, same) refl)
 
+-- the object that is found by an object's number is that object
 pub itself-in : (front back : List Object) (o : Object) → IsTree (front ++ o ∷ back) → object_of (front ++ o ∷ back) o.ono.0 ≡ Some o
 itself-in front back o h = by front (free-in front back o h.built)
   where
@@ -91,6 +93,7 @@ sound-found tree n o h found =
     let is : slice_get tree at ≡ Some o = sym (find_at (has_number n) tree) ∙ found in
     subst IsSound (get_or_from_slice_get tree at o o is) (h at o (slice_get_within tree at o is))
 
+-- an integer of a type fits a line
 pub integer-of : (k : NumberKind) (z : ℤ) → IsOfType k z → IsInteger z
 integer-of kinds.Int8 z h = record { above = omega (arith, ints); below = omega (arith, ints) }
 integer-of kinds.Int16 z h = record { above = omega (arith, ints); below = omega (arith, ints) }
@@ -128,6 +131,7 @@ few-flags (values.Switch switch) h = omega (arith, h.few, h.both)
 few-flags (values.Boolean truth) h = omega arith
 few-flags (values.Number range) h = omega arith
 
+-- what is printed of each object of a tree fits a line
 pub fits : (tree : List Object) → IsTree tree → (n : ℕ) → Fits tree n
 fits tree h n = by (object_of tree n) refl
   where

@@ -18,8 +18,8 @@ use Rattle.oca_tree.specs.Building.{is_long, add_fault, value_of, has_bad_name, 
 use Rattle.oca_tree.specs.Starts.{flags_of, has_other_flags, start_fault, add_with_fault}
 use Rattle.oca_textree.specs.declared.fault.ObjectFault.{ObjectFault}
 use Rattle.oca_textree.specs.declared.fault.ObjectFault.TheVariants as fault
-use Rattle.oca_textree.specs.Faults.{fault_of, stored_fault_of}
-use Rattle.oca_textree.specs.Lines.{then_by, or_fault, Valued, refusal}
+use Rattle.oca_textree.specs.Faults.{object_fault_of, stored_fault_of}
+use Rattle.oca_textree.specs.Lines.{then_by, some_or_fault, Valued, refusal}
 use Rattle.oca_textree.specs.Stored.{flags_after, named_after, text_said, start_refusal, Ending, Said, stored_refusal, stored_object, kept_unless, kept_by, switch_said}
 use Rattle.oca_textree.specs.PrivateStored.{named_view, kind_said}
 use Rattle.oca_textree.proofs.SplitLemmas.{split-one, split-more, any-map}
@@ -49,8 +49,8 @@ pub named-more : (quoted : Bool) (names : List (List ℕ)) (n : List ℕ) (more 
 named-more quoted names n more = by_said (text_said quoted n)
   where
     by_said : (o : Option (List ℕ))
-        → then_by (or_fault fault.Text o) (λ t. cond (nat_le 16 (length names)) (Err fault.Range) (named_after quoted (names ++ t ∷ []) more))
-        ≡ named_on quoted (then_by (or_fault fault.Text o) (λ t. cond (nat_le 16 (length names)) (Err fault.Range) (Ok (names ++ t ∷ [])))) more
+        → then_by (some_or_fault fault.Text o) (λ t. cond (nat_le 16 (length names)) (Err fault.Range) (named_after quoted (names ++ t ∷ []) more))
+        ≡ named_on quoted (then_by (some_or_fault fault.Text o) (λ t. cond (nat_le 16 (length names)) (Err fault.Range) (Ok (names ++ t ∷ [])))) more
     by_said None = refl
     by_said (Some t) = by_test (nat_le 16 (length names))
       where
@@ -58,6 +58,7 @@ named-more quoted names n more = by_said (text_said quoted n)
         by_test true = refl
         by_test false = refl
 
+-- a fault of one name is that of all
 pub named-failed : (quoted : Bool) (said : Result (List (List ℕ)) ObjectFault) (ns : List (List ℕ)) (rest front after : List ℕ) (f : ObjectFault)
     → said ≡ named_after quoted ns (split_on 44 rest) → Some (front, after) ≡ split_at 44 rest
     → Err f ≡ named_after quoted ns (front ∷ []) → Err f ≡ said
@@ -65,10 +66,12 @@ named-failed quoted said ns rest front after f so found e =
     sym (so ∙ ap (named_after quoted ns) (split-more 44 rest front after (sym found)) ∙ named-more quoted ns front (split_on 44 after)
     ∙ ap (λ (r : Result (List (List ℕ)) ObjectFault). named_on quoted r (split_on 44 after)) (sym e))
 
+-- a fault of the names is returned as it is
 pub named-err : (r : Result Unit ObjectFault) (f : ObjectFault) (names : List (List ℕ)) (x : Result (List (List ℕ)) ObjectFault)
     → r ≡ Err f → Err f ≡ x → named_view r names ≡ x
 named-err r f names x is e = ap (λ (q : Result Unit ObjectFault). named_view q names) is ∙ e
 
+-- after a name, the names that are left
 pub named-on : (quoted : Bool) (said : Result (List (List ℕ)) ObjectFault) (ns more : List (List ℕ)) (rest front after : List ℕ)
     → said ≡ named_after quoted ns (split_on 44 rest) → Some (front, after) ≡ split_at 44 rest
     → Ok more ≡ named_after quoted ns (front ∷ []) → said ≡ named_after quoted more (split_on 44 after)
@@ -76,6 +79,7 @@ named-on quoted said ns more rest front after so found e =
     so ∙ ap (named_after quoted ns) (split-more 44 rest front after (sym found)) ∙ named-more quoted ns front (split_on 44 after)
     ∙ ap (λ (r : Result (List (List ℕ)) ObjectFault). named_on quoted r (split_on 44 after)) (sym e)
 
+-- the last name ends them
 pub named-last : (quoted : Bool) (said : Result (List (List ℕ)) ObjectFault) (ns : List (List ℕ)) (rest : List ℕ) (r : Result (List (List ℕ)) ObjectFault)
     → said ≡ named_after quoted ns (split_on 44 rest) → split_at 44 rest ≡ None
     → r ≡ named_after quoted ns (rest ∷ []) → r ≡ said
@@ -94,7 +98,7 @@ start-refused v start = by_tests (is_long start.label.now) (has_other_flags (fla
     by_tests false false = refl
 
 pub refused-by : (a : Option AddFault) (b : Option StartFault) (e : StartFault) (c : Option ObjectFault) → option_map stored_fault_of b ≡ c
-    → option_or (option_map starts.Add a) b ≡ Some e → option_or (option_map fault_of a) c ≡ Some (stored_fault_of e)
+    → option_or (option_map starts.Add a) b ≡ Some e → option_or (option_map object_fault_of a) c ≡ Some (stored_fault_of e)
 refused-by None b e c is h = sym is ∙ ap (option_map stored_fault_of) h
 refused-by (Some f) b e c is h = ap (option_map stored_fault_of) h
 
@@ -103,22 +107,24 @@ same-refusal : (room : ℕ) (tree : List Object) (container ono : ℕ) (spec : S
 unfolding add_fault refusal
 same-refusal room tree container ono spec role r e = rw (r, e) refl
 
+-- what the builder refuses is the fault of the line
 pub kept-refused : (room : ℕ) (tree : List Object) (container ono : ℕ) (spec : Spec) (start : Start) (ending : Ending) (e : StartFault)
     → room ≡ 4096 → spec.role.now ≡ ending.role → start.label.now ≡ ending.label → add_with_fault room tree container ono spec start ≡ Some e
     → kept_by tree container ono ending (has_bad_name spec.kind) (value_of spec.kind) (flags_of start) ≡ Err (stored_fault_of e)
 kept-refused room tree container ono spec start ending e r role label h =
     let v = value_of spec.kind in
     let flags = flags_of start in
-    let at : option_or (option_map fault_of (add_fault room tree container ono spec)) (start_refusal v ending.label flags) ≡ Some (stored_fault_of e) =
+    let at : option_or (option_map object_fault_of (add_fault room tree container ono spec)) (start_refusal v ending.label flags) ≡ Some (stored_fault_of e) =
     refused-by (add_fault room tree container ono spec) (start_fault v start) e (start_refusal v ending.label flags)
     (start-refused v start ∙ ap (λ (l : List ℕ). start_refusal v l flags) label) h in
     let refused : stored_refusal tree container ono ending (has_bad_name spec.kind) v flags ≡ Some (stored_fault_of e) =
-    ap (λ (a : Option AddFault). option_or (option_map fault_of a) (start_refusal v ending.label flags))
+    ap (λ (a : Option AddFault). option_or (option_map object_fault_of a) (start_refusal v ending.label flags))
     (sym (same-refusal room tree container ono spec ending.role r role)) ∙ at in
     ap (λ (o : Option ObjectFault). kept_unless o tree (stored_object ono container ending v flags)) refused
 
 -- ---- a switch
 
+-- the switch that was read is the one that is added
 pub said-switch : (names : Bor (List (Bor (List ℕ)))) (position : ℕ) (flags : Option (Bor (List Bool))) (rest : Option (Bor (List ℕ))) (texts : List (List ℕ)) (fs : List Bool)
     → map (λ n. n.now) names.now ≡ texts → option_copied flags ≡ Some fs
     → kind_said (given.Switch names position) flags rest ≡ switch_said (record { flags = fs; names = texts; position = position; rest = option_copied rest })

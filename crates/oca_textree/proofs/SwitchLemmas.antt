@@ -22,6 +22,7 @@ switch-valued rest0 names position rest h =
     ∙ ap (λ (b : Bool). let v : Valued = record { bad_name = b; value = switch (map (λ n. n.now) names.now) position; rest = option_copied rest } in Ok v)
     (any-map is_long names.now)
 
+-- what adding the switch that was read makes of the objects is what the line makes of them
 pub switch-added : (result : Result Unit ObjectFault) (old new : Store) (container ono : ℕ) (rest0 : Option (List ℕ)) (names : Bor (List (Bor (List ℕ))))
     (position : ℕ) (rest : Option (Bor (List ℕ)))
     → Ok (position, map (λ n. n.now) names.now, option_copied rest) ≡ positions_of rest0

@@ -13,9 +13,9 @@ use Rattle.oca_script.specs.Fields.{split_on, hex_text}
 use Rattle.oca_script.proofs.PartLemmas.{Free, free-append, free-after, free-nowhere}
 use Rattle.oca_textree.specs.declared.fault.ObjectFault.{ObjectFault}
 use Rattle.oca_textree.specs.declared.fault.ObjectFault.TheVariants as fault
-use Rattle.oca_textree.specs.Lines.{field_at, then_by, or_fault, has_control}
+use Rattle.oca_textree.specs.Lines.{field_at, then_by, some_or_fault, has_control}
 use Rattle.oca_textree.specs.Stored.{short, text_said, is_quoted, text_at, flags_after, named_after, names_at}
-use Rattle.oca_textree.specs.Written.{holds_mark, holds_comma, is_plain, is_plain_name, in_quotes, text_field, joined, name_part, names_field, flag_digit, IsShortText}
+use Rattle.oca_textree.specs.Written.{holds_mark, holds_comma, is_plain, is_plain_name, in_quotes, text_field, joined_names, name_part, names_field, flag_digit, IsShortText}
 use Rattle.oca_textree.proofs.SplitLemmas.{split-one, split-more}
 use Rattle.oca_textree.proofs.FieldsBack.{digits-free, digits-hex_text, Word, word-append, field-word, field-last, field-quoted, field-quoted-last, word-hex_text, hex-back, length-hex}
 
@@ -25,6 +25,7 @@ pub or-false : (a b : Bool) → a || b ≡ false → (a ≡ false) × (b ≡ fal
 or-false true b e = absurd (cc)
 or-false false b e = (refl, e)
 
+-- a word has no control character
 pub word-shown : (w : List ℕ) → Word w → has_control w ≡ false
 word-shown [] h = refl
 word-shown (b ∷ bs) h =
@@ -32,6 +33,7 @@ word-shown (b ∷ bs) h =
     let test : nat_lt b 32 ≡ false = grind (arith, nat_tests, big) in
     rw (test, word-shown bs h.1) refl
 
+-- nor have two texts in a row of which neither has one
 pub shown-append : (xs ys : List ℕ) → has_control xs ≡ false → has_control ys ≡ false → has_control (xs ++ ys) ≡ false
 shown-append xs ys h k = list_any-append (λ b. nat_lt b 32) xs ys ∙ (rw (h, k) refl)
 
@@ -111,14 +113,15 @@ word-unquoted-last [] h = refl
 word-unquoted-last (b ∷ bs) h = let big = h.0 in grind (arith, nat_tests, big)
 
 abbrev at : Bool → Result (List ℕ × Option (List ℕ)) ObjectFault → Result (List ℕ × Option (List ℕ)) ObjectFault
-at quoted f = then_by f (λ f. then_by (or_fault fault.Text (text_said quoted f.0)) (λ text. Ok (text, f.1)))
+at quoted f = then_by f (λ f. then_by (some_or_fault fault.Text (text_said quoted f.0)) (λ text. Ok (text, f.1)))
 
 at-back : (field : Option (List ℕ)) (quoted : Bool) (w t : List ℕ) (rest : Option (List ℕ)) → is_quoted field ≡ quoted → field_at field ≡ Ok (w, rest)
     → text_said quoted w ≡ Some t → text_at field ≡ Ok (t, rest)
 unfolding text_at
 at-back field quoted w t rest q f s =
-    ap (λ (b : Bool). at b (field_at field)) q ∙ ap (at quoted) f ∙ ap (λ (o : Option (List ℕ)). then_by (or_fault fault.Text o) (λ text. Ok (text, rest))) s
+    ap (λ (b : Bool). at b (field_at field)) q ∙ ap (at quoted) f ∙ ap (λ (o : Option (List ℕ)). then_by (some_or_fault fault.Text o) (λ text. Ok (text, rest))) s
 
+-- a text is read back, with a field behind it
 pub text-back : (t rest : List ℕ) → IsShortText t → text_at (Some (text_field t ++ 32 ∷ rest)) ≡ Ok (t, Some rest)
 text-back t rest h = by (written-by t (is_plain t) refl)
   where
@@ -131,6 +134,7 @@ text-back t rest h = by (written-by t (is_plain t) refl)
         ap (λ (l : List ℕ). text_at (Some (l ++ 32 ∷ rest))) w
         ∙ at-back (Some (hex_text t ++ 32 ∷ rest)) false (hex_text t) t (Some rest) (word-unquoted (hex_text t) rest digits) (field-word (hex_text t) rest digits) (said-hex t h)
 
+-- a text is read back at the end of a line
 pub text-last : (t : List ℕ) → IsShortText t → text_at (Some (text_field t)) ≡ Ok (t, None)
 text-last t h = by (written-by t (is_plain t) refl)
   where
@@ -146,6 +150,7 @@ text-last t h = by (written-by t (is_plain t) refl)
 quotes-shown : (t : List ℕ) → has_control t ≡ false → has_control (in_quotes t) ≡ false
 quotes-shown t h = shown-append t (34 ∷ []) h refl
 
+-- a text is written without a control character
 pub text-shown : (t : List ℕ) → IsShortText t → has_control (text_field t) ≡ false
 text-shown t h = by (written-by t (is_plain t) refl)
   where
@@ -155,6 +160,7 @@ text-shown t h = by (written-by t (is_plain t) refl)
 
 -- ---- flags
 
+-- flags are read back from their digits
 pub flags-back : (before flags : List Bool) → length before + length flags ≤ 16 → flags_after before (map flag_digit flags) ≡ Some (before ++ flags)
 flags-back before [] few = ap Some (sym (append-nil before))
 flags-back before (true ∷ flags) few =
@@ -164,6 +170,7 @@ flags-back before (false ∷ flags) few =
     let room : nat_le 16 (length before) ≡ false = grind (arith, nat_tests) in
     rw room (flags-back (before ++ false ∷ []) flags (omega (arith, length-append before (false ∷ []))) ∙ ap Some (append_assoc before (false ∷ []) flags))
 
+-- the digits of flags are a word
 pub word-flags : (flags : List Bool) → Word (map flag_digit flags)
 word-flags [] = tt
 word-flags (true ∷ flags) = (omega arith, word-flags flags)
@@ -195,7 +202,7 @@ split-parts writes first (m ∷ names) free all =
     split-more 44 (first ++ 44 ∷ rest) first rest (free-after 44 first rest free)
     ∙ ap (λ (l : List (List ℕ)). first ∷ l) (split-parts writes (writes m) names all.0 all.1)
 
-joined-free : (s : ℕ) (writes : List ℕ → List ℕ) (names : List (List ℕ)) → (44 == s) ≡ false → AllFree s writes names → Free s (joined writes names)
+joined-free : (s : ℕ) (writes : List ℕ → List ℕ) (names : List (List ℕ)) → (44 == s) ≡ false → AllFree s writes names → Free s (joined_names writes names)
 joined-free s writes [] other all = tt
 joined-free s writes (n ∷ names) other all = free-append s (writes n) (flat_map (λ m. 44 ∷ writes m) names) all.0 (behind names all.1)
   where
@@ -258,50 +265,52 @@ names-at field quoted w names rest q f s =
     ∙ ap (λ (r : Result (List (List ℕ)) ObjectFault). then_by r (λ names. Ok (names, rest))) s
 
 names-parts : (quoted : Bool) (writes : List ℕ → List ℕ) (names : List (List ℕ)) → 0 < length names → length names ≤ 16 → Said quoted writes names → AllFree 44 writes names
-    → named_after quoted [] (split_on 44 (joined writes names)) ≡ Ok names
+    → named_after quoted [] (split_on 44 (joined_names writes names)) ≡ Ok names
 names-parts quoted writes [] some few said free = absurd (omega arith)
 names-parts quoted writes (n ∷ names) some few said free =
     ap (named_after quoted []) (split-parts writes (writes n) names free.0 free.1) ∙ named-back quoted writes [] (n ∷ names) said (omega (arith, few))
 
-joined-word : (names : List (List ℕ)) → All IsShortText names → Word (joined (name_part false) names)
+joined-word : (names : List (List ℕ)) → All IsShortText names → Word (joined_names (name_part false) names)
 joined-word [] h = tt
 joined-word (n ∷ names) h =
     word-append (hex_text n) (flat_map (λ m. 44 ∷ name_part false m) names) (word-hex_text n (All-head IsShortText n names h).bytes) (hex-names names (All-tail IsShortText n names h)).word
 
-joined-shown : (names : List (List ℕ)) → PlainNames names → has_control (joined (name_part true) names) ≡ false
+joined-shown : (names : List (List ℕ)) → PlainNames names → has_control (joined_names (name_part true) names) ≡ false
 joined-shown [] h = refl
 joined-shown (n ∷ names) h = h.shown
 
 -- how names stand
 abbrev WrittenNames : List (List ℕ) → Type 0
-WrittenNames names = ((names_field names ≡ in_quotes (joined (name_part true) names)) × PlainNames names) ⊎ (names_field names ≡ joined (name_part false) names)
+WrittenNames names = ((names_field names ≡ in_quotes (joined_names (name_part true) names)) × PlainNames names) ⊎ (names_field names ≡ joined_names (name_part false) names)
 
 names-by : (names : List (List ℕ)) → All IsShortText names → (b : Bool) → list_any (λ n. not (is_plain_name n)) names ≡ b → WrittenNames names
 unfolding names_field
-names-by names h true e = inr (ap (λ (x : Bool). cond x (joined (name_part false) names) (in_quotes (joined (name_part true) names))) e)
-names-by names h false e = inl (ap (λ (x : Bool). cond x (joined (name_part false) names) (in_quotes (joined (name_part true) names))) e, plain-names names h e)
+names-by names h true e = inr (ap (λ (x : Bool). cond x (joined_names (name_part false) names) (in_quotes (joined_names (name_part true) names))) e)
+names-by names h false e = inl (ap (λ (x : Bool). cond x (joined_names (name_part false) names) (in_quotes (joined_names (name_part true) names))) e, plain-names names h e)
 
+-- names are read back
 pub names-back : (names : List (List ℕ)) (rest : List ℕ) → All IsShortText names → 0 < length names → length names ≤ 16
     → names_at (Some (names_field names ++ 32 ∷ rest)) ≡ Ok (names, Some rest)
 names-back names rest h some few = by (names-by names h (list_any (λ n. not (is_plain_name n)) names) refl)
   where
     by : WrittenNames names → names_at (Some (names_field names ++ 32 ∷ rest)) ≡ Ok (names, Some rest)
     by (inl w) =
-        let inside = joined (name_part true) names in
+        let inside = joined_names (name_part true) names in
         ap (λ (l : List ℕ). names_at (Some (l ++ 32 ∷ rest))) w.0
         ∙ names-at (Some (in_quotes inside ++ 32 ∷ rest)) true inside names (Some rest) refl (field-quoted inside rest (joined-free 34 (name_part true) names refl w.1.quotes))
         (names-parts true (name_part true) names some few w.1.said w.1.commas)
     by (inr w) =
-        let inside = joined (name_part false) names in
+        let inside = joined_names (name_part false) names in
         let hex = hex-names names h in
         let word = joined-word names h in
         ap (λ (l : List ℕ). names_at (Some (l ++ 32 ∷ rest))) w
         ∙ names-at (Some (inside ++ 32 ∷ rest)) false inside names (Some rest) (word-unquoted inside rest word) (field-word inside rest word)
         (names-parts false (name_part false) names some few hex.said hex.commas)
 
+-- names are written without a control character
 pub names-shown : (names : List (List ℕ)) → All IsShortText names → has_control (names_field names) ≡ false
 names-shown names h = by (names-by names h (list_any (λ n. not (is_plain_name n)) names) refl)
   where
     by : WrittenNames names → has_control (names_field names) ≡ false
-    by (inl w) = ap has_control w.0 ∙ quotes-shown (joined (name_part true) names) (joined-shown names w.1)
-    by (inr w) = ap has_control w ∙ word-shown (joined (name_part false) names) (joined-word names h)
+    by (inl w) = ap has_control w.0 ∙ quotes-shown (joined_names (name_part true) names) (joined-shown names w.1)
+    by (inr w) = ap has_control w ∙ word-shown (joined_names (name_part false) names) (joined-word names h)

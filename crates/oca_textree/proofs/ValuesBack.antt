@@ -24,7 +24,7 @@ use Rattle.oca_tree.specs.Building.{number, switch, is_long}
 use Rattle.oca_tree.specs.Starts.{with_flags}
 use Rattle.oca_textree.specs.declared.fault.ObjectFault.{ObjectFault}
 use Rattle.oca_textree.specs.declared.fault.ObjectFault.TheVariants as fault
-use Rattle.oca_textree.specs.Lines.{field_at, then_by, or_fault, class_of_word, limits_of, by_word, one_of, value_at, has_control}
+use Rattle.oca_textree.specs.Lines.{field_at, then_by, some_or_fault, class_of_word, limits_of, by_word, one_of, value_at, has_control}
 use Rattle.oca_textree.specs.Stored.{Said, said_at, switch_at}
 use Rattle.oca_textree.specs.Written.{class_before, set_fields, value_fields, range_fields, switch_fields, names_field, flag_digit, IsShortText}
 use Rattle.oca_textree.specs.PrivateWritten.{IsInteger}
@@ -65,12 +65,13 @@ unfoldable pub plain_value : Value → Value
 plain_value (values.Switch s) = switch s.names.items s.position
 plain_value v = v
 
+-- what is read of a value, with the rest of the line
 unfoldable pub said_of : Value → List ℕ → Said
 said_of v rest = record { valued = record { bad_name = false; value = plain_value v; rest = Some rest }; flags = flags_in v }
 
 -- the class, and then what stands behind it
 unfoldable pub read_value : List ℕ → Result Said ObjectFault
-read_value text = then_by (field_at (Some text)) (λ c. then_by (or_fault fault.Class (class_of_word c.0)) (λ k. said_at k c.1))
+read_value text = then_by (field_at (Some text)) (λ c. then_by (some_or_fault fault.Class (class_of_word c.0)) (λ k. said_at k c.1))
 
 module _ (setting least greatest : ℤ) (rest : List ℕ) where
   abbrev Of : NumberKind → Type 0
@@ -146,9 +147,11 @@ no-long (n ∷ names) h =
 
 -- ---- any value
 
+-- the fields of a value
 abbrev pub fields_of : Value → List ℕ
 fields_of v = value_fields (class_of v) (value_setting v) (names_in v) (flags_in v)
 
+-- a value is read back
 pub value-back : (v : Value) (rest : List ℕ) → IsSoundValue v → All IsShortText (names_in v) → read_value (fields_of v ++ 32 ∷ rest) ≡ Ok (said_of v rest)
 unfolding read_value said_of plain_value field_at class_of_word said_at value_at class_before set_fields class_of value_setting names_in flags_in IsSoundValue by_word one_of
 value-back values.Block rest h names = refl
@@ -197,6 +200,7 @@ number-shown kinds.Uint16 s l g h = h
 number-shown kinds.Uint32 s l g h = h
 number-shown kinds.Uint64 s l g h = h
 
+-- a value is written without a control character
 pub value-shown : (v : Value) → IsSoundValue v → All IsShortText (names_in v) → has_control (fields_of v) ≡ false
 unfolding class_before set_fields class_of value_setting names_in flags_in IsSoundValue
 value-shown values.Block h names = refl

@@ -47,6 +47,7 @@ some-object : (o : Option Object) (info : ObjectInfo) → option_map info_of o �
 some-object None info e = absurd (cc)
 some-object (Some x) info e = (x, refl, cc)
 
+-- with the line of the next object, so many more lines are printed
 pub line-more : (xs : List Object) → IsTree xs → (i : ℕ) (info : ObjectInfo) → Some info ≡ option_map info_of (slice_get xs i) → (a b c : Output)
     → PrintsAll a b (flat_map line_of (take i xs)) → PrintsAll b c (line_told xs info) → PrintsAll a c (flat_map line_of (take (i + 1) xs))
 line-more xs h i info e a b c done one =
@@ -55,6 +56,7 @@ line-more xs h i info e a b c done one =
     let one' : PrintsAll b c (line_of x.0) = subst (PrintsAll b c) same one in
     rw (lines-more line_of xs i x.0 x.1) (PrintsAll-then a b c (flat_map line_of (take i xs)) (line_of x.0) done one')
 
+-- where the line of an object is not printed whole, nor is the tree
 pub line-less : (xs : List Object) → IsTree xs → (i : ℕ) (info : ObjectInfo) → Some info ≡ option_map info_of (slice_get xs i) → (a b c : Output)
     → (r : Result Unit WriteFailed) (f : WriteFailed) → r ≡ Err f
     → PrintsAll a b (flat_map line_of (take i xs)) → PrintsPart b c (line_told xs info) → Prints r a c (flat_map line_of xs)
@@ -70,6 +72,7 @@ line-less xs h i info e a b c r f is done one =
 
 -- ---- one text is held behind another
 
+-- two texts that are held one after the other
 pub held-two : (a b c : Output) (x y : List ℕ) → b ≡ output a.contents (a.held ++ x) a.failed → c ≡ output b.contents (b.held ++ y) b.failed
     → c ≡ output a.contents (a.held ++ (x ++ y)) a.failed
 held-two a b c x y p q =

@@ -1,5 +1,7 @@
 -- What a line of a text lists: an object, or a fault (*profile*).
-use Rattle.std.specs.Prelude.{ℕ, ◌+◌, ◌-◌, ◌^◌, ◌==◌, ◌&&◌, ◌||◌, not, nat_lt, nat_le, Bool, true, false, if◌then◌else◌, List, [], ◌∷◌, ◌++◌, length, codes, Option, Some, None, is_some, Result, Ok, Err, ℤ, pos, negsuc, neg_ℤ, int_le}
+use Rattle.std.specs.Prelude.{ℕ, ◌+◌, ◌-◌, ◌^◌, ◌==◌, ◌&&◌, ◌||◌, not, nat_lt, nat_le, Bool, true, false, if◌then◌else◌}
+use Rattle.std.specs.Prelude.{List, [], ◌∷◌, ◌++◌, length, codes, Option, Some, None, is_some, Result, Ok, Err, ℤ, pos}
+use Rattle.std.specs.Prelude.{negsuc, neg_ℤ, int_le}
 use Rattle.std.specs.Option.{option_map}
 use Rattle.std.specs.List.{list_any}
 use Rattle.std.specs.Str.{bytes_eq, is_utf8}
@@ -21,7 +23,7 @@ use Rattle.oca_tree.specs.Places.{places, is_block, depth}
 use Rattle.oca_tree.specs.Building.{new_object, number, switch, is_long, is_bad_value, first_fault}
 use Rattle.oca_textree.specs.declared.fault.ObjectFault.{ObjectFault}
 use Rattle.oca_textree.specs.declared.fault.ObjectFault.TheVariants as fault
-use Rattle.oca_textree.specs.Faults.{fault_of}
+use Rattle.oca_textree.specs.Faults.{object_fault_of}
 
 -- ---- one after another: the first fault ends it
 
@@ -30,9 +32,9 @@ then_by (Err f) next = Err f
 then_by (Ok x) next = next x
 
 -- a value, or this fault
-abbrev pub or_fault : {A : Type 0} → ObjectFault → Option A → Result A ObjectFault
-or_fault f None = Err f
-or_fault f (Some x) = Ok x
+abbrev pub some_or_fault : {A : Type 0} → ObjectFault → Option A → Result A ObjectFault
+some_or_fault f None = Err f
+some_or_fault f (Some x) = Ok x
 
 -- ---- fields
 
@@ -73,9 +75,12 @@ class_named (row ∷ rows) word = if bytes_eq word row.0 then Some row.1 else cl
 -- a class by its word
 unfoldable pub class_of_word : List ℕ → Option Class
 class_of_word word = class_named (
-    (codes "block", class.Block) ∷ (codes "mute", class.Mute) ∷ (codes "polarity", class.Polarity) ∷ (codes "switch", class.Switch)
-    ∷ (codes "boolean", class.Boolean) ∷ (codes "int8", class.Int8) ∷ (codes "int16", class.Int16) ∷ (codes "int32", class.Int32)
-    ∷ (codes "int64", class.Int64) ∷ (codes "uint8", class.Uint8) ∷ (codes "uint16", class.Uint16) ∷ (codes "uint32", class.Uint32)
+    (codes "block", class.Block) ∷ (codes "mute", class.Mute) ∷ (codes "polarity", class.Polarity)
+    ∷ (codes "switch", class.Switch)
+    ∷ (codes "boolean", class.Boolean) ∷ (codes "int8", class.Int8) ∷ (codes "int16", class.Int16)
+    ∷ (codes "int32", class.Int32)
+    ∷ (codes "int64", class.Int64) ∷ (codes "uint8", class.Uint8) ∷ (codes "uint16", class.Uint16)
+    ∷ (codes "uint32", class.Uint32)
     ∷ (codes "uint64", class.Uint64) ∷ []) word
 
 -- one of two words
@@ -91,13 +96,13 @@ signed_of (b ∷ bs) =
     if b == 45 then option_map (λ n. neg_ℤ (pos n)) (number_of 20 (2 ^ 64 - 1) bs)
     else option_map pos (number_of 20 (2 ^ 64 - 1) (b ∷ bs))
 
-abbrev pub between : ℤ → ℤ → Option ℤ → Option ℤ
-between low high None = None
-between low high (Some z) = if int_le low z && int_le z high then Some z else None
+abbrev pub within_limits : ℤ → ℤ → Option ℤ → Option ℤ
+within_limits low high None = None
+within_limits low high (Some z) = if int_le low z && int_le z high then Some z else None
 
 -- an integer from the one to the other
 unfoldable pub integer_of : ℤ → ℤ → List ℕ → Option ℤ
-integer_of low high text = between low high (signed_of text)
+integer_of low high text = within_limits low high (signed_of text)
 
 -- ---- what an object of a class is set to
 
@@ -114,7 +119,7 @@ valued v rest = record { bad_name = false; value = v; rest = rest }
 unfoldable pub by_word : (List ℕ → Option Value) → Option (List ℕ) → Result Valued ObjectFault
 by_word reads rest =
     then_by (field_at rest) (λ word.
-    then_by (or_fault fault.Value (reads word.0)) (λ v. Ok (valued v word.1)))
+    then_by (some_or_fault fault.Value (reads word.0)) (λ v. Ok (valued v word.1)))
 
 -- an integer with its limits: the least, the greatest and the setting, each one of the type
 pub record Limited : Type 0 where
@@ -125,9 +130,9 @@ pub record Limited : Type 0 where
 
 unfoldable pub limits_of : ℤ → ℤ → Option (List ℕ) → Result Limited ObjectFault
 limits_of low high rest =
-    then_by (field_at rest) (λ a. then_by (or_fault fault.Number (integer_of low high a.0)) (λ least.
-    then_by (field_at a.1) (λ b. then_by (or_fault fault.Number (integer_of low high b.0)) (λ greatest.
-    then_by (field_at b.1) (λ c. then_by (or_fault fault.Number (integer_of low high c.0)) (λ setting.
+    then_by (field_at rest) (λ a. then_by (some_or_fault fault.Number (integer_of low high a.0)) (λ least.
+    then_by (field_at a.1) (λ b. then_by (some_or_fault fault.Number (integer_of low high b.0)) (λ greatest.
+    then_by (field_at b.1) (λ c. then_by (some_or_fault fault.Number (integer_of low high c.0)) (λ setting.
     Ok (record { least = least; greatest = greatest; setting = setting; rest = c.1 })))))))
 
 abbrev pub by_limits : NumberKind → ℤ → ℤ → Option (List ℕ) → Result Valued ObjectFault
@@ -147,29 +152,34 @@ names_after names (n ∷ more) =
     else names_after (names ++ n ∷ []) more
 
 -- where a name stands first
-abbrev pub place_of : List ℕ → List (List ℕ) → Option ℕ
-place_of name [] = None
-place_of name (n ∷ names) = if bytes_eq n name then Some 0 else option_map (λ n. 1 + n) (place_of name names)
+abbrev pub position_named : List ℕ → List (List ℕ) → Option ℕ
+position_named name [] = None
+position_named name (n ∷ names) = if bytes_eq n name then Some 0
+    else option_map (λ n. 1 + n) (position_named name names)
 
 -- the names of a switch's positions between commas, and that of the current one: its number, the names, and what is
 -- left
 unfoldable pub positions_of : Option (List ℕ) → Result (ℕ × List (List ℕ) × Option (List ℕ)) ObjectFault
 positions_of rest =
     then_by (field_at rest) (λ a. then_by (names_after [] (split_on 44 a.0)) (λ names.
-    then_by (field_at a.1) (λ b. then_by (or_fault fault.Value (place_of b.0 names)) (λ position.
+    then_by (field_at a.1) (λ b. then_by (some_or_fault fault.Value (position_named b.0 names)) (λ position.
     Ok (position, names, b.1)))))
 
 abbrev pub by_positions : Option (List ℕ) → Result Valued ObjectFault
 by_positions rest =
-    then_by (positions_of rest) (λ p. Ok (record { bad_name = list_any is_long p.1; value = switch p.1 p.0; rest = p.2 }))
+    then_by (positions_of rest)
+    (λ p. Ok (record { bad_name = list_any is_long p.1; value = switch p.1 p.0; rest = p.2 }))
 
 -- (negsuc n is -(n + 1))
 unfoldable pub value_at : Class → Option (List ℕ) → Result Valued ObjectFault
 value_at class.Block rest = Ok (valued value.Block rest)
-value_at class.Mute rest = by_word (one_of (codes "muted") (value.Mute Muted) (codes "unmuted") (value.Mute Unmuted)) rest
+value_at class.Mute rest = by_word
+    (one_of (codes "muted") (value.Mute Muted) (codes "unmuted") (value.Mute Unmuted)) rest
 value_at class.Polarity rest =
-    by_word (one_of (codes "non-inverted") (value.Polarity NonInverted) (codes "inverted") (value.Polarity Inverted)) rest
-value_at class.Boolean rest = by_word (one_of (codes "on") (value.Boolean true) (codes "off") (value.Boolean false)) rest
+    by_word (one_of (codes "non-inverted") (value.Polarity NonInverted) (codes "inverted")
+    (value.Polarity Inverted)) rest
+value_at class.Boolean rest = by_word
+    (one_of (codes "on") (value.Boolean true) (codes "off") (value.Boolean false)) rest
 value_at class.Switch rest = by_positions rest
 value_at class.Int8 rest = by_limits kind.Int8 (negsuc 127) (pos (2 ^ 7 - 1)) rest
 value_at class.Int16 rest = by_limits kind.Int16 (negsuc 32767) (pos (2 ^ 15 - 1)) rest
@@ -196,7 +206,7 @@ refusal tree container ono role bad_name v = first_fault (
 
 abbrev pub added_unless : Option AddFault → List Object → Object → Result (List Object) ObjectFault
 added_unless None tree object = Ok (tree ++ object ∷ [])
-added_unless (Some f) tree object = Err (fault_of f)
+added_unless (Some f) tree object = Err (object_fault_of f)
 
 abbrev pub ended : {A : Type 0} → Option (List ℕ) → A → Result A ObjectFault
 ended None x = Ok x
@@ -208,15 +218,18 @@ checked text = if is_text text then Some text else None
 -- the end of the line: whether the object can be locked, and its role
 unfoldable pub last_of : Option (List ℕ) → Result (Bool × List ℕ) ObjectFault
 last_of rest =
-    then_by (field_at rest) (λ word. then_by (or_fault fault.Lockable (one_of (codes "lockable") true (codes "no-lock") false word.0)) (λ lockable.
+    then_by (field_at rest)
+    (λ word. then_by (some_or_fault fault.Lockable (one_of (codes "lockable") true (codes "no-lock") false word.0))
+    (λ lockable.
     then_by (field_at word.1) (λ role. then_by (ended role.1 role.0) (λ text.
-    then_by (or_fault fault.Text (checked text)) (λ t. Ok (lockable, t))))))
+    then_by (some_or_fault fault.Text (checked text)) (λ t. Ok (lockable, t))))))
 
 -- the object with this value is added
 unfoldable pub added_with : List Object → ℕ → ℕ → Valued → Result (List Object) ObjectFault
 added_with tree container ono v =
     then_by (last_of v.rest) (λ last.
-    added_unless (refusal tree container ono last.1 v.bad_name v.value) tree (new_object ono container last.0 last.1 v.value))
+    added_unless (refusal tree container ono last.1 v.bad_name v.value) tree
+    (new_object ono container last.0 last.1 v.value))
 
 -- the same, of which the class was read last
 abbrev pub added_as : List Object → ℕ → ℕ → Class → Option (List ℕ) → Result (List Object) ObjectFault
@@ -225,9 +238,9 @@ added_as tree container ono k rest = then_by (value_at k rest) (λ v. added_with
 -- the objects with that of a line's fields behind them
 unfoldable pub added_by : List Object → List ℕ → Result (List Object) ObjectFault
 added_by tree line =
-    then_by (field_at (Some line)) (λ a. then_by (or_fault fault.Number (ono_of a.0)) (λ ono.
-    then_by (field_at a.1) (λ b. then_by (or_fault fault.Number (ono_of b.0)) (λ container.
-    then_by (field_at b.1) (λ c. then_by (or_fault fault.Class (class_of_word c.0)) (λ k.
+    then_by (field_at (Some line)) (λ a. then_by (some_or_fault fault.Number (ono_of a.0)) (λ ono.
+    then_by (field_at a.1) (λ b. then_by (some_or_fault fault.Number (ono_of b.0)) (λ container.
+    then_by (field_at b.1) (λ c. then_by (some_or_fault fault.Class (class_of_word c.0)) (λ k.
     added_as tree container ono k c.1))))))
 
 -- a line with a control character
@@ -235,6 +248,6 @@ abbrev pub has_control : List ℕ → Bool
 has_control line = list_any (λ b. nat_lt b 32) line
 
 -- empty, or a comment
-abbrev pub is_skipped : List ℕ → Bool
-is_skipped [] = true
-is_skipped (b ∷ bs) = b == 35
+abbrev pub is_skipped_line : List ℕ → Bool
+is_skipped_line [] = true
+is_skipped_line (b ∷ bs) = b == 35

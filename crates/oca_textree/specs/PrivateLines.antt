@@ -17,7 +17,8 @@ field_view (Ok p) = Ok (p.0.now, option_copied p.1)
 field_view (Err f) = Err f
 
 abbrev pub limits_view : Result Limits ObjectFault → Result Limited ObjectFault
-limits_view (Ok l) = Ok (record { least = l.least; greatest = l.greatest; setting = l.setting; rest = option_copied l.rest })
+limits_view (Ok l) = Ok
+    (record { least = l.least; greatest = l.greatest; setting = l.setting; rest = option_copied l.rest })
 limits_view (Err f) = Err f
 
 -- all three are from the one to the other
@@ -35,7 +36,8 @@ names_view (Ok u) names = Ok (map (λ n. n.now) names)
 names_view (Err f) names = Err f
 
 -- the current position and the names
-abbrev pub positions_view : Result (ℕ × Option (Bor (List ℕ))) ObjectFault → List (Bor (List ℕ)) → Result (ℕ × List (List ℕ) × Option (List ℕ)) ObjectFault
+abbrev pub positions_view : Result (ℕ × Option (Bor (List ℕ))) ObjectFault → List (Bor (List ℕ))
+    → Result (ℕ × List (List ℕ) × Option (List ℕ)) ObjectFault
 positions_view (Ok p) names = Ok (p.0, map (λ n. n.now) names, option_copied p.1)
 positions_view (Err f) names = Err f
 

@@ -10,7 +10,8 @@ use Rattle.oca_textree.specs.declared.stored.Ending.{Ending as Ended}
 use Rattle.oca_textree.specs.PrivateLines.{kind_valued}
 use Rattle.oca_textree.specs.Stored.{Ending, Positions, Said}
 
-abbrev pub text_view : Result (List ℕ × Option (Bor (List ℕ))) ObjectFault → Result (List ℕ × Option (List ℕ)) ObjectFault
+abbrev pub text_view : Result (List ℕ × Option (Bor (List ℕ))) ObjectFault
+    → Result (List ℕ × Option (List ℕ)) ObjectFault
 text_view (Ok p) = Ok (p.0, option_copied p.1)
 text_view (Err f) = Err f
 
@@ -20,12 +21,14 @@ named_view (Ok u) names = Ok names
 named_view (Err f) names = Err f
 
 -- names that were added, and what is left
-abbrev pub names_rest_view : Result (Option (Bor (List ℕ))) ObjectFault → List (List ℕ) → Result (List (List ℕ) × Option (List ℕ)) ObjectFault
+abbrev pub names_rest_view : Result (Option (Bor (List ℕ))) ObjectFault → List (List ℕ)
+    → Result (List (List ℕ) × Option (List ℕ)) ObjectFault
 names_rest_view (Ok rest) names = Ok (names, option_copied rest)
 names_rest_view (Err f) names = Err f
 
 -- the current position and what is left, with the flags and the names that were added
-abbrev pub switch_view : Result (ℕ × Option (Bor (List ℕ))) ObjectFault → List Bool → List (List ℕ) → Result Positions ObjectFault
+abbrev pub switch_view : Result (ℕ × Option (Bor (List ℕ))) ObjectFault → List Bool → List (List ℕ)
+    → Result Positions ObjectFault
 switch_view (Ok p) flags names = Ok (record { flags = flags; names = names; position = p.0; rest = option_copied p.1 })
 switch_view (Err f) flags names = Err f
 

@@ -1,5 +1,6 @@
 -- The lines as they are written by what is told of an object.
-use Rattle.std.specs.Prelude.{ℕ, ◌≤◌, ◌==◌, ◌-◌, ◌^◌, if◌then◌else◌, Bool, List, [], ◌∷◌, ◌++◌, length, codes, Option, Some, None, ℤ, pos, negsuc, ◌≤ℤ◌}
+use Rattle.std.specs.Prelude.{ℕ, ◌≤◌, ◌==◌, ◌-◌, ◌^◌, if◌then◌else◌, Bool, List, [], ◌∷◌, ◌++◌, length, codes, Option}
+use Rattle.std.specs.Prelude.{Some, None, ℤ, pos, negsuc, ◌≤ℤ◌}
 use Rattle.oca_tree.specs.declared.object.Object.{Object}
 use Rattle.oca_tree.specs.declared.tree.ObjectInfo.{ObjectInfo}
 use Rattle.oca_tree.specs.declared.tree.Setting.{Setting}
@@ -23,11 +24,13 @@ root_told (Some stored) = codes "root " ++ start_fields stored.enabled stored.la
 abbrev pub object_told : List Object → ObjectInfo → List ℕ
 object_told tree info =
     place_fields info.ono.0 info.container.0
-    ++ value_fields info.class (setting_at tree info.ono.0) (names_at tree info.ono.0) (flags_told (stored_at tree info.ono.0))
+    ++ value_fields info.class (setting_at tree info.ono.0) (names_at tree info.ono.0)
+    (flags_told (stored_at tree info.ono.0))
     ++ end_told (lockable_at tree info.ono.0) info.role (stored_at tree info.ono.0)
 
 abbrev pub line_told : List Object → ObjectInfo → List ℕ
-line_told tree info = (if info.container.0 == 0 then root_told (stored_at tree info.ono.0) else object_told tree info) ++ 10 ∷ []
+line_told tree info = (if info.container.0 == 0 then root_told (stored_at tree info.ono.0) else object_told tree info)
+    ++ 10 ∷ []
 
 -- ---- what fits a line
 

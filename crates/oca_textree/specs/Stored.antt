@@ -1,6 +1,7 @@
 -- What a line says of an object with all that was stored of it (*profile*): as another line, behind the word `object`,
 -- with texts of any characters, the flags of a switch's positions, whether the object is enabled, and its label.
-use Rattle.std.specs.Prelude.{ℕ, ◌==◌, nat_lt, nat_le, Bool, true, false, if◌then◌else◌, List, [], ◌∷◌, ◌++◌, length, codes, Option, Some, None, Result, Ok, Err}
+use Rattle.std.specs.Prelude.{ℕ, ◌==◌, nat_lt, nat_le, Bool, true, false, if◌then◌else◌, List, [], ◌∷◌, ◌++◌, length}
+use Rattle.std.specs.Prelude.{codes, Option, Some, None, Result, Ok, Err}
 use Rattle.std.specs.Option.{option_map, option_or}
 use Rattle.std.specs.List.{list_any}
 use Rattle.std.specs.Str.{bytes_eq, is_utf8}
@@ -13,8 +14,9 @@ use Rattle.oca_tree.specs.Building.{switch, is_long, root}
 use Rattle.oca_tree.specs.Starts.{with_flags, has_other_flags}
 use Rattle.oca_textree.specs.declared.fault.ObjectFault.{ObjectFault}
 use Rattle.oca_textree.specs.declared.fault.ObjectFault.TheVariants as fault
-use Rattle.oca_textree.specs.Faults.{fault_of}
-use Rattle.oca_textree.specs.Lines.{then_by, or_fault, field_at, is_text, ono_of, class_of_word, one_of, Valued, value_at, refusal, ended, added_by, is_skipped, has_control}
+use Rattle.oca_textree.specs.Faults.{object_fault_of}
+use Rattle.oca_textree.specs.Lines.{then_by, some_or_fault, field_at, is_text, ono_of, class_of_word, one_of, Valued}
+use Rattle.oca_textree.specs.Lines.{value_at, refusal, ended, added_by, is_skipped_line, has_control}
 
 -- ---- texts
 
@@ -43,7 +45,8 @@ is_quoted (Some (b ∷ bs)) = b == 34
 -- the next field as a text, and what is left
 unfoldable pub text_at : Option (List ℕ) → Result (List ℕ × Option (List ℕ)) ObjectFault
 text_at rest =
-    then_by (field_at rest) (λ f. then_by (or_fault fault.Text (text_said (is_quoted rest) f.0)) (λ text. Ok (text, f.1)))
+    then_by (field_at rest)
+    (λ f. then_by (some_or_fault fault.Text (text_said (is_quoted rest) f.0)) (λ text. Ok (text, f.1)))
 
 -- ---- the positions of a switch
 
@@ -60,13 +63,14 @@ flags_after flags (b ∷ bs) =
 abbrev pub named_after : Bool → List (List ℕ) → List (List ℕ) → Result (List (List ℕ)) ObjectFault
 named_after quoted names [] = Ok names
 named_after quoted names (n ∷ more) =
-    then_by (or_fault fault.Text (text_said quoted n)) (λ text.
+    then_by (some_or_fault fault.Text (text_said quoted n)) (λ text.
     if nat_le 16 (length names) then Err fault.Range else named_after quoted (names ++ text ∷ []) more)
 
 -- the next field as names between commas, and what is left
 unfoldable pub names_at : Option (List ℕ) → Result (List (List ℕ) × Option (List ℕ)) ObjectFault
 names_at rest =
-    then_by (field_at rest) (λ f. then_by (named_after (is_quoted rest) [] (split_on 44 f.0)) (λ names. Ok (names, f.1)))
+    then_by (field_at rest)
+    (λ f. then_by (named_after (is_quoted rest) [] (split_on 44 f.0)) (λ names. Ok (names, f.1)))
 
 -- the flags of the positions, their names, the current position, and what is left
 pub record Positions : Type 0 where
@@ -77,9 +81,9 @@ pub record Positions : Type 0 where
 
 unfoldable pub switch_at : Option (List ℕ) → Result Positions ObjectFault
 switch_at rest =
-    then_by (field_at rest) (λ a. then_by (or_fault fault.Value (flags_after [] a.0)) (λ flags.
+    then_by (field_at rest) (λ a. then_by (some_or_fault fault.Value (flags_after [] a.0)) (λ flags.
     then_by (names_at a.1) (λ b.
-    then_by (field_at b.1) (λ c. then_by (or_fault fault.Number (number_of 5 65535 c.0)) (λ position.
+    then_by (field_at b.1) (λ c. then_by (some_or_fault fault.Number (number_of 5 65535 c.0)) (λ position.
     Ok (record { flags = flags; names = b.0; position = position; rest = c.1 }))))))
 
 -- ---- what an object of a class is set to
@@ -91,7 +95,10 @@ pub record Said : Type 0 where
 
 abbrev pub switch_said : Positions → Said
 switch_said p =
-    record { valued = record { bad_name = list_any is_long p.names; value = switch p.names p.position; rest = p.rest }; flags = Some p.flags }
+    record {
+      valued = record { bad_name = list_any is_long p.names; value = switch p.names p.position; rest = p.rest };
+      flags = Some p.flags;
+    }
 
 unfoldable pub said_at : Class → Option (List ℕ) → Result Said ObjectFault
 said_at class.Switch rest = then_by (switch_at rest) (λ p. Ok (switch_said p))
@@ -102,7 +109,8 @@ said_at k rest = then_by (value_at k rest) (λ v. Ok (record { valued = v; flags
 -- whether it is enabled, and its label; nothing is left
 unfoldable pub start_at : Option (List ℕ) → Result (Bool × List ℕ) ObjectFault
 start_at rest =
-    then_by (field_at rest) (λ word. then_by (or_fault fault.Value (one_of (codes "on") true (codes "off") false word.0)) (λ enabled.
+    then_by (field_at rest)
+    (λ word. then_by (some_or_fault fault.Value (one_of (codes "on") true (codes "off") false word.0)) (λ enabled.
     then_by (text_at word.1) (λ label. ended label.1 (enabled, label.0))))
 
 pub record Ending : Type 0 where
@@ -114,7 +122,9 @@ pub record Ending : Type 0 where
 -- whether the object can be locked, its role, whether it is enabled, and its label
 unfoldable pub ending_at : Option (List ℕ) → Result Ending ObjectFault
 ending_at rest =
-    then_by (field_at rest) (λ word. then_by (or_fault fault.Lockable (one_of (codes "lockable") true (codes "no-lock") false word.0)) (λ lockable.
+    then_by (field_at rest)
+    (λ word. then_by (some_or_fault fault.Lockable (one_of (codes "lockable") true (codes "no-lock") false word.0))
+    (λ lockable.
     then_by (text_at word.1) (λ role.
     then_by (start_at role.1) (λ start.
     Ok (record { lockable = lockable; role = role.0; enabled = start.0; label = start.1 })))))
@@ -135,11 +145,13 @@ stored_object ono container ending v flags = record {
 
 -- why a tree refuses what was stored: the label, or other than one flag a position
 abbrev pub start_refusal : Value → List ℕ → Option (List Bool) → Option ObjectFault
-start_refusal v label flags = if is_long label then Some fault.Text else if has_other_flags flags v then Some fault.Value else None
+start_refusal v label flags = if is_long label then Some fault.Text else if has_other_flags flags v
+    then Some fault.Value else None
 
 abbrev pub stored_refusal : List Object → ℕ → ℕ → Ending → Bool → Value → Option (List Bool) → Option ObjectFault
 stored_refusal tree container ono ending bad_name v flags =
-    option_or (option_map fault_of (refusal tree container ono ending.role bad_name v)) (start_refusal v ending.label flags)
+    option_or (option_map object_fault_of (refusal tree container ono ending.role bad_name v))
+    (start_refusal v ending.label flags)
 
 abbrev pub kept_unless : Option ObjectFault → List Object → Object → Result (List Object) ObjectFault
 kept_unless None tree object = Ok (tree ++ object ∷ [])
@@ -148,7 +160,8 @@ kept_unless (Some f) tree object = Err f
 -- the object with this value and this end of its line is added
 abbrev pub kept_by : List Object → ℕ → ℕ → Ending → Bool → Value → Option (List Bool) → Result (List Object) ObjectFault
 kept_by tree container ono ending bad_name v flags =
-    kept_unless (stored_refusal tree container ono ending bad_name v flags) tree (stored_object ono container ending v flags)
+    kept_unless (stored_refusal tree container ono ending bad_name v flags) tree
+    (stored_object ono container ending v flags)
 
 -- the object with this value is added
 unfoldable pub stored_with : List Object → ℕ → ℕ → Said → Result (List Object) ObjectFault
@@ -163,9 +176,9 @@ stored_as tree container ono k rest = then_by (said_at k rest) (λ said. stored_
 -- THE OBJECTS WITH THAT OF A LINE'S FIELDS BEHIND THEM, all that was stored of it included.
 unfoldable pub stored_by : List Object → List ℕ → Result (List Object) ObjectFault
 stored_by tree line =
-    then_by (field_at (Some line)) (λ a. then_by (or_fault fault.Number (ono_of a.0)) (λ ono.
-    then_by (field_at a.1) (λ b. then_by (or_fault fault.Number (ono_of b.0)) (λ container.
-    then_by (field_at b.1) (λ c. then_by (or_fault fault.Class (class_of_word c.0)) (λ k.
+    then_by (field_at (Some line)) (λ a. then_by (some_or_fault fault.Number (ono_of a.0)) (λ ono.
+    then_by (field_at a.1) (λ b. then_by (some_or_fault fault.Number (ono_of b.0)) (λ container.
+    then_by (field_at b.1) (λ c. then_by (some_or_fault fault.Class (class_of_word c.0)) (λ k.
     stored_as tree container ono k c.1))))))
 
 -- ---- the root
@@ -181,8 +194,8 @@ abbrev pub behind_found : List ℕ → Option (List ℕ × List ℕ) → Option 
 behind_found word None = None
 behind_found word (Some p) = if bytes_eq p.0 word then Some p.1 else None
 
-abbrev pub behind : List ℕ → List ℕ → Option (List ℕ)
-behind word line = behind_found word (split_at 32 line)
+abbrev pub after_word : List ℕ → List ℕ → Option (List ℕ)
+after_word word line = behind_found word (split_at 32 line)
 
 abbrev pub by_kind : Option (List ℕ) → List Object → List ℕ → Result (List Object) ObjectFault
 by_kind None tree line = added_by tree line
@@ -191,6 +204,6 @@ by_kind (Some fields) tree line = stored_by tree fields
 -- THE OBJECTS AFTER A LINE: those before it and its own, or its first fault.
 unfoldable pub after_line : List Object → List ℕ → Result (List Object) ObjectFault
 after_line tree line =
-    if is_skipped line then Ok tree
+    if is_skipped_line line then Ok tree
     else if has_control line then Err fault.Form
-    else by_kind (behind (codes "object") line) tree line
+    else by_kind (after_word (codes "object") line) tree line

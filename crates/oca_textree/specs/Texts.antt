@@ -8,9 +8,10 @@ use Rattle.oca_textree.specs.declared.fault.TreeFault.{TreeFault}
 use Rattle.oca_textree.specs.declared.fault.TreeFault.TheVariants.{Line}
 use Rattle.oca_textree.specs.declared.fault.ObjectFault.TheVariants as fault
 use Rattle.oca_textree.specs.Lines.{has_control}
-use Rattle.oca_textree.specs.Stored.{after_line, behind, rooted}
+use Rattle.oca_textree.specs.Stored.{after_line, after_word, rooted}
 
-abbrev pub go_on : Result (List Object) ObjectFault → ℕ → (List Object → Result (List Object) TreeFault) → Result (List Object) TreeFault
+abbrev pub go_on : Result (List Object) ObjectFault → ℕ → (List Object → Result (List Object) TreeFault)
+    → Result (List Object) TreeFault
 go_on (Err f) number next = Err (Line number f)
 go_on (Ok tree) number next = next tree
 
@@ -36,7 +37,8 @@ abbrev pub from_root : Option (List ℕ) → List ℕ → Result (List Object) T
 from_root None text = after_lines 1 (root ∷ []) (split_on 10 text)
 from_root (Some fields) text = go_on (rooted_by fields) 1 (λ tree. after_lines 2 tree (lines_behind (split_at 10 text)))
 
--- THE OBJECTS OF A TEXT: the root, of which the first line may say what was stored, and those of its lines, in order, or
+-- THE OBJECTS OF A TEXT: the root, of which the first line may say what was stored, and those of its lines, in order,
+-- or
 -- the first line with a fault. A line ends at a line feed.
 unfoldable pub objects_of_text : List ℕ → Result (List Object) TreeFault
-objects_of_text text = from_root (behind (codes "root") (line_before (split_at 10 text) text)) text
+objects_of_text text = from_root (after_word (codes "root") (line_before (split_at 10 text) text)) text

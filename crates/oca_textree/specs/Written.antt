@@ -1,5 +1,6 @@
 -- How a tree is written as a text: a line an object, with all that is told of it (*profile*).
-use Rattle.std.specs.Prelude.{◌≡◌, ◌<◌, ◌≤◌, ◌^◌, length, IsUtf8, Ok, ℕ, ◌==◌, ◌&&◌, ◌||◌, not, nat_lt, Bool, true, false, if◌then◌else◌, List, [], ◌∷◌, ◌++◌, map, codes, decimal, Option, Some, None, ℤ}
+use Rattle.std.specs.Prelude.{◌≡◌, ◌<◌, ◌≤◌, ◌^◌, length, IsUtf8, Ok, ℕ, ◌==◌, ◌&&◌, ◌||◌, not, nat_lt, Bool, true}
+use Rattle.std.specs.Prelude.{false, if◌then◌else◌, List, [], ◌∷◌, ◌++◌, map, codes, decimal, Option, Some, None, ℤ}
 use Rattle.std.specs.Fmt.{signed_decimal}
 use Rattle.std.specs.List.{flat_map, list_any, All}
 use Rattle.hex.specs.Hex.{IsBytes}
@@ -39,9 +40,9 @@ text_field text = if is_plain text then in_quotes text else hex_text text
 -- ---- what is told of an object's value
 
 -- names between commas, each written so
-abbrev pub joined : (List ℕ → List ℕ) → List (List ℕ) → List ℕ
-joined writes [] = []
-joined writes (n ∷ more) = writes n ++ flat_map (λ m. 44 ∷ writes m) more
+abbrev pub joined_names : (List ℕ → List ℕ) → List (List ℕ) → List ℕ
+joined_names writes [] = []
+joined_names writes (n ∷ more) = writes n ++ flat_map (λ m. 44 ∷ writes m) more
 
 -- a name as it is, or in hexadecimal digits
 abbrev pub name_part : Bool → List ℕ → List ℕ
@@ -55,7 +56,8 @@ is_plain_name name = is_plain name && not (holds_comma name)
 -- names between commas: in quotes where each is plain and holds no comma, else each in hexadecimal digits
 unfoldable pub names_field : List (List ℕ) → List ℕ
 names_field names =
-    if list_any (λ n. not (is_plain_name n)) names then joined (name_part false) names else in_quotes (joined (name_part true) names)
+    if list_any (λ n. not (is_plain_name n)) names then joined_names (name_part false) names
+    else in_quotes (joined_names (name_part true) names)
 
 -- a digit a position
 abbrev pub flag_digit : Bool → ℕ
@@ -144,13 +146,16 @@ abbrev pub place_fields : ℕ → ℕ → List ℕ
 place_fields ono container = codes "object " ++ decimal ono ++ 32 ∷ decimal container ++ 32 ∷ []
 
 abbrev pub end_fields : Bool → List ℕ → Bool → List ℕ → List ℕ
-end_fields lockable role enabled label = 32 ∷ lock_word lockable ++ 32 ∷ text_field role ++ 32 ∷ start_fields enabled label
+end_fields lockable role enabled label = 32 ∷ lock_word lockable ++ 32 ∷ text_field role ++ 32
+    ∷ start_fields enabled label
 
--- THE LINE OF AN OBJECT: its number, its container, its class and its value, whether it can be locked, its role, whether
+-- THE LINE OF AN OBJECT: its number, its container, its class and its value, whether it can be locked, its role,
+-- whether
 -- it is enabled, and its label. Its lock is not written.
 abbrev pub object_line : Object → List ℕ
 object_line o =
-    place_fields o.ono.0 o.container.0 ++ value_fields (class_of o.value) (value_setting o.value) (names_in o.value) (flags_in o.value)
+    place_fields o.ono.0 o.container.0
+    ++ value_fields (class_of o.value) (value_setting o.value) (names_in o.value) (flags_in o.value)
     ++ end_fields o.lockable o.role o.enabled o.label
 
 -- the line of the root, which says what peers may set of it
@@ -173,7 +178,8 @@ pub record IsShortText (text : List ℕ) : Type 0 where
   pub bytes : IsBytes text
   pub short : length text ≤ 64
 
--- What the types of an object's parts say of it, and that it has a role: its numbers are of 32 bits, its texts of at most 64 bytes.
+-- What the types of an object's parts say of it, and that it has a role: its numbers are of 32 bits, its texts of at
+-- most 64 bytes.
 pub record IsNamed (o : Object) : Type 0 where
   pub ono : o.ono.0 < 2 ^ 32
   pub container : o.container.0 < 2 ^ 32

@@ -1,6 +1,6 @@
 //! Why a line lists no object.
 ghost use Rattle.std.specs.Prelude.{◌≡◌};
-ghost use Rattle.oca_textree.specs.Faults.{fault_word, fault_of};
+ghost use Rattle.oca_textree.specs.Faults.{object_fault_word, object_fault_of};
 
 use oca_tree::{AddFault, StartFault};
 use thiserror::Error;
@@ -24,7 +24,8 @@ pub enum ObjectFault {
     /// Neither `lockable` nor `no-lock`.
     #[error("lockable")]
     Lockable,
-    /// The role is empty, or the role or a position's name has more than 64 bytes, is not UTF-8, or has a character that
+    /// The role is empty, or the role or a position's name has more than 64 bytes, is not UTF-8, or has a character
+    /// that
     /// is printed as an escape, a backslash left aside.
     #[error("text")]
     Text,
@@ -54,7 +55,7 @@ pub enum ObjectFault {
 impl ObjectFault {
     /// The word that is printed for the fault.
     pub fn word(self) -> &'static str
-        ensures { result.now ≡ fault_word self }
+        ensures { result.now ≡ object_fault_word self }
     {
         match self {
             ObjectFault::Form => "form",
@@ -76,9 +77,9 @@ impl ObjectFault {
 
 impl From<AddFault> for ObjectFault {
     ghost use Rattle.std.specs.Prelude.{◌≡◌};
-    ghost use Rattle.oca_textree.specs.Faults.{fault_of};
+    ghost use Rattle.oca_textree.specs.Faults.{object_fault_of};
 
-    ghost from_gives = { λ fault r. r ≡ fault_of fault };
+    ghost from_gives = { λ fault r. r ≡ object_fault_of fault };
 
     /// Why the tree refuses the object of a line.
     fn from(fault: AddFault) -> ObjectFault {

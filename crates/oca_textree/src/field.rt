@@ -2,7 +2,8 @@
 ghost use Rattle.std.specs.Prelude.{◌≡◌, true, false, MatchOption};
 ghost use Rattle.std.specs.Option.{option_copied};
 ghost use Rattle.oca_script.specs.Fields.{split_at};
-ghost use Rattle.oca_textree.specs.Lines.{field_at, plain as plain_field, quoted as quoted_field, ono_of, class_of_word, has_control as has_control_byte, is_text};
+ghost use Rattle.oca_textree.specs.Lines.{field_at, plain as plain_field, quoted as quoted_field, ono_of};
+ghost use Rattle.oca_textree.specs.Lines.{class_of_word, has_control as has_control_byte, is_text};
 ghost use Rattle.oca_textree.specs.PrivateLines.{field_view};
 
 use super::fault::ObjectFault;

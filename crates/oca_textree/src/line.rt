@@ -2,8 +2,9 @@
 ghost use Rattle.std.specs.Prelude.{◌≡◌};
 ghost use Rattle.std.specs.Option.{option_copied};
 ghost use Rattle.oca_types.specs.declared.class.Class.TheVariants.{Switch};
-ghost use Rattle.oca_textree.specs.Lines.{last_of, value_at, added_with, added_by, added_as, is_skipped as skipped_line};
-ghost use Rattle.oca_textree.specs.Stored.{after_line, behind as behind_word};
+ghost use Rattle.oca_textree.specs.Lines.{last_of, value_at, added_with, added_by, added_as};
+ghost use Rattle.oca_textree.specs.Lines.{is_skipped_line as skipped_line};
+ghost use Rattle.oca_textree.specs.Stored.{after_line, after_word as behind_word};
 ghost use Rattle.oca_textree.specs.PrivateLines.{last_view, Became, kind_valued};
 
 use super::fault::ObjectFault;
@@ -43,7 +44,8 @@ fn add(
     rest: Option<&[u8]>,
 ) -> Result<(), ObjectFault>
     requires { builder.old.room ≡ 4096 }
-    ensures { Became result builder.old builder.new (added_with builder.old.list container ono (kind_valued kind.entry rest.entry)) }
+    ensures { Became result builder.old builder.new
+        (added_with builder.old.list container ono (kind_valued kind.entry rest.entry)) }
 {
     let (lockable, role) = last(rest)?;
     let spec = Spec {
@@ -66,7 +68,8 @@ fn add_switch(
     rest: Option<&[u8]>,
 ) -> Result<(), ObjectFault>
     requires { builder.old.room ≡ 4096 }
-    ensures { Became result builder.old builder.new (added_as builder.old.list container ono Switch (option_copied rest.entry)) }
+    ensures { Became result builder.old builder.new
+        (added_as builder.old.list container ono Switch (option_copied rest.entry)) }
 {
     let mut names = Names::new();
     let (position, rest) = positions(rest, &mut names)?;
@@ -86,7 +89,8 @@ fn add_of_class(
     rest: Option<&[u8]>,
 ) -> Result<(), ObjectFault>
     requires { builder.old.room ≡ 4096 }
-    ensures { Became result builder.old builder.new (added_as builder.old.list container ono class (option_copied rest.entry)) }
+    ensures { Became result builder.old builder.new
+        (added_as builder.old.list container ono class (option_copied rest.entry)) }
 {
     if class == Class::Switch {
         return add_switch(builder, container, ono, rest);

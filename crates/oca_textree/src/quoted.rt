@@ -1,7 +1,8 @@
 //! Texts of any characters: in quotes as they are, or in hexadecimal digits.
 ghost use Rattle.std.specs.Prelude.{◌≡◌};
 ghost use Rattle.std.specs.Option.{option_copied};
-ghost use Rattle.oca_textree.specs.Stored.{short, short_utf8, digits_said, text_said as said_text, is_quoted as stands_quoted, text_at as next_text};
+ghost use Rattle.oca_textree.specs.Stored.{short, short_utf8, digits_said, text_said as said_text};
+ghost use Rattle.oca_textree.specs.Stored.{is_quoted as stands_quoted, text_at as next_text};
 ghost use Rattle.oca_textree.specs.PrivateStored.{text_view};
 
 use super::fault::ObjectFault;

@@ -3,9 +3,11 @@ ghost use Rattle.std.specs.Prelude.{◌≡◌, ◌≤◌, [], ◌∷◌, length,
 ghost use Rattle.std.specs.Option.{option_copied};
 ghost use Rattle.oca_script.specs.Fields.{split_on};
 ghost use Rattle.oca_types.specs.declared.class.Class.TheVariants.{Switch};
-ghost use Rattle.oca_textree.specs.Stored.{flags_after, named_after, names_at, switch_at, start_at, ending_at, kept_by, switch_said, stored_with, stored_as, stored_by};
+ghost use Rattle.oca_textree.specs.Stored.{flags_after, named_after, names_at, switch_at, start_at, ending_at, kept_by};
+ghost use Rattle.oca_textree.specs.Stored.{switch_said, stored_with, stored_as, stored_by};
 ghost use Rattle.oca_textree.specs.PrivateLines.{Became};
-ghost use Rattle.oca_textree.specs.PrivateStored.{flags_view, named_view, names_rest_view, switch_view, ending_said, ending_view, kind_said};
+ghost use Rattle.oca_textree.specs.PrivateStored.{flags_view, named_view, names_rest_view, switch_view, ending_said};
+ghost use Rattle.oca_textree.specs.PrivateStored.{ending_view, kind_said};
 ghost use Rattle.oca_tree.specs.Building.{value_of, has_bad_name};
 
 use super::fault::ObjectFault;
@@ -168,7 +170,9 @@ fn add_ended(
     ending: &Ending,
 ) -> Result<(), ObjectFault>
     requires { builder.old.room ≡ 4096 }
-    ensures { Became result builder.old builder.new (kept_by builder.old.list container ono (ending_said ending.now) (has_bad_name kind.entry) (value_of kind.entry) (option_copied flags.entry)) }
+    ensures { Became result builder.old builder.new
+        (kept_by builder.old.list container ono (ending_said ending.now) (has_bad_name kind.entry) (value_of kind.entry)
+        (option_copied flags.entry)) }
 {
     let spec = Spec {
         role: ending.role.as_str(),
@@ -197,7 +201,8 @@ fn add(
     rest: Option<&[u8]>,
 ) -> Result<(), ObjectFault>
     requires { builder.old.room ≡ 4096 }
-    ensures { Became result builder.old builder.new (stored_with builder.old.list container ono (kind_said kind.entry flags.entry rest.entry)) }
+    ensures { Became result builder.old builder.new
+        (stored_with builder.old.list container ono (kind_said kind.entry flags.entry rest.entry)) }
 {
     let ending = read_end(rest)?;
     add_ended(builder, container, ono, kind, flags, &ending)
@@ -226,7 +231,14 @@ fn add_positions(
     rest: Option<&[u8]>,
 ) -> Result<(), ObjectFault>
     requires { builder.old.room ≡ 4096 }
-    ensures { Became result builder.old builder.new (stored_with builder.old.list container ono (switch_said (record { flags = flags.now.items; names = names.now.items; position = position; rest = option_copied rest.entry }))) }
+    ensures { Became result builder.old builder.new
+        (stored_with builder.old.list container ono
+        (switch_said (record {
+          flags = flags.now.items;
+          names = names.now.items;
+          position = position;
+          rest = option_copied rest.entry;
+        }))) }
 {
     let names = names_of(names.as_slice());
     let kind = Kind::Switch {
@@ -245,7 +257,8 @@ fn add_switch(
     rest: Option<&[u8]>,
 ) -> Result<(), ObjectFault>
     requires { builder.old.room ≡ 4096 }
-    ensures { Became result builder.old builder.new (stored_as builder.old.list container ono Switch (option_copied rest.entry)) }
+    ensures { Became result builder.old builder.new
+        (stored_as builder.old.list container ono Switch (option_copied rest.entry)) }
 {
     let mut flags = Flags::new();
     let mut names = Names::new();
@@ -263,7 +276,8 @@ fn add_of_class(
     rest: Option<&[u8]>,
 ) -> Result<(), ObjectFault>
     requires { builder.old.room ≡ 4096 }
-    ensures { Became result builder.old builder.new (stored_as builder.old.list container ono class (option_copied rest.entry)) }
+    ensures { Became result builder.old builder.new
+        (stored_as builder.old.list container ono class (option_copied rest.entry)) }
 {
     if class == Class::Switch {
         return add_switch(builder, container, ono, rest);

@@ -7,7 +7,8 @@ ghost use Rattle.oca_script.specs.Fields.{split_on};
 ghost use Rattle.oca_types.specs.declared.class.Class as classes;
 ghost use Rattle.oca_model.specs.declared.value.MuteState.TheVariants.{Muted, Unmuted};
 ghost use Rattle.oca_model.specs.declared.value.PolarityState.TheVariants.{NonInverted, Inverted};
-ghost use Rattle.oca_textree.specs.Lines.{one_of, signed_of, integer_of, limits_of, names_after, place_of, positions_of, value_at};
+ghost use Rattle.oca_textree.specs.Lines.{one_of, signed_of, integer_of, limits_of, names_after, position_named};
+ghost use Rattle.oca_textree.specs.Lines.{positions_of, value_at};
 ghost use Rattle.oca_textree.specs.PrivateLines.{limits_view, IsWithin, names_view, positions_view, kind_view};
 
 use super::fault::ObjectFault;
@@ -150,7 +151,8 @@ fn add_name<'a>(name: &'a [u8], names: &mut Names<'a>) -> Result<(), ObjectFault
 
 /// Adds the names of positions that stand between commas.
 fn add_names<'a>(text: &'a [u8], names: &mut Names<'a>) -> Result<(), ObjectFault>
-    ensures { names_view result names.new.items ≡ names_after (map (λ n. n.now) names.old.items) (split_on 44 text.entry.now) }
+    ensures { names_view result names.new.items
+        ≡ names_after (map (λ n. n.now) names.old.items) (split_on 44 text.entry.now) }
 {
     let mut rest = text;
     while let Some((name, after)) = split_at_byte(rest, b',') {
@@ -171,7 +173,7 @@ fn first_place(name: &[u8], names: &[&str]) -> Option<usize>
 /// The same as a position's number.
 fn place(name: &[u8], names: &[&str]) -> Option<u16>
     requires { length names.now ≤ 16 }
-    ensures { result ≡ place_of name.now (map (λ n. n.now) names.now) }
+    ensures { result ≡ position_named name.now (map (λ n. n.now) names.now) }
 {
     match first_place(name, names) {
         Some(at) => Some(at as u16),

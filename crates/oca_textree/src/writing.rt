@@ -6,8 +6,14 @@ ghost use Rattle.std.specs.List.{flat_map, list_any};
 ghost use Rattle.oca_script.specs.Ends.{output};
 ghost use Rattle.oca_script.specs.Printing.{Prints};
 ghost use Rattle.oca_tree.specs.Copies.{stored_in};
-ghost use Rattle.oca_textree.specs.Written.{is_plain as is_plain_text, is_plain_name as is_plain_part, text_field, name_part, joined, names_field, flag_digit, flags_field, state_word, truth_word, truth_field, limit_field, range_fields, number_fields, holds_mark, holds_comma, position_field, switch_fields, set_fields, class_before, value_fields, lock_word, start_fields, place_fields, end_fields, text_of};
-ghost use Rattle.oca_textree.specs.PrivateWritten.{IsInteger, IsWritten, few_flags, Fits, flags_told, end_told, root_told, object_told, line_told};
+ghost use Rattle.oca_textree.specs.Written.{is_plain as is_plain_text, is_plain_name as is_plain_part, text_field};
+ghost use Rattle.oca_textree.specs.Written.{name_part, joined_names, names_field, flag_digit, flags_field, state_word};
+ghost use Rattle.oca_textree.specs.Written.{truth_word, truth_field, limit_field, range_fields, number_fields};
+ghost use Rattle.oca_textree.specs.Written.{holds_mark, holds_comma, position_field, switch_fields, set_fields};
+ghost use Rattle.oca_textree.specs.Written.{class_before, value_fields, lock_word, start_fields, place_fields};
+ghost use Rattle.oca_textree.specs.Written.{end_fields, text_of};
+ghost use Rattle.oca_textree.specs.PrivateWritten.{IsInteger, IsWritten, few_flags, Fits, flags_told, end_told};
+ghost use Rattle.oca_textree.specs.PrivateWritten.{root_told, object_told, line_told};
 
 use oca_script::escape::has_hidden;
 use oca_script::{Printer, Sink, WriteFailed};
@@ -56,7 +62,8 @@ fn is_plain_name(name: &str) -> bool
 fn put_text<W: Sink>(text: &str, printer: &mut Printer<W>)
     requires short { length text.now ≤ 64 }
     requires room { length printer.old.held + 130 ≤ 8192 }
-    ensures value { printer.new ≡ output printer.old.contents (printer.old.held ++ text_field text.now) printer.old.failed }
+    ensures value { printer.new
+        ≡ output printer.old.contents (printer.old.held ++ text_field text.now) printer.old.failed }
     ensures len { length printer.new.held ≤ length printer.old.held + 130 }
 {
     if stands_plain(text) {
@@ -72,7 +79,8 @@ fn put_text<W: Sink>(text: &str, printer: &mut Printer<W>)
 fn put_name<W: Sink>(name: &str, plain: bool, printer: &mut Printer<W>)
     requires short { length name.now ≤ 64 }
     requires room { length printer.old.held + 129 ≤ 8192 }
-    ensures value { printer.new ≡ output printer.old.contents (printer.old.held ++ name_part plain name.now) printer.old.failed }
+    ensures value { printer.new
+        ≡ output printer.old.contents (printer.old.held ++ name_part plain name.now) printer.old.failed }
     ensures len { length printer.new.held ≤ length printer.old.held + 129 }
 {
     if plain {
@@ -86,7 +94,9 @@ fn put_name<W: Sink>(name: &str, plain: bool, printer: &mut Printer<W>)
 fn put_more_names<W: Sink>(names: &[Text], plain: bool, printer: &mut Printer<W>)
     requires few { length names.now ≤ 16 }
     requires room { length printer.old.held + 130 * 16 ≤ 8192 }
-    ensures value { printer.new ≡ output printer.old.contents (printer.old.held ++ flat_map (λ n. 44 ∷ name_part plain n) names.now) printer.old.failed }
+    ensures value { printer.new
+        ≡ output printer.old.contents
+        (printer.old.held ++ flat_map (λ n. 44 ∷ name_part plain n) names.now) printer.old.failed }
     ensures len { length printer.new.held ≤ length printer.old.held + 130 * length names.now }
 {
     for name in names {
@@ -99,7 +109,9 @@ fn put_more_names<W: Sink>(names: &[Text], plain: bool, printer: &mut Printer<W>
 fn put_joined<W: Sink>(names: &[Text], plain: bool, printer: &mut Printer<W>)
     requires few { length names.now ≤ 16 }
     requires room { length printer.old.held + 130 * 17 ≤ 8192 }
-    ensures value { printer.new ≡ output printer.old.contents (printer.old.held ++ joined (name_part plain) names.now) printer.old.failed }
+    ensures value { printer.new
+        ≡ output printer.old.contents
+        (printer.old.held ++ joined_names (name_part plain) names.now) printer.old.failed }
     ensures len { length printer.new.held ≤ length printer.old.held + 130 * 17 }
 {
     let Some((first, more)) = names.split_first() else {
@@ -121,7 +133,8 @@ fn has_odd_name(names: &[Text]) -> bool
 fn put_names<W: Sink>(names: &[Text], printer: &mut Printer<W>)
     requires few { length names.now ≤ 16 }
     requires room { length printer.old.held + 2300 ≤ 8192 }
-    ensures value { printer.new ≡ output printer.old.contents (printer.old.held ++ names_field names.now) printer.old.failed }
+    ensures value { printer.new
+        ≡ output printer.old.contents (printer.old.held ++ names_field names.now) printer.old.failed }
     ensures len { length printer.new.held ≤ length printer.old.held + 2300 }
 {
     if has_odd_name(names) {
@@ -137,7 +150,8 @@ fn put_names<W: Sink>(names: &[Text], printer: &mut Printer<W>)
 fn put_digits<W: Sink>(flags: &[bool], printer: &mut Printer<W>)
     requires few { length flags.now ≤ 16 }
     requires room { length printer.old.held + 16 ≤ 8192 }
-    ensures value { printer.new ≡ output printer.old.contents (printer.old.held ++ map flag_digit flags.now) printer.old.failed }
+    ensures value { printer.new
+        ≡ output printer.old.contents (printer.old.held ++ map flag_digit flags.now) printer.old.failed }
     ensures len { length printer.new.held ≤ length printer.old.held + 16 }
 {
     for flag in flags {
@@ -149,7 +163,8 @@ fn put_digits<W: Sink>(flags: &[bool], printer: &mut Printer<W>)
 fn put_flags<W: Sink>(flags: Option<&[bool]>, printer: &mut Printer<W>)
     requires few { few_flags (option_copied flags) ≤ 16 }
     requires room { length printer.old.held + 16 ≤ 8192 }
-    ensures value { printer.new ≡ output printer.old.contents (printer.old.held ++ flags_field (option_copied flags.entry)) printer.old.failed }
+    ensures value { printer.new
+        ≡ output printer.old.contents (printer.old.held ++ flags_field (option_copied flags.entry)) printer.old.failed }
     ensures len { length printer.new.held ≤ length printer.old.held + 16 }
 {
     if let Some(flags) = flags {
@@ -161,7 +176,8 @@ fn put_flags<W: Sink>(flags: Option<&[bool]>, printer: &mut Printer<W>)
 fn put_integer<W: Sink>(value: i128, printer: &mut Printer<W>)
     requires integer { IsInteger value }
     requires room { length printer.old.held + 21 ≤ 8192 }
-    ensures value { printer.new ≡ output printer.old.contents (printer.old.held ++ signed_decimal value) printer.old.failed }
+    ensures value { printer.new
+        ≡ output printer.old.contents (printer.old.held ++ signed_decimal value) printer.old.failed }
     ensures len { length printer.new.held ≤ length printer.old.held + 21 }
 {
     if value < 0 {
@@ -176,7 +192,8 @@ fn put_integer<W: Sink>(value: i128, printer: &mut Printer<W>)
 fn put_limit<W: Sink>(value: i128, printer: &mut Printer<W>)
     requires integer { IsInteger value }
     requires room { length printer.old.held + 22 ≤ 8192 }
-    ensures value { printer.new ≡ output printer.old.contents (printer.old.held ++ limit_field value) printer.old.failed }
+    ensures value { printer.new
+        ≡ output printer.old.contents (printer.old.held ++ limit_field value) printer.old.failed }
     ensures len { length printer.new.held ≤ length printer.old.held + 22 }
 {
     put_integer(value, printer);
@@ -189,7 +206,8 @@ fn put_range<W: Sink>(least: i128, greatest: i128, setting: i128, printer: &mut 
     requires greatest { IsInteger greatest }
     requires setting { IsInteger setting }
     requires room { length printer.old.held + 65 ≤ 8192 }
-    ensures value { printer.new ≡ output printer.old.contents (printer.old.held ++ range_fields least greatest setting) printer.old.failed }
+    ensures value { printer.new
+        ≡ output printer.old.contents (printer.old.held ++ range_fields least greatest setting) printer.old.failed }
     ensures len { length printer.new.held ≤ length printer.old.held + 65 }
 {
     put_limit(least, printer);
@@ -201,7 +219,8 @@ fn put_range<W: Sink>(least: i128, greatest: i128, setting: i128, printer: &mut 
 fn put_numbers<W: Sink>(setting: Option<Setting>, printer: &mut Printer<W>)
     requires written { IsWritten setting }
     requires room { length printer.old.held + 65 ≤ 8192 }
-    ensures value { printer.new ≡ output printer.old.contents (printer.old.held ++ number_fields setting) printer.old.failed }
+    ensures value { printer.new
+        ≡ output printer.old.contents (printer.old.held ++ number_fields setting) printer.old.failed }
     ensures len { length printer.new.held ≤ length printer.old.held + 65 }
 {
     if let Some(
@@ -225,7 +244,8 @@ fn put_state<W: Sink>(
 )
     requires words { (length first.now ≤ 20) × (length second.now ≤ 20) }
     requires room { length printer.old.held + 20 ≤ 8192 }
-    ensures value { printer.new ≡ output printer.old.contents (printer.old.held ++ state_word first.now second.now setting) printer.old.failed }
+    ensures value { printer.new
+        ≡ output printer.old.contents (printer.old.held ++ state_word first.now second.now setting) printer.old.failed }
     ensures len { length printer.new.held ≤ length printer.old.held + 20 }
 {
     match setting {
@@ -237,7 +257,8 @@ fn put_state<W: Sink>(
 /// Holds the word of a truth.
 fn put_truth<W: Sink>(truth: bool, printer: &mut Printer<W>)
     requires { length printer.old.held + 3 ≤ 8192 }
-    ensures value { printer.new ≡ output printer.old.contents (printer.old.held ++ truth_word truth) printer.old.failed }
+    ensures value { printer.new
+        ≡ output printer.old.contents (printer.old.held ++ truth_word truth) printer.old.failed }
     ensures len { length printer.new.held ≤ length printer.old.held + 3 }
 {
     printer.put(if truth { b"on".as_slice() } else { b"off" });
@@ -246,7 +267,8 @@ fn put_truth<W: Sink>(truth: bool, printer: &mut Printer<W>)
 /// Holds the word of a Boolean's setting.
 fn put_boolean<W: Sink>(setting: Option<Setting>, printer: &mut Printer<W>)
     requires { length printer.old.held + 3 ≤ 8192 }
-    ensures value { printer.new ≡ output printer.old.contents (printer.old.held ++ truth_field setting) printer.old.failed }
+    ensures value { printer.new
+        ≡ output printer.old.contents (printer.old.held ++ truth_field setting) printer.old.failed }
     ensures len { length printer.new.held ≤ length printer.old.held + 3 }
 {
     match setting {
@@ -258,7 +280,8 @@ fn put_boolean<W: Sink>(setting: Option<Setting>, printer: &mut Printer<W>)
 /// Holds the current position of a switch.
 fn put_position<W: Sink>(setting: Option<Setting>, printer: &mut Printer<W>)
     requires { length printer.old.held + 20 ≤ 8192 }
-    ensures value { printer.new ≡ output printer.old.contents (printer.old.held ++ position_field setting) printer.old.failed }
+    ensures value { printer.new
+        ≡ output printer.old.contents (printer.old.held ++ position_field setting) printer.old.failed }
     ensures len { length printer.new.held ≤ length printer.old.held + 20 }
 {
     if let Some(Setting::Position(position)) = setting {
@@ -299,7 +322,9 @@ fn put_switch<W: Sink>(
     requires names { length names.now ≤ 16 }
     requires flags { few_flags (option_copied flags) ≤ 16 }
     requires room { length printer.old.held + 2350 ≤ 8192 }
-    ensures value { printer.new ≡ output printer.old.contents (printer.old.held ++ switch_fields setting names.now (option_copied flags.entry)) printer.old.failed }
+    ensures value { printer.new
+        ≡ output printer.old.contents
+        (printer.old.held ++ switch_fields setting names.now (option_copied flags.entry)) printer.old.failed }
     ensures len { length printer.new.held ≤ length printer.old.held + 2350 }
 {
     put_flags(flags, printer);
@@ -322,7 +347,9 @@ fn put_setting<W: Sink>(
     requires names { length names.now ≤ 16 }
     requires flags { few_flags (option_copied flags) ≤ 16 }
     requires room { length printer.old.held + 2350 ≤ 8192 }
-    ensures value { printer.new ≡ output printer.old.contents (printer.old.held ++ set_fields class setting names.now (option_copied flags.entry)) printer.old.failed }
+    ensures value { printer.new
+        ≡ output printer.old.contents
+        (printer.old.held ++ set_fields class setting names.now (option_copied flags.entry)) printer.old.failed }
     ensures len { length printer.new.held ≤ length printer.old.held + 2350 }
 {
     match class {
@@ -338,7 +365,9 @@ fn put_setting<W: Sink>(
 /// Holds whether an object is enabled, and its label.
 fn put_start<W: Sink>(start: &Start<'_>, printer: &mut Printer<W>)
     requires { length printer.old.held + 140 ≤ 8192 }
-    ensures value { printer.new ≡ output printer.old.contents (printer.old.held ++ start_fields start.now.enabled start.now.label.now) printer.old.failed }
+    ensures value { printer.new
+        ≡ output printer.old.contents
+        (printer.old.held ++ start_fields start.now.enabled start.now.label.now) printer.old.failed }
     ensures len { length printer.new.held ≤ length printer.old.held + 140 }
 {
     let label = if start.label.len() > 64 {
@@ -359,7 +388,9 @@ fn put_end<W: Sink>(
     printer: &mut Printer<W>,
 )
     requires { length printer.old.held + 300 ≤ 8192 }
-    ensures value { printer.new ≡ output printer.old.contents (printer.old.held ++ end_told lockable role.now (option_map stored_in start.entry)) printer.old.failed }
+    ensures value { printer.new
+        ≡ output printer.old.contents
+        (printer.old.held ++ end_told lockable role.now (option_map stored_in start.entry)) printer.old.failed }
     ensures len { length printer.new.held ≤ length printer.old.held + 300 }
 {
     let Some(lockable) = lockable else {
@@ -391,7 +422,8 @@ fn flags_in(start: Option<Start<'_>>) -> Option<&[bool]>
 /// Holds an object's number and its container's.
 fn put_place<W: Sink>(ono: u32, container: u32, printer: &mut Printer<W>)
     requires { length printer.old.held + 60 ≤ 8192 }
-    ensures value { printer.new ≡ output printer.old.contents (printer.old.held ++ place_fields ono container) printer.old.failed }
+    ensures value { printer.new
+        ≡ output printer.old.contents (printer.old.held ++ place_fields ono container) printer.old.failed }
     ensures len { length printer.new.held ≤ length printer.old.held + 60 }
 {
     printer.put(b"object ");
@@ -413,7 +445,9 @@ fn put_value<W: Sink>(
     requires names { length names.now ≤ 16 }
     requires flags { few_flags (option_copied flags) ≤ 16 }
     requires room { length printer.old.held + 2400 ≤ 8192 }
-    ensures value { printer.new ≡ output printer.old.contents (printer.old.held ++ value_fields class setting names.now (option_copied flags.entry)) printer.old.failed }
+    ensures value { printer.new
+        ≡ output printer.old.contents
+        (printer.old.held ++ value_fields class setting names.now (option_copied flags.entry)) printer.old.failed }
     ensures len { length printer.new.held ≤ length printer.old.held + 2400 }
 {
     printer.put(class_word(class));
@@ -424,7 +458,8 @@ fn put_value<W: Sink>(
 fn put_object<W: Sink>(tree: &Tree, info: &ObjectInfo, printer: &mut Printer<W>)
     requires fits { Fits tree.now info.now.ono.0 }
     requires room { length printer.old.held + 3000 ≤ 8192 }
-    ensures value { printer.new ≡ output printer.old.contents (printer.old.held ++ object_told tree.now info.now) printer.old.failed }
+    ensures value { printer.new
+        ≡ output printer.old.contents (printer.old.held ++ object_told tree.now info.now) printer.old.failed }
     ensures len { length printer.new.held ≤ length printer.old.held + 3000 }
 {
     let ono = info.ono;
@@ -439,7 +474,9 @@ fn put_object<W: Sink>(tree: &Tree, info: &ObjectInfo, printer: &mut Printer<W>)
 /// Holds the line of the root.
 fn put_root<W: Sink>(start: Option<Start<'_>>, printer: &mut Printer<W>)
     requires { length printer.old.held + 200 ≤ 8192 }
-    ensures value { printer.new ≡ output printer.old.contents (printer.old.held ++ root_told (option_map stored_in start.entry)) printer.old.failed }
+    ensures value { printer.new
+        ≡ output printer.old.contents
+        (printer.old.held ++ root_told (option_map stored_in start.entry)) printer.old.failed }
     ensures len { length printer.new.held ≤ length printer.old.held + 200 }
 {
     if let Some(start) = start {
@@ -452,7 +489,8 @@ fn put_root<W: Sink>(start: Option<Start<'_>>, printer: &mut Printer<W>)
 fn put_line<W: Sink>(tree: &Tree, info: &ObjectInfo, printer: &mut Printer<W>)
     requires fits { Fits tree.now info.now.ono.0 }
     requires room { length printer.old.held + 4000 ≤ 8192 }
-    ensures { printer.new ≡ output printer.old.contents (printer.old.held ++ line_told tree.now info.now) printer.old.failed }
+    ensures { printer.new
+        ≡ output printer.old.contents (printer.old.held ++ line_told tree.now info.now) printer.old.failed }
 {
     if info.container.0 == 0 {
         put_root(tree.start_of(info.ono), printer);
