@@ -11,6 +11,6 @@ pub mod report;
 pub mod run;
 pub mod serving;
 mod show;
-pub mod told;
+pub mod effects;
 pub mod trace;
 mod words;
