@@ -23,7 +23,7 @@ not-true : false ≡ true → ⊥
 not-true h = cc h
 
 with-silent : (a b : DeviceState) (e f : EndState) (r : Report) → ServesEnd a b e f r → ServesEndWith a b e f silent silent r
-with-silent a b e f r h = record { serves = h; tracing = refl; followed = λ told w tree events rep. absurd (not-true told) }
+with-silent a b e f r h = record { serves = h; telling = refl; followed = λ told w tree events rep. absurd (not-true told) }
 
 -- no round
 pub on-none : (d : DeviceState) (e : EndState) (p : Report) → p ≡ no_turns → ServesOn d d e e p

@@ -1,12 +1,14 @@
 -- What is printed of the commands of a datagram: what each did to its object, by the status of its response
 -- (*profile*).
-use Rattle.std.specs.Prelude.{ℕ, ◌==◌, ◌||◌, ◌&&◌, not, Bool, true, false, if◌then◌else◌, List, [], ◌∷◌, ◌++◌, codes}
+use Rattle.std.specs.Prelude.{◌≡◌, take, ℕ, ◌==◌, ◌||◌, ◌&&◌, not, Bool, true, false, if◌then◌else◌, List, [], ◌∷◌}
+use Rattle.std.specs.Prelude.{◌++◌, codes}
 use Rattle.std.specs.Prelude.{decimal, drop}
 use Rattle.std.specs.Prelude.{Option, Some, None, slice_get}
 use Rattle.std.specs.List.{flat_map}
 use Rattle.oca_types.specs.declared.words.MethodId.{MethodId}
 use Rattle.oca_types.specs.declared.status.Status.{Status}
 use Rattle.oca_types.specs.Peers.{CommandFields}
+use Rattle.oca_types.specs.Sizes.{largest_datagram}
 use Rattle.oca_types.specs.Status.{status_name, status_with}
 use Rattle.oca_pdu.specs.Datagrams.{read_or_none}
 use Rattle.oca_pdu.specs.Messages.{Msg, Command, Response, KeepAlive}
@@ -23,9 +25,13 @@ lock_effect index =
     if (index == 3) || (index == 6) then Some Locked else if index == 4 then Some Unlocked else None
 
 -- EVERY STATUS BUT OK IS A REFUSAL; a command that was answered OK may have locked or unlocked.
+abbrev pub effect_by : ℕ → ℕ → ℕ → Option Effect
+effect_by level index status =
+    if status == 0 then (if level == 1 then lock_effect index else None) else Some (Refused status)
+
+-- of a command of this method
 abbrev pub effect_of : MethodId → ℕ → Option Effect
-effect_of method status =
-    if status == 0 then (if method.level == 1 then lock_effect method.index else None) else Some (Refused status)
+effect_of method status = effect_by method.level method.index status
 
 -- the name of a status, or its number where it has none
 abbrev pub known_status_text : Option Status → ℕ → List ℕ
@@ -50,7 +56,7 @@ some_effect_text (Some effect) ono = effect_text effect ono
 -- a command that asks for a response, by the status of that; nothing of one that has none, nor of another message
 abbrev pub command_text : CommandFields → Option ℕ → List ℕ
 command_text c None = []
-command_text c (Some status) = some_effect_text (effect_of c.method status) c.target.0
+command_text c (Some status) = some_effect_text (effect_by c.level c.index status) c.target
 
 abbrev pub message_text : Msg → Option ℕ → List ℕ
 message_text (Command true c) status = command_text c status
@@ -90,3 +96,7 @@ statuses_in (KeepAlive form) = []
 -- the statuses of the responses among messages, in order
 abbrev pub response_statuses : List Msg → List ℕ
 response_statuses ms = flat_map statuses_in ms
+
+-- THE STATUSES OF THESE MESSAGES were kept, in order, behind those that there were: the first 1,472 of all.
+abbrev pub KeepsStatuses : List Msg → List ℕ → List ℕ → Type 0
+KeepsStatuses ms old new = take largest_datagram new ≡ take largest_datagram (old ++ response_statuses ms)

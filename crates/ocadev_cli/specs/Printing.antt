@@ -37,7 +37,7 @@ commands_text r =
 abbrev pub datagrams_text : Report → List ℕ
 datagrams_text r =
     codes " malformed " ++ decimal r.malformed ++ codes " no-room " ++ decimal r.no_room ++ codes " oversize "
-        ++ decimal r.oversize
+    ++ decimal r.oversize
     ++ codes " quiet " ++ decimal r.quiet
 
 abbrev pub calls_text : Report → List ℕ

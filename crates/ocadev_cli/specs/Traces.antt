@@ -58,8 +58,9 @@ failed_sends_text count = if count == 0 then [] else codes " failed-sends " ++ d
 -- sent, and what its commands did.
 abbrev pub datagram_line : Peer → Report → List ℕ → List ℕ → List Ono → List ℕ
 datagram_line from turn bytes statuses written =
-    (peer_text from ++ outcome_text turn bytes) ++ written_text written ++ failed_sends_text turn.failed_sends
-    ++ commands_effects turn bytes statuses ++ codes "\n"
+    (peer_text from ++ outcome_text turn bytes)
+    ++ (written_text written
+    ++ (failed_sends_text turn.failed_sends ++ (commands_effects turn bytes statuses ++ codes "\n")))
 
 -- what is printed of what was heard in a turn: a line where that is a datagram, as far as the writes went; else nothing
 abbrev pub PrintsTurn : Heard → Report → List ℕ → List ℕ → List Ono → Result Unit WriteFailed → Output → Output → Type 0

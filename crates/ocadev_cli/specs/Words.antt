@@ -99,8 +99,16 @@ pub record ServingFields : Type 0 where
   pub keep : Option (List ℕ)
 
 abbrev pub serving_fields : Serving → ServingFields
-serving_fields s = record { ip = s.ip; port = s.port; turns = s.turns; making = making_fields s.making; verbose =
-    s.verbose; stats = s.stats; keep = option_copied s.keep }
+serving_fields s = record {
+  ip = s.ip;
+  port = s.port;
+  turns = s.turns;
+  making = making_fields s.making;
+  verbose =
+      s.verbose;
+  stats = s.stats;
+  keep = option_copied s.keep;
+}
 
 -- the address 127.0.0.1 unless given, and the port in at most 5 digits
 unfoldable pub serving_in : ArgMatches → Option ServingFields
@@ -110,8 +118,15 @@ serving_in words =
     then_in (turns_in words) (λ turns.
     then_in (making_in words) (λ making.
     then_in (stats_in words) (λ stats.
-    Some (record { ip = ip; port = port; turns = turns; making = making; verbose = has_flag words (codes "verbose");
-        stats = stats; keep = given words (codes "keep") }))))))
+    Some (record {
+      ip = ip;
+      port = port;
+      turns = turns;
+      making = making;
+      verbose = has_flag words (codes "verbose");
+      stats = stats;
+      keep = given words (codes "keep");
+    }))))))
 
 -- ---- what is asked for
 

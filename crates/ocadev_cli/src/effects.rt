@@ -1,21 +1,23 @@
 //! What is printed of the commands of a datagram: what they locked and unlocked, and which were refused.
-ghost use Rattle.std.specs.Prelude.{◌≡◌, ◌+◌, ◌++◌, ◌≤◌, length, slice_get, take};
+ghost use Rattle.std.specs.Prelude.{◌≡◌, ◌+◌, ◌++◌, ◌∷◌, ◌≤◌, [], length, take};
 ghost use Rattle.std.specs.Option.{option_copied};
+ghost use Rattle.oca_types.specs.Peers.{fields_of};
 ghost use Rattle.oca_types.specs.Sizes.{largest_datagram};
 ghost use Rattle.oca_pdu.specs.Datagrams.{messages_left, read_or_none};
 ghost use Rattle.oca_pdu.specs.Messages.{msg_of};
 ghost use Rattle.oca_pdu.specs.Reading.{read_datagram};
 ghost use Rattle.oca_script.specs.Ends.{output};
 ghost use Rattle.oca_script.specs.Printing.{Prints};
-ghost use Rattle.ocadev_cli.specs.Effects.{commands_effects, effect_of, effect_text, is_new, message_text};
-ghost use Rattle.ocadev_cli.specs.Effects.{messages_text, response_statuses, some_effect_text, status_text};
+ghost use Rattle.ocadev_cli.specs.Effects.{KeepsStatuses, command_text, commands_effects, effect_of, effect_text};
+ghost use Rattle.ocadev_cli.specs.Effects.{is_new, message_text};
+ghost use Rattle.ocadev_cli.specs.Effects.{messages_text, some_effect_text, status_text};
 ghost use Rattle.ocadev_cli.specs.Effects.{statuses_after, statuses_in};
 
 use super::report::put_count;
 use oca_device::Report;
 use oca_pdu::{Message, Messages, check};
 use oca_script::{Printer, Sink, WriteFailed};
-use oca_types::{MethodId, Ono, Packet, Status};
+use oca_types::{Command, MethodId, Ono, Packet, Status};
 
 /// Room for what a command did.
 const EFFECT_ROOM: usize = 100;
@@ -49,33 +51,42 @@ pub fn effect_of(method: MethodId, status: u8) -> Option<Effect>
 
 /// Keeps the statuses of the responses of a packet, behind those that are there, at most 1,472.
 pub fn keep_statuses(statuses: &mut Packet, bytes: &[u8])
-    ensures { statuses.new.items ≡ take largest_datagram
-        (statuses.old.items ++ response_statuses (read_or_none (read_datagram bytes.now))) }
+    ensures { KeepsStatuses (read_or_none (read_datagram bytes.now)) statuses.old.items statuses.new.items }
 {
-    if let Ok(datagram) = check(bytes) {
-        keep_all(statuses, datagram.messages());
+    match check(bytes) {
+        Ok(datagram) => keep_all(statuses, datagram.messages()),
+        Err(_) => {}
     }
 }
 
 /// Keeps the statuses of the responses among messages.
 fn keep_all(statuses: &mut Packet, messages: Messages<'_>)
-    ensures { statuses.new.items ≡ take largest_datagram
-        (statuses.old.items ++ response_statuses (messages_left messages)) }
+    ensures { KeepsStatuses (messages_left messages.entry) statuses.old.items statuses.new.items }
 {
     for message in messages {
         keep_one(statuses, &message);
     }
 }
 
-/// Keeps the status of a response, where there is room.
-#[tactic(auto, using(crate::proofs::KeepLemmas::keep_rules))]
+/// Keeps the status of a response.
 fn keep_one(statuses: &mut Packet, message: &Message<'_>)
-    ensures { statuses.new.items ≡ take largest_datagram (statuses.old.items ++ statuses_in (msg_of message.now)) }
+    ensures { KeepsStatuses (msg_of message.now ∷ []) statuses.old.items statuses.new.items }
 {
-    if let Message::Response { status, .. } = message {
-        if !statuses.is_full() {
-            statuses.push(*status);
-        }
+    match message {
+        Message::Response { status, .. } => keep_status(statuses, *status),
+        Message::Command { .. } => {}
+        Message::KeepAlive { .. } => {}
+    }
+}
+
+/// Keeps a status, where there is room.
+#[tactic(auto, using(crate::proofs::KeepLemmas::keep_rules))]
+fn keep_status(statuses: &mut Packet, status: u8)
+    ensures { take largest_datagram statuses.new.items ≡ take largest_datagram (statuses.old.items ++ status ∷ []) }
+{
+    match statuses.try_push(status) {
+        Ok(()) => {}
+        Err(_) => {}
     }
 }
 
@@ -109,8 +120,7 @@ fn print_datagram<F: Sink>(
     statuses: &[u8],
     faults: &mut Printer<F>,
 ) -> Result<(), WriteFailed>
-    ensures { Prints result faults.old faults.new (messages_text (read_or_none (read_datagram bytes.now)) statuses.now)
-        }
+    ensures { Prints result faults.old faults.new (messages_text (read_or_none (read_datagram bytes.now)) statuses.now) }
 {
     match check(bytes) {
         Ok(datagram) => print_messages(datagram.messages(), statuses, faults),
@@ -124,7 +134,7 @@ fn print_messages<F: Sink>(
     statuses: &[u8],
     faults: &mut Printer<F>,
 ) -> Result<(), WriteFailed>
-    ensures { Prints result faults.old faults.new (messages_text (messages_left messages) statuses.now) }
+    ensures { Prints result faults.old faults.new (messages_text (messages_left messages.entry) statuses.now) }
 {
     let mut left = statuses;
     for message in messages {
@@ -143,7 +153,9 @@ fn left_after<'s>(message: &Message<'_>, statuses: &'s [u8]) -> &'s [u8]
             [_, rest @ ..] => rest,
             [] => statuses,
         },
-        _ => statuses,
+        Message::Command { respond: false, .. } => statuses,
+        Message::Response { .. } => statuses,
+        Message::KeepAlive { .. } => statuses,
     }
 }
 
@@ -153,17 +165,30 @@ fn print_message<F: Sink>(
     status: Option<&u8>,
     faults: &mut Printer<F>,
 ) -> Result<(), WriteFailed>
-    ensures { Prints result faults.old faults.new (message_text (msg_of message.now) (option_copied status)) }
+    ensures { Prints result faults.old faults.new (message_text (msg_of message.now) (option_copied status.entry)) }
 {
-    match (message, status) {
-        (
-            Message::Command {
-                respond: true,
-                command,
-            },
-            Some(status),
-        ) => print_some(effect_of(command.method, *status), command.target, faults),
-        _ => Ok(()),
+    match message {
+        Message::Command {
+            respond: true,
+            command,
+        } => print_command(command, status, faults),
+        Message::Command { respond: false, .. } => Ok(()),
+        Message::Response { .. } => Ok(()),
+        Message::KeepAlive { .. } => Ok(()),
+    }
+}
+
+/// Prints what a command did whose response has this status, where it has one.
+fn print_command<F: Sink>(
+    command: &Command<'_>,
+    status: Option<&u8>,
+    faults: &mut Printer<F>,
+) -> Result<(), WriteFailed>
+    ensures { Prints result faults.old faults.new (command_text (fields_of command.now) (option_copied status.entry)) }
+{
+    match status {
+        Some(status) => print_some(effect_of(command.method, *status), command.target, faults),
+        None => Ok(()),
     }
 }
 

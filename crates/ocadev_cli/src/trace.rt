@@ -19,6 +19,9 @@ use oca_types::{Ono, Packet, Peer};
 /// Room for a sender and what became of a datagram.
 const OUTCOME_ROOM: usize = 300;
 
+/// Room for how many answers could not be sent.
+const FAILURES_ROOM: usize = 40;
+
 /// An end that remembers what it heard last, and the statuses of the responses that it was handed behind it.
 pub struct Watched<E> {
     pub end: E,
@@ -56,12 +59,12 @@ impl<E: End> Watched<E> {
 }
 
 impl<E: End> End for Watched<E> {
-    ghost use Rattle.std.specs.Prelude.{◌≡◌, ◌<◌, ◌++◌, [], IfSome, take};
+    ghost use Rattle.std.specs.Prelude.{◌≡◌, ◌≤◌, [], length};
     ghost use Rattle.oca_net.specs.EndStates.{Receives, Sends};
-    ghost use Rattle.oca_types.specs.Sizes.{largest_datagram};
+    ghost use Rattle.oca_net.specs.Ends.{largest_datagram};
     ghost use Rattle.oca_pdu.specs.Datagrams.{read_or_none};
     ghost use Rattle.oca_pdu.specs.Reading.{read_datagram};
-    ghost use Rattle.ocadev_cli.specs.Effects.{response_statuses};
+    ghost use Rattle.ocadev_cli.specs.Effects.{KeepsStatuses};
 
     ghost state = { λ w. E.state w.end };
 
@@ -87,11 +90,12 @@ impl<E: End> End for Watched<E> {
 
     /// Sends as the end does, and remembers the statuses of the responses.
     fn send(&mut self, to: Peer, bytes: &[u8]) -> bool
+        requires { length bytes.now ≤ largest_datagram }
         ensures sends { Sends result to bytes.now (E.state self.old.end) (E.state self.new.end) }
         ensures heard { self.new.heard ≡ self.old.heard }
         ensures packet { self.new.packet ≡ self.old.packet }
-        ensures statuses { self.new.statuses.items ≡ take largest_datagram
-            (self.old.statuses.items ++ response_statuses (read_or_none (read_datagram bytes.now))) }
+        ensures statuses { KeepsStatuses (read_or_none (read_datagram bytes.now)) self.old.statuses.items
+            self.new.statuses.items }
     {
         keep_statuses(&mut self.statuses, bytes);
         self.end.send(to, bytes)
@@ -147,8 +151,8 @@ fn print_behind_outcome<F: Sink>(
     faults: &mut Printer<F>,
 ) -> Result<(), WriteFailed>
     ensures { WritesOut result faults.old faults.new
-        (written_text written.now ++ failed_sends_text turn.now.failed_sends
-        ++ commands_effects turn.now bytes.now statuses.now ++ codes "\n") }
+        (written_text written.now ++ (failed_sends_text turn.now.failed_sends
+        ++ (commands_effects turn.now bytes.now statuses.now ++ codes "\n"))) }
 {
     print_written(written, faults)?;
     print_behind_written(turn, bytes, statuses, faults)
@@ -162,7 +166,7 @@ fn print_behind_written<F: Sink>(
     faults: &mut Printer<F>,
 ) -> Result<(), WriteFailed>
     ensures { WritesOut result faults.old faults.new
-        (failed_sends_text turn.now.failed_sends ++ commands_effects turn.now bytes.now statuses.now ++ codes "\n") }
+        (failed_sends_text turn.now.failed_sends ++ (commands_effects turn.now bytes.now statuses.now ++ codes "\n")) }
 {
     print_failed_sends(turn.failed_sends, faults)?;
     print_behind_failures(turn, bytes, statuses, faults)
@@ -207,7 +211,7 @@ fn print_outcome<F: Sink>(
 fn put_sender<F: Sink>(from: Peer, turn: &Report, bytes: &[u8], faults: &mut Printer<F>)
     requires { length faults.old.held + 300 ≤ 8192 }
     ensures { faults.new ≡ output faults.old.contents
-        (faults.old.held ++ peer_text from ++ outcome_text turn.now bytes.now) faults.old.failed }
+        (faults.old.held ++ (peer_text from ++ outcome_text turn.now bytes.now)) faults.old.failed }
 {
     put_peer(from, faults);
     put_outcome(turn, bytes, faults);
@@ -245,8 +249,7 @@ fn put_malformed<F: Sink>(bytes: &[u8], faults: &mut Printer<F>)
 /// Holds the first fault of a datagram.
 fn put_fault<F: Sink>(fault: PduFault, faults: &mut Printer<F>)
     requires { length faults.old.held + 80 ≤ 8192 }
-    ensures { faults.new ≡ output faults.old.contents (faults.old.held ++ malformed_text (Err fault)) faults.old.failed
-        }
+    ensures { faults.new ≡ output faults.old.contents (faults.old.held ++ malformed_text (Err fault)) faults.old.failed }
 {
     put_count(b" malformed ", u64::from(fault.kind.number()), faults);
     put_count(b" at ", fault.at as u64, faults);
@@ -277,10 +280,19 @@ fn put_reused<F: Sink>(count: u64, faults: &mut Printer<F>)
 fn print_failed_sends<F: Sink>(count: u64, faults: &mut Printer<F>) -> Result<(), WriteFailed>
     ensures { Prints result faults.old faults.new (failed_sends_text count) }
 {
-    if count == 0 {
-        return Ok(());
+    faults.make_room(FAILURES_ROOM)?;
+    put_failed_sends(count, faults);
+    Ok(())
+}
+
+/// Holds how many answers could not be sent, where there are any.
+fn put_failed_sends<F: Sink>(count: u64, faults: &mut Printer<F>)
+    requires { length faults.old.held + 40 ≤ 8192 }
+    ensures { faults.new ≡ output faults.old.contents (faults.old.held ++ failed_sends_text count) faults.old.failed }
+{
+    if count != 0 {
+        put_count(b" failed-sends ", count, faults);
     }
-    print_count(b" failed-sends ", count, faults)
 }
 
 /// Prints the objects that were written to, where there are any.
@@ -302,8 +314,16 @@ fn print_first<F: Sink>(
     ensures { Prints result faults.old faults.new ((codes " wrote " ++ decimal first.0)
         ++ flat_map (λ n. codes " " ++ decimal n.0) rest.now) }
 {
-    print_count(b" wrote ", u64::from(first.0), faults)?;
+    print_ono(b" wrote ", first, faults)?;
     print_numbers(rest, faults)
+}
+
+/// Prints a short word and the number of an object.
+fn print_ono<F: Sink>(word: &[u8], ono: Ono, faults: &mut Printer<F>) -> Result<(), WriteFailed>
+    requires { length word.now ≤ 30 }
+    ensures { Prints result faults.old faults.new (word.now ++ decimal ono.0) }
+{
+    print_count(word, u64::from(ono.0), faults)
 }
 
 /// Prints the numbers of objects, each behind a space.
@@ -314,7 +334,7 @@ fn print_numbers<F: Sink>(objects: &[Ono], faults: &mut Printer<F>) -> Result<()
         let Some(ono) = objects.get(i) else {
             return Ok(());
         };
-        print_count(b" ", u64::from(ono.0), faults)?;
+        print_ono(b" ", *ono, faults)?;
     }
     Ok(())
 }

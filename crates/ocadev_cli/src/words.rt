@@ -15,7 +15,9 @@ ghost use Rattle.ocadev_cli.specs.CommandLine.{running_rules, serve_shape, show_
 
 use clap::{ArgMatches, Command, Error};
 use oca_program::form::bad_option;
-use oca_program::options::{number_if, number_in, number_or, own_or, text_of, with_flag, with_option, with_required};
+use oca_program::options::{
+    number_if, number_in, number_or, own_or, text_of, with_flag, with_option, with_required,
+};
 use oca_program::{Failure, Form, Rule, VERSION};
 use oca_script::field::number;
 use oca_types::{LOOPBACK, Peers, Sizes, Window};

@@ -13,4 +13,7 @@ loop-message-init c =
 
 pub loop-message-preserved : goal.loop-message-preserved
 loop-message-preserved c =
-    keeps-more (msg_of c.in-Some.message) _ _ c.loop-message.statuses.items _ _ c.in-Some.ensures.steps c.loop-message.invariant c.keep_one.ensures
+    keeps-more (msg_of c.in-Some.message) _ _ _ c.loop-message.statuses.items _ _ c.in-Some.ensures.steps c.loop-message.invariant c.keep_one.ensures
+
+pub returns : goal.returns
+returns c = keeps-all _ _ c.loop-message.statuses.items _ c.in-None.ensures.steps.0 c.loop-message.invariant
