@@ -1,10 +1,10 @@
 -- The program's command line, as clap computes with it.
-use Rattle.std.proofs.Common.{◌≡◌, ℕ, Bool, List, true, false, not, ◌&&◌, [], Result, Ok, Err, refl, subst, sym, inl}
+use Rattle.std.proofs.Common.{◌≡◌, ℕ, Bool, List, true, false, not, ◌&&◌, Result, Ok, Err, refl}
 use Rattle.std.specs.Prelude.{IfOk}
 use Rattle.clap.specs.declared.error.Error.{Error}
 use Rattle.clap.specs.declared.parser.matches.ArgMatches.{ArgMatches}
 use Rattle.clap.specs.Faults.{fault_of, is_simple_and_free}
-use Rattle.clap.specs.Kinds.{FailsBy, HasKind}
+use Rattle.clap.specs.Kinds.{FailsBy}
 use Rattle.clap.specs.Simple.{App, HasMatchesOf, is_simple}
 use Rattle.clap.proofs.OnLiterals.{clap_on_literals}
 use Rattle.oca_program.specs.Commands.{MatchingGives}

@@ -1,10 +1,10 @@
 -- Printing a text and then writing another one out.
-use Rattle.std.proofs.Common.{◌≡◌, ℕ, List, ◌++◌, Option, Result, Ok, Err, refl, sym, ap, ◌∙◌, append_assoc, subst}
+use Rattle.std.proofs.Common.{◌≡◌, ℕ, List, ◌++◌, Result, Ok, Err, refl, sym, ap, ◌∙◌, append_assoc, subst}
 use Rattle.std.specs.Io.KnownBytes.{Appends}
 use Rattle.std.proofs.KnownBytes.{Appends-trans}
 use Rattle.oca_script.specs.declared.fault.WriteFailed.{WriteFailed}
 use Rattle.oca_script.specs.Ends.{Output}
-use Rattle.oca_script.specs.Printing.{Prints, PrintsAll, PrintsPart, WritesOut}
+use Rattle.oca_script.specs.Printing.{PrintsAll, PrintsPart, WritesOut}
 use Rattle.oca_script.proofs.PrintLemmas.{not-written, prints-less}
 
 -- a write failed within the first text

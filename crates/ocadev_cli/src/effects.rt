@@ -11,7 +11,7 @@ ghost use Rattle.oca_script.specs.Printing.{Prints};
 ghost use Rattle.ocadev_cli.specs.Effects.{KeepsStatuses, command_text, commands_effects, effect_of, effect_text};
 ghost use Rattle.ocadev_cli.specs.Effects.{is_new, message_text};
 ghost use Rattle.ocadev_cli.specs.Effects.{messages_text, some_effect_text, status_text};
-ghost use Rattle.ocadev_cli.specs.Effects.{statuses_after, statuses_in};
+ghost use Rattle.ocadev_cli.specs.Effects.{statuses_after};
 
 use super::report::put_count;
 use oca_device::Report;

@@ -1,4 +1,4 @@
-use Rattle.std.proofs.Common.{◌≡◌, ap, inl, subst, ◌∙◌}
+use Rattle.std.proofs.Common.{ap, inl, subst, ◌∙◌}
 use Rattle.std.proofs.lemmas.Result.{err_from_is_err_and}
 use Rattle.clap.specs.Simple.{App, is_simple}
 use Rattle.clap.specs.Faults.{is_simple_and_free}
