@@ -17,7 +17,7 @@ import oca_profile as oca
 ONOS = [100, 4096, 4097, 4098, 4099, 4100, 4101, 4102, 4103, 1, 0]
 METHODS = [(1, i) for i in range(0, 8)] + [(2, i) for i in range(1, 14)] + [(3, 4), (3, 5), (3, 6), (3, 20), (3, 21)] \
     + [(4, i) for i in range(1, 11)] + [(5, 1), (5, 2), (5, 3), (0, 1), (6, 1)]
-# how many peers have room, and how many channel strips stand behind the bench's own objects
+# how many peers have room, and how many channel strips are added to the bench's own objects
 ROOMS, CHANNELS = [16], [0]
 # (target, method, ParamCount, a maker of parameters): what a panel would send
 USUAL = [

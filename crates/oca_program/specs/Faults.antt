@@ -1,5 +1,6 @@
 -- Why a run of a program fails: its exit status, and the lines that are printed (*profile*).
-use Rattle.std.specs.Prelude.{ℕ, List, [], ◌++◌, Option, None, Some, codes, decimal, length, nat_le, if◌then◌else◌, string_bytes, Result, Ok, Err}
+use Rattle.std.specs.Prelude.{◌≡◌, ℕ, Bool, true, false, List, [], ◌++◌, codes, decimal, length, nat_le, string_bytes}
+use Rattle.std.specs.Prelude.{if◌then◌else◌, Option, None, Some, Result, Ok, Err}
 use Rattle.std.specs.Option.{option_map}
 use Rattle.clap.specs.declared.error.kind.ErrorKind.{ErrorKind}
 use Rattle.clap.specs.declared.error.kind.ErrorKind.TheVariants as kinds
@@ -7,13 +8,17 @@ use Rattle.oca_net.specs.declared.udp.BindFault.{BindFault}
 use Rattle.oca_net.specs.declared.udp.BindFault.TheVariants as binds
 use Rattle.oca_script.specs.declared.fault.ReplayFault.{ReplayFault}
 use Rattle.oca_script.specs.declared.fault.ReplayFault.TheVariants as replays
+use Rattle.oca_script.specs.declared.fault.WriteFailed.{WriteFailed}
+use Rattle.oca_script.specs.Ends.{Output}
+use Rattle.oca_script.specs.Printing.{WritesOut}
 use Rattle.oca_script.specs.Faults.{fault_word}
 use Rattle.oca_textree.specs.declared.fault.TreeFault.{TreeFault}
 use Rattle.oca_textree.specs.declared.fault.TreeFault.TheVariants as trees
 use Rattle.oca_textree.specs.Faults.{object_fault_word as object_word}
 use Rattle.oca_script.specs.Fields.{split_at}
 use Rattle.oca_program.specs.declared.fault.RunFault.{RunFault}
-use Rattle.oca_program.specs.declared.fault.RunFault.TheVariants.{BadWords, Line, Object, NoMemory, Read, Write, TooMuch, Socket}
+use Rattle.oca_program.specs.declared.fault.RunFault.TheVariants.{BadWords, Line, Object, NoMemory, Read, Write}
+use Rattle.oca_program.specs.declared.fault.RunFault.TheVariants.{TooMuch, Socket}
 use Rattle.oca_program.specs.declared.fault.Failure.{Failure}
 
 -- 2 for what was asked wrongly, 1 for what could not be done
@@ -38,6 +43,12 @@ run_fault replays.TooMuch = TooMuch
 abbrev pub bind_fault : BindFault → RunFault
 bind_fault binds.Io = Socket
 bind_fault binds.NoMemory = NoMemory
+
+-- whether the words ask for a text: `--help` or `--version`
+abbrev pub asks_for_text : ErrorKind → Bool
+asks_for_text kinds.DisplayHelp = true
+asks_for_text kinds.DisplayVersion = true
+asks_for_text other = false
 
 -- the fault of the run, where the words were not matched: no memory also where a help text found none
 abbrev pub words_fault : ErrorKind → RunFault
@@ -91,3 +102,10 @@ noted_text (Some note) fault = note_text note ++ fault_text fault
 -- what is printed of a failure
 abbrev pub failure_text : Failure → List ℕ
 failure_text failure = noted_text (option_map string_bytes failure.note) failure.fault
+
+-- WHAT IS PRINTED OF HOW A RUN ENDED: nothing where all was done; else the line of its fault, behind that of a note
+-- where more is known; as far as the writes went.
+abbrev pub PrintsFault : {A : Type 0} → Result A RunFault → Output → Output → Type 0
+PrintsFault (Ok done) was is = is ≡ was
+PrintsFault (Err why) was is =
+    (note : Option (List ℕ)) × (written : Result Unit WriteFailed) × WritesOut written was is (noted_text note why)

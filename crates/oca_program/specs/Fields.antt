@@ -1,5 +1,5 @@
 -- The fields of a line, or the fault that they have (*profile*).
-use Rattle.std.specs.Prelude.{ℕ, List, Option, Some, None, Result, Ok, Err}
+use Rattle.std.specs.Prelude.{ℕ, List, Option, Some, None, Result, Err}
 use Rattle.oca_script.specs.Fields.{number_of}
 use Rattle.oca_script.specs.declared.fault.LineFault.{LineFault}
 

@@ -1,5 +1,6 @@
 -- What the options of a command line say (*profile*).
-use Rattle.std.specs.Prelude.{ℕ, ◌==◌, List, Option, Some, None, is_some, nat_le, nat_lt, Bool, false, not, length, ◌&&◌, ◌||◌, if◌then◌else◌}
+use Rattle.std.specs.Prelude.{ℕ, ◌==◌, List, Option, Some, None, is_some, nat_le, nat_lt, Bool, false, not, length}
+use Rattle.std.specs.Prelude.{◌&&◌, ◌||◌, if◌then◌else◌}
 use Rattle.std.specs.Option.{option_map}
 use Rattle.clap.specs.declared.parser.matches.ArgMatches.{ArgMatches}
 use Rattle.clap.specs.Words.{found_of, first_value}
@@ -59,16 +60,16 @@ is_from least None = false
 is_from least (Some n) = nat_le least n
 
 -- whether a text is of a form
-abbrev pub is_of : Form → List ℕ → Bool
-is_of (form.Number digits least largest) text = is_from least (number_of digits largest text)
-is_of form.Host text = is_some (host_of text)
-is_of form.Own text = is_some (own_of text)
-is_of form.AnyPeer text = is_some (peer_of text)
-is_of form.Bytes text = nat_le (length text) 2890 && is_some (hex_of text)
+abbrev pub has_form : Form → List ℕ → Bool
+has_form (form.Number digits least largest) text = is_from least (number_of digits largest text)
+has_form form.Host text = is_some (host_of text)
+has_form form.Own text = is_some (own_of text)
+has_form form.AnyPeer text = is_some (peer_of text)
+has_form form.Bytes text = nat_le (length text) 2890 && is_some (hex_of text)
 
 abbrev pub is_unlike : Form → Option (List ℕ) → Bool
 is_unlike f None = false
-is_unlike f (Some text) = not (is_of f text)
+is_unlike f (Some text) = not (has_form f text)
 
 -- whether an option is given whose text is not of its form
 abbrev pub breaks : ArgMatches → Rule → Bool

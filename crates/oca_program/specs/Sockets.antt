@@ -7,7 +7,7 @@ use Rattle.oca_net.specs.declared.udp.BindError.TheVariants as error
 use Rattle.oca_program.specs.declared.fault.RunFault.{RunFault}
 use Rattle.oca_program.specs.declared.fault.RunFault.TheVariants.{NoMemory, Socket}
 
--- of the system's reasons, want of memory alone is told from the others
+-- of the system's reasons, want of memory alone is distinguished from the others
 abbrev pub kind_fault : ErrorKind → RunFault
 kind_fault kinds.OutOfMemory = NoMemory
 kind_fault kind = Socket

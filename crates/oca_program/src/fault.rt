@@ -3,7 +3,8 @@ ghost use Rattle.std.specs.Prelude.{◌≡◌, ◌+◌, ◌++◌, ◌≤◌, Res
 ghost use Rattle.oca_script.specs.Ends.{output};
 ghost use Rattle.oca_script.specs.declared.fault.WriteFailed.{WriteFailed as Failed};
 ghost use Rattle.oca_script.specs.Printing.{WritesOut};
-ghost use Rattle.oca_program.specs.Faults.{fault_status, fault_text, line_text, failure_text, first_line as first_line_of, note_text};
+ghost use Rattle.oca_program.specs.Faults.{fault_status, fault_text, line_text, failure_text};
+ghost use Rattle.oca_program.specs.Faults.{first_line as first_line_of, note_text};
 
 use oca_net::BindFault;
 use oca_script::field::split_at_byte;
@@ -93,7 +94,7 @@ impl Failure {
 /// can't be written.
 pub fn report<F: Sink>(failure: &Failure, faults: &mut Printer<F>) -> u8
     ensures status { result ≡ fault_status failure.now.fault }
-    ensures lines { (written : Result Unit Failed) × WritesOut written faults.old faults.new (failure_text failure.now) }
+    ensures lines { (end : Result Unit Failed) × WritesOut end faults.old faults.new (failure_text failure.now) }
 {
     let _ = write_failure(failure, faults);
     failure.fault.status()

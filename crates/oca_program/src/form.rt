@@ -1,8 +1,9 @@
-//! The forms of options, and what is said of an option whose value is not of its form.
+//! The forms of options, and the note on an option whose value is not of its form.
 ghost use Rattle.std.specs.Prelude.{◌≡◌};
 ghost use Rattle.std.specs.List.{find};
 ghost use Rattle.std.specs.Option.{option_copied};
-ghost use Rattle.oca_program.specs.Options.{host_of, own_of, is_host as is_host_address, is_of, breaks as breaks_rule};
+ghost use Rattle.oca_program.specs.Options.{host_of, own_of, is_host as is_host_address, has_form};
+ghost use Rattle.oca_program.specs.Options.{breaks as breaks_rule};
 ghost use Rattle.oca_program.specs.declared.fault.RunFault.TheVariants.{BadWords};
 
 use super::fault::{Failure, RunFault};
@@ -41,7 +42,7 @@ pub struct Rule {
 impl Form {
     /// Whether a text is of this form.
     pub fn takes(self, text: &[u8]) -> bool
-        ensures { result ≡ is_of self text.now }
+        ensures { result ≡ has_form self text.now }
     {
         match self {
             Form::Number {
@@ -62,7 +63,7 @@ impl Form {
 
 /// Whether a text is at most 1,445 bytes in hexadecimal, or `-`.
 fn are_bytes(text: &[u8]) -> bool
-    ensures { result ≡ is_of Form.Bytes text.now }
+    ensures { result ≡ has_form Form.Bytes text.now }
 {
     let mut room = [0u8; MOST_COMMAND_PARAMETER_BYTES];
     text.len() <= 2 * MOST_COMMAND_PARAMETER_BYTES && hex_bytes(text, &mut room).is_some()
@@ -133,7 +134,7 @@ pub fn bad_option(alloc: Global, words: &ArgMatches<'_>, rules: &[Rule], other: 
 /// The most bytes of a value that a note repeats.
 const MOST_SHOWN: usize = 200;
 
-/// What is said of an option's value that is not of its form; one of more than 200 bytes is not repeated.
+/// The note on an option's value that is not of its form; one of more than 200 bytes is not repeated.
 fn note_of(alloc: Global, rule: Rule, value: &str) -> Result<String, AllocError> {
     let name = rule.name;
     let form = words_for(alloc, rule.form)?;

@@ -1,26 +1,72 @@
 //! The values of options.
-ghost use Rattle.std.specs.Prelude.{◌≡◌, ◌≤◌, IfSome, IfErr};
+ghost use Rattle.std.specs.Prelude.{◌≡◌, ◌≤◌, ◌∷◌, [], false, true, IfSome, IfErr, IfOk};
 ghost use Rattle.std.specs.Option.{option_map};
 ghost use Rattle.oca_script.specs.Fields.{number_of, peer_of};
-ghost use Rattle.oca_program.specs.Faults.{words_fault};
+ghost use Rattle.oca_program.specs.Commands.{AddsRules, option_rule, required_rule, flag_rule};
+ghost use Rattle.oca_program.specs.Faults.{asks_for_text, words_fault};
 ghost use Rattle.oca_program.specs.Options.{given, read_as, read_or, read_if, host_of, own_of};
-ghost use Rattle.clap.specs.Words.{kind_of};
+ghost use Rattle.clap.specs.Words.{kind_of, rule_of};
 
 use super::fault::{Failure, RunFault};
 use super::form::{host, own};
 use clap::error::ErrorKind;
-use clap::{Arg, ArgAction, ArgMatches, Error};
+use clap::{Arg, ArgAction, ArgMatches, Command, Error};
 use oca_script::field::{number, peer};
 use oca_types::Peer;
 use std::alloc::{AllocError, Global};
 
 /// An option with a value.
-pub fn option<'a>(alloc: Global, name: &'a str, value: &'a str, help: &'a str) -> Arg<'a> {
+pub fn option<'a>(alloc: Global, name: &'a str, value: &'a str, help: &'a str) -> Arg<'a>
+    ensures rule { rule_of result ≡ option_rule name.entry.now }
+    ensures own { result.global ≡ false }
+{
     Arg::new(alloc, name)
         .long(name)
         .value_name(value)
         .help(help)
         .action(ArgAction::Set)
+}
+
+/// The command with one more option, which has a value.
+pub fn with_option<'a>(
+    alloc: Global,
+    command: Command<'a>,
+    name: &'a str,
+    value: &'a str,
+    help: &'a str,
+) -> Result<Command<'a>, AllocError>
+    ensures { IfOk result (AddsRules (option_rule name.entry.now ∷ []) command.entry) }
+{
+    command.arg(option(alloc, name, value, help))
+}
+
+/// The command with one more option, which must be given.
+pub fn with_required<'a>(
+    alloc: Global,
+    command: Command<'a>,
+    name: &'a str,
+    value: &'a str,
+    help: &'a str,
+) -> Result<Command<'a>, AllocError>
+    ensures { IfOk result (AddsRules (required_rule name.entry.now ∷ []) command.entry) }
+{
+    command.arg(option(alloc, name, value, help).required(true))
+}
+
+/// The command with one more flag.
+pub fn with_flag<'a>(
+    alloc: Global,
+    command: Command<'a>,
+    name: &'a str,
+    help: &'a str,
+) -> Result<Command<'a>, AllocError>
+    ensures { IfOk result (AddsRules (flag_rule name.entry.now ∷ []) command.entry) }
+{
+    let flag = Arg::new(alloc, name)
+        .long(name)
+        .help(help)
+        .action(ArgAction::SetTrue);
+    command.arg(flag)
 }
 
 /// The text that the words give for an option.
@@ -84,8 +130,8 @@ pub fn peer_in(words: &ArgMatches<'_>, name: &str) -> Option<Peer>
     peer(text_of(words, name)?.as_bytes())
 }
 
-/// Where the device is that an option names: the address of one host, 1.0.0.0 to 223.255.255.255, and a port that is not
-/// 0. `None` where the option is not given, or not of this form.
+/// Where the device is that an option names: the address of one host, 1.0.0.0 to 223.255.255.255, and a port but 0.
+/// `None` where the option is not given, or not of this form.
 pub fn host_in(words: &ArgMatches<'_>, name: &str) -> Option<Peer>
     ensures { result ≡ read_as host_of (given words.now name.now) }
 {
@@ -103,9 +149,11 @@ pub fn own_or(words: &ArgMatches<'_>, name: &str, other: u32) -> Option<u32>
     }
 }
 
-/// What words that were not matched come to: the text of `--help` or `--version`, or why the run fails.
+/// What words that were not matched come to: the text of `--help` or `--version` where they ask for one, else why the
+/// run fails.
 pub fn help_or_failure(alloc: Global, error: &Error) -> Result<String, Failure>
-    ensures { IfErr result (λ failure. failure.fault ≡ words_fault (kind_of error.now)) }
+    ensures text { IfOk result (λ _. asks_for_text (kind_of error.now) ≡ true) }
+    ensures failure { IfErr result (λ failure. failure.fault ≡ words_fault (kind_of error.now)) }
 {
     match error.kind() {
         ErrorKind::DisplayHelp | ErrorKind::DisplayVersion => error
@@ -119,8 +167,8 @@ pub fn help_or_failure(alloc: Global, error: &Error) -> Result<String, Failure>
     }
 }
 
-/// What is said of words that were not matched, up to the first empty line, in one line: the options that are missing
-/// have lines of their own.
+/// The note on words that were not matched: clap's text up to the first empty line, in one line: the options that are
+/// missing have lines of their own.
 fn first_paragraph(alloc: Global, error: &Error) -> Result<String, AllocError> {
     let text = error.to_string(alloc)?;
     let mut note = String::new(alloc);

@@ -1,4 +1,4 @@
-//! The socket of a program, and what is told of sends that failed.
+//! The socket of a program, and what is printed of sends that failed.
 ghost use Rattle.std.specs.Prelude.{◌≡◌, ◌⊎◌, IfOk, IfErr};
 ghost use Rattle.oca_net.specs.Sockets.{IsBoundAt, new_socket};
 ghost use Rattle.oca_program.specs.Sockets.{refusal, kind_fault};

@@ -1,4 +1,4 @@
 pub mod OrderLemmas
 pub mod StepLemmas
-pub mod TellLemmas
+pub mod ResultLemmas
 pub mod WalkLemmas

@@ -1,4 +1,4 @@
--- The order that is submitted next, and orders that are told one after another.
+-- The order that is submitted next, and orders whose results are noted one after another.
 use Rattle.std.proofs.Common.{◌≡◌, ◌≢◌, ℕ, ◌==◌, ◌||◌, Bool, true, false, if◌then◌else◌, List, [], ◌∷◌, length, remove, slice_get, Option, Some, None, OnSome, refl, ap, arith}
 use Rattle.oca_web.specs.declared.order.Order.{Order}
 use Rattle.oca_web.specs.declared.order.Sent.{Sent}

@@ -34,3 +34,5 @@ keeps_begins a b c k (inr o) = inr (record { epoch = o.epoch ∙ k.epoch; walked
 
 pub submits_behind : (o s t : OrdersState) (p q r : PanelState) → RenewsLost o p s q → SubmitsOrders s q t r → SubmitsAll o p t r
 submits_behind o s t p q r l h = record { is_lost = l.is_lost; between = s; renewed = q; loses = l.loses; same = l.same; submits = h }
+
+pub ruleset walk_rules = (begins_stays, keeps_stays, stays_on, submits_behind)

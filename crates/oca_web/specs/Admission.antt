@@ -25,7 +25,8 @@ has_host names host = list_any (λ n. bytes_eq (string_bytes n.host) host) names
 
 -- whether one of the names has this host and this origin
 abbrev pub has_page : List Name → List ℕ → List ℕ → Bool
-has_page names host origin = list_any (λ n. bytes_eq (string_bytes n.host) host && bytes_eq (string_bytes n.origin) origin) names
+has_page names host origin = list_any (λ n. bytes_eq (string_bytes n.host) host && bytes_eq (string_bytes n.origin)
+    origin) names
 
 -- whether a POST is let in
 abbrev pub lets_post_in : List Name → List ℕ → List ℕ → List ℕ → Bool
@@ -39,5 +40,6 @@ lets_in names method host origin kind =
 -- whether the request is let in
 abbrev pub lets_request_in : List Name → Request (List ℕ) → Bool
 lets_request_in names r =
-    lets_in names (head_of r).method (field (head_of r).headers (codes "host")) (field (head_of r).headers (codes "origin"))
+    lets_in names (head_of r).method (field (head_of r).headers (codes "host"))
+    (field (head_of r).headers (codes "origin"))
     (field (head_of r).headers (codes "content-type"))

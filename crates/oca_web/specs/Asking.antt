@@ -13,26 +13,26 @@ use Rattle.oca_web.specs.declared.ask.Ask.{Ask}
 use Rattle.oca_web.specs.declared.ask.Ask.TheVariants as asks
 
 -- what is asked: nothing that sets
-abbrev pub request_for : Ask → Request
-request_for asks.Members = requests.GetMembers
-request_for asks.Role = requests.GetRole
-request_for asks.Label = requests.GetLabel
-request_for asks.Lockable = requests.GetLockable
-request_for asks.Enabled = requests.GetEnabled
-request_for asks.Names = requests.GetPositionNames
-request_for asks.Flags = requests.GetPositionEnableds
-request_for asks.Value = requests.Get
+abbrev pub request_of_ask : Ask → Request
+request_of_ask asks.Members = requests.GetMembers
+request_of_ask asks.Role = requests.GetRole
+request_of_ask asks.Label = requests.GetLabel
+request_of_ask asks.Lockable = requests.GetLockable
+request_of_ask asks.Enabled = requests.GetEnabled
+request_of_ask asks.Names = requests.GetPositionNames
+request_of_ask asks.Flags = requests.GetPositionEnableds
+request_of_ask asks.Value = requests.Get
 
 -- the method by which it is asked; of a value that of a setting, whose answer is read by the class
-abbrev pub method_for : Ask → Method
-method_for asks.Members = method.GetMembers
-method_for asks.Role = method.GetRole
-method_for asks.Label = method.GetLabel
-method_for asks.Lockable = method.GetLockable
-method_for asks.Enabled = method.GetEnabled
-method_for asks.Names = method.GetPositionNames
-method_for asks.Flags = method.GetPositionEnableds
-method_for asks.Value = method.GetSetting
+abbrev pub method_of_ask : Ask → Method
+method_of_ask asks.Members = method.GetMembers
+method_of_ask asks.Role = method.GetRole
+method_of_ask asks.Label = method.GetLabel
+method_of_ask asks.Lockable = method.GetLockable
+method_of_ask asks.Enabled = method.GetEnabled
+method_of_ask asks.Names = method.GetPositionNames
+method_of_ask asks.Flags = method.GetPositionEnableds
+method_of_ask asks.Value = method.GetSetting
 
 -- the class by whose methods an object is asked
 abbrev pub class_for : Option Class → Class
@@ -41,13 +41,14 @@ class_for (Some of) = of
 
 -- ---- half of the span is left for orders
 
--- THE SHARE OF THE ORDERS. A question is asked only where fewer than half of the span's handles lie between the lowest in
--- flight and the next one.
+-- THE SHARE OF THE ORDERS. A question is asked only where fewer than half of the span's handles lie between the lowest
+-- in flight and the next one.
 abbrev pub leaves_half : Option ℕ → ℕ → ℕ → Bool
 leaves_half None next span = true
 leaves_half (Some lowest) next span = nat_lt (2 * (next - lowest)) span
 
 -- ONE QUESTION WAS ASKED, where it may be and the link took it; else nothing was.
 abbrev pub AsksOne : Bool → ℕ → Option Class → Ask → Option Handle → PanelState → PanelState → Type 0
-AsksOne may ono of ask (Some handle) old new = (may ≡ true) × BeginsAsking ono (class_for of) (request_for ask) (Ok handle) old new
+AsksOne may ono of ask (Some handle) old new = (may ≡ true) × BeginsAsking ono (class_for of) (request_of_ask ask)
+    (Ok handle) old new
 AsksOne may ono of ask None old new = new ≡ old

@@ -2,8 +2,8 @@ pub mod Admission
 pub mod Asking
 pub mod Objects
 pub mod Orders
-pub mod Said
+pub mod Bodies
 pub mod Sites
-pub mod Telling
+pub mod Results
 pub mod Views
 pub mod Walking

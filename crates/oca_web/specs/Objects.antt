@@ -1,14 +1,12 @@
 -- The objects of a device in the order in which they were found, and their changes (*profile*).
-use Rattle.std.specs.Prelude.{◌≡◌, ◌≢◌, ◌⊎◌, ℕ, ◌+◌, min, nat_lt, if◌then◌else◌, List, [], ◌∷◌, ◌++◌, length, slice_get, IfSome}
+use Rattle.std.specs.Prelude.{◌≡◌, ◌≢◌, ◌⊎◌, ℕ, ◌+◌, nat_lt, if◌then◌else◌, List, [], ◌∷◌, ◌++◌, length, slice_get}
+use Rattle.std.specs.Prelude.{IfSome}
+use Rattle.oca_net.specs.Ends.{one_more}
 use Rattle.oca_web.specs.declared.object.Object.{Object}
 
 pub record ObjectsState : Type 0 where
   pub list : List Object
   pub changes : ℕ
-
--- one more, in a 64-bit number that stays at its last value
-abbrev pub one_more : ℕ → ℕ
-one_more n = min (n + 1) 18446744073709551615
 
 -- AN OBJECT CHANGED: a change was counted, the object at the place has its number, and all others are as they were.
 pub record ChangesOne (place : ℕ) (old new : ObjectsState) : Type 0 where
@@ -22,7 +20,7 @@ abbrev pub Changes : ℕ → ObjectsState → ObjectsState → Type 0
 Changes place old new = (new ≡ old) ⊎ ChangesOne place old new
 
 -- An object was added behind all others, with the number of that change.
-pub record Adds (old new : ObjectsState) : Type 0 where
+pub record AddsObject (old new : ObjectsState) : Type 0 where
   pub object : Object
   pub counted : new.changes ≡ one_more old.changes
   pub list : new.list ≡ old.list ++ object ∷ []
@@ -31,4 +29,5 @@ pub record Adds (old new : ObjectsState) : Type 0 where
 -- THE PLACES OF THE OBJECTS THAT CHANGED after the change with this number, the first object at this place
 abbrev pub places_since : ℕ → ℕ → List Object → List ℕ
 places_since since place [] = []
-places_since since place (o ∷ os) = if nat_lt since o.changed then place ∷ places_since since (place + 1) os else places_since since (place + 1) os
+places_since since place (o ∷ os) = if nat_lt since o.changed then place ∷ places_since since (place + 1) os
+    else places_since since (place + 1) os

@@ -1,5 +1,6 @@
 -- Orders: what pages want done with objects, in the order in which they came (*profile*).
-use Rattle.std.specs.Prelude.{◌≡◌, ◌⊎◌, ℕ, ◌+◌, ◌==◌, ◌||◌, Bool, true, false, if◌then◌else◌, List, [], ◌∷◌, ◌++◌, length, drop, remove, slice_get, Option, Some, None, Result, Ok, Err}
+use Rattle.std.specs.Prelude.{◌≡◌, ◌⊎◌, ℕ, ◌+◌, ◌==◌, ◌||◌, Bool, true, false, if◌then◌else◌, List, [], ◌∷◌, ◌++◌}
+use Rattle.std.specs.Prelude.{length, nat_lt, drop, remove, slice_get, Option, Some, None, Result, Ok, Err}
 use Rattle.std.specs.List.{list_any}
 use Rattle.oca_types.specs.declared.class.Class.{Class}
 use Rattle.oca_types.specs.declared.class.Class.TheVariants as class
@@ -16,47 +17,54 @@ use Rattle.oca_panel.specs.Panels.{PanelState, SettlesIn}
 use Rattle.oca_panel.specs.Outcomes.{done_answered}
 use Rattle.oca_panel.specs.Beginnings.{BeginsAsking}
 use Rattle.oca_panel.specs.Renewals.{IsFoundLost}
-use Rattle.oca_web.specs.declared.order.Deed.{Deed}
-use Rattle.oca_web.specs.declared.order.Deed.TheVariants as deeds
+use Rattle.oca_web.specs.declared.order.Action.{Action}
+use Rattle.oca_web.specs.declared.order.Action.TheVariants as actions
 use Rattle.oca_web.specs.declared.order.Order.{Order}
 use Rattle.oca_web.specs.declared.order.Sent.{Sent}
-use Rattle.oca_web.specs.declared.order.Told.{Told}
+use Rattle.oca_web.specs.declared.order.OrderResult.{OrderResult}
 
 -- The orders that wait, the first that came first; those in flight under their handles; how the last ones fared, the
 -- last of them last; and the ticket of the last order.
 pub record OrdersState : Type 0 where
   pub waiting : List Order
   pub in_flight : List Sent
-  pub told : List Told
+  pub results : List OrderResult
   pub tickets : ℕ
 
 abbrev pub no_orders : OrdersState
-no_orders = record { waiting = []; in_flight = []; told = []; tickets = 0 }
+no_orders = record { waiting = []; in_flight = []; results = []; tickets = 0 }
+
+-- whether an order waits, and whether one waits or is in flight
+abbrev pub waits : OrdersState → Bool
+waits s = nat_lt 0 (length s.waiting)
+
+abbrev pub has_orders : OrdersState → Bool
+has_orders s = waits s || nat_lt 0 (length s.in_flight)
 
 -- what is asked for an order, and of which class
-abbrev pub class_asked : Deed → Class
-class_asked (deeds.Set value) = class_of_value value
-class_asked deeds.Lock = class.Block
-class_asked deeds.Unlock = class.Block
+abbrev pub class_asked : Action → Class
+class_asked (actions.Set value) = class_of_value value
+class_asked actions.Lock = class.Block
+class_asked actions.Unlock = class.Block
 
-abbrev pub request_asked : Deed → Request
-request_asked (deeds.Set value) = requests.Set value
-request_asked deeds.Lock = requests.LockTotal
-request_asked deeds.Unlock = requests.Unlock
+abbrev pub request_asked : Action → Request
+request_asked (actions.Set value) = requests.Set value
+request_asked actions.Lock = requests.LockTotal
+request_asked actions.Unlock = requests.Unlock
 
 -- ---- an order comes
 
 -- ONE ORDER WAS ADDED, behind all others, with a ticket of its own: one more than that of the order before it.
-abbrev pub order_added : Ono → Deed → OrdersState → Order
-order_added ono deed s = record { ticket = s.tickets + 1; ono = ono; deed = deed }
+abbrev pub order_added : Ono → Action → OrdersState → Order
+order_added ono action s = record { ticket = s.tickets + 1; ono = ono; action = action }
 
-abbrev pub with_order : Ono → Deed → OrdersState → OrdersState
-with_order ono deed s = record s { waiting = s.waiting ++ order_added ono deed s ∷ []; tickets = s.tickets + 1 }
+abbrev pub with_order : Ono → Action → OrdersState → OrdersState
+with_order ono action s = record s { waiting = s.waiting ++ order_added ono action s ∷ []; tickets = s.tickets + 1 }
 
 -- Where it was added, this is its ticket; where 64 wait, or no ticket is left, none was.
-abbrev pub Adds : Ono → Deed → OrdersState → Option ℕ → OrdersState → Type 0
-Adds ono deed old (Some ticket) new = (ticket ≡ old.tickets + 1) × (new ≡ with_order ono deed old)
-Adds ono deed old None new = (new ≡ old) × ((length old.waiting ≡ 64) ⊎ (old.tickets ≡ 18446744073709551615))
+abbrev pub AddsTicket : Ono → Action → OrdersState → Option ℕ → OrdersState → Type 0
+AddsTicket ono action old (Some ticket) new = (ticket ≡ old.tickets + 1) × (new ≡ with_order ono action old)
+AddsTicket ono action old None new = (new ≡ old) × ((length old.waiting ≡ 64) ⊎ (old.tickets ≡ 18446744073709551615))
 
 -- ---- an order is submitted
 
@@ -70,15 +78,16 @@ ready_of [] sent = None
 ready_of (o ∷ os) sent = if is_in_flight o.ono.0 sent || (length sent == 32) then None else Some o
 
 -- THAT ORDER WAS SUBMITTED, once: it no longer waits, and is in flight under the handle of its command.
-pub record SubmitsOrder (old : OrdersState) (before : PanelState) (new : OrdersState) (after : PanelState) : Type 0 where
-  pub order : Order
-  pub handle : Handle
-  pub ready : ready_of old.waiting old.in_flight ≡ Some order
-  pub first : old.waiting ≡ order ∷ new.waiting
-  pub in_flight : new.in_flight ≡ old.in_flight ++ (record { handle = handle; order = order }) ∷ []
-  pub told : new.told ≡ old.told
-  pub tickets : new.tickets ≡ old.tickets
-  pub begins : BeginsAsking order.ono.0 (class_asked order.deed) (request_asked order.deed) (Ok handle) before after
+pub record SubmitsOrder (old : OrdersState) (before : PanelState) (new : OrdersState) (after : PanelState) : Type 0
+  where
+    pub order : Order
+    pub handle : Handle
+    pub ready : ready_of old.waiting old.in_flight ≡ Some order
+    pub first : old.waiting ≡ order ∷ new.waiting
+    pub in_flight : new.in_flight ≡ old.in_flight ++ (record { handle = handle; order = order }) ∷ []
+    pub results : new.results ≡ old.results
+    pub tickets : new.tickets ≡ old.tickets
+    pub asks : BeginsAsking order.ono.0 (class_asked order.action) (request_asked order.action) (Ok handle) before after
 
 -- whether one was submitted: where none was, nothing changed
 abbrev pub SubmitsFirst : Bool → OrdersState → PanelState → OrdersState → PanelState → Type 0
@@ -88,46 +97,57 @@ SubmitsFirst false old before new after = (new ≡ old) × (after ≡ before)
 -- ---- an order is answered
 
 -- what is kept of how orders fared, with one more: at most 128
-abbrev pub with_told : List Told → Told → List Told
-with_told told t = (if length told == 128 then drop 1 told else told) ++ t ∷ []
+abbrev pub with_result : List OrderResult → OrderResult → List OrderResult
+with_result results t = (if length results == 128 then drop 1 results else results) ++ t ∷ []
 
 -- how an order fared
-abbrev pub told_of : Order → Result Unit Trouble → Told
-told_of order done = record { ticket = order.ticket; ono = order.ono; done = done }
+abbrev pub result_of : Order → Result Unit Trouble → OrderResult
+result_of order done = record { ticket = order.ticket; ono = order.ono; done = done }
 
--- AN ORDER IN FLIGHT CAME OUT SO, which its ticket is told: as the answer says that the link held under its handle, or
+-- AN ORDER IN FLIGHT CAME OUT SO, under its ticket: as the answer says that the link held under its handle, or
 -- as lost where the link is lost and holds none.
-pub record SettlesOrder (at : ℕ) (sent : Sent) (done : Result Unit Trouble) (old : OrdersState) (before : PanelState) (new : OrdersState) (after : PanelState) : Type 0 where
+pub record SettlesOrder (at : ℕ) (sent : Sent) (done : Result Unit Trouble) (old : OrdersState) (before : PanelState)
+    (new : OrdersState) (after : PanelState) : Type 0 where
   pub stood : slice_get old.in_flight at ≡ Some sent
   pub outcome : Outcome
   pub settles : SettlesIn sent.handle.0 before after outcome
   pub answered : done ≡ done_answered outcome
-  pub orders : new ≡ record old { in_flight = remove old.in_flight at; told = with_told old.told (told_of sent.order done) }
+  pub orders : new ≡ record old {
+    in_flight = remove old.in_flight at;
+    results = with_result old.results
+        (result_of sent.order done);
+  }
 
-abbrev pub SettlesAt : ℕ → Option (Sent × Result Unit Trouble) → OrdersState → PanelState → OrdersState → PanelState → Type 0
+abbrev pub SettlesAt : ℕ → Option (Sent × Result Unit Trouble) → OrdersState → PanelState → OrdersState → PanelState
+    → Type 0
 SettlesAt at (Some settled) old before new after = SettlesOrder at settled.0 settled.1 old before new after
 SettlesAt at None old before new after = (new ≡ old) × (after ≡ before)
 
 -- ---- the link is lost
 
-abbrev pub lost_told : Sent → Told
-lost_told sent = told_of sent.order (Err trouble.Lost)
+abbrev pub lost_result : Sent → OrderResult
+lost_result sent = result_of sent.order (Err trouble.Lost)
 
-abbrev pub unsent_told : Order → Told
-unsent_told order = told_of order (Err (trouble.NotSubmitted faults.Lost))
+abbrev pub unsent_result : Order → OrderResult
+unsent_result order = result_of order (Err (trouble.NotSubmitted faults.Lost))
 
-abbrev pub with_lost : List Sent → List Told → List Told
-with_lost [] told = told
-with_lost (s ∷ sent) told = with_lost sent (with_told told (lost_told s))
+abbrev pub with_lost : List Sent → List OrderResult → List OrderResult
+with_lost [] results = results
+with_lost (s ∷ sent) results = with_lost sent (with_result results (lost_result s))
 
-abbrev pub with_unsent : List Order → List Told → List Told
-with_unsent [] told = told
-with_unsent (o ∷ orders) told = with_unsent orders (with_told told (unsent_told o))
+abbrev pub with_unsent : List Order → List OrderResult → List OrderResult
+with_unsent [] results = results
+with_unsent (o ∷ orders) results = with_unsent orders (with_result results (unsent_result o))
 
 -- ALL ORDERS ARE LOST with the link: those in flight, which may have been carried out, and those that wait, which were
 -- never sent.
 abbrev pub lost_orders : OrdersState → OrdersState
-lost_orders s = record s { waiting = []; in_flight = []; told = with_unsent s.waiting (with_lost s.in_flight s.told) }
+lost_orders s = record s {
+  waiting = [];
+  in_flight = [];
+  results = with_unsent s.waiting
+      (with_lost s.in_flight s.results);
+}
 
 -- They are lost where the link is lost, or late at the present moment, and only there.
 abbrev pub LosesOrders : Bool → PanelState → OrdersState → OrdersState → Type 0
@@ -146,7 +166,8 @@ SubmitsOrders = Steps SubmitsOrder
 
 -- WHAT TICKETS WERE TOLD: of one order after another, how it came out.
 abbrev pub SettlesOne : OrdersState → PanelState → OrdersState → PanelState → Type 0
-SettlesOne old before new after = (at : ℕ) × (sent : Sent) × (done : Result Unit Trouble) × SettlesOrder at sent done old before new after
+SettlesOne old before new after = (at : ℕ) × (sent : Sent) × (done : Result Unit Trouble)
+    × SettlesOrder at sent done old before new after
 
 abbrev pub SettlesOrders : OrdersState → PanelState → OrdersState → PanelState → Type 0
 SettlesOrders = Steps SettlesOne

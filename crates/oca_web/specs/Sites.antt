@@ -7,24 +7,24 @@ use Rattle.http.specs.Request.{head_of}
 use Rattle.http_uri.specs.Uri.{uri_path}
 use Rattle.http_server.specs.declared.response.Response.{Response}
 use Rattle.oca_types.specs.declared.words.Ono.{Ono}
-use Rattle.oca_web.specs.declared.order.Deed.{Deed}
-use Rattle.oca_web.specs.declared.order.Deed.TheVariants as deeds
+use Rattle.oca_web.specs.declared.order.Action.{Action}
+use Rattle.oca_web.specs.declared.order.Action.TheVariants as actions
 use Rattle.oca_web.specs.declared.site.Site.{Site}
 use Rattle.oca_web.specs.Admission.{lets_request_in}
 use Rattle.oca_web.specs.Orders.{with_order}
-use Rattle.oca_web.specs.Said.{IsSaid}
+use Rattle.oca_web.specs.Bodies.{IsOrderIn}
 
 -- the order sets something
-abbrev pub IsSetting : Deed → Type 0
-IsSetting (deeds.Set value) = Unit {0}
-IsSetting deeds.Lock = ⊥
-IsSetting deeds.Unlock = ⊥
+abbrev pub IsSetting : Action → Type 0
+IsSetting (actions.Set value) = Unit {0}
+IsSetting actions.Lock = ⊥
+IsSetting actions.Unlock = ⊥
 
--- the deed that a path asks for
-abbrev pub IsDeedFor : List ℕ → Deed → Type 0
-IsDeedFor path (deeds.Set value) = path ≡ codes "/set"
-IsDeedFor path deeds.Lock = path ≡ codes "/lock"
-IsDeedFor path deeds.Unlock = path ≡ codes "/unlock"
+-- the action that a path asks for
+abbrev pub IsActionFor : List ℕ → Action → Type 0
+IsActionFor path (actions.Set value) = path ≡ codes "/set"
+IsActionFor path actions.Lock = path ≡ codes "/lock"
+IsActionFor path actions.Unlock = path ≡ codes "/unlock"
 
 -- the orders are as they were, and so are the names by which the site may be asked
 pub record KeepsAll (old new : Site) : Type 0 where
@@ -32,10 +32,10 @@ pub record KeepsAll (old new : Site) : Type 0 where
   pub names : new.names ≡ old.names
 
 -- ONE ORDER WAS ADDED, and its ticket answered, with the status 202.
-pub record AddsOrder (ono : Ono) (deed : Deed) (old : Site) (response : Response) (new : Site) : Type 0 where
+pub record AddsOrder (ono : Ono) (action : Action) (old : Site) (response : Response) (new : Site) : Type 0 where
   pub status : response.status ≡ 202
   pub ticket : response.body.items ≡ decimal (old.view.orders.tickets + 1)
-  pub orders : new.view.orders ≡ with_order ono deed old.view.orders
+  pub orders : new.view.orders ≡ with_order ono action old.view.orders
   pub names : new.names ≡ old.names
 
 -- none was, and the status is another one
@@ -43,13 +43,14 @@ pub record AddsNone (old : Site) (response : Response) (new : Site) : Type 0 whe
   pub status : response.status ≢ 202
   pub keeps : KeepsAll old new
 
-abbrev pub TakesOrder : Result Unit AllocError → Ono → Deed → Site → Response → Site → Type 0
-TakesOrder (Ok u) ono deed old response new = AddsOrder ono deed old response new ⊎ AddsNone old response new
-TakesOrder (Err e) ono deed old response new = KeepsAll old new
+abbrev pub TakesOrder : Result Unit AllocError → Ono → Action → Site → Response → Site → Type 0
+TakesOrder (Ok u) ono action old response new = AddsOrder ono action old response new ⊎ AddsNone old response new
+TakesOrder (Err e) ono action old response new = KeepsAll old new
 
 -- one order was added: the one for which the path and the body ask
 abbrev pub AddsFor : List ℕ → List ℕ → Site → Response → Site → Type 0
-AddsFor path body old response new = (ono : Ono) × (deed : Deed) × IsDeedFor path deed × IsSaid body ono deed × AddsOrder ono deed old response new
+AddsFor path body old response new = (ono : Ono) × (action : Action) × IsActionFor path action
+    × IsOrderIn body ono action × AddsOrder ono action old response new
 
 abbrev pub PostsOrder : List ℕ → List ℕ → Result Unit AllocError → Site → Response → Site → Type 0
 PostsOrder path body (Ok u) old response new = AddsFor path body old response new ⊎ AddsNone old response new
@@ -62,8 +63,8 @@ KeepsOrders (Err e) old response new = KeepsAll old new
 abbrev pub method_of : Request (List ℕ) → List ℕ
 method_of r = (head_of r).method
 
--- A POST THAT IS LET IN adds one order: what its path asks for, of the object and with the value that its body says. It is
--- answered 202 with the order's own ticket; or it is refused with another status, and adds none.
+-- A POST THAT IS LET IN adds one order: what its path asks for, of the object and with the value that its body says. It
+-- is answered 202 with the order's own ticket; or it is refused with another status, and adds none.
 pub record Orders (old : Site) (request : Request (List ℕ)) (response : Response) (new : Site) : Type 0 where
   pub let_in : lets_request_in old.names.items request ≡ true
   pub post : bytes_eq (codes "POST") (method_of request) ≡ true

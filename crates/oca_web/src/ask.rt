@@ -1,6 +1,6 @@
 //! What is asked of an object to know it: nothing here sets anything.
 ghost use Rattle.std.specs.Prelude.{◌≡◌};
-ghost use Rattle.oca_web.specs.Asking.{class_for, method_for, request_for};
+ghost use Rattle.oca_web.specs.Asking.{class_for, method_of_ask, request_of_ask};
 
 use oca_model::Request;
 use oca_types::{Class, Handle, Method};
@@ -29,7 +29,7 @@ pub enum Ask {
 impl Ask {
     /// What is asked, which only reads.
     pub fn request(self) -> Request
-        ensures { result ≡ request_for self }
+        ensures { result ≡ request_of_ask self }
     {
         match self {
             Ask::Members => Request::GetMembers,
@@ -45,7 +45,7 @@ impl Ask {
 
     /// The method by which it is asked.
     pub fn method(self) -> Method
-        ensures { result ≡ method_for self }
+        ensures { result ≡ method_of_ask self }
     {
         match self {
             Ask::Members => Method::GetMembers,
@@ -60,8 +60,8 @@ impl Ask {
     }
 }
 
-/// The class by whose methods an object is asked: its own, or, where that is not known here, as a block, whose methods of
-/// OcaRoot are those of all classes.
+/// The class by whose methods an object is asked: its own, or, where that is not known here, as a block, whose methods
+/// of OcaRoot are those of all classes.
 pub fn class_for(class: Option<Class>) -> Class
     ensures { result ≡ class_for class }
 {

@@ -2,7 +2,7 @@
 use crate::ask::{Ask, Asked, Question, class_for};
 use crate::object::{Lock, Object, Shown, reading_with};
 use crate::objects::Objects;
-use crate::order::{Deed, Order};
+use crate::order::{Action, Order};
 use crate::orders::lower;
 use crate::poll::Poll;
 use arrayvec::ArrayVec;
@@ -17,8 +17,8 @@ const LOCKED: u8 = 3;
 
 /// What is known of a device, and what is asked of it.
 ///
-/// A walk begins at the root: the members of each block are asked, and of each object what does not change. Once nothing
-/// of it is left, the walk is over, and it stays over until another one begins.
+/// A walk begins at the root: the members of each block are asked, and of each object what does not change. Once
+/// nothing of it is left, the walk is over, and it stays over until another one begins.
 #[derive(Drop)]
 pub struct Inventory {
     alloc: Global,
@@ -53,8 +53,8 @@ impl Inventory {
         Ok(inventory)
     }
 
-    /// Forgets the objects, and begins another walk. Questions in flight stay so, since their answers are to be taken; they
-    /// are not learned. Refusal: `NoMemory`, also where no number is left for a walk.
+    /// Forgets the objects, and begins another walk. Questions in flight stay so, since their answers are to be taken;
+    /// they are not learned. Refusal: `NoMemory`, also where no number is left for a walk.
     pub fn begin_anew(&mut self) -> Result<(), NoMemory>
         ensures { BeginsAnew self.old self.new }
     {
@@ -317,8 +317,8 @@ impl Inventory {
         }
     }
 
-    /// Learns why something was not answered: an object that a different controller locks, a block whose members can't be
-    /// listed, or a device whose objects are others by now.
+    /// Learns why something was not answered: an object that a different controller locks, a block whose members can't
+    /// be listed, or a device whose objects are others by now.
     fn learn_trouble(&mut self, place: usize, ask: Ask, trouble: Trouble)
         ensures { KeepsWalk self.old self.new }
     {
@@ -378,8 +378,8 @@ impl Inventory {
         known.next().is_none()
     }
 
-    /// Learns how an order fared: whose lock is on its object, and what it is set to, which is asked anew. What was asked
-    /// before is not learned, since its answer may be older than the order.
+    /// Learns how an order fared: whose lock is on its object, and what it is set to, which is asked anew. What was
+    /// asked before is not learned, since its answer may be older than the order.
     pub fn learn_order(&mut self, order: Order, done: Result<(), Trouble>) -> Result<(), NoMemory>
         ensures { KeepsWalk self.old self.new }
     {
@@ -389,8 +389,8 @@ impl Inventory {
         let Some(shown) = self.objects.shown(place) else {
             return Ok(());
         };
-        let lock = lock_after(order.deed, done, shown.lock);
-        let reading = reading_after(order.deed, done, shown.reading);
+        let lock = lock_after(order.action, done, shown.lock);
+        let reading = reading_after(order.action, done, shown.reading);
         self.objects.show(
             place,
             Shown {
@@ -471,10 +471,10 @@ fn is_of_another_device(trouble: Trouble) -> bool {
 }
 
 /// Whose lock is on an object behind an order that fared so.
-fn lock_after(deed: Deed, done: Result<(), Trouble>, before: Lock) -> Lock {
-    match (deed, done) {
-        (Deed::Lock, Ok(())) => Lock::Own,
-        (Deed::Unlock, Ok(())) => Lock::Free,
+fn lock_after(action: Action, done: Result<(), Trouble>, before: Lock) -> Lock {
+    match (action, done) {
+        (Action::Lock, Ok(())) => Lock::Own,
+        (Action::Unlock, Ok(())) => Lock::Free,
         (_, Err(Trouble::Refused(LOCKED))) => Lock::Other,
         _ => before,
     }
@@ -482,12 +482,12 @@ fn lock_after(deed: Deed, done: Result<(), Trouble>, before: Lock) -> Lock {
 
 /// What an object is set to behind an order that fared so: where it was carried out, what was ordered.
 fn reading_after(
-    deed: Deed,
+    action: Action,
     done: Result<(), Trouble>,
     before: Option<Reading>,
 ) -> Option<Reading> {
-    match (deed, done, before) {
-        (Deed::Set(value), Ok(()), Some(reading)) => Some(reading_with(reading, value)),
+    match (action, done, before) {
+        (Action::Set(value), Ok(()), Some(reading)) => Some(reading_with(reading, value)),
         _ => before,
     }
 }

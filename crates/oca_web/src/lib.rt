@@ -1,13 +1,14 @@
 //! A panel in the browser, without its sockets: what is known of a device, the orders of the pages, and the answers to
 //! requests of HTTP.
 //!
-//! Begin with [`View`]: it finds the objects of a device over a [`Panel`](oca_panel::Panel), reads their values again and
-//! again while a page is open, and submits what the pages order, each order once and in their order. A [`Site`] is the
-//! service over a view that a connection of `http_server` calls; it never has the panel in its hands, so no request can
-//! touch the link. Nothing here opens a socket or reads a clock.
+//! Begin with [`View`]: it finds the objects of a device over a [`Panel`](oca_panel::Panel), reads their values again
+//! and again while a page is open, and submits what the pages order, each order once and in their order. A [`Site`] is
+//! the service over a view that a connection of `http_server` calls; it never has the panel in its hands, so no request
+//! can touch the link. Nothing here opens a socket or reads a clock.
 #![tactic(auto)]
 
 mod admission;
+mod answers;
 mod ask;
 mod asking;
 mod inventory;
@@ -18,7 +19,6 @@ mod orders;
 mod page;
 mod poll;
 mod site;
-mod told;
 mod turns;
 mod view;
 
@@ -26,7 +26,7 @@ pub use admission::Name;
 pub use inventory::Inventory;
 pub use object::{Lock, Object, Shown};
 pub use objects::Objects;
-pub use order::{Deed, MOST_TOLD, MOST_WAITING, Order, Sent, Told};
+pub use order::{Action, MOST_RESULTS, MOST_WAITING, Order, OrderResult, Sent};
 pub use orders::Orders;
 pub use page::{PAGE, POLICY};
 pub use site::Site;

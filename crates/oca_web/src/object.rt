@@ -6,7 +6,7 @@ use oca_model::{Flags, Names, Ranged, Reading, Value, word_of};
 use oca_panel::Trouble;
 use oca_types::{Class, Ono, Text};
 
-/// Whose lock is on an object, as far as answers told.
+/// Whose lock is on an object, as far as answers say.
 #[derive(Clone, Copy, Debug, PartialEq, Eq)]
 pub enum Lock {
     /// None that is known.
@@ -28,7 +28,7 @@ impl Lock {
     }
 }
 
-/// What changes of an object, and is told again and again.
+/// What changes of an object, and is sent again and again.
 #[derive(Clone, Copy, Debug, PartialEq, Eq)]
 pub struct Shown {
     /// What it is set to, with its limits; none before it was read.

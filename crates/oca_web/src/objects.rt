@@ -10,8 +10,8 @@ use std::marker::Model;
 
 /// The objects of a device in the order in which they were found, and the number of the last change.
 ///
-/// What is told of an object changes here alone, and the object then has the number of that change: so those that changed
-/// after a number are those that have a greater one.
+/// What pages see of an object changes here alone, and the object then has the number of that change: so those that
+/// changed after a number are those that have a greater one.
 #[derive(Drop)]
 pub struct Objects {
     list: Vec<Object>,
@@ -29,7 +29,8 @@ impl Model for Objects {
 impl Objects {
     ghost use Rattle.std.specs.Prelude.{◌≡◌, [], ◌∷◌, ◌++◌, slice_get, length, IfOk, OnErr};
     ghost use Rattle.std.specs.Option.{option_copied};
-    ghost use Rattle.oca_web.specs.Objects.{Adds, Changes, one_more};
+    ghost use Rattle.oca_net.specs.Ends.{one_more};
+    ghost use Rattle.oca_web.specs.Objects.{AddsObject, Changes};
 
     /// None, and no change.
     pub fn new(alloc: Global) -> Objects
@@ -63,9 +64,9 @@ impl Objects {
         self.changes
     }
 
-    /// Adds an object behind all others, which is a change. Refusal: `NoMemory`.
+    /// AddsObject an object behind all others, which is a change. Refusal: `NoMemory`.
     pub fn add(&mut self, mut object: Object) -> Result<(), NoMemory>
-        ensures ok { IfOk result (λ u. Adds self.old self.new) }
+        ensures ok { IfOk result (λ u. AddsObject self.old self.new) }
     {
         self.changes = self.changes.saturating_add(1);
         object.changed = self.changes;

@@ -13,11 +13,11 @@ pub const MOST_WAITING: usize = 64;
 pub const MOST_IN_FLIGHT: usize = 32;
 
 /// The most orders of which it is kept how they fared.
-pub const MOST_TOLD: usize = 128;
+pub const MOST_RESULTS: usize = 128;
 
 /// What a page wants done with an object.
 #[derive(Clone, Copy, Debug, PartialEq, Eq)]
-pub enum Deed {
+pub enum Action {
     /// That it is set to this.
     Set(Value),
     /// That it is locked against all access of others.
@@ -26,14 +26,14 @@ pub enum Deed {
     Unlock,
 }
 
-impl Deed {
+impl Action {
     /// The class by whose methods it is asked.
     pub fn class(self) -> Class
         ensures { result ≡ class_asked self }
     {
         match self {
-            Deed::Set(value) => value.class(),
-            Deed::Lock | Deed::Unlock => Class::Block,
+            Action::Set(value) => value.class(),
+            Action::Lock | Action::Unlock => Class::Block,
         }
     }
 
@@ -42,9 +42,9 @@ impl Deed {
         ensures { result ≡ request_asked self }
     {
         match self {
-            Deed::Set(value) => Request::Set(value),
-            Deed::Lock => Request::LockTotal,
-            Deed::Unlock => Request::Unlock,
+            Action::Set(value) => Request::Set(value),
+            Action::Lock => Request::LockTotal,
+            Action::Unlock => Request::Unlock,
         }
     }
 }
@@ -52,12 +52,12 @@ impl Deed {
 /// An order of a page.
 #[derive(Clone, Copy, Debug, PartialEq, Eq)]
 pub struct Order {
-    /// The number by which the page is told how it fared.
+    /// The number by which the page knows it.
     pub ticket: u64,
     /// The object.
     pub ono: Ono,
     /// What is to be done with it.
-    pub deed: Deed,
+    pub action: Action,
 }
 
 impl Default for Order {
@@ -66,7 +66,7 @@ impl Default for Order {
         Order {
             ticket: 0,
             ono: Ono(0),
-            deed: Deed::Unlock,
+            action: Action::Unlock,
         }
     }
 }
@@ -92,7 +92,7 @@ impl Default for Sent {
 
 /// How an order fared.
 #[derive(Clone, Copy, Debug, PartialEq, Eq)]
-pub struct Told {
+pub struct OrderResult {
     /// The number by which the page knows it.
     pub ticket: u64,
     /// The object.
@@ -101,10 +101,10 @@ pub struct Told {
     pub done: Result<(), Trouble>,
 }
 
-impl Default for Told {
+impl Default for OrderResult {
     /// An order that nobody gave.
     fn default() -> Self {
-        Told {
+        OrderResult {
             ticket: 0,
             ono: Ono(0),
             done: Err(Trouble::Unanswered),

@@ -1,5 +1,5 @@
 //! The orders of the pages: those that wait, those in flight, and how the last ones fared.
-use crate::order::{Deed, MOST_IN_FLIGHT, MOST_TOLD, MOST_WAITING, Order, Sent, Told};
+use crate::order::{Action, MOST_IN_FLIGHT, MOST_RESULTS, MOST_WAITING, Order, OrderResult, Sent};
 use arrayvec::ArrayVec;
 use oca_control::ControlFault;
 use oca_panel::Trouble;
@@ -11,7 +11,7 @@ use std::marker::Model;
 pub struct Orders {
     waiting: ArrayVec<Order, MOST_WAITING>,
     in_flight: ArrayVec<Sent, MOST_IN_FLIGHT>,
-    told: ArrayVec<Told, MOST_TOLD>,
+    results: ArrayVec<OrderResult, MOST_RESULTS>,
     tickets: u64,
 }
 
@@ -20,13 +20,20 @@ impl Model for Orders {
 
     ghost Value = { OrdersState };
 
-    ghost view = { λ o. record { waiting = o.waiting.items; in_flight = o.in_flight.items; told = o.told.items; tickets = o.tickets } };
+    ghost view = { λ o. record {
+      waiting = o.waiting.items;
+      in_flight = o.in_flight.items;
+      results = o.results.items;
+      tickets = o.tickets;
+    } };
 }
 
 impl Orders {
     ghost use Rattle.std.specs.Prelude.{◌≡◌, ◌∷◌, ◌++◌, remove, slice_get, length, [], Some};
-    ghost use Rattle.oca_web.specs.Objects.{one_more};
-    ghost use Rattle.oca_web.specs.Orders.{Adds, is_in_flight, lost_orders, lost_told, no_orders, ready_of, told_of, unsent_told, with_lost, with_order, with_told, with_unsent};
+    ghost use Rattle.oca_net.specs.Ends.{one_more};
+    ghost use Rattle.oca_web.specs.Orders.{AddsTicket, is_in_flight, lost_orders, lost_result, no_orders, ready_of};
+    ghost use Rattle.oca_web.specs.Orders.{result_of, unsent_result, waits, with_lost, with_order, with_result};
+    ghost use Rattle.oca_web.specs.Orders.{with_unsent};
 
     /// No orders.
     pub fn new() -> Orders
@@ -35,7 +42,7 @@ impl Orders {
         Orders {
             waiting: ArrayVec::new(),
             in_flight: ArrayVec::new(),
-            told: ArrayVec::new(),
+            results: ArrayVec::new(),
             tickets: 0,
         }
     }
@@ -48,14 +55,18 @@ impl Orders {
     }
 
     /// Adds an order behind all others, and returns its ticket. `None` where 64 wait, which changes nothing.
-    pub fn add(&mut self, ono: Ono, deed: Deed) -> Option<u64>
-        ensures { Adds ono deed self.old result self.new }
+    pub fn add(&mut self, ono: Ono, action: Action) -> Option<u64>
+        ensures { AddsTicket ono action self.old result self.new }
     {
         if self.waiting.is_full() || self.tickets == u64::MAX {
             return None;
         }
         let ticket = self.tickets + 1;
-        self.waiting.push(Order { ticket, ono, deed });
+        self.waiting.push(Order {
+            ticket,
+            ono,
+            action,
+        });
         self.tickets = ticket;
         Some(ticket)
     }
@@ -88,8 +99,9 @@ impl Orders {
     pub(crate) fn note_sent(&mut self, order: Order, handle: Handle)
         requires { ready_of self.old.waiting self.old.in_flight ≡ Some order }
         ensures first { self.old.waiting ≡ order ∷ self.new.waiting }
-        ensures in_flight { self.new.in_flight ≡ self.old.in_flight ++ (record { handle = handle; order = order }) ∷ [] }
-        ensures told { self.new.told ≡ self.old.told }
+        ensures in_flight { self.new.in_flight ≡ self.old.in_flight ++ (record { handle = handle; order = order })
+            ∷ [] }
+        ensures results { self.new.results ≡ self.old.results }
         ensures tickets { self.new.tickets ≡ self.old.tickets }
     {
         let _ = self.waiting.pop_at(0);
@@ -111,18 +123,20 @@ impl Orders {
     }
 
     /// Whether an order waits.
-    pub fn waits(&self) -> bool {
+    pub fn waits(&self) -> bool
+        ensures { result ≡ waits self.now }
+    {
         !self.waiting.is_empty()
     }
 
     /// Keeps how an order fared, and forgets the oldest of 128.
-    fn tell(&mut self, order: Order, done: Result<(), Trouble>)
-        ensures { self.new ≡ record self.old { told = with_told self.old.told (told_of order done) } }
+    fn note_result(&mut self, order: Order, done: Result<(), Trouble>)
+        ensures { self.new ≡ record self.old { results = with_result self.old.results (result_of order done) } }
     {
-        if self.told.is_full() {
-            self.told.remove(0);
+        if self.results.is_full() {
+            self.results.remove(0);
         }
-        self.told.push(Told {
+        self.results.push(OrderResult {
             ticket: order.ticket,
             ono: order.ono,
             done,
@@ -132,13 +146,17 @@ impl Orders {
     /// The order in flight at this place came out so.
     pub(crate) fn settle(&mut self, at: usize, sent: Sent, done: Result<(), Trouble>)
         requires { slice_get self.old.in_flight at ≡ Some sent }
-        ensures { self.new ≡ record self.old { in_flight = remove self.old.in_flight at; told = with_told self.old.told (told_of sent.order done) } }
+        ensures { self.new ≡ record self.old {
+          in_flight = remove self.old.in_flight at;
+          results = with_result
+              self.old.results (result_of sent.order done);
+        } }
     {
         let _ = self.in_flight.pop_at(at);
-        self.tell(sent.order, done);
+        self.note_result(sent.order, done);
     }
 
-    /// Tells all orders that they are lost with the link: those in flight may have been carried out, and those that wait
+    /// All orders are lost with the link: those in flight may have been carried out, and those that wait
     /// were never sent.
     pub(crate) fn lose(&mut self)
         ensures { self.new ≡ lost_orders self.old }
@@ -147,35 +165,38 @@ impl Orders {
         self.lose_waiting();
     }
 
-    /// Tells the orders in flight that they are lost.
+    /// Notes that the orders in flight are lost.
     #[tactic(auto, using(crate::proofs::OrderLemmas::first_and_rest))]
     fn lose_sent(&mut self)
-        ensures { self.new ≡ record self.old { in_flight = []; told = with_lost self.old.in_flight self.old.told } }
+        ensures { self.new ≡ record self.old {
+          in_flight = [];
+          results = with_lost self.old.in_flight self.old.results;
+        } }
     {
         let Some(sent) = self.in_flight.pop_at(0) else {
             return;
         };
-        self.tell(sent.order, Err(Trouble::Lost));
+        self.note_result(sent.order, Err(Trouble::Lost));
         self.lose_sent();
     }
 
-    /// Tells the orders that wait that they were not sent.
+    /// Notes that the orders that wait were not sent.
     #[tactic(auto, using(crate::proofs::OrderLemmas::first_and_rest))]
     fn lose_waiting(&mut self)
-        ensures { self.new ≡ record self.old { waiting = []; told = with_unsent self.old.waiting self.old.told } }
+        ensures { self.new ≡ record self.old { waiting = []; results = with_unsent self.old.waiting self.old.results } }
     {
         let Some(order) = self.waiting.pop_at(0) else {
             return;
         };
-        self.tell(order, Err(Trouble::NotSubmitted(ControlFault::Lost)));
+        self.note_result(order, Err(Trouble::NotSubmitted(ControlFault::Lost)));
         self.lose_waiting();
     }
 
     /// How the last orders fared, the last of them last, at most 128.
-    pub fn told(&self) -> &[Told]
-        ensures { result.now ≡ self.now.told }
+    pub fn results(&self) -> &[OrderResult]
+        ensures { result.now ≡ self.now.results }
     {
-        self.told.as_slice()
+        self.results.as_slice()
     }
 
     /// The handle above those of all orders in flight; 0 where none is.

@@ -93,8 +93,8 @@ impl Poll {
         None
     }
 
-    /// Where the object stands that is read at this step of a round, and whether what changes seldom is read of it: what
-    /// is visible first, then all, then all once more.
+    /// Where the object stands that is read at this step of a round, and whether what changes seldom is read of it:
+    /// what is visible first, then all, then all once more.
     fn place_at(&self, at: usize, objects: usize) -> (usize, bool) {
         if at < self.visible {
             return (self.first.saturating_add(at), false);

@@ -1,12 +1,12 @@
 //! The service: which requests are let in, and what answers them.
 ghost use Rattle.std.specs.Prelude.{◌≡◌, ◌≢◌, IfErr, IfOk, Some};
 ghost use Rattle.serde_json.specs.View.{view};
-ghost use Rattle.oca_web.specs.Said.{ono_said};
+ghost use Rattle.oca_web.specs.Bodies.{ono_in};
 
 use crate::admission::{Name, field, has_host, has_page, lets_in};
-use crate::order::Deed;
+use crate::answers::{tree_json, values_json};
+use crate::order::Action;
 use crate::page::{PAGE, POLICY};
-use crate::told::{tree_told, values_told};
 use crate::view::{NoOrder, View};
 use bytes::{BufMut, Bytes};
 use http::{HeaderName, HeaderValue, Request, StatusCode, header};
@@ -28,10 +28,10 @@ pub struct Site {
 impl Site {
     ghost use Rattle.std.specs.Prelude.{◌≡◌, ◌≢◌, [], IfOk, IfErr, Some};
     ghost use Rattle.serde_json.specs.View.{view};
-    ghost use Rattle.oca_web.specs.Said.{IsSaid, IsSaidIn, IsValueSaid, ono_said};
+    ghost use Rattle.oca_web.specs.Bodies.{IsOrderIn, IsOrderOf, IsValueIn, ono_in};
     ghost use Rattle.http_server.specs.Response.{IsBlank};
     ghost use Rattle.oca_web.specs.Admission.{lets_request_in};
-    ghost use Rattle.oca_web.specs.Sites.{IsAnswered, IsDeedFor, IsSetting, KeepsOrders, PostsOrder, TakesOrder};
+    ghost use Rattle.oca_web.specs.Sites.{IsAnswered, IsActionFor, IsSetting, KeepsOrders, PostsOrder, TakesOrder};
 
     /// The service that answers to these names.
     pub fn new(alloc: Global, view: View, names: Vec<Name>) -> Site {
@@ -136,8 +136,8 @@ impl Site {
     fn get_tree(&self, response: &mut Response) -> Result<(), AllocError>
         ensures { response.new.status ≡ response.old.status }
     {
-        let told = tree_told(self.alloc, self.view.inventory())?;
-        put_json(told.as_slice(), response)
+        let text = tree_json(self.alloc, self.view.inventory())?;
+        put_json(text.as_slice(), response)
     }
 
     /// Answers with what changed, to a page that is open.
@@ -150,8 +150,8 @@ impl Site {
         let first = number_in(query, "first").min(65_535) as usize;
         let count = number_in(query, "count").min(65_535) as usize;
         self.view.open(first, count);
-        let told = values_told(self.alloc, &self.view, since)?;
-        put_json(told.as_slice(), response)
+        let text = values_json(self.alloc, &self.view, since)?;
+        put_json(text.as_slice(), response)
     }
 
     /// Answers a request that orders something.
@@ -160,7 +160,7 @@ impl Site {
         ensures { PostsOrder path.now body.now result self.old response.new self.new }
     {
         match self.order_in(path, body) {
-            Ok((ono, deed)) => self.take_order(ono, deed, response),
+            Ok((ono, action)) => self.take_order(ono, action, response),
             Err(status) => {
                 response.status = status;
                 Ok(())
@@ -168,50 +168,50 @@ impl Site {
         }
     }
 
-    /// What is ordered: the path says the deed, and the body the object and, for `/set`, its value.
-    fn order_in(&self, path: &str, body: &[u8]) -> Result<(Ono, Deed), StatusCode>
-        ensures deed { IfOk result (λ o. IsDeedFor path.now o.1) }
-        ensures said { IfOk result (λ o. IsSaid body.now o.0 o.1) }
+    /// What is ordered: the path says the action, and the body the object and, for `/set`, its value.
+    fn order_in(&self, path: &str, body: &[u8]) -> Result<(Ono, Action), StatusCode>
+        ensures action { IfOk result (λ o. IsActionFor path.now o.1) }
+        ensures body { IfOk result (λ o. IsOrderIn body.now o.0 o.1) }
         ensures refused { IfErr result (λ status. status ≢ 202) }
     {
         match Value::from_slice(self.alloc, body) {
-            Ok(wanted) => self.order_said(path, &wanted),
+            Ok(wanted) => self.order_of(path, &wanted),
             Err(_) => Err(StatusCode::BAD_REQUEST),
         }
     }
 
     /// What is ordered by a body that says this.
-    fn order_said(&self, path: &str, wanted: &Value) -> Result<(Ono, Deed), StatusCode>
-        ensures deed { IfOk result (λ o. IsDeedFor path.now o.1) }
-        ensures said { IfOk result (λ o. IsSaidIn (view wanted.now) o.0 o.1) }
+    fn order_of(&self, path: &str, wanted: &Value) -> Result<(Ono, Action), StatusCode>
+        ensures action { IfOk result (λ o. IsActionFor path.now o.1) }
+        ensures body { IfOk result (λ o. IsOrderOf (view wanted.now) o.0 o.1) }
         ensures refused { IfErr result (λ status. status ≢ 202) }
     {
         match path {
             "/set" => self.setting_in(wanted),
-            "/lock" => self.lock_in(wanted, Deed::Lock),
-            "/unlock" => self.lock_in(wanted, Deed::Unlock),
+            "/lock" => self.lock_in(wanted, Action::Lock),
+            "/unlock" => self.lock_in(wanted, Action::Unlock),
             "/" | "/tree" | "/values" => Err(StatusCode::METHOD_NOT_ALLOWED),
             _ => Err(StatusCode::NOT_FOUND),
         }
     }
 
     /// The object that a body names, where it is known, and that it is to be locked or unlocked.
-    fn lock_in(&self, wanted: &Value, deed: Deed) -> Result<(Ono, Deed), StatusCode>
-        ensures said { IfOk result (λ o. (ono_said (view wanted.now) ≡ Some o.0.0) × (o.1 ≡ deed)) }
+    fn lock_in(&self, wanted: &Value, action: Action) -> Result<(Ono, Action), StatusCode>
+        ensures body { IfOk result (λ o. (ono_in (view wanted.now) ≡ Some o.0.0) × (o.1 ≡ action)) }
         ensures refused { IfErr result (λ status. status ≢ 202) }
     {
         let ono = ono_in(wanted)?;
         if self.view.knows(ono) {
-            Ok((ono, deed))
+            Ok((ono, action))
         } else {
             Err(StatusCode::NOT_FOUND)
         }
     }
 
     /// The object that a body names, and what it is to be set to.
-    fn setting_in(&self, wanted: &Value) -> Result<(Ono, Deed), StatusCode>
-        ensures deed { IfOk result (λ o. IsSetting o.1) }
-        ensures said { IfOk result (λ o. IsSaidIn (view wanted.now) o.0 o.1) }
+    fn setting_in(&self, wanted: &Value) -> Result<(Ono, Action), StatusCode>
+        ensures action { IfOk result (λ o. IsSetting o.1) }
+        ensures body { IfOk result (λ o. IsOrderOf (view wanted.now) o.0 o.1) }
         ensures refused { IfErr result (λ status. status ≢ 202) }
     {
         let ono = ono_in(wanted)?;
@@ -222,13 +222,13 @@ impl Site {
     }
 
     /// What an object is to be set to by this word.
-    fn setting_of(&self, ono: Ono, word: &str) -> Result<(Ono, Deed), StatusCode>
-        ensures deed { IfOk result (λ o. IsSetting o.1) }
-        ensures said { IfOk result (λ o. (o.0 ≡ ono) × IsValueSaid (Some word.now) o.1) }
+    fn setting_of(&self, ono: Ono, word: &str) -> Result<(Ono, Action), StatusCode>
+        ensures action { IfOk result (λ o. IsSetting o.1) }
+        ensures body { IfOk result (λ o. (o.0 ≡ ono) × IsValueIn (Some word.now) o.1) }
         ensures refused { IfErr result (λ status. status ≢ 202) }
     {
         match self.view.value_named(ono, word) {
-            Ok(value) => Ok((ono, Deed::Set(value))),
+            Ok(value) => Ok((ono, Action::Set(value))),
             Err(NoOrder::NoObject) => Err(StatusCode::NOT_FOUND),
             Err(NoOrder::NoValue) => Err(StatusCode::UNPROCESSABLE_ENTITY),
         }
@@ -238,17 +238,17 @@ impl Site {
     fn take_order(
         &mut self,
         ono: Ono,
-        deed: Deed,
+        action: Action,
         response: &mut Response,
     ) -> Result<(), AllocError>
         requires { response.old.body.items ≡ [] }
-        ensures { TakesOrder result ono deed self.old response.new self.new }
+        ensures { TakesOrder result ono action self.old response.new self.new }
     {
         let mut buffer = Buffer::new();
         let ticket = self.view.next_ticket();
         put_kind(response)?;
         response.body.put_slice(buffer.format(ticket).as_bytes())?;
-        match self.view.order(ono, deed) {
+        match self.view.order(ono, action) {
             Some(_) => response.status = StatusCode::ACCEPTED,
             None => {
                 response.body.clear();
@@ -281,7 +281,7 @@ impl Service for Site {
 
 /// The number of the object that a body names.
 fn ono_in(wanted: &Value) -> Result<Ono, StatusCode>
-    ensures said { IfOk result (λ o. ono_said (view wanted.now) ≡ Some o.0) }
+    ensures body { IfOk result (λ o. ono_in (view wanted.now) ≡ Some o.0) }
     ensures refused { IfErr result (λ status. status ≢ 202) }
 {
     let Some(ono) = wanted.get("ono").and_then(Value::as_u64) else {
@@ -320,11 +320,11 @@ fn put_kind(response: &mut Response) -> Result<(), AllocError>
 }
 
 /// Answers with JSON.
-fn put_json(told: &[u8], response: &mut Response) -> Result<(), AllocError>
+fn put_json(text: &[u8], response: &mut Response) -> Result<(), AllocError>
     ensures { response.new.status ≡ response.old.status }
 {
     put_kind(response)?;
-    response.body.put_slice(told)
+    response.body.put_slice(text)
 }
 
 /// Answers with the page.

@@ -1,4 +1,4 @@
-//! Orders over a panel: they are submitted in their order, and their tickets are told what the answers say.
+//! Orders over a panel: they are submitted in their order, and what the answers say is noted under their tickets.
 ghost use Rattle.std.specs.Prelude.{◌≡◌};
 ghost use Rattle.oca_web.specs.Orders.{LosesOrders, SettlesAt, SettlesOrders, SubmitsFirst, SubmitsOrders};
 
@@ -15,7 +15,7 @@ pub fn submit_first<E: End>(orders: &mut Orders, panel: &mut Panel<E>) -> bool
     let Some(order) = orders.ready() else {
         return false;
     };
-    match panel.begin_request(order.ono, order.deed.class(), &order.deed.request()) {
+    match panel.begin_request(order.ono, order.action.class(), &order.action.request()) {
         Ok(handle) => {
             orders.note_sent(order, handle);
             true
@@ -36,7 +36,7 @@ pub fn submit_orders<E: End>(orders: &mut Orders, panel: &mut Panel<E>)
     }
 }
 
-/// Looks whether the order in flight at this place was answered, or the link is lost, and tells its ticket so.
+/// Looks whether the order in flight at this place was answered, or the link is lost, and notes that under its ticket.
 pub fn settle_at<E: End>(
     orders: &mut Orders,
     panel: &mut Panel<E>,
@@ -70,7 +70,7 @@ impl Default for Settled {
     }
 }
 
-/// Looks at each order in flight, and tells the tickets of those that were answered, or are lost with the link. Returns
+/// Looks at each order in flight, and notes which were answered, or are lost with the link. Returns
 /// them.
 #[tactic(auto, using(crate::proofs::StepLemmas::one_settled))]
 pub fn settle_orders<E: End>(orders: &mut Orders, panel: &mut Panel<E>) -> ArrayVec<Settled, 32>
@@ -89,7 +89,7 @@ pub fn settle_orders<E: End>(orders: &mut Orders, panel: &mut Panel<E>) -> Array
     all
 }
 
-/// Tells all orders that they are lost, where the link is lost or late. Returns whether it is.
+/// Notes that all orders are lost, where the link is lost or late. Returns whether it is.
 pub fn lose_orders<E: End>(orders: &mut Orders, panel: &Panel<E>) -> bool
     ensures { LosesOrders result panel.now orders.old orders.new }
 {

@@ -1,11 +1,11 @@
 //! A view of a device: what is known of it, the orders of the pages, and how its link is.
 ghost use Rattle.std.specs.Prelude.{◌≡◌, IfOk};
-ghost use Rattle.oca_web.specs.Said.{IsNamed};
+ghost use Rattle.oca_web.specs.Bodies.{IsNamed};
 
 use crate::ask::Question;
 use crate::asking::{ask_one, leaves_half};
 use crate::inventory::Inventory;
-use crate::order::Deed;
+use crate::order::Action;
 use crate::orders::{Orders, lower};
 use crate::turns::{lose_orders, settle_orders, submit_orders};
 use oca_model::{Value, value_from_word};
@@ -64,10 +64,10 @@ pub struct View {
 
 impl View {
     ghost use Rattle.std.specs.Prelude.{◌≡◌, IfOk};
-    ghost use Rattle.oca_web.specs.Objects.{one_more};
-    ghost use Rattle.oca_web.specs.Orders.{Adds, SettlesOrders};
-    ghost use Rattle.oca_web.specs.Said.{IsNamed};
-    ghost use Rattle.oca_web.specs.Views.{GoesOn, RenewsLost, TakesTurn};
+    ghost use Rattle.oca_net.specs.Ends.{one_more};
+    ghost use Rattle.oca_web.specs.Orders.{AddsTicket, SettlesOrders, has_orders};
+    ghost use Rattle.oca_web.specs.Bodies.{IsNamed};
+    ghost use Rattle.oca_web.specs.Views.{Continues, RenewsLost, TakesTurn};
     ghost use Rattle.oca_web.specs.Walking.{BeginsAnew, KeepsWalk, StaysOver};
 
     /// A view of a device of which nothing is known, over a panel whose first handle this is.
@@ -121,7 +121,9 @@ impl View {
     }
 
     /// Whether orders wait or are in flight.
-    pub fn has_orders(&self) -> bool {
+    pub fn has_orders(&self) -> bool
+        ensures { result ≡ has_orders self.now.orders }
+    {
         self.orders.waits() || self.orders.in_flight() > 0
     }
 
@@ -175,11 +177,11 @@ impl View {
     }
 
     /// Takes an order behind all others, and returns its ticket. `None` where 64 wait, which changes nothing.
-    pub fn order(&mut self, ono: Ono, deed: Deed) -> Option<u64>
-        ensures orders { Adds ono deed self.old.orders result self.new.orders }
+    pub fn order(&mut self, ono: Ono, action: Action) -> Option<u64>
+        ensures orders { AddsTicket ono action self.old.orders result self.new.orders }
         ensures rest { self.new ≡ record self.old { orders = self.new.orders } }
     {
-        self.orders.add(ono, deed)
+        self.orders.add(ono, action)
     }
 
     /// Takes one turn of the panel, which receives once and sends what is due, and takes the answers that came.
@@ -197,9 +199,9 @@ impl View {
     }
 
     /// Goes on: a link that is lost is renewed, and orders and then questions are submitted as far as there is room.
-    #[tactic(auto, using(crate::proofs::WalkLemmas::begins_stays, crate::proofs::WalkLemmas::keeps_stays, crate::proofs::WalkLemmas::stays_on, crate::proofs::WalkLemmas::submits_behind))]
+    #[tactic(auto, using(crate::proofs::WalkLemmas::walk_rules))]
     pub fn go_on<E: End>(&mut self, panel: &mut Panel<E>) -> Result<(), NoMemory>
-        ensures orders { GoesOn result self.old.orders panel.old self.new.orders panel.new }
+        ensures orders { Continues result self.old.orders panel.old self.new.orders panel.new }
         ensures walk { StaysOver self.old.inventory self.new.inventory }
     {
         if self.inventory.is_stale() {
@@ -222,7 +224,7 @@ impl View {
         }
     }
 
-    /// Takes the answers to orders, and tells their tickets.
+    /// Takes the answers to orders, and notes their results.
     fn take_order_answers<E: End>(&mut self, panel: &mut Panel<E>) -> Result<(), NoMemory>
         ensures orders { SettlesOrders self.old.orders panel.old self.new.orders panel.new }
         ensures walk { KeepsWalk self.old.inventory self.new.inventory }
@@ -268,7 +270,7 @@ impl View {
         Ok(true)
     }
 
-    /// Where the link is lost or late, all orders are told so, and another link and another walk begin.
+    /// Where the link is lost or late, all orders are noted as lost, and another link and another walk begin.
     #[tactic(auto, using(crate::proofs::WalkLemmas::keeps_begins))]
     fn renew_lost<E: End>(&mut self, panel: &mut Panel<E>) -> Result<(), NoMemory>
         ensures orders { RenewsLost self.old.orders panel.old self.new.orders panel.new }

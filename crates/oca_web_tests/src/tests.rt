@@ -1,10 +1,10 @@
-//! What the clauses leave open: that a device is found, that orders fare as it answers, and what is told of them.
+//! What the clauses leave open: that a device is found, that orders fare as it answers, and what is noted of them.
 use http_server::{Config, Connection};
 use oca_model::{MuteState, Reading};
 use oca_net::{MemoryEnd, Scripted};
 use oca_panel::Panel;
 use oca_types::{Handle, Peer, Span};
-use oca_web::{Lock, MOST_TOLD, MOST_WAITING, Name, PAGE, POLICY, Shown, Site, View};
+use oca_web::{Lock, MOST_RESULTS, MOST_WAITING, Name, PAGE, POLICY, Shown, Site, View};
 use std::alloc::Global;
 use std::hash::RandomState;
 use std::random::RandomSource;
@@ -36,9 +36,9 @@ const MUTED: Answer = (0, 1, &[1]);
 
 const UNMUTED: Answer = (0, 1, &[2]);
 
-/// What the device answers, command by command: the root's members, role, label, whether it is lockable and enabled; the
-/// mute's role, label, whether it is lockable and enabled, and its state; to the order that sets it, to the order that
-/// locks it, and its state behind each.
+/// What the device answers, command by command: the root's members, role, label, whether it is lockable and enabled;
+/// the mute's role, label, whether it is lockable and enabled, and its state; to the order that sets it, to the order
+/// that locks it, and its state behind each.
 const ANSWERS: &[Answer] = &[
     MEMBERS, TEXT, TEXT, TRUE, TRUE, TEXT, TEXT, TRUE, TRUE, MUTED, DONE, DONE, UNMUTED, UNMUTED,
 ];
@@ -174,14 +174,16 @@ type Row = (&'static [u8], &'static [u8], &'static [u8]);
 
 /// The order that sets the mute, which gets the first ticket.
 const SET: Row = (
-    b"POST /set HTTP/1.1\r\nHost: 127.0.0.1:8080\r\nOrigin: http://127.0.0.1:8080\r\nContent-Type: application/json\r\nContent-Length: 30\r\n\r\n{\"ono\":4097,\"value\":\"unmuted\"}",
+    b"POST /set HTTP/1.1\r\nHost: 127.0.0.1:8080\r\nOrigin: http://127.0.0.1:8080\r\nContent-Type: application/json\r\
+    \nContent-Length: 30\r\n\r\n{\"ono\":4097,\"value\":\"unmuted\"}",
     b"HTTP/1.1 202 ",
     b"\r\n\r\n1",
 );
 
 /// The order that locks it, which gets the second.
 const LOCK: Row = (
-    b"POST /lock HTTP/1.1\r\nHost: 127.0.0.1:8080\r\nOrigin: http://127.0.0.1:8080\r\nContent-Type: application/json\r\nContent-Length: 12\r\n\r\n{\"ono\":4097}",
+    b"POST /lock HTTP/1.1\r\nHost: 127.0.0.1:8080\r\nOrigin: http://127.0.0.1:8080\r\nContent-Type: application/json\
+    \r\nContent-Length: 12\r\n\r\n{\"ono\":4097}",
     b"HTTP/1.1 202 ",
     b"\r\n\r\n2",
 );
@@ -204,17 +206,20 @@ const ROWS: &[Row] = &[
     SET,
     LOCK,
     (
-        b"POST /unlock HTTP/1.1\r\nHost: 127.0.0.1:8080\r\nOrigin: http://evil.example\r\nContent-Type: application/json\r\nContent-Length: 12\r\n\r\n{\"ono\":4097}",
+        b"POST /unlock HTTP/1.1\r\nHost: 127.0.0.1:8080\r\nOrigin: http://evil.example\r\nContent-Type: application/j\
+        son\r\nContent-Length: 12\r\n\r\n{\"ono\":4097}",
         b"HTTP/1.1 403 ",
         b"",
     ),
     (
-        b"POST /unlock HTTP/1.1\r\nHost: 127.0.0.1:8080\r\nOrigin: http://127.0.0.1:8080\r\nContent-Type: text/plain\r\nContent-Length: 12\r\n\r\n{\"ono\":4097}",
+        b"POST /unlock HTTP/1.1\r\nHost: 127.0.0.1:8080\r\nOrigin: http://127.0.0.1:8080\r\nContent-Type: text/plain\
+        \r\nContent-Length: 12\r\n\r\n{\"ono\":4097}",
         b"HTTP/1.1 415 ",
         b"",
     ),
     (
-        b"POST /set HTTP/1.1\r\nHost: 127.0.0.1:8080\r\nOrigin: http://127.0.0.1:8080\r\nContent-Type: application/json\r\nContent-Length: 27\r\n\r\n{\"ono\":4097,\"value\":\"loud\"}",
+        b"POST /set HTTP/1.1\r\nHost: 127.0.0.1:8080\r\nOrigin: http://127.0.0.1:8080\r\nContent-Type: application/js\
+        on\r\nContent-Length: 27\r\n\r\n{\"ono\":4097,\"value\":\"loud\"}",
         b"HTTP/1.1 422 ",
         b"",
     ),
@@ -336,20 +341,23 @@ fn is_found(alloc: Global) -> bool {
     }
 }
 
-/// Whether two orders were done, and no other waits.
+/// Whether two orders were done, and no other waits or is in flight.
 fn are_done(view: &View) -> bool {
     let mut count = 0u32;
-    for one in view.orders().told() {
+    for one in view.orders().results() {
         if one.done != Ok(()) {
             return false;
         }
         count = count.saturating_add(1);
     }
-    count == 2 && !view.orders().waits()
+    count == 2 && !view.has_orders()
 }
 
 /// Whether two orders of one object fare one after the other, as the device answers.
 fn fare_so(found: &mut Found) -> bool {
+    if !found.site.view().has_orders() {
+        return false;
+    }
     if !drive(&mut found.site, &mut found.panel, 4) {
         return false;
     }
@@ -372,8 +380,8 @@ fn first_wrong<R: RandomSource>(
     None
 }
 
-/// Whether the two orders are taken, and are told.
-fn are_told<R: RandomSource>(alloc: Global, rt: &R) -> bool {
+/// Whether the two orders are taken, and are noted.
+fn are_noted<R: RandomSource>(alloc: Global, rt: &R) -> bool {
     match find(alloc) {
         Some(mut found) => {
             first_wrong(alloc, rt, &mut found.site, ORDERS).is_none() && fare_so(&mut found)
@@ -398,8 +406,8 @@ fn finds(rt: HostRuntime) {
 
 /// Orders fare as the device answers.
 #[test]
-fn tells(rt: HostRuntime) {
-    assert!(rt; are_told(rt.alloc(), &rt));
+fn notes_results(rt: HostRuntime) {
+    assert!(rt; are_noted(rt.alloc(), &rt));
 }
 
 /// Each request gets its status.
@@ -412,7 +420,7 @@ fn answers(rt: HostRuntime) {
 fn is_page() -> bool {
     PAGE.starts_with("<!doctype html>")
         && POLICY.starts_with("default-src 'none'")
-        && MOST_TOLD == 128
+        && MOST_RESULTS == 128
         && MOST_WAITING == 64
 }
 

@@ -1,6 +1,9 @@
 pub mod TotalLemmas
+pub mod CommandLineLemmas
 pub mod HeldLemmas
 pub mod ReadingLemmas
 pub mod TreeLemmas
 pub mod RunLemmas
-pub mod CommandLemmas
+pub mod TraceLemmas
+pub mod EffectLemmas
+pub mod KeepLemmas

@@ -1,8 +1,9 @@
 pub mod Printing
 pub mod Words
-pub mod Commands
+pub mod CommandLine
 pub mod Totals
 pub mod Makings
 pub mod Keeping
-pub mod Telling
+pub mod Effects
+pub mod Traces
 pub mod Runs

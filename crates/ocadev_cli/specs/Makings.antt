@@ -7,14 +7,13 @@ use Rattle.oca_textree.specs.Texts.{objects_of_text}
 use Rattle.oca_textree.specs.declared.fault.TreeFault.{TreeFault}
 use Rattle.oca_script.specs.Ends.{Input}
 use Rattle.oca_program.specs.Faults.{tree_fault}
-use Rattle.oca_program.specs.declared.fault.Failure.{Failure}
 use Rattle.oca_program.specs.declared.fault.RunFault.{RunFault}
 use Rattle.oca_program.specs.declared.fault.RunFault.TheVariants as fault
-use Rattle.ocadev_cli.specs.Words.{SaidObjects, Bench, Listed}
+use Rattle.ocadev_cli.specs.Words.{ObjectSource, Bench, Listed}
 
 -- These are the bench's with so many channel strips, or those of some text, that of the file: what a file gives, no
 -- contract can say.
-abbrev pub AreObjects : SaidObjects → List Object → Type 0
+abbrev pub AreObjects : ObjectSource → List Object → Type 0
 AreObjects (Bench channels) tree = tree ≡ bench_with channels
 AreObjects (Listed path) tree = (text : List ℕ) × (objects_of_text text ≡ Ok tree)
 
@@ -23,19 +22,14 @@ abbrev pub HasFault : List ℕ → RunFault → Type 0
 HasFault text why = (why ≡ fault.NoMemory) ⊎ ((e : TreeFault) × (objects_of_text text ≡ Err e) × (why ≡ tree_fault e))
 
 -- Why there are no objects: memory was refused; or the file can't be read, is too long, or has a line with a fault.
-abbrev pub LacksObjects : SaidObjects → RunFault → Type 0
+abbrev pub LacksObjects : ObjectSource → RunFault → Type 0
 LacksObjects (Bench channels) why = why ≡ fault.NoMemory
 LacksObjects (Listed path) why = (why ≡ fault.Read) ⊎ ((why ≡ fault.TooMuch) ⊎ ((text : List ℕ) × HasFault text why))
 
 -- the objects, or why there are none
-abbrev pub Makes : SaidObjects → Result (List Object) RunFault → Type 0
-Makes objects (Ok tree) = AreObjects objects tree
-Makes objects (Err why) = LacksObjects objects why
-
--- what a function gave, or the fault of its failure
-abbrev pub fault_in : {A : Type 0} → Result A Failure → Result A RunFault
-fault_in (Ok x) = Ok x
-fault_in (Err failure) = Err failure.fault
+abbrev pub MakesObjects : ObjectSource → Result (List Object) RunFault → Type 0
+MakesObjects objects (Ok tree) = AreObjects objects tree
+MakesObjects objects (Err why) = LacksObjects objects why
 
 -- ---- the text of a source
 
@@ -60,10 +54,12 @@ pub record ReadsMore (more : Bool) (old new : List ℕ) (had has : Input) : Type
 -- or memory was refused.
 abbrev pub StopsReading : List ℕ → RunFault → Input → Input → Type 0
 StopsReading text fault.Read had has = has.failed ≡ true
-StopsReading text fault.TooMuch had has = (more : List ℕ) × Consumes had.remaining has.remaining more × (16777216 < length text + length more)
+StopsReading text fault.TooMuch had has = (more : List ℕ) × Consumes had.remaining has.remaining more
+    × (16777216 < length text + length more)
 StopsReading text other had has = other ≡ fault.NoMemory
 
 -- THE OBJECTS THAT A SOURCE LISTS: it was read to its end, and they are those of its text. Or why there are none.
 abbrev pub ListsFrom : Result (List Object) RunFault → Input → Input → Type 0
 ListsFrom (Ok tree) had has = (text : List ℕ) × ReadsWhole text had has × (objects_of_text text ≡ Ok tree)
-ListsFrom (Err why) had has = StopsReading [] why had has ⊎ ((text : List ℕ) × ReadsWhole text had has × HasFault text why)
+ListsFrom (Err why) had has = StopsReading [] why had has ⊎
+    ((text : List ℕ) × ReadsWhole text had has × HasFault text why)

@@ -19,7 +19,8 @@ fields_text (field ∷ fields) = decimal field ++ dotted fields
 
 -- the line of an object: its number, its class, its container (0 of the root) and its role
 abbrev pub info_text : ObjectInfo → List ℕ
-info_text o = decimal o.ono.0 ++ codes " " ++ fields_text (class_fields_of o.class) ++ codes " " ++ decimal o.container.0 ++ codes " " ++ o.role ++ codes "\n"
+info_text o = decimal o.ono.0 ++ codes " " ++ fields_text (class_fields_of o.class) ++ codes " "
+    ++ decimal o.container.0 ++ codes " " ++ o.role ++ codes "\n"
 
 -- the lines of all objects, in order of adding
 abbrev pub tree_text : List Object → List ℕ
@@ -35,11 +36,13 @@ commands_text r =
 
 abbrev pub datagrams_text : Report → List ℕ
 datagrams_text r =
-    codes " malformed " ++ decimal r.malformed ++ codes " no-room " ++ decimal r.no_room ++ codes " oversize " ++ decimal r.oversize
+    codes " malformed " ++ decimal r.malformed ++ codes " no-room " ++ decimal r.no_room ++ codes " oversize "
+    ++ decimal r.oversize
     ++ codes " quiet " ++ decimal r.quiet
 
 abbrev pub calls_text : Report → List ℕ
-calls_text r = codes " failed-receives " ++ decimal r.failed_receives ++ codes " failed-sends " ++ decimal r.failed_sends
+calls_text r = codes " failed-receives " ++ decimal r.failed_receives ++ codes " failed-sends "
+    ++ decimal r.failed_sends
 
 unfoldable pub counts_text : Report → List ℕ
 counts_text r = commands_text r ++ datagrams_text r ++ calls_text r

@@ -1,7 +1,9 @@
 -- What a run of the program does, by its words (*profile*).
-use Rattle.std.specs.Prelude.{◌≡◌, ◌⊎◌, ℕ, Bool, List, [], Option, Some, None, Result, Ok, Err}
+use Rattle.std.specs.Prelude.{◌≡◌, ◌⊎◌, ℕ, Bool, true, List, [], Option, Some, None, Result, Ok, Err}
+use Rattle.clap.specs.declared.error.Error.{Error}
 use Rattle.clap.specs.declared.error.kind.ErrorKind.{ErrorKind}
 use Rattle.clap.specs.declared.parser.matches.ArgMatches.{ArgMatches}
+use Rattle.clap.specs.Words.{kind_of}
 use Rattle.oca_types.specs.declared.words.Peer.{Peer}
 use Rattle.oca_types.specs.Sizes.{DeviceSizes}
 use Rattle.oca_tree.specs.declared.object.Object.{Object}
@@ -14,16 +16,18 @@ use Rattle.oca_script.specs.declared.fault.ReplayFault.{ReplayFault}
 use Rattle.oca_script.specs.declared.fault.WriteFailed.{WriteFailed}
 use Rattle.oca_script.specs.Ends.{Input, Output}
 use Rattle.oca_script.specs.Printing.{WritesOut}
-use Rattle.oca_program.specs.Faults.{fault_status, run_fault, words_fault}
+use Rattle.oca_program.specs.Commands.{IsCommand, MatchingGives}
+use Rattle.oca_program.specs.Faults.{PrintsFault, asks_for_text, fault_status, run_fault, words_fault}
 use Rattle.oca_program.specs.declared.fault.RunFault.{RunFault}
 use Rattle.oca_program.specs.declared.fault.RunFault.TheVariants as fault
 use Rattle.oca_textree.specs.Written.{text_of}
-use Rattle.ocadev_cli.specs.Words.{AskedFields, Replays, Serves, Shows, ShowsText, MakingFields, ServingFields, SaidObjects, asked_by}
-use Rattle.ocadev_cli.specs.Commands.{AreMatchesOf, IsCommand}
-use Rattle.ocadev_cli.specs.Makings.{Makes}
+use Rattle.ocadev_cli.specs.Words.{AskedFields, Replays, Serves, Shows, ShowsText, MakingFields, ServingFields}
+use Rattle.ocadev_cli.specs.Words.{ObjectSource, asked_by}
+use Rattle.ocadev_cli.specs.CommandLine.{command_line}
+use Rattle.ocadev_cli.specs.Makings.{MakesObjects}
 use Rattle.ocadev_cli.specs.Keeping.{starting_objects}
 use Rattle.ocadev_cli.specs.Printing.{report_text, tree_text}
-use Rattle.ocadev_replay.specs.Replaying.{Outcome}
+use Rattle.ocadev_replay.specs.Replaying.{ReplayOutcome}
 use Rattle.ocadev_cli.specs.Totals.{ServesOn}
 
 -- ---- how a run ends
@@ -48,8 +52,8 @@ pub record FailsWith (why : RunFault) (ended : Result Unit RunFault) (was is : O
   pub ends : ended ≡ Err why
   pub writes : is ≡ was
 
--- the text was written, as far as the writes went
-pub record Tells (text : List ℕ) (ended : Result Unit RunFault) (was is : Output) : Type 0 where
+-- the text was printed, as far as the writes went
+pub record PrintsText (text : List ℕ) (ended : Result Unit RunFault) (was is : Output) : Type 0 where
   pub written : Result Unit WriteFailed
   pub ends : ended ≡ when_written written
   pub writes : WritesOut written was is text
@@ -57,28 +61,31 @@ pub record Tells (text : List ℕ) (ended : Result Unit RunFault) (was is : Outp
 -- ---- what each command does
 
 -- THE SCRIPT on standard input was replayed on a device of these objects and sizes.
-pub record ReplaysOn (sizes : DeviceSizes) (tree : List Object) (ended : Result Unit RunFault) (had has : Input) (was is : Output) : Type 0 where
+pub record ReplaysOn (sizes : DeviceSizes) (tree : List Object) (ended : Result Unit RunFault) (had has : Input)
+    (was is : Output) : Type 0 where
   pub after : DeviceState
   pub replayed : Result Unit ReplayFault
   pub ends : ended ≡ when_replayed replayed
-  pub outcome : Outcome sizes tree [] after was is had has replayed
+  pub outcome : ReplayOutcome sizes tree [] after was is had has replayed
 
 -- nothing was read or written, and it failed with this fault
 abbrev pub Stops : RunFault → Result Unit RunFault → Input → Input → Output → Output → Type 0
 Stops why ended had has was is = FailsWith why ended was is × (has ≡ had)
 
 -- where there are objects, on a device of them; memory for it may be refused
-abbrev pub ReplaysMade : DeviceSizes → Result (List Object) RunFault → Result Unit RunFault → Input → Input → Output → Output → Type 0
+abbrev pub ReplaysMade : DeviceSizes → Result (List Object) RunFault → Result Unit RunFault → Input → Input → Output
+    → Output → Type 0
 ReplaysMade sizes (Err why) ended had has was is = Stops why ended had has was is
-ReplaysMade sizes (Ok tree) ended had has was is = ReplaysOn sizes tree ended had has was is ⊎ Stops fault.NoMemory ended had has was is
+ReplaysMade sizes (Ok tree) ended had has was is = ReplaysOn sizes tree ended had has was is
+    ⊎ Stops fault.NoMemory ended had has was is
 
--- how many turns are served: as many as are said, or without an end that a run comes to
+-- how many turns are served: as many as are given, or without an end that a run comes to
 abbrev pub turns_until : Option ℕ → ℕ
 turns_until None = last_u64
 turns_until (Some turns) = turns
 
--- A DEVICE of these objects and sizes served a socket, which was bound at the address and the port that were said, for as
--- many turns as were said; and this is printed of it.
+-- A DEVICE of these objects and sizes served a socket, which was bound at the address and the port that were given, for
+-- as many turns as were given; and this is printed of it.
 pub record ServesAt (serving : ServingFields) (tree : List Object) (printed : Report) : Type 0 where
   pub local : Peer
   pub device : DeviceState
@@ -95,32 +102,38 @@ Served serving tree (Ok report) = ServesAt serving tree report
 Served serving tree (Err why) = (why ≡ fault.Socket) ⊎ (why ≡ fault.NoMemory)
 
 abbrev pub ReportsOf : Result Report RunFault → Result Unit RunFault → Output → Output → Type 0
-ReportsOf (Ok report) ended was is = Tells (report_text report) ended was is
+ReportsOf (Ok report) ended was is = PrintsText (report_text report) ended was is
 ReportsOf (Err why) ended was is = FailsWith why ended was is
 
 abbrev pub ServesMade : ServingFields → Result (List Object) RunFault → Result Unit RunFault → Output → Output → Type 0
 ServesMade serving (Err why) ended was is = FailsWith why ended was is
-ServesMade serving (Ok tree) ended was is = (served : Result Report RunFault) × Served serving tree served × ReportsOf served ended was is
+ServesMade serving (Ok tree) ended was is = (served : Result Report RunFault) × Served serving tree served
+    × ReportsOf served ended was is
 
--- THE OBJECTS are told, in these words.
-abbrev pub ShowsMade : (List Object → List ℕ) → Result (List Object) RunFault → Result Unit RunFault → Output → Output → Type 0
+-- THE OBJECTS are printed, in these words.
+abbrev pub ShowsMade : (List Object → List ℕ) → Result (List Object) RunFault → Result Unit RunFault → Output → Output
+    → Type 0
 ShowsMade words (Err why) ended was is = FailsWith why ended was is
-ShowsMade words (Ok tree) ended was is = Tells (words tree) ended was is
+ShowsMade words (Ok tree) ended was is = PrintsText (words tree) ended was is
 
--- each on the objects that were said, where there are some
+-- each on the objects that were asked for, where there are some
 abbrev pub DoesReplay : MakingFields → Result Unit RunFault → Input → Input → Output → Output → Type 0
-DoesReplay making ended had has was is = (made : Result (List Object) RunFault) × Makes making.objects made × ReplaysMade making.sizes made ended had has was is
+DoesReplay making ended had has was is = (made : Result (List Object) RunFault) × MakesObjects making.objects made
+    × ReplaysMade making.sizes made ended had has was is
 
 -- on those at the start, where the kept file is there or is not
 abbrev pub ServesFrom : Bool → ServingFields → Result Unit RunFault → Output → Output → Type 0
-ServesFrom there serving ended was is = (made : Result (List Object) RunFault) × Makes (starting_objects serving.keep there serving.making.objects) made × ServesMade serving made ended was is
+ServesFrom there serving ended was is = (made : Result (List Object) RunFault)
+    × MakesObjects (starting_objects serving.keep there serving.making.objects) made
+    × ServesMade serving made ended was is
 
 -- whether it is there no contract can say
 abbrev pub DoesServe : ServingFields → Result Unit RunFault → Output → Output → Type 0
 DoesServe serving ended was is = (there : Bool) × ServesFrom there serving ended was is
 
-abbrev pub DoesShow : (List Object → List ℕ) → SaidObjects → Result Unit RunFault → Output → Output → Type 0
-DoesShow words objects ended was is = (made : Result (List Object) RunFault) × Makes objects made × ShowsMade words made ended was is
+abbrev pub DoesShow : (List Object → List ℕ) → ObjectSource → Result Unit RunFault → Output → Output → Type 0
+DoesShow words objects ended was is = (made : Result (List Object) RunFault) × MakesObjects objects made
+    × ShowsMade words made ended was is
 
 -- ---- the whole run
 
@@ -145,14 +158,29 @@ pub record Obeys (words : ArgMatches) (ended : Result Unit RunFault) (had has : 
   pub names : IsCommand words command
   pub does : DoesCommand command ended had has was is
 
--- As words that were not matched: some text is told, as that of `--help`, or the run fails.
+-- As words that do not match: the text of `--help` or `--version` is printed where they ask for one; or nothing is, and
+-- the run fails, with bad words where they do not (with no memory where memory was refused).
 abbrev pub Helps : ErrorKind → Result Unit RunFault → Output → Output → Type 0
-Helps kind ended was is = ((text : List ℕ) × Tells text ended was is) ⊎ FailsWith (words_fault kind) ended was is
+Helps kind ended was is =
+    ((asks_for_text kind ≡ true) × (text : List ℕ) × PrintsText text ended was is)
+    ⊎ FailsWith (words_fault kind) ended was is
 
--- THE PROGRAM'S RUN on these words: they were matched, and the command that they name was done; or it ended as one whose
--- words were not matched (which words are, clap decides). The exit status is that of how it ended.
-pub record RunsOn (words : List (List ℕ)) (status : ℕ) (had has : Input) (was is : Output) : Type 0 where
+-- The command was done where the words matched; else this was a run of help or of a fault, which read nothing, and
+-- nothing was printed beside.
+abbrev pub DoesMatched : Result ArgMatches Error → Result Unit RunFault → Input → Input → Output → Output → Output
+    → Output → Type 0
+DoesMatched (Ok matches) ended had has was is before after = Obeys matches ended had has was is
+DoesMatched (Err error) ended had has was is before after =
+    Helps (kind_of error) ended was is × (has ≡ had) × (after ≡ before)
+
+-- THE PROGRAM'S RUN on these words: they were matched with its command line, and the command that they name was done;
+-- or they do not match, and a help text was printed or why not. The exit status is that of how it ended. Printed last,
+-- where faults are, is why it failed.
+pub record RunsOn (words : List (List ℕ)) (status : ℕ) (had has : Input) (was is before after : Output) : Type 0 where
+  pub matched : Result ArgMatches Error
+  pub matches : MatchingGives command_line words matched
   pub ended : Result Unit RunFault
+  pub between : Output
+  pub does : DoesMatched matched ended had has was is before between
+  pub fault : PrintsFault ended between after
   pub ends : status ≡ exit_status ended
-  pub does : ((matches : ArgMatches) × AreMatchesOf words matches × Obeys matches ended had has was is)
-      ⊎ ((kind : ErrorKind) × Helps kind ended was is × (has ≡ had))

@@ -31,14 +31,14 @@ pub record ServesOn (old new : DeviceState) (before after : EndState) (printed :
   pub serves : ServesEnd old new before after report
   pub prints : printed ≡ capped report
 
--- ---- how often the report so far is told
+-- ---- how often the report so far is printed
 
 -- each so many milliseconds; 0 where it is not
-abbrev pub milliseconds_of : Option ℕ → ℕ
-milliseconds_of None = 0
-milliseconds_of (Some seconds) = seconds * 1000
+abbrev pub stats_interval : Option ℕ → ℕ
+stats_interval None = 0
+stats_interval (Some seconds) = seconds * 1000
 
--- the first moment at which it is told: the last of 64 bits where it is not
-abbrev pub first_told : Option ℕ → ℕ
-first_told None = 2 ^ 64 - 1
-first_told (Some seconds) = seconds * 1000
+-- the first moment at which it is printed: the last of 64 bits where it is not
+abbrev pub first_stats : Option ℕ → ℕ
+first_stats None = 2 ^ 64 - 1
+first_stats (Some seconds) = seconds * 1000

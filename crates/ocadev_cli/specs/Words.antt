@@ -7,7 +7,7 @@ use Rattle.oca_types.specs.Sizes.{DeviceSizes, sizes_of}
 use Rattle.oca_script.specs.Fields.{number_of, then_in}
 use Rattle.oca_program.specs.Options.{given, read_as, read_or, read_if, sized, own_of}
 use Rattle.ocadev_cli.specs.declared.words.Objects.{Objects}
-use Rattle.ocadev_cli.specs.declared.words.Objects.TheVariants as said
+use Rattle.ocadev_cli.specs.declared.words.Objects.TheVariants as objects
 use Rattle.ocadev_cli.specs.declared.words.Making.{Making}
 use Rattle.ocadev_cli.specs.declared.words.Serving.{Serving}
 use Rattle.ocadev_cli.specs.declared.words.Asked.{Asked}
@@ -23,41 +23,41 @@ abbrev pub window_in : ArgMatches → Option ℕ
 window_in words = read_or 32 window_of (given words (codes "window"))
 
 -- of how many peers sessions are kept at once: 1 to 64 in at most 3 digits, 16 unless given
-abbrev pub peers_of : List ℕ → Option ℕ
-peers_of text = then_in (number_of 3 255 text) (sized 64)
+abbrev pub peer_limit_of : List ℕ → Option ℕ
+peer_limit_of text = then_in (number_of 3 255 text) (sized 64)
 
 abbrev pub peers_in : ArgMatches → Option ℕ
-peers_in words = read_or 16 peers_of (given words (codes "peers"))
+peers_in words = read_or 16 peer_limit_of (given words (codes "peers"))
 
 -- how many channel strips stand behind the bench's own objects: 0 to 1,022 in at most 4 digits, none unless given
 abbrev pub channels_in : ArgMatches → Option ℕ
 channels_in words = read_or 0 (number_of 4 1022) (given words (codes "channels"))
 
 -- the objects: the bench's with so many strips behind them, or those that the file at a path lists
-pub data SaidObjects : Type 0 where
-  Bench : ℕ → SaidObjects
-  Listed : List ℕ → SaidObjects
+pub data ObjectSource : Type 0 where
+  Bench : ℕ → ObjectSource
+  Listed : List ℕ → ObjectSource
 
-abbrev pub said_objects : Objects → SaidObjects
-said_objects (said.Bench channels) = Bench channels
-said_objects (said.Listed path) = Listed path.now
+abbrev pub object_source : Objects → ObjectSource
+object_source (objects.Bench channels) = Bench channels
+object_source (objects.Listed path) = Listed path.now
 
 -- a file or a number of strips, and not both
-abbrev pub objects_by : Option (List ℕ) → Option ℕ → Option (List ℕ) → Option SaidObjects
+abbrev pub objects_by : Option (List ℕ) → Option ℕ → Option (List ℕ) → Option ObjectSource
 objects_by None channels text = option_map Bench channels
 objects_by (Some path) channels None = Some (Listed path)
 objects_by (Some path) channels (Some text) = None
 
-unfoldable pub objects_in : ArgMatches → Option SaidObjects
+unfoldable pub objects_in : ArgMatches → Option ObjectSource
 objects_in words = objects_by (given words (codes "tree")) (channels_in words) (given words (codes "channels"))
 
 -- the device: its objects and its sizes
 pub record MakingFields : Type 0 where
-  pub objects : SaidObjects
+  pub objects : ObjectSource
   pub sizes : DeviceSizes
 
 abbrev pub making_fields : Making → MakingFields
-making_fields m = record { objects = said_objects m.objects; sizes = sizes_of m.sizes }
+making_fields m = record { objects = object_source m.objects; sizes = sizes_of m.sizes }
 
 unfoldable pub making_in : ArgMatches → Option MakingFields
 making_in words =
@@ -68,7 +68,7 @@ making_in words =
 
 -- ---- where it is served
 
--- for how many turns, in at most 10 digits, where that is said
+-- for how many turns, in at most 10 digits, where that is given
 abbrev pub turns_in : ArgMatches → Option (Option ℕ)
 turns_in words = read_if (number_of 10 4294967295) (given words (codes "turns"))
 
@@ -77,17 +77,17 @@ abbrev pub is_true : Option (List ℕ) → Bool
 is_true None = false
 is_true (Some text) = bytes_eq text (codes "true")
 
-abbrev pub says_so : ArgMatches → List ℕ → Bool
-says_so words flag = is_true (given words flag)
+abbrev pub has_flag : ArgMatches → List ℕ → Bool
+has_flag words flag = is_true (given words flag)
 
--- each so many seconds the report so far is told, where that is said: 1 to 86,400 in at most 5 digits
+-- each so many seconds the report so far is printed, where that is asked for: 1 to 86,400 in at most 5 digits
 abbrev pub seconds_of : List ℕ → Option ℕ
 seconds_of text = then_in (number_of 5 86400 text) (sized 86400)
 
 abbrev pub stats_in : ArgMatches → Option (Option ℕ)
 stats_in words = read_if seconds_of (given words (codes "stats"))
 
--- where to serve which device, for how many turns, whether to tell of each datagram, how often of all of them, and in which
+-- where to serve which device, for how many turns, whether to print each datagram, how often all of them, and in which
 -- file to keep the state
 pub record ServingFields : Type 0 where
   pub ip : ℕ
@@ -99,7 +99,16 @@ pub record ServingFields : Type 0 where
   pub keep : Option (List ℕ)
 
 abbrev pub serving_fields : Serving → ServingFields
-serving_fields s = record { ip = s.ip; port = s.port; turns = s.turns; making = making_fields s.making; verbose = s.verbose; stats = s.stats; keep = option_copied s.keep }
+serving_fields s = record {
+  ip = s.ip;
+  port = s.port;
+  turns = s.turns;
+  making = making_fields s.making;
+  verbose =
+      s.verbose;
+  stats = s.stats;
+  keep = option_copied s.keep;
+}
 
 -- the address 127.0.0.1 unless given, and the port in at most 5 digits
 unfoldable pub serving_in : ArgMatches → Option ServingFields
@@ -109,7 +118,15 @@ serving_in words =
     then_in (turns_in words) (λ turns.
     then_in (making_in words) (λ making.
     then_in (stats_in words) (λ stats.
-    Some (record { ip = ip; port = port; turns = turns; making = making; verbose = says_so words (codes "verbose"); stats = stats; keep = given words (codes "keep") }))))))
+    Some (record {
+      ip = ip;
+      port = port;
+      turns = turns;
+      making = making;
+      verbose = has_flag words (codes "verbose");
+      stats = stats;
+      keep = given words (codes "keep");
+    }))))))
 
 -- ---- what is asked for
 
@@ -117,18 +134,18 @@ serving_in words =
 pub data AskedFields : Type 0 where
   Replays : MakingFields → AskedFields
   Serves : ServingFields → AskedFields
-  Shows : SaidObjects → AskedFields
-  ShowsText : SaidObjects → AskedFields
+  Shows : ObjectSource → AskedFields
+  ShowsText : ObjectSource → AskedFields
 
 abbrev pub asked_fields : Asked → AskedFields
 asked_fields (asked.Replay making) = Replays (making_fields making)
 asked_fields (asked.Serve serving) = Serves (serving_fields serving)
-asked_fields (asked.Show objects) = Shows (said_objects objects)
-asked_fields (asked.ShowText objects) = ShowsText (said_objects objects)
+asked_fields (asked.Show objects) = Shows (object_source objects)
+asked_fields (asked.ShowText objects) = ShowsText (object_source objects)
 
--- the objects as a text where that is said, else as lines
-abbrev pub shown_by : ArgMatches → SaidObjects → AskedFields
-shown_by words objects = if says_so words (codes "text") then ShowsText objects else Shows objects
+-- the objects as a text where that is asked for, else as lines
+abbrev pub shown_by : ArgMatches → ObjectSource → AskedFields
+shown_by words objects = if has_flag words (codes "text") then ShowsText objects else Shows objects
 
 -- WHAT A COMMAND WITH THESE OPTIONS ASKS FOR; none where there is no such command, or where a value is not of its form.
 abbrev pub asked_by : List ℕ → ArgMatches → Option AskedFields

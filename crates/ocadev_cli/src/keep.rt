@@ -3,7 +3,7 @@
 ghost use Rattle.std.specs.Prelude.{◌≡◌, IfErr, IfOk, is_some};
 ghost use Rattle.std.specs.Option.{option_copied};
 ghost use Rattle.oca_program.specs.declared.fault.RunFault.TheVariants.{NoMemory as no_memory};
-ghost use Rattle.ocadev_cli.specs.Words.{said_objects};
+ghost use Rattle.ocadev_cli.specs.Words.{object_source};
 ghost use Rattle.ocadev_cli.specs.Keeping.{starting_objects};
 
 use super::show::show_text;
@@ -19,8 +19,8 @@ use std::path::Path;
 use std::rt::Files;
 use std::{fs, io};
 
-/// Whether a file in which the state is kept is there. It is unless the system says that it is not: a file of which that
-/// can't be known is read, so that its fault is told.
+/// Whether a file in which the state is kept is there. It is unless the system says that it is not: a file of which
+/// that can't be known is read, so that its fault is printed.
 pub fn is_there<F: Files>(files: &F, keep: Option<&str>) -> bool {
     let Some(path) = keep else {
         return false;
@@ -31,24 +31,24 @@ pub fn is_there<F: Files>(files: &F, keep: Option<&str>) -> bool {
     }
 }
 
-/// The objects that a device starts with: those of the file in which its state is kept, where it is there, else those that
-/// the words say.
-pub fn starting<'a>(keep: Option<&'a str>, there: bool, said: Objects<'a>) -> Objects<'a>
-    ensures { said_objects result ≡ starting_objects (option_copied keep.entry) there (said_objects said.entry) }
+/// The objects that a device starts with: those of the file in which its state is kept, where it is there, else those
+/// that the words ask for.
+pub fn starting<'a>(keep: Option<&'a str>, there: bool, asked: Objects<'a>) -> Objects<'a>
+    ensures { object_source result ≡ starting_objects (option_copied keep.entry) there (object_source asked.entry) }
 {
     match keep {
         Some(path) if there => Objects::Listed(path),
-        _ => said,
+        _ => asked,
     }
 }
 
-/// The file in which a state is kept, the new one beside it that takes its place, and whether it was told that it can't
-/// be written.
+/// The file in which a state is kept, the new one beside it that takes its place, and whether it was printed that it
+/// can't be written.
 #[derive(Drop)]
 struct Kept<'a> {
     path: &'a str,
     fresh: String,
-    told: bool,
+    noted: bool,
 }
 
 impl<'a> Kept<'a> {
@@ -61,13 +61,13 @@ impl<'a> Kept<'a> {
             Ok(fresh) => Ok(Kept {
                 path,
                 fresh,
-                told: false,
+                noted: false,
             }),
             Err(_) => Err(RunFault::NoMemory),
         }
     }
 
-    /// Writes the objects. Where that fails, the file is as it was, and it is told the first time.
+    /// Writes the objects. Where that fails, the file is as it was, and that is printed the first time.
     fn keep<L: Files, F: Sink>(
         &mut self,
         alloc: Global,
@@ -78,10 +78,10 @@ impl<'a> Kept<'a> {
         let Err(reason) = write_over(files, tree, self.fresh.as_str(), self.path) else {
             return;
         };
-        if self.told {
+        if self.noted {
             return;
         }
-        self.told = true;
+        self.noted = true;
         let path = self.path;
         if let Ok(note) = format!(in alloc; "the state is not kept: {path}: {reason}") {
             print_note(note.as_str(), faults);

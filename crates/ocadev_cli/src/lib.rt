@@ -4,6 +4,7 @@
 //! a device at an end of a link; `ocadev_replay` runs one over a script.
 #![tactic(auto)]
 
+pub mod effects;
 mod file;
 pub mod keep;
 mod making;
@@ -11,6 +12,5 @@ pub mod report;
 pub mod run;
 pub mod serving;
 mod show;
-pub mod told;
 pub mod trace;
 mod words;

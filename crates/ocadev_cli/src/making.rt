@@ -5,8 +5,9 @@ ghost use Rattle.oca_device.specs.Devices.{Represents};
 ghost use Rattle.oca_script.specs.Ends.{input};
 ghost use Rattle.oca_textree.specs.Texts.{objects_of_text};
 ghost use Rattle.oca_program.specs.declared.fault.RunFault.TheVariants.{NoMemory as no_memory, TooMuch as too_much};
-ghost use Rattle.ocadev_cli.specs.Words.{said_objects};
-ghost use Rattle.ocadev_cli.specs.Makings.{HasFault, ReadsMore, ReadsWhole, StopsReading, ListsFrom, Makes, fault_in};
+ghost use Rattle.ocadev_cli.specs.Words.{object_source};
+ghost use Rattle.oca_program.specs.Faults.{fault_in};
+ghost use Rattle.ocadev_cli.specs.Makings.{HasFault, ReadsMore, ReadsWhole, StopsReading, ListsFrom, MakesObjects};
 
 use super::file::TextFile;
 use super::words::Objects;
@@ -51,7 +52,7 @@ fn beside_outbox(alloc: Global, device: Device) -> Result<(Device, Outbox), RunF
 /// The objects of a device. Refusals: `NoMemory`; of a file `Read` where it can't be read, `TooMuch` above 16,777,216
 /// bytes, and `Object` with its first line that has a fault.
 pub fn objects<F: Files>(alloc: Global, files: &F, objects: Objects<'_>) -> Result<Tree, Failure>
-    ensures { Makes (said_objects objects.entry) (fault_in result) }
+    ensures { MakesObjects (object_source objects.entry) (fault_in result) }
 {
     match objects {
         Objects::Bench(channels) => bench_of(alloc, channels),
@@ -61,7 +62,7 @@ pub fn objects<F: Files>(alloc: Global, files: &F, objects: Objects<'_>) -> Resu
 
 /// The objects of the bench device with so many channel strips, at most 1,022. Refusal: `NoMemory`.
 fn bench_of(alloc: Global, channels: u16) -> Result<Tree, Failure>
-    ensures { Makes (said_objects (Objects.Bench channels)) (fault_in result) }
+    ensures { MakesObjects (object_source (Objects.Bench channels)) (fault_in result) }
 {
     match bench_with_channels(alloc, channels) {
         Ok(tree) => Ok(tree),
@@ -71,7 +72,7 @@ fn bench_of(alloc: Global, channels: u16) -> Result<Tree, Failure>
 
 /// The objects that the file at a path lists.
 fn listed<F: Files>(alloc: Global, files: &F, path: &str) -> Result<Tree, Failure>
-    ensures { Makes (said_objects (Objects.Listed path.entry)) (fault_in result) }
+    ensures { MakesObjects (object_source (Objects.Listed path.entry)) (fault_in result) }
 {
     match fs::open(files, path) {
         Ok(file) => listed_in_file(alloc, path, &mut TextFile::new(file)),
@@ -85,7 +86,7 @@ fn listed_in_file<R: Read>(
     path: &str,
     file: &mut TextFile<R>,
 ) -> Result<Tree, Failure>
-    ensures { Makes (said_objects (Objects.Listed path.entry)) (fault_in result) }
+    ensures { MakesObjects (object_source (Objects.Listed path.entry)) (fault_in result) }
 {
     match listed_in(alloc, file) {
         Ok(tree) => Ok(tree),
@@ -115,7 +116,8 @@ fn noted(alloc: Global, fault: RunFault, path: &str, reason: io::Error) -> Failu
 
 /// The objects that a source lists. Refusals: as of `objects`.
 pub fn listed_in<R: Source>(alloc: Global, source: &mut R) -> Result<Tree, RunFault>
-    ensures { ListsFrom result (input (R.remaining source.old) (R.failed source.old)) (input (R.remaining source.new) (R.failed source.new)) }
+    ensures { ListsFrom result (input (R.remaining source.old) (R.failed source.old))
+        (input (R.remaining source.new) (R.failed source.new)) }
 {
     match whole(alloc, source) {
         Ok(text) => listed_by(alloc, text.as_slice()),
@@ -134,10 +136,13 @@ fn listed_by(alloc: Global, text: &[u8]) -> Result<Tree, RunFault>
     }
 }
 
-/// All that a source has to give. Refusals: `Read` where a read fails, `TooMuch` above 16,777,216 bytes, and `NoMemory`.
+/// All that a source has to give. Refusals: `Read` where a read fails, `TooMuch` above 16,777,216 bytes, and
+/// `NoMemory`.
 fn whole<R: Source>(alloc: Global, source: &mut R) -> Result<Vec<u8>, RunFault>
-    ensures ok { IfOk result (λ text. ReadsWhole text.items (input (R.remaining source.old) (R.failed source.old)) (input (R.remaining source.new) (R.failed source.new))) }
-    ensures err { IfErr result (λ why. StopsReading [] why (input (R.remaining source.old) (R.failed source.old)) (input (R.remaining source.new) (R.failed source.new))) }
+    ensures ok { IfOk result (λ text. ReadsWhole text.items (input (R.remaining source.old) (R.failed source.old))
+        (input (R.remaining source.new) (R.failed source.new))) }
+    ensures err { IfErr result (λ why. StopsReading [] why (input (R.remaining source.old) (R.failed source.old))
+        (input (R.remaining source.new) (R.failed source.new))) }
 {
     let mut text = Vec::new(alloc);
     for _read in 0..LARGEST_TEXT + 1 {
@@ -153,8 +158,10 @@ fn whole<R: Source>(alloc: Global, source: &mut R) -> Result<Vec<u8>, RunFault>
 /// Reads once, and puts what that gives behind the text. Returns whether there may be more.
 fn read_more<R: Source>(source: &mut R, text: &mut Vec<u8>) -> Result<bool, RunFault>
     requires { vec_len text.old ≤ 16777216 }
-    ensures ok { IfOk result (λ more. ReadsMore more text.old.items text.new.items (input (R.remaining source.old) (R.failed source.old)) (input (R.remaining source.new) (R.failed source.new))) }
-    ensures err { IfErr result (λ why. StopsReading text.old.items why (input (R.remaining source.old) (R.failed source.old)) (input (R.remaining source.new) (R.failed source.new))) }
+    ensures ok { IfOk result (λ more. ReadsMore more text.old.items text.new.items
+        (input (R.remaining source.old) (R.failed source.old)) (input (R.remaining source.new) (R.failed source.new))) }
+    ensures err { IfErr result (λ why. StopsReading text.old.items why
+        (input (R.remaining source.old) (R.failed source.old)) (input (R.remaining source.new) (R.failed source.new))) }
 {
     let mut piece = [0u8; 4096];
     match source.read(&mut piece) {
@@ -166,8 +173,10 @@ fn read_more<R: Source>(source: &mut R, text: &mut Vec<u8>) -> Result<bool, RunF
 /// Puts a piece behind the text. Returns whether there may be more: whether the piece has bytes.
 fn add(text: &mut Vec<u8>, piece: &[u8]) -> Result<bool, RunFault>
     requires { vec_len text.old ≤ 16777216 }
-    ensures ok { IfOk result (λ more. (more ≡ nat_lt 0 (length piece.now)) × (text.new.items ≡ text.old.items ++ piece.now) × (vec_len text.new ≤ 16777216)) }
-    ensures err { IfErr result (λ why. (why ≡ no_memory) ⊎ ((why ≡ too_much) × (16777216 < vec_len text.old + length piece.now))) }
+    ensures ok { IfOk result (λ more. (more ≡ nat_lt 0 (length piece.now))
+        × (text.new.items ≡ text.old.items ++ piece.now) × (vec_len text.new ≤ 16777216)) }
+    ensures err { IfErr result (λ why. (why ≡ no_memory) ⊎
+        ((why ≡ too_much) × (16777216 < vec_len text.old + length piece.now))) }
 {
     if piece.len() > LARGEST_TEXT - text.len() {
         return Err(RunFault::TooMuch);

@@ -2,7 +2,9 @@
 ghost use Rattle.std.specs.Prelude.{◌≡◌, ◌+◌, ◌++◌, ◌≤◌, decimal, length};
 ghost use Rattle.oca_script.specs.Ends.{output};
 ghost use Rattle.oca_script.specs.Printing.{Prints, WritesOut};
-ghost use Rattle.ocadev_cli.specs.Printing.{commands_text, datagrams_text, calls_text, counts_text, report_text, stats_text, held_text};
+ghost use Rattle.ocadev_cli.specs.Traces.{listening_text, peer_text};
+ghost use Rattle.ocadev_cli.specs.Printing.{commands_text, datagrams_text, calls_text, counts_text, report_text};
+ghost use Rattle.ocadev_cli.specs.Printing.{stats_text, held_text};
 
 use oca_device::Report;
 use oca_script::{Printer, Sink, WriteFailed};
@@ -10,6 +12,12 @@ use oca_types::Peer;
 
 /// Room for the line of a report.
 const REPORT_ROOM: usize = 600;
+
+/// Room for the line on where the device listens.
+const LISTENING_ROOM: usize = 130;
+
+/// Room for a short word and a number.
+const COUNT_ROOM: usize = 50;
 
 /// Prints the counts of a report as one line, and hands it on.
 pub fn print_report<W: Sink>(report: &Report, printer: &mut Printer<W>) -> Result<(), WriteFailed>
@@ -46,7 +54,8 @@ pub fn print_stats<F: Sink>(
 /// Holds the line of a report so far.
 fn put_stats<F: Sink>(report: &Report, sessions: u64, locks: u64, faults: &mut Printer<F>)
     requires { length faults.old.held + 600 ≤ 8192 }
-    ensures { faults.new ≡ output faults.old.contents (faults.old.held ++ stats_text report.now sessions locks) faults.old.failed }
+    ensures { faults.new ≡ output faults.old.contents (faults.old.held ++ stats_text report.now sessions locks)
+        faults.old.failed }
 {
     faults.put(b"note: ");
     put_counts(report, faults);
@@ -58,7 +67,8 @@ fn put_stats<F: Sink>(report: &Report, sessions: u64, locks: u64, faults: &mut P
 #[tactic(auto, unfolding(crate::specs::Printing::held_text))]
 fn put_held<F: Sink>(sessions: u64, locks: u64, faults: &mut Printer<F>)
     requires { length faults.old.held + 60 ≤ 8192 }
-    ensures value { faults.new ≡ output faults.old.contents (faults.old.held ++ held_text sessions locks) faults.old.failed }
+    ensures value { faults.new ≡ output faults.old.contents (faults.old.held ++ held_text sessions locks)
+        faults.old.failed }
     ensures len { length faults.new.held ≤ length faults.old.held + 60 }
 {
     put_count(b" sessions ", sessions, faults);
@@ -69,7 +79,8 @@ fn put_held<F: Sink>(sessions: u64, locks: u64, faults: &mut Printer<F>)
 #[tactic(auto, unfolding(crate::specs::Printing::counts_text))]
 fn put_counts<W: Sink>(report: &Report, printer: &mut Printer<W>)
     requires { length printer.old.held + 500 ≤ 8192 }
-    ensures value { printer.new ≡ output printer.old.contents (printer.old.held ++ counts_text report.now) printer.old.failed }
+    ensures value { printer.new ≡ output printer.old.contents (printer.old.held ++ counts_text report.now)
+        printer.old.failed }
     ensures len { length printer.new.held ≤ length printer.old.held + 500 }
 {
     put_commands(report, printer);
@@ -80,7 +91,8 @@ fn put_counts<W: Sink>(report: &Report, printer: &mut Printer<W>)
 /// Holds how many turns there were, and what became of commands.
 fn put_commands<W: Sink>(report: &Report, printer: &mut Printer<W>)
     requires { length printer.old.held + 200 ≤ 8192 }
-    ensures value { printer.new ≡ output printer.old.contents (printer.old.held ++ commands_text report.now) printer.old.failed }
+    ensures value { printer.new ≡ output printer.old.contents (printer.old.held ++ commands_text report.now)
+        printer.old.failed }
     ensures len { length printer.new.held ≤ length printer.old.held + 200 }
 {
     put_count(b"turns ", report.turns, printer);
@@ -93,7 +105,8 @@ fn put_commands<W: Sink>(report: &Report, printer: &mut Printer<W>)
 /// Holds what became of datagrams that were not served, and how often none came.
 fn put_datagrams<W: Sink>(report: &Report, printer: &mut Printer<W>)
     requires { length printer.old.held + 180 ≤ 8192 }
-    ensures value { printer.new ≡ output printer.old.contents (printer.old.held ++ datagrams_text report.now) printer.old.failed }
+    ensures value { printer.new ≡ output printer.old.contents (printer.old.held ++ datagrams_text report.now)
+        printer.old.failed }
     ensures len { length printer.new.held ≤ length printer.old.held + 180 }
 {
     put_count(b" malformed ", report.malformed, printer);
@@ -105,7 +118,8 @@ fn put_datagrams<W: Sink>(report: &Report, printer: &mut Printer<W>)
 /// Holds how many calls of the end failed.
 fn put_calls<W: Sink>(report: &Report, printer: &mut Printer<W>)
     requires { length printer.old.held + 100 ≤ 8192 }
-    ensures value { printer.new ≡ output printer.old.contents (printer.old.held ++ calls_text report.now) printer.old.failed }
+    ensures value { printer.new ≡ output printer.old.contents (printer.old.held ++ calls_text report.now)
+        printer.old.failed }
     ensures len { length printer.new.held ≤ length printer.old.held + 100 }
 {
     put_count(b" failed-receives ", report.failed_receives, printer);
@@ -115,42 +129,56 @@ fn put_calls<W: Sink>(report: &Report, printer: &mut Printer<W>)
 /// Holds a word and a number.
 pub fn put_count<W: Sink>(word: &[u8], count: u64, printer: &mut Printer<W>)
     requires { length printer.old.held + length word.now + 20 ≤ 8192 }
-    ensures value { printer.new ≡ output printer.old.contents (printer.old.held ++ word.now ++ decimal count) printer.old.failed }
+    ensures value { printer.new ≡ output printer.old.contents (printer.old.held ++ word.now ++ decimal count)
+        printer.old.failed }
     ensures len { length printer.new.held ≤ length printer.old.held + length word.now + 20 }
 {
     printer.put(word);
     printer.put_number(count);
 }
 
-/// Prints where the device listens as one line.
-pub fn print_listening<W: Sink>(local: Peer, printer: &mut Printer<W>) -> Result<(), WriteFailed> {
-    print_peer(b"listening ", local, printer)?;
-    printer.print(b"\n")?;
+/// Prints where the device listens as one line, and hands it on.
+pub fn print_listening<W: Sink>(local: Peer, printer: &mut Printer<W>) -> Result<(), WriteFailed>
+    ensures { WritesOut result printer.old printer.new (listening_text local) }
+{
+    printer.make_room(LISTENING_ROOM)?;
+    put_listening(local, printer);
     printer.flush()
 }
 
-/// Prints a word and a peer.
-pub fn print_peer<W: Sink>(
-    word: &[u8],
-    peer: Peer,
-    printer: &mut Printer<W>,
-) -> Result<(), WriteFailed> {
-    let mut before = word;
-    for byte in peer.ip.to_be_bytes() {
-        print_count(before, u64::from(byte), printer)?;
-        before = b".";
-    }
-    print_count(b":", u64::from(peer.port), printer)
+/// Holds where the device listens.
+fn put_listening<W: Sink>(local: Peer, printer: &mut Printer<W>)
+    requires { length printer.old.held + 130 ≤ 8192 }
+    ensures { printer.new ≡ output printer.old.contents (printer.old.held ++ listening_text local) printer.old.failed }
+{
+    printer.put(b"listening ");
+    put_peer(local, printer);
+    printer.put(b"\n");
 }
 
-/// Prints a word and a number.
+/// Holds a peer, `a.b.c.d:port`.
+pub fn put_peer<W: Sink>(peer: Peer, printer: &mut Printer<W>)
+    requires { length printer.old.held + 110 ≤ 8192 }
+    ensures value { printer.new ≡ output printer.old.contents (printer.old.held ++ peer_text peer) printer.old.failed }
+    ensures len { length printer.new.held ≤ length printer.old.held + 110 }
+{
+    put_count(b"", u64::from(peer.ip / 16_777_216), printer);
+    put_count(b".", u64::from(peer.ip / 65_536 % 256), printer);
+    put_count(b".", u64::from(peer.ip / 256 % 256), printer);
+    put_count(b".", u64::from(peer.ip % 256), printer);
+    put_count(b":", u64::from(peer.port), printer);
+}
+
+/// Prints a short word and a number.
 pub fn print_count<W: Sink>(
     word: &[u8],
     count: u64,
     printer: &mut Printer<W>,
-) -> Result<(), WriteFailed> {
-    printer.print(word)?;
-    printer.make_room(20)?;
-    printer.put_number(count);
+) -> Result<(), WriteFailed>
+    requires { length word.now ≤ 30 }
+    ensures { Prints result printer.old printer.new (word.now ++ decimal count) }
+{
+    printer.make_room(COUNT_ROOM)?;
+    put_count(word, count, printer);
     Ok(())
 }

@@ -8,17 +8,19 @@ ghost use Rattle.oca_net.specs.Sockets.{state_of_socket};
 ghost use Rattle.oca_device.specs.Devices.{Represents};
 ghost use Rattle.oca_script.specs.Ends.{input};
 ghost use Rattle.oca_script.specs.Printing.{WritesOut};
-ghost use Rattle.ocadev_cli.specs.Words.{asked_by, asked_fields, making_fields, serving_fields, said_objects};
+ghost use Rattle.ocadev_cli.specs.Words.{asked_by, asked_fields, making_fields, serving_fields, object_source};
 ghost use Rattle.oca_textree.specs.Written.{text_of};
-ghost use Rattle.ocadev_cli.specs.Makings.{fault_in};
+ghost use Rattle.oca_program.specs.Faults.{PrintsFault, fault_in};
 ghost use Rattle.ocadev_cli.specs.Printing.{report_text, tree_text};
-ghost use Rattle.ocadev_cli.specs.Runs.{exit_status, RunsOn, Obeys, DoesAsked, Does, DoesReplay, DoesServe, DoesShow, Helps, ReplaysMade, ReplaysOn, ServesFrom, ServesMade, Served, Tells, turns_until};
+ghost use Rattle.ocadev_cli.specs.Runs.{exit_status, RunsOn, Obeys, DoesAsked, Does, DoesMatched, DoesReplay};
+ghost use Rattle.ocadev_cli.specs.Runs.{DoesServe, DoesShow, Helps, PrintsText, ReplaysMade, ReplaysOn, ServesFrom};
+ghost use Rattle.ocadev_cli.specs.Runs.{ServesMade, Served, turns_until};
 ghost use Rattle.ocadev_cli.specs.Totals.{ServesOn};
 
 use super::keep::{Keeping, is_there, starting};
 use super::making::{made, objects};
 use super::report::{print_listening, print_report};
-use super::serving::{Telling, serve_on, serve_traced, serve_turns};
+use super::serving::{Tracing, serve_on, serve_traced, serve_turns};
 use super::show::{show, show_text};
 use super::trace::Watched;
 use super::words::{Asked, Making, Objects, Serving, asked_for, matches_of};
@@ -37,7 +39,7 @@ use std::convert::AsStr;
 use std::net::Net;
 use std::rt::{Clock, Files};
 
-/// What is told where a device is bound to every address of the machine.
+/// The note where a device is bound to every address of the machine.
 const EVERY_ADDRESS: &str =
     "0.0.0.0 is every address of this machine: answers may leave from another one than was asked, and links drop those";
 
@@ -55,24 +57,40 @@ pub fn run<N: Net + Clock + Files, S: AsStr, R: Source, W: Sink, F: Sink>(
     printer: &mut Printer<W>,
     faults: &mut Printer<F>,
 ) -> u8
-    ensures { RunsOn (map S.text words.now) result (input (R.remaining reader.old) (R.failed reader.old)) (input (R.remaining reader.new) (R.failed reader.new)) printer.old printer.new }
+    ensures { RunsOn (map S.text words.now) result (input (R.remaining reader.old) (R.failed reader.old))
+        (input (R.remaining reader.new) (R.failed reader.new)) printer.old printer.new faults.old faults.new }
 {
-    match matches_of(alloc, words) {
-        Ok(matches) => status_of(
-            obeyed(alloc, system, &matches, reader, printer, faults),
-            faults,
-        ),
-        Err(error) => status_of(helped(alloc, &error, printer), faults),
-    }
+    let matched = matches_of(alloc, words);
+    let ended = matched_done(alloc, system, matched, reader, printer, faults);
+    status_of(ended, faults)
 }
 
 /// The exit status of a run that ended so. Why it failed, where it did, is printed.
 fn status_of<F: Sink>(ended: Result<(), Failure>, faults: &mut Printer<F>) -> u8
-    ensures { result ≡ exit_status (fault_in ended) }
+    ensures status { result ≡ exit_status (fault_in ended) }
+    ensures fault { PrintsFault (fault_in ended) faults.old faults.new }
 {
     match ended {
         Ok(()) => 0,
         Err(failure) => report(&failure, faults),
+    }
+}
+
+/// Does what the words ask for, by how matching them ended.
+fn matched_done<N: Net + Clock + Files, R: Source, W: Sink, F: Sink>(
+    alloc: Global,
+    system: &N,
+    matched: Result<ArgMatches<'_>, Error>,
+    reader: &mut R,
+    printer: &mut Printer<W>,
+    faults: &mut Printer<F>,
+) -> Result<(), Failure>
+    ensures { DoesMatched matched.entry (fault_in result) (input (R.remaining reader.old) (R.failed reader.old))
+        (input (R.remaining reader.new) (R.failed reader.new)) printer.old printer.new faults.old faults.new }
+{
+    match matched {
+        Ok(matches) => obeyed(alloc, system, &matches, reader, printer, faults),
+        Err(error) => helped(alloc, &error, printer),
     }
 }
 
@@ -81,7 +99,7 @@ fn helped<W: Sink>(alloc: Global, error: &Error, printer: &mut Printer<W>) -> Re
     ensures { Helps (kind_of error.now) (fault_in result) printer.old printer.new }
 {
     match help_or_failure(alloc, error) {
-        Ok(text) => told(text.as_bytes(), printer),
+        Ok(text) => print_text(text.as_bytes(), printer),
         Err(failure) => Err(failure),
     }
 }
@@ -95,7 +113,8 @@ fn obeyed<N: Net + Clock + Files, R: Source, W: Sink, F: Sink>(
     printer: &mut Printer<W>,
     faults: &mut Printer<F>,
 ) -> Result<(), Failure>
-    ensures { Obeys words.now (fault_in result) (input (R.remaining reader.old) (R.failed reader.old)) (input (R.remaining reader.new) (R.failed reader.new)) printer.old printer.new }
+    ensures { Obeys words.now (fault_in result) (input (R.remaining reader.old) (R.failed reader.old))
+        (input (R.remaining reader.new) (R.failed reader.new)) printer.old printer.new }
 {
     match words.subcommand() {
         Some((name, options)) => commanded(alloc, system, name, options, reader, printer, faults),
@@ -113,7 +132,9 @@ fn commanded<N: Net + Clock + Files, R: Source, W: Sink, F: Sink>(
     printer: &mut Printer<W>,
     faults: &mut Printer<F>,
 ) -> Result<(), Failure>
-    ensures { DoesAsked (asked_by name.now options.now) (fault_in result) (input (R.remaining reader.old) (R.failed reader.old)) (input (R.remaining reader.new) (R.failed reader.new)) printer.old printer.new }
+    ensures { DoesAsked (asked_by name.now options.now) (fault_in result)
+        (input (R.remaining reader.old) (R.failed reader.old)) (input (R.remaining reader.new) (R.failed reader.new))
+        printer.old printer.new }
 {
     match asked_for(alloc, name, options) {
         Ok(asked) => served(alloc, system, asked, reader, printer, faults),
@@ -130,7 +151,8 @@ fn served<N: Net + Clock + Files, R: Source, W: Sink, F: Sink>(
     printer: &mut Printer<W>,
     faults: &mut Printer<F>,
 ) -> Result<(), Failure>
-    ensures { Does (asked_fields asked.entry) (fault_in result) (input (R.remaining reader.old) (R.failed reader.old)) (input (R.remaining reader.new) (R.failed reader.new)) printer.old printer.new }
+    ensures { Does (asked_fields asked.entry) (fault_in result) (input (R.remaining reader.old) (R.failed reader.old))
+        (input (R.remaining reader.new) (R.failed reader.new)) printer.old printer.new }
 {
     match asked {
         Asked::Replay(making) => replayed(alloc, system, making, reader, printer),
@@ -148,7 +170,9 @@ fn replayed<N: Files, R: Source, W: Sink>(
     reader: &mut R,
     printer: &mut Printer<W>,
 ) -> Result<(), Failure>
-    ensures { DoesReplay (making_fields making.entry) (fault_in result) (input (R.remaining reader.old) (R.failed reader.old)) (input (R.remaining reader.new) (R.failed reader.new)) printer.old printer.new }
+    ensures { DoesReplay (making_fields making.entry) (fault_in result)
+        (input (R.remaining reader.old) (R.failed reader.old)) (input (R.remaining reader.new) (R.failed reader.new))
+        printer.old printer.new }
 {
     match objects(alloc, system, making.objects) {
         Ok(tree) => replay_tree(alloc, tree, making.sizes, reader, printer),
@@ -164,7 +188,9 @@ fn replay_tree<R: Source, W: Sink>(
     reader: &mut R,
     printer: &mut Printer<W>,
 ) -> Result<(), Failure>
-    ensures { ReplaysMade (sizes_of sizes) (ok tree) (fault_in result) (input (R.remaining reader.old) (R.failed reader.old)) (input (R.remaining reader.new) (R.failed reader.new)) printer.old printer.new }
+    ensures { ReplaysMade (sizes_of sizes) (ok tree) (fault_in result)
+        (input (R.remaining reader.old) (R.failed reader.old)) (input (R.remaining reader.new) (R.failed reader.new))
+        printer.old printer.new }
 {
     match made(alloc, tree, sizes) {
         Ok((mut device, mut outbox)) => { replay_on(&mut device, &mut outbox, reader, printer) }
@@ -179,7 +205,9 @@ fn replay_on<R: Source, W: Sink>(
     reader: &mut R,
     printer: &mut Printer<W>,
 ) -> Result<(), Failure>
-    ensures { (sizes : DeviceSizes) (tree : List Object) → Represents sizes device.old tree [] → ReplaysOn sizes tree (fault_in result) (input (R.remaining reader.old) (R.failed reader.old)) (input (R.remaining reader.new) (R.failed reader.new)) printer.old printer.new }
+    ensures { (sizes : DeviceSizes) (tree : List Object) → Represents sizes device.old tree []
+        → ReplaysOn sizes tree (fault_in result) (input (R.remaining reader.old) (R.failed reader.old))
+        (input (R.remaining reader.new) (R.failed reader.new)) printer.old printer.new }
 {
     match replay(device, outbox, reader, printer) {
         Ok(()) => Ok(()),
@@ -194,7 +222,7 @@ fn shown<N: Files, W: Sink>(
     listed: Objects<'_>,
     printer: &mut Printer<W>,
 ) -> Result<(), Failure>
-    ensures { DoesShow tree_text (said_objects listed.entry) (fault_in result) printer.old printer.new }
+    ensures { DoesShow tree_text (object_source listed.entry) (fault_in result) printer.old printer.new }
 {
     match objects(alloc, system, listed) {
         Ok(tree) => show_tree(&tree, printer),
@@ -204,7 +232,7 @@ fn shown<N: Files, W: Sink>(
 
 /// Prints objects.
 fn show_tree<W: Sink>(tree: &Tree, printer: &mut Printer<W>) -> Result<(), Failure>
-    ensures { Tells (tree_text tree.now) (fault_in result) printer.old printer.new }
+    ensures { PrintsText (tree_text tree.now) (fault_in result) printer.old printer.new }
 {
     match show(tree, printer) {
         Ok(()) => Ok(()),
@@ -219,7 +247,7 @@ fn texted<N: Files, W: Sink>(
     listed: Objects<'_>,
     printer: &mut Printer<W>,
 ) -> Result<(), Failure>
-    ensures { DoesShow text_of (said_objects listed.entry) (fault_in result) printer.old printer.new }
+    ensures { DoesShow text_of (object_source listed.entry) (fault_in result) printer.old printer.new }
 {
     match objects(alloc, system, listed) {
         Ok(tree) => text_tree(&tree, printer),
@@ -229,7 +257,7 @@ fn texted<N: Files, W: Sink>(
 
 /// Prints objects as a text.
 fn text_tree<W: Sink>(tree: &Tree, printer: &mut Printer<W>) -> Result<(), Failure>
-    ensures { Tells (text_of tree.now) (fault_in result) printer.old printer.new }
+    ensures { PrintsText (text_of tree.now) (fault_in result) printer.old printer.new }
 {
     match show_text(tree, printer) {
         Ok(()) => Ok(()),
@@ -238,8 +266,8 @@ fn text_tree<W: Sink>(tree: &Tree, printer: &mut Printer<W>) -> Result<(), Failu
 }
 
 /// Prints a text, and hands it on.
-fn told<W: Sink>(text: &[u8], printer: &mut Printer<W>) -> Result<(), Failure>
-    ensures { Tells text.now (fault_in result) printer.old printer.new }
+fn print_text<W: Sink>(text: &[u8], printer: &mut Printer<W>) -> Result<(), Failure>
+    ensures { PrintsText text.now (fault_in result) printer.old printer.new }
 {
     match print_all(text, printer) {
         Ok(()) => Ok(()),
@@ -307,7 +335,7 @@ fn serve_tree<N: Net + Clock + Files, W: Sink, F: Sink>(
 
 /// Prints the report.
 fn report_all<W: Sink>(report: &Report, printer: &mut Printer<W>) -> Result<(), Failure>
-    ensures { Tells (report_text report.now) (fault_in result) printer.old printer.new }
+    ensures { PrintsText (report_text report.now) (fault_in result) printer.old printer.new }
 {
     match print_report(report, printer) {
         Ok(()) => Ok(()),
@@ -333,7 +361,7 @@ fn served_tree<N: Net + Clock + Files, F: Sink>(
     }
 }
 
-/// Serves a device at a socket, and keeps its state where that is said.
+/// Serves a device at a socket, and keeps its state where that is asked for.
 fn served_at<N: Net + Clock + Files, F: Sink>(
     alloc: Global,
     system: &N,
@@ -342,7 +370,8 @@ fn served_at<N: Net + Clock + Files, F: Sink>(
     outbox: &mut Outbox,
     faults: &mut Printer<F>,
 ) -> Result<Report, Failure>
-    ensures { (tree : List Object) → Represents (sizes_of serving.entry.making.sizes) device.old tree [] → Served (serving_fields serving.entry) tree (fault_in result) }
+    ensures { (tree : List Object) → Represents (sizes_of serving.entry.making.sizes) device.old tree []
+        → Served (serving_fields serving.entry) tree (fault_in result) }
 {
     match Keeping::new(alloc, system, serving.keep) {
         Ok(mut keeping) => {
@@ -370,7 +399,8 @@ fn served_keeping<N: Net + Clock, L: Files, F: Sink>(
     keeping: &mut Keeping<'_, L>,
     faults: &mut Printer<F>,
 ) -> Result<Report, Failure>
-    ensures { (tree : List Object) → Represents (sizes_of serving.entry.making.sizes) device.old tree [] → Served (serving_fields serving.entry) tree (fault_in result) }
+    ensures { (tree : List Object) → Represents (sizes_of serving.entry.making.sizes) device.old tree []
+        → Served (serving_fields serving.entry) tree (fault_in result) }
 {
     match bind(alloc, system, serving.ip, serving.port) {
         Ok(end) => Ok(served_over(alloc, end, serving, device, outbox, keeping, faults)),
@@ -378,7 +408,7 @@ fn served_keeping<N: Net + Clock, L: Files, F: Sink>(
     }
 }
 
-/// Serves a device over this end. Where it listens is told first, and at last how many sends failed.
+/// Serves a device over this end. Where it listens is printed first, and at last how many sends failed.
 fn served_over<N: Clock, L: Files, F: Sink>(
     alloc: Global,
     end: UdpEnd<'_, N>,
@@ -391,14 +421,14 @@ fn served_over<N: Clock, L: Files, F: Sink>(
     ensures served { (after : EndState) × ServesOn device.old device.new (state_of_socket end.entry) after result }
     ensures turns { result.turns ≡ turns_until serving.entry.turns }
 {
-    tell_bound(alloc, &end, faults);
-    let telling = Telling::new(serving.verbose, serving.stats);
-    if telling.tells() || keeping.keeps() {
+    print_bound(alloc, &end, faults);
+    let tracing = Tracing::new(serving.verbose, serving.stats);
+    if tracing.prints() || keeping.keeps() {
         return traced_over(
             alloc,
             end,
             serving.turns,
-            telling,
+            tracing,
             device,
             outbox,
             keeping,
@@ -408,9 +438,9 @@ fn served_over<N: Clock, L: Files, F: Sink>(
     untraced_over(alloc, end, serving.turns, device, outbox, faults)
 }
 
-/// Tells where the device listens, and that this is every address where it is, and that the system grants little room
-/// for datagrams that have not left where it does.
-fn tell_bound<N: Clock, F: Sink>(alloc: Global, end: &UdpEnd<'_, N>, faults: &mut Printer<F>) {
+/// PrintsText where the device listens, and that this is every address where it is, and that the system grants little
+/// room for datagrams that have not left where it does.
+fn print_bound<N: Clock, F: Sink>(alloc: Global, end: &UdpEnd<'_, N>, faults: &mut Printer<F>) {
     let _ = print_listening(end.local(), faults);
     if end.local().ip == 0 {
         print_note(EVERY_ADDRESS, faults);
@@ -424,19 +454,20 @@ fn tell_bound<N: Clock, F: Sink>(alloc: Global, end: &UdpEnd<'_, N>, faults: &mu
 /// Prints that the system grants so few bytes for datagrams that have not left, where there is memory for the line.
 fn note_granted<F: Sink>(alloc: Global, granted: u32, faults: &mut Printer<F>) {
     let note = format!(in alloc;
-        "the system grants {granted} bytes for datagrams that have not left: a host that does not answer may fill them, and answers to others are lost then"
+        "the system grants {granted} bytes for datagrams that have not left: a host that does not answer may fill \
+        them, and answers to others are lost then"
     );
     if let Ok(note) = note {
         print_note(note.as_str(), faults);
     }
 }
 
-/// Serves a device over this end, tells of it and keeps its state.
+/// Serves a device over this end, prints what it does and keeps its state.
 fn traced_over<N: Clock, L: Files, F: Sink>(
     alloc: Global,
     end: UdpEnd<'_, N>,
     turns: Option<u32>,
-    telling: Telling,
+    tracing: Tracing,
     device: &mut Device,
     outbox: &mut Outbox,
     keeping: &mut Keeping<'_, L>,
@@ -450,7 +481,7 @@ fn traced_over<N: Clock, L: Files, F: Sink>(
         None => u64::MAX,
     };
     let mut watched = Watched::new(end);
-    let report = serve_traced(device, &mut watched, outbox, most, telling, keeping, faults);
+    let report = serve_traced(device, &mut watched, outbox, most, tracing, keeping, faults);
     note_failed_sends(
         alloc,
         report.failed_sends,

@@ -2,7 +2,7 @@
 ghost use Rattle.std.specs.Prelude.{◌≡◌, ◌≤◌, ◌<◌, ◌==◌, ◌||◌, not, IsTrue};
 ghost use Rattle.oca_net.specs.Ends.{last_u64};
 ghost use Rattle.oca_device.specs.Reports.{added, no_turns};
-ghost use Rattle.ocadev_cli.specs.Totals.{ServesOn, capped, milliseconds_of, first_told};
+ghost use Rattle.ocadev_cli.specs.Totals.{ServesOn, capped, stats_interval, first_stats};
 
 use super::keep::Keeping;
 use super::report::print_stats;
@@ -49,9 +49,9 @@ pub fn serve_turns<E: End>(
     sum(none, round)
 }
 
-/// What is told while an end is served.
+/// What is printed while an end is served.
 #[derive(Clone, Copy, Debug)]
-pub struct Telling {
+pub struct Tracing {
     /// Whether a line is printed for each datagram.
     pub verbose: bool,
     /// Each how many milliseconds the report so far is printed.
@@ -60,23 +60,23 @@ pub struct Telling {
     pub next: u64,
 }
 
-impl Telling {
-    /// A line for each datagram, or none, and the report so far each so many seconds, where that is said.
-    pub fn new(verbose: bool, stats: Option<u32>) -> Telling
+impl Tracing {
+    /// A line for each datagram, or none, and the report so far every so many seconds, where that is asked for.
+    pub fn new(verbose: bool, stats: Option<u32>) -> Tracing
         ensures verbose { result.verbose ≡ verbose }
-        ensures every { result.every ≡ milliseconds_of stats }
-        ensures next { result.next ≡ first_told stats }
+        ensures every { result.every ≡ stats_interval stats }
+        ensures next { result.next ≡ first_stats stats }
     {
         match stats {
             Some(seconds) => {
                 let every = u64::from(seconds) * 1000;
-                Telling {
+                Tracing {
                     verbose,
                     every,
                     next: every,
                 }
             }
-            None => Telling {
+            None => Tracing {
                 verbose,
                 every: 0,
                 next: u64::MAX,
@@ -84,23 +84,23 @@ impl Telling {
         }
     }
 
-    /// Whether anything is told.
-    pub fn tells(&self) -> bool
+    /// Whether anything is printed.
+    pub fn prints(&self) -> bool
         ensures { result ≡ (self.now.verbose || not (self.now.every == 0)) }
     {
         self.verbose || self.every != 0
     }
 }
 
-/// Serves an end for so many turns, or until it is closed, and prints a line for each datagram and the report so far, as
-/// far as they are to be told. The state is kept after each datagram that wrote something, where it is to be kept. That
-/// these can't be written is no fault.
+/// Serves an end for so many turns, or until it is closed, and prints a line for each datagram and the report so far,
+/// as far as they are asked for. The state is kept after each datagram that wrote something, where it is to be kept.
+/// That these can't be written is no fault.
 pub fn serve_traced<E: End, L: Files, F: Sink>(
     device: &mut Device,
     end: &mut Watched<E>,
     outbox: &mut Outbox,
     turns: u64,
-    telling: Telling,
+    tracing: Tracing,
     keeping: &mut Keeping<'_, L>,
     faults: &mut Printer<F>,
 ) -> Report
@@ -109,7 +109,7 @@ pub fn serve_traced<E: End, L: Files, F: Sink>(
     ensures closed { result.turns < turns → IsTrue (E.state end.new.end).closed }
 {
     let mut report = nothing();
-    let mut telling = telling;
+    let mut tracing = tracing;
     for _turn in 0..turns {
         let mut none = NoElectronics;
         let turn = serve_with(device, end, outbox, &mut none, 1);
@@ -117,33 +117,33 @@ pub fn serve_traced<E: End, L: Files, F: Sink>(
         if turn.turns < 1 {
             return report;
         }
-        tell_turn(end, &turn, &report, device, &mut telling, faults);
+        print_progress(end, &turn, &report, device, &mut tracing, faults);
         keeping.keep_turn(&turn, device, faults);
     }
     report
 }
 
-/// Prints what is to be told behind a turn.
-fn tell_turn<E: End, F: Sink>(
+/// Prints what is to be printed behind a turn.
+fn print_progress<E: End, F: Sink>(
     end: &Watched<E>,
     turn: &Report,
     report: &Report,
     device: &Device,
-    telling: &mut Telling,
+    tracing: &mut Tracing,
     faults: &mut Printer<F>,
 ) {
-    if telling.verbose {
+    if tracing.verbose {
         let _ = print_turn(end, turn, device.written(), faults);
     }
     let now = end.now();
-    if telling.next <= now {
-        telling.next = now.saturating_add(telling.every);
-        tell_stats(report, device, faults);
+    if tracing.next <= now {
+        tracing.next = now.saturating_add(tracing.every);
+        print_progress_report(report, device, faults);
     }
 }
 
 /// Prints the report so far, with how many sessions there are and how many locks are held.
-fn tell_stats<F: Sink>(report: &Report, device: &Device, faults: &mut Printer<F>) {
+fn print_progress_report<F: Sink>(report: &Report, device: &Device, faults: &mut Printer<F>) {
     let sessions = device.sessions() as u64;
     let locks = device.tree().lock_count() as u64;
     let _ = print_stats(report, sessions, locks, faults);

@@ -72,7 +72,8 @@ fn put_object<W: Sink>(object: &ObjectInfo, printer: &mut Printer<W>)
 fn put_fields<W: Sink>(fields: &[u16], printer: &mut Printer<W>)
     requires few { length fields.now ≤ 5 }
     requires room { length printer.old.held + 200 ≤ 8192 }
-    ensures value { printer.new ≡ output printer.old.contents (printer.old.held ++ fields_text fields.now) printer.old.failed }
+    ensures value { printer.new ≡ output printer.old.contents (printer.old.held ++ fields_text fields.now)
+        printer.old.failed }
     ensures len { length printer.new.held ≤ length printer.old.held + 21 * length fields.now }
 {
     if let [first, rest @ ..] = fields {
@@ -85,7 +86,8 @@ fn put_fields<W: Sink>(fields: &[u16], printer: &mut Printer<W>)
 fn put_dotted<W: Sink>(fields: &[u16], printer: &mut Printer<W>)
     requires few { length fields.now ≤ 5 }
     requires room { length printer.old.held + 150 ≤ 8192 }
-    ensures value { printer.new ≡ output printer.old.contents (printer.old.held ++ dotted fields.now) printer.old.failed }
+    ensures value { printer.new ≡ output printer.old.contents (printer.old.held ++ dotted fields.now)
+        printer.old.failed }
     ensures len { length printer.new.held ≤ length printer.old.held + 21 * length fields.now }
 {
     for field in fields {

@@ -1,14 +1,23 @@
 //! The words of the command line.
-ghost use Rattle.std.specs.Prelude.{◌≡◌, IfErr, IfOk, codes, if◌then◌else◌, map};
+ghost use Rattle.std.specs.Prelude.{◌≡◌, ◌∷◌, ◌++◌, [], false, IfErr, IfOk, codes, if◌then◌else◌, map};
 ghost use Rattle.std.specs.Option.{option_map};
 ghost use Rattle.oca_types.specs.Sizes.{window_size, peer_count};
-ghost use Rattle.ocadev_cli.specs.Words.{window_of as window_said, window_in, peers_of as peers_said, peers_in, channels_in, said_objects, objects_in, making_fields, making_in, turns_in, says_so, seconds_of as seconds_said, stats_in, serving_fields, serving_in, asked_fields, asked_by, shown_by as said_shown};
+ghost use Rattle.ocadev_cli.specs.Words.{window_of as window_in_text, window_in, peer_limit_of as peers_in_text};
+ghost use Rattle.ocadev_cli.specs.Words.{peers_in, channels_in, object_source, objects_in, making_fields, making_in};
+ghost use Rattle.ocadev_cli.specs.Words.{turns_in, has_flag, seconds_of as seconds_in_text, stats_in, serving_fields};
+ghost use Rattle.ocadev_cli.specs.Words.{serving_in, asked_fields, asked_by, shown_by as shown_fields};
 ghost use Rattle.oca_program.specs.declared.fault.RunFault.TheVariants.{BadWords};
-ghost use Rattle.ocadev_cli.specs.Commands.{AreMatchesOf};
+ghost use Rattle.oca_program.specs.Commands.{AddsRules, MatchingGives, flag_rule, option_rule, required_rule};
+ghost use Rattle.oca_program.specs.Commands.{with_rules};
+ghost use Rattle.clap.specs.Words.{app_of, new_app, shape_of};
+ghost use Rattle.ocadev_cli.specs.CommandLine.{command_line, device_rules, object_rules, program_shape, replay_shape};
+ghost use Rattle.ocadev_cli.specs.CommandLine.{running_rules, serve_shape, show_shape, socket_rules, with_commands};
 
-use clap::{Arg, ArgAction, ArgMatches, Command, Error};
+use clap::{ArgMatches, Command, Error};
 use oca_program::form::bad_option;
-use oca_program::options::{number_if, number_in, number_or, option, own_or, text_of};
+use oca_program::options::{
+    number_if, number_in, number_or, own_or, text_of, with_flag, with_option, with_required,
+};
 use oca_program::{Failure, Form, Rule, VERSION};
 use oca_script::field::number;
 use oca_types::{LOOPBACK, Peers, Sizes, Window};
@@ -44,8 +53,9 @@ pub struct Making<'a> {
     pub sizes: Sizes,
 }
 
-/// Where to serve which device, for how many turns where that is said, whether to tell of each datagram, each how many
-/// seconds of all of them, where that is said, and in which file to keep the state, where one is named.
+/// Where to serve which device, for how many turns where that is given, whether to print a line for each datagram,
+/// every how many seconds the report so far, where that is given, and in which file to keep the state, where one is
+/// named.
 #[derive(Clone, Copy, PartialEq, Eq, Debug)]
 pub struct Serving<'a> {
     pub ip: u32,
@@ -58,170 +68,273 @@ pub struct Serving<'a> {
 }
 
 /// With the option of how many commands are kept with their replies.
-fn with_window<'a>(command: Command<'a>, alloc: Global) -> Result<Command<'a>, AllocError> {
-    command.arg(option(
+fn with_window<'a>(command: Command<'a>, alloc: Global) -> Result<Command<'a>, AllocError>
+    ensures { IfOk result (AddsRules (option_rule (codes "window") ∷ []) command.entry) }
+{
+    with_option(
         alloc,
+        command,
         "window",
         "W",
-        "How many commands of each peer are kept with their replies, 1 to 64; 32 unless given",
-    ))
+        "How many commands of each peer are kept with their replies (the reply window), 1 to 64; 32 unless given",
+    )
 }
 
-/// With the option of how many peers sessions are kept of.
-fn with_peers<'a>(command: Command<'a>, alloc: Global) -> Result<Command<'a>, AllocError> {
-    command.arg(option(
+/// With the option of how many peers have a session.
+fn with_peers<'a>(command: Command<'a>, alloc: Global) -> Result<Command<'a>, AllocError>
+    ensures { IfOk result (AddsRules (option_rule (codes "peers") ∷ []) command.entry) }
+{
+    with_option(
         alloc,
+        command,
         "peers",
         "N",
-        "Of how many peers sessions are kept at once, 1 to 64; 16 unless given",
-    ))
+        "How many peers can have a session at once, 1 to 64; 16 unless given",
+    )
 }
 
 /// With the option of how many channel strips there are.
-fn with_channels<'a>(command: Command<'a>, alloc: Global) -> Result<Command<'a>, AllocError> {
-    command.arg(option(
+fn with_channels<'a>(command: Command<'a>, alloc: Global) -> Result<Command<'a>, AllocError>
+    ensures { IfOk result (AddsRules (option_rule (codes "channels") ∷ []) command.entry) }
+{
+    with_option(
         alloc,
+        command,
         "channels",
         "N",
-        "How many channel strips of four objects stand behind the bench's own, 0 to 1022; 0 unless given",
-    ))
+        "How many channel strips are added to the bench's own objects, 0 to 1022; 0 unless given. A strip is a block \
+        with a mute, a polarity and a trim",
+    )
 }
 
 /// With the option of the file that lists the objects.
-fn with_tree<'a>(command: Command<'a>, alloc: Global) -> Result<Command<'a>, AllocError> {
-    command.arg(option(
+fn with_tree<'a>(command: Command<'a>, alloc: Global) -> Result<Command<'a>, AllocError>
+    ensures { IfOk result (AddsRules (option_rule (codes "tree") ∷ []) command.entry) }
+{
+    with_option(
         alloc,
+        command,
         "tree",
         "FILE",
         "A file that lists the objects, one a line, in place of the bench's; see examples/stagebox.tree",
-    ))
+    )
 }
 
 /// With the options of the objects.
-fn listed<'a>(command: Command<'a>, alloc: Global) -> Result<Command<'a>, AllocError> {
+fn listed<'a>(command: Command<'a>, alloc: Global) -> Result<Command<'a>, AllocError>
+    ensures { IfOk result (AddsRules object_rules command.entry) }
+{
     with_tree(with_channels(command, alloc)?, alloc)
 }
 
+/// With the options of how large a device is.
+fn sized<'a>(command: Command<'a>, alloc: Global) -> Result<Command<'a>, AllocError>
+    ensures { IfOk result (AddsRules (option_rule (codes "window") ∷ option_rule (codes "peers") ∷ []) command.entry) }
+{
+    with_peers(with_window(command, alloc)?, alloc)
+}
+
 /// With the options of a device.
-fn made<'a>(command: Command<'a>, alloc: Global) -> Result<Command<'a>, AllocError> {
-    listed(with_peers(with_window(command, alloc)?, alloc)?, alloc)
+fn made<'a>(command: Command<'a>, alloc: Global) -> Result<Command<'a>, AllocError>
+    ensures { IfOk result (AddsRules device_rules command.entry) }
+{
+    listed(sized(command, alloc)?, alloc)
+}
+
+/// The command `replay` without its options.
+fn replay_name<'a>(alloc: Global) -> Command<'a>
+    ensures { app_of result ≡ new_app (codes "replay") }
+{
+    Command::new(alloc, "replay")
+        .about(
+            "Runs a device, the bench device unless --tree is given, over the script on standard input, and prints \
+            its answers",
+        )
+        .after_help("Example: ocadev replay < examples/getstate.script")
 }
 
 /// The command `replay`.
-fn replay_command<'a>(alloc: Global) -> Result<Command<'a>, AllocError> {
-    let command = Command::new(alloc, "replay")
-        .about(
-            "Runs a device, the bench device unless --tree is given, over the script on standard input, and prints its answers",
-        )
-        .after_help("Example: ocadev replay < examples/getstate.script");
-    made(command, alloc)
+fn replay_command<'a>(alloc: Global) -> Result<Command<'a>, AllocError>
+    ensures { IfOk result (λ r. shape_of r ≡ replay_shape) }
+{
+    made(replay_name(alloc), alloc)
 }
 
+/// What stands behind the options of `serve` in its help text.
 const SERVE_EXAMPLE: &str =
-    "A turn is one receive: a datagram that came, or 50 ms in which none did. So turns are spent faster where datagrams come.
+    "In a turn the device handles one datagram, or waits 50 ms in which none comes. So T turns take 50 ms each at \
+    most, and less while datagrams come.
 A run that a signal ends (Ctrl-C, kill) prints no report.
 
 Example: ocadev serve --port 65000 --turns 1200";
 
 /// With the option of the port.
-fn with_port<'a>(command: Command<'a>, alloc: Global) -> Result<Command<'a>, AllocError> {
-    let port = option(
+fn with_port<'a>(command: Command<'a>, alloc: Global) -> Result<Command<'a>, AllocError>
+    ensures { IfOk result (AddsRules (required_rule (codes "port") ∷ []) command.entry) }
+{
+    with_required(
         alloc,
+        command,
         "port",
         "PORT",
         "The UDP port, 0 to 65535; at 0 the system chooses one",
-    );
-    command.arg(port.required(true))
+    )
 }
 
 /// With the option of how many turns are served.
-fn with_turns<'a>(command: Command<'a>, alloc: Global) -> Result<Command<'a>, AllocError> {
-    command.arg(option(
+fn with_turns<'a>(command: Command<'a>, alloc: Global) -> Result<Command<'a>, AllocError>
+    ensures { IfOk result (AddsRules (option_rule (codes "turns") ∷ []) command.entry) }
+{
+    with_option(
         alloc,
+        command,
         "turns",
         "T",
-        "How many turns are served, 0 to 4294967295; until it is stopped unless given",
-    ))
+        "Stops after this many turns, 0 to 4294967295; runs until it is stopped unless given",
+    )
 }
 
 /// With the option of the address.
-fn with_ip<'a>(command: Command<'a>, alloc: Global) -> Result<Command<'a>, AllocError> {
-    command.arg(option(
+fn with_ip<'a>(command: Command<'a>, alloc: Global) -> Result<Command<'a>, AllocError>
+    ensures { IfOk result (AddsRules (option_rule (codes "ip") ∷ []) command.entry) }
+{
+    with_option(
         alloc,
+        command,
         "ip",
         "A.B.C.D",
-        "The address; 127.0.0.1 unless given. At 0.0.0.0, every address of the machine, answers may leave from another one than was asked, and links drop those",
-    ))
+        "The address to listen at; 127.0.0.1 unless given. 0.0.0.0 is every address of the machine: replies may then \
+        leave from a different address than the one that a controller sent to, and controllers drop such replies",
+    )
+}
+
+/// With the options of a port and of turns.
+fn for_turns<'a>(command: Command<'a>, alloc: Global) -> Result<Command<'a>, AllocError>
+    ensures { IfOk result (AddsRules (required_rule (codes "port") ∷ option_rule (codes "turns") ∷ []) command.entry) }
+{
+    with_turns(with_port(command, alloc)?, alloc)
 }
 
 /// With the options of a socket.
-fn bound<'a>(command: Command<'a>, alloc: Global) -> Result<Command<'a>, AllocError> {
-    with_ip(with_turns(with_port(command, alloc)?, alloc)?, alloc)
+fn bound<'a>(command: Command<'a>, alloc: Global) -> Result<Command<'a>, AllocError>
+    ensures { IfOk result (AddsRules socket_rules command.entry) }
+{
+    with_ip(for_turns(command, alloc)?, alloc)
 }
 
 /// With the flag for a line for each datagram.
-fn with_verbose<'a>(command: Command<'a>, alloc: Global) -> Result<Command<'a>, AllocError> {
-    let verbose = Arg::new(alloc, "verbose")
-        .long("verbose")
-        .help(
-            "Prints a line for each datagram on standard error: its sender, what became of it, the objects it wrote to, and what was locked, unlocked and refused",
-        )
-        .action(ArgAction::SetTrue);
-    command.arg(verbose)
+fn with_verbose<'a>(command: Command<'a>, alloc: Global) -> Result<Command<'a>, AllocError>
+    ensures { IfOk result (AddsRules (flag_rule (codes "verbose") ∷ []) command.entry) }
+{
+    with_flag(
+        alloc,
+        command,
+        "verbose",
+        "Prints a line for each datagram on standard error: its sender, what became of it, the objects it wrote to, \
+        and what was locked, unlocked and refused",
+    )
 }
 
-/// With the option of how often the report so far is told.
-fn with_stats<'a>(command: Command<'a>, alloc: Global) -> Result<Command<'a>, AllocError> {
-    command.arg(option(
+/// With the option of how often the report so far is printed.
+fn with_stats<'a>(command: Command<'a>, alloc: Global) -> Result<Command<'a>, AllocError>
+    ensures { IfOk result (AddsRules (option_rule (codes "stats") ∷ []) command.entry) }
+{
+    with_option(
         alloc,
+        command,
         "stats",
         "SECONDS",
-        "Prints the report so far on standard error each so many seconds, 1 to 86400, with how many sessions there are and how many locks are held",
-    ))
+        "Prints the report so far on standard error every SECONDS seconds, 1 to 86400, with the number of sessions \
+        and of locks held",
+    )
 }
 
 /// With the option of the file in which the state is kept.
-fn with_keep<'a>(command: Command<'a>, alloc: Global) -> Result<Command<'a>, AllocError> {
-    command.arg(option(
+fn with_keep<'a>(command: Command<'a>, alloc: Global) -> Result<Command<'a>, AllocError>
+    ensures { IfOk result (AddsRules (option_rule (codes "keep") ∷ []) command.entry) }
+{
+    with_option(
         alloc,
+        command,
         "keep",
         "FILE",
-        "A file in which the state is kept: read at the start in place of --tree where it is there, and written after each datagram that wrote something. Reply windows and sessions are not kept: a duplicate from before a restart is executed as new",
-    ))
+        "The file in which the state is stored: if it exists, it is read at the start in place of --tree, and it is \
+        written after each datagram that wrote to an object. Reply windows and sessions are not stored: a duplicate \
+        from before a restart is executed as new",
+    )
 }
 
-/// The command `serve`.
-fn serve_command<'a>(alloc: Global) -> Result<Command<'a>, AllocError> {
-    let command = Command::new(alloc, "serve")
+/// With the options of what is printed while a device is served.
+fn printed<'a>(command: Command<'a>, alloc: Global) -> Result<Command<'a>, AllocError>
+    ensures { IfOk result (AddsRules (flag_rule (codes "verbose") ∷ option_rule (codes "stats") ∷ []) command.entry) }
+{
+    with_stats(with_verbose(command, alloc)?, alloc)
+}
+
+/// With the options of what is printed and kept while a device is served.
+fn observed<'a>(command: Command<'a>, alloc: Global) -> Result<Command<'a>, AllocError>
+    ensures { IfOk result (AddsRules running_rules command.entry) }
+{
+    with_keep(printed(command, alloc)?, alloc)
+}
+
+/// The command `serve` without its options.
+fn serve_name<'a>(alloc: Global) -> Command<'a>
+    ensures { app_of result ≡ new_app (codes "serve") }
+{
+    Command::new(alloc, "serve")
         .about(
             "Serves a device, the bench device unless --tree is given, at a UDP socket, and prints what was done",
         )
-        .after_help(SERVE_EXAMPLE);
-    let serving = with_verbose(made(bound(command, alloc)?, alloc)?, alloc)?;
-    with_keep(with_stats(serving, alloc)?, alloc)
+        .after_help(SERVE_EXAMPLE)
+}
+
+/// The command `serve` with the options of its socket and of its device.
+fn served_device<'a>(alloc: Global) -> Result<Command<'a>, AllocError>
+    ensures { IfOk result (λ r. app_of r ≡ with_rules (new_app (codes "serve")) (socket_rules ++ device_rules)) }
+{
+    made(bound(serve_name(alloc), alloc)?, alloc)
+}
+
+/// The command `serve`.
+fn serve_command<'a>(alloc: Global) -> Result<Command<'a>, AllocError>
+    ensures { IfOk result (λ r. shape_of r ≡ serve_shape) }
+{
+    observed(served_device(alloc)?, alloc)
 }
 
 /// With the flag for a text.
-fn with_text<'a>(command: Command<'a>, alloc: Global) -> Result<Command<'a>, AllocError> {
-    let text = Arg::new(alloc, "text")
-        .long("text")
-        .help(
-            "Prints them as a text that --tree reads, with labels and all else that a device stores",
-        )
-        .action(ArgAction::SetTrue);
-    command.arg(text)
+fn with_text<'a>(command: Command<'a>, alloc: Global) -> Result<Command<'a>, AllocError>
+    ensures { IfOk result (AddsRules (flag_rule (codes "text") ∷ []) command.entry) }
+{
+    with_flag(
+        alloc,
+        command,
+        "text",
+        "Prints them as a text that --tree reads, with labels and all else that a device stores",
+    )
+}
+
+/// The command `show` without its options.
+fn show_name<'a>(alloc: Global) -> Command<'a>
+    ensures { app_of result ≡ new_app (codes "show") }
+{
+    Command::new(alloc, "show")
+        .about("Prints the objects of the device: ONo, class identifier, container and role")
+        .after_help("Example: ocadev show --tree examples/stagebox.tree")
 }
 
 /// The command `show`.
-fn show_command<'a>(alloc: Global) -> Result<Command<'a>, AllocError> {
-    let command = Command::new(alloc, "show")
-        .about("Prints the objects of the device: ONo, class identifier, container and role")
-        .after_help("Example: ocadev show --tree examples/stagebox.tree");
-    with_text(listed(command, alloc)?, alloc)
+fn show_command<'a>(alloc: Global) -> Result<Command<'a>, AllocError>
+    ensures { IfOk result (λ r. shape_of r ≡ show_shape) }
+{
+    with_text(listed(show_name(alloc), alloc)?, alloc)
 }
 
 /// The program without its commands.
-fn program<'a>(alloc: Global) -> Command<'a> {
+fn program<'a>(alloc: Global) -> Command<'a>
+    ensures { app_of result ≡ record { top = program_shape; subs = [] } }
+{
     Command::new(alloc, "ocadev")
         .about("The bench device of OCA (AES70) over UDP")
         .version(VERSION)
@@ -229,24 +342,30 @@ fn program<'a>(alloc: Global) -> Command<'a> {
         .subcommand_required(true)
 }
 
-/// With a command, where there is memory for it.
-fn with<'a>(
-    program: Command<'a>,
-    added: Result<Command<'a>, AllocError>,
-) -> Result<Command<'a>, AllocError> {
-    program.subcommand(added?)
+/// The program with the command `replay`.
+fn with_replay<'a>(alloc: Global) -> Result<Command<'a>, AllocError>
+    ensures { IfOk result (λ r. app_of r ≡ with_commands (replay_shape ∷ [])) }
+{
+    program(alloc).subcommand(replay_command(alloc)?)
+}
+
+/// The program with the commands `replay` and `serve`.
+fn with_serve<'a>(alloc: Global) -> Result<Command<'a>, AllocError>
+    ensures { IfOk result (λ r. app_of r ≡ with_commands (replay_shape ∷ serve_shape ∷ [])) }
+{
+    with_replay(alloc)?.subcommand(serve_command(alloc)?)
 }
 
 /// The whole program.
-fn command<'a>(alloc: Global) -> Result<Command<'a>, AllocError> {
-    let replaying = with(program(alloc), replay_command(alloc))?;
-    let serving = with(replaying, serve_command(alloc))?;
-    with(serving, show_command(alloc))
+fn command<'a>(alloc: Global) -> Result<Command<'a>, AllocError>
+    ensures { IfOk result (λ r. app_of r ≡ command_line) }
+{
+    with_serve(alloc)?.subcommand(show_command(alloc)?)
 }
 
 /// The words, the program's name first, matched with what the program takes.
 pub fn matches_of<'a, S: AsStr>(alloc: Global, words: &'a [S]) -> Result<ArgMatches<'a>, Error>
-    ensures { IfOk result (AreMatchesOf (map S.text words.entry.now)) }
+    ensures { MatchingGives command_line (map S.text words.entry.now) result }
 {
     command(alloc)?.try_get_matches_from(words)
 }
@@ -323,7 +442,7 @@ const RULES: [Rule; 7] = [
     },
 ];
 
-/// What is said where each option has its form.
+/// The note where each option has its form.
 const TREE_AND_CHANNELS: &str =
     "--tree and --channels each say what the objects are: give one of the two";
 
@@ -345,8 +464,9 @@ fn asked_in<'a>(name: &str, options: &ArgMatches<'a>) -> Option<Asked<'a>>
 
 /// The objects as lines for a person, or as a text where the words say so.
 fn shown_by<'a>(options: &ArgMatches<'a>, objects: Objects<'a>) -> Asked<'a>
-    ensures value { result ≡ (if says_so options.now (codes "text") then Asked.ShowText objects.entry else Asked.Show objects.entry) }
-    ensures fields { asked_fields result ≡ said_shown options.now (said_objects objects.entry) }
+    ensures value { result ≡ (if has_flag options.now (codes "text") then Asked.ShowText objects.entry
+        else Asked.Show objects.entry) }
+    ensures fields { asked_fields result ≡ shown_fields options.now (object_source objects.entry) }
 {
     if flag(options, "text") {
         Asked::ShowText(objects)
@@ -358,7 +478,7 @@ fn shown_by<'a>(options: &ArgMatches<'a>, objects: Objects<'a>) -> Asked<'a>
 /// The window that a text says: 1 to 3 digits, 1 to 64.
 #[tactic(auto, using(oca_program::proofs::OptionLemmas::size_rules))]
 fn window_of(text: &[u8]) -> Option<Window>
-    ensures { option_map window_size result ≡ window_said text.now }
+    ensures { option_map window_size result ≡ window_in_text text.now }
 {
     let size = number(text, 3, 255)? as u8;
     Window::new(size)
@@ -377,7 +497,7 @@ fn window(options: &ArgMatches<'_>) -> Option<Window>
 /// How many peers a text says: 1 to 3 digits, 1 to 64.
 #[tactic(auto, using(oca_program::proofs::OptionLemmas::size_rules))]
 fn peers_of(text: &[u8]) -> Option<Peers>
-    ensures { option_map peer_count result ≡ peers_said text.now }
+    ensures { option_map peer_count result ≡ peers_in_text text.now }
 {
     let count = number(text, 3, 255)? as u8;
     Peers::new(count)
@@ -406,7 +526,7 @@ fn channels(options: &ArgMatches<'_>) -> Option<u16>
 /// The objects that the options ask for: by a file or by a number of channel strips, and not by both.
 #[tactic(auto, unfolding(crate::specs::Words::objects_in))]
 fn objects_of<'a>(options: &ArgMatches<'a>) -> Option<Objects<'a>>
-    ensures { option_map said_objects result ≡ objects_in options.now }
+    ensures { option_map object_source result ≡ objects_in options.now }
 {
     let Some(path) = text_of(options, "tree") else {
         return Some(Objects::Bench(channels(options)?));
@@ -431,7 +551,7 @@ fn making_of<'a>(options: &ArgMatches<'a>) -> Option<Making<'a>>
     })
 }
 
-/// For how many turns to serve, where that is said.
+/// For how many turns to serve, where that is given.
 fn turns_of(options: &ArgMatches<'_>) -> Option<Option<u32>>
     ensures { result ≡ turns_in options.now }
 {
@@ -444,7 +564,7 @@ fn turns_of(options: &ArgMatches<'_>) -> Option<Option<u32>>
 
 /// Whether the words say this flag, whose text is then `true`.
 fn flag(options: &ArgMatches<'_>, name: &str) -> bool
-    ensures { result ≡ says_so options.now name.now }
+    ensures { result ≡ has_flag options.now name.now }
 {
     match text_of(options, name) {
         Some(text) => text.as_bytes() == b"true".as_slice(),
@@ -455,7 +575,7 @@ fn flag(options: &ArgMatches<'_>, name: &str) -> bool
 /// How many seconds a text says: 1 to 5 digits, 1 to 86,400.
 #[tactic(auto, using(oca_program::proofs::OptionLemmas::size_rules))]
 fn seconds_of(text: &[u8]) -> Option<u32>
-    ensures { result ≡ seconds_said text.now }
+    ensures { result ≡ seconds_in_text text.now }
 {
     let seconds = number(text, 5, 86_400)?;
     if seconds < 1 {
@@ -464,7 +584,7 @@ fn seconds_of(text: &[u8]) -> Option<u32>
     Some(seconds as u32)
 }
 
-/// How often to tell the report so far, where that is said.
+/// Every how many seconds to print the report so far, where that is given.
 fn stats_of(options: &ArgMatches<'_>) -> Option<Option<u32>>
     ensures { result ≡ stats_in options.now }
 {

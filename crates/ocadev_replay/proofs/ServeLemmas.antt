@@ -24,7 +24,7 @@ use Rattle.oca_script.proofs.PrintLemmas.{prints-then, prints-less}
 use Rattle.ocadev_replay.specs.Requests.{asked_event}
 use Rattle.ocadev_replay.specs.PrivateRequests.{event_of}
 use Rattle.ocadev_replay.specs.Printing.{verdict_text, packet_text, event_text, events_text, events_then}
-use Rattle.ocadev_replay.specs.Replaying.{Serves, ServesAndPrints, Whole, Part, Replays, Outcome, device_script}
+use Rattle.ocadev_replay.specs.Replaying.{Serves, ServesAndPrints, Whole, Part, Replays, ReplayOutcome, device_script}
 
 -- ---- an event
 
@@ -143,7 +143,7 @@ replays w tree events a b u v (Err Read) given at_a h = part w tree events a b u
 replays w tree events a b u v (Err Write) given at_a h = part w tree events a b u v (Err Write) given h.requests h.text at_a h.runs h.writes h.ends
 
 pub outcome-of : (w : DeviceSizes) (tree : List Object) (events : List Event) (a b : DeviceState) (u v : Output) (had has : Input) (r : Result Unit ReplayFault) → Represents w a tree events
-    → ScriptOutcome asked_event Serves NeverIdles a b u v had has r → Outcome w tree events b u v had has r
+    → ScriptOutcome asked_event Serves NeverIdles a b u v had has r → ReplayOutcome w tree events b u v had has r
 outcome-of w tree events a b u v had has r at_a h = (h.0, h.1, replays w tree events a b u v r (h.0 ++ known_bytes has.remaining) at_a h.2)
 
 pub known-of : (w : DeviceSizes) (tree : List Object) (events : List Event) (a b : DeviceState) (u v : Output) (had : Option (List ℕ)) (r : Result Unit ReplayFault) → Represents w a tree events

@@ -17,8 +17,10 @@ reused_text reused = if reused == 0 then [] else codes " reused " ++ decimal reu
 -- the line of what became of a datagram
 abbrev pub verdict_text : Verdict → List ℕ
 verdict_text (verdicts.Served executed kept old reused) =
-    codes "served " ++ decimal executed ++ codes " " ++ decimal kept ++ codes " " ++ decimal old ++ reused_text reused ++ codes "\n"
-verdict_text (verdicts.Malformed fault) = codes "malformed " ++ decimal (fault_number fault.kind) ++ codes " at " ++ decimal fault.at ++ codes "\n"
+    codes "served " ++ decimal executed ++ codes " " ++ decimal kept ++ codes " " ++ decimal old ++ reused_text reused
+    ++ codes "\n"
+verdict_text (verdicts.Malformed fault) = codes "malformed " ++ decimal (fault_number fault.kind) ++ codes " at "
+    ++ decimal fault.at ++ codes "\n"
 verdict_text verdicts.NoRoom = codes "no-room\n"
 
 -- the line of a packet
@@ -28,7 +30,8 @@ packet_text packet = codes "> " ++ hex_text packet ++ codes "\n"
 -- What is printed for an event after events: of a datagram its verdict and the packets that answer it.
 unfoldable pub event_text : DeviceSizes → List Object → List Event → Event → List ℕ
 event_text w tree events (Datagram from bytes now) =
-    verdict_text (verdict w tree events from bytes now) ++ flat_map packet_text (packets w tree events (Datagram from bytes now))
+    verdict_text (verdict w tree events from bytes now) ++ flat_map packet_text
+    (packets w tree events (Datagram from bytes now))
 event_text w tree events (Tick now) = codes "quiet\n"
 event_text w tree events (Local ono value) = []
 

@@ -16,11 +16,14 @@ use Rattle.ocadev_replay.specs.Printing.{event_text, events_text, events_then}
 
 -- From old, whatever it represents, the event leads to new, and prints the text.
 pub record Serves (old : DeviceState) (e : Event) (new : DeviceState) (text : List ℕ) : Type 0 where
-  pub represents : (w : DeviceSizes) (tree : List Object) (events : List Event) → Represents w old tree events → Represents w new tree (e ∷ events)
-  pub prints : (w : DeviceSizes) (tree : List Object) (events : List Event) → Represents w old tree events → text ≡ event_text w tree events e
+  pub represents : (w : DeviceSizes) (tree : List Object) (events : List Event) → Represents w old tree events
+      → Represents w new tree (e ∷ events)
+  pub prints : (w : DeviceSizes) (tree : List Object) (events : List Event) → Represents w old tree events → text
+      ≡ event_text w tree events e
 
 -- the event was served, and its text printed, as far as the writes went
-pub record ServesAndPrints (old : DeviceState) (e : Event) (new : DeviceState) (result : Result Unit WriteFailed) (was is : Output) : Type 0 where
+pub record ServesAndPrints (old : DeviceState) (e : Event) (new : DeviceState) (result : Result Unit WriteFailed)
+    (was is : Output) : Type 0 where
   pub text : List ℕ
   pub serves : Serves old e new text
   pub prints : Prints result was is text
@@ -36,27 +39,33 @@ abbrev pub device_text : DeviceSizes → List Object → List Event → List ℕ
 device_text w tree events given = events_text w tree events (device_script given).requests
 
 -- The script ended so: the text of its events was written, and the device represents them after those before.
-pub record Whole (w : DeviceSizes) (tree : List Object) (events : List Event) (new : DeviceState) (was is : Output) (result : Result Unit ReplayFault) (given : List ℕ) : Type 0 where
+pub record Whole (w : DeviceSizes) (tree : List Object) (events : List Event) (new : DeviceState) (was is : Output)
+    (result : Result Unit ReplayFault) (given : List ℕ) : Type 0 where
   pub ending : (device_script given).ending ≡ result
   pub writes : WritesWhole was is (device_text w tree events given)
   pub represents : Represents w new tree (events_then events (device_script given).requests)
 
 -- A read or a write failed: some first events were served, and their text was written, or a front of it.
-pub record Part (w : DeviceSizes) (tree : List Object) (events : List Event) (new : DeviceState) (was is : Output) (result : Result Unit ReplayFault) (given : List ℕ) : Type 0 where
+pub record Part (w : DeviceSizes) (tree : List Object) (events : List Event) (new : DeviceState) (was is : Output)
+    (result : Result Unit ReplayFault) (given : List ℕ) : Type 0 where
   pub first : List Event
   pub begins : BeginsWith first (device_script given)
   pub writes : Writes result was is (events_text w tree events first)
   pub represents : Represents w new tree (events_then events first)
 
 -- what a replay of `given` did, by its result
-abbrev pub Replays : DeviceSizes → List Object → List Event → DeviceState → Output → Output → Result Unit ReplayFault → List ℕ → Type 0
+abbrev pub Replays : DeviceSizes → List Object → List Event → DeviceState → Output → Output → Result Unit ReplayFault
+    → List ℕ → Type 0
 Replays w tree events new was is (Ok u) given = Whole w tree events new was is (Ok u) given
-Replays w tree events new was is (Err (Line number fault)) given = Whole w tree events new was is (Err (Line number fault)) given
+Replays w tree events new was is (Err (Line number fault)) given = Whole w tree events new was is
+    (Err (Line number fault)) given
 Replays w tree events new was is (Err Read) given = Part w tree events new was is (Err Read) given
 Replays w tree events new was is (Err Write) given = Part w tree events new was is (Err Write) given
 Replays w tree events new was is (Err TooMuch) given = Whole w tree events new was is (Err TooMuch) given
 
--- There are bytes, those that the source gave where it tells them, and the script of these and of what it has left was
+-- There are bytes, those that the source gave where they are known, and the script of these and of what it has left was
 -- replayed.
-abbrev pub Outcome : DeviceSizes → List Object → List Event → DeviceState → Output → Output → Input → Input → Result Unit ReplayFault → Type 0
-Outcome w tree events new was is had has result = (taken : List ℕ) × Reads had has result taken × Replays w tree events new was is result (taken ++ known_bytes has.remaining)
+abbrev pub ReplayOutcome : DeviceSizes → List Object → List Event → DeviceState → Output → Output → Input → Input
+    → Result Unit ReplayFault → Type 0
+ReplayOutcome w tree events new was is had has result = (taken : List ℕ) × Reads had has result taken
+    × Replays w tree events new was is result (taken ++ known_bytes has.remaining)

@@ -4,7 +4,7 @@ ghost use Rattle.std.specs.List.{flat_map};
 ghost use Rattle.oca_types.specs.Sizes.{largest_datagram};
 ghost use Rattle.oca_script.specs.Ends.{output};
 ghost use Rattle.oca_script.specs.Printing.{Prints};
-ghost use Rattle.ocadev_replay.specs.Printing.{verdict_text, reused_text, packet_text};
+ghost use Rattle.ocadev_replay.specs.Printing.{verdict_text, reused_text, packet_text as line_text};
 
 use oca_device::{Outbox, Verdict};
 use oca_script::{Printer, Sink, WriteFailed};
@@ -26,7 +26,7 @@ pub fn print_verdict<W: Sink>(verdict: Verdict, printer: &mut Printer<W>) -> Res
 
 /// Prints each packet, in order.
 pub fn print_packets<W: Sink>(outbox: &Outbox, printer: &mut Printer<W>) -> Result<(), WriteFailed>
-    ensures { Prints result printer.old printer.new (flat_map packet_text outbox.now) }
+    ensures { Prints result printer.old printer.new (flat_map line_text outbox.now) }
 {
     for i in 0..outbox.len() {
         let Some(packet) = outbox.get(i) else {
@@ -40,7 +40,7 @@ pub fn print_packets<W: Sink>(outbox: &Outbox, printer: &mut Printer<W>) -> Resu
 /// Prints a packet.
 fn print_packet<W: Sink>(packet: &[u8], printer: &mut Printer<W>) -> Result<(), WriteFailed>
     requires { length packet.now ≤ largest_datagram }
-    ensures { Prints result printer.old printer.new (packet_text packet.now) }
+    ensures { Prints result printer.old printer.new (line_text packet.now) }
 {
     printer.make_room(PACKET_ROOM)?;
     put_packet(printer, packet);
@@ -81,7 +81,8 @@ fn put_verdict<W: Sink>(printer: &mut Printer<W>, verdict: Verdict)
 /// Holds how many commands asked something else under a kept handle, where there are any.
 fn put_reused<W: Sink>(printer: &mut Printer<W>, reused: u32)
     requires { length printer.old.held + 28 ≤ 8192 }
-    ensures value { printer.new ≡ output printer.old.contents (printer.old.held ++ reused_text reused) printer.old.failed }
+    ensures value { printer.new ≡ output printer.old.contents (printer.old.held ++ reused_text reused)
+        printer.old.failed }
     ensures len { length printer.new.held ≤ length printer.old.held + 28 }
 {
     if reused != 0 {
@@ -94,7 +95,7 @@ fn put_reused<W: Sink>(printer: &mut Printer<W>, reused: u32)
 fn put_packet<W: Sink>(printer: &mut Printer<W>, packet: &[u8])
     requires few { length packet.now ≤ largest_datagram }
     requires room { length printer.old.held + 2960 ≤ 8192 }
-    ensures { printer.new ≡ output printer.old.contents (printer.old.held ++ packet_text packet.now) printer.old.failed }
+    ensures { printer.new ≡ output printer.old.contents (printer.old.held ++ line_text packet.now) printer.old.failed }
 {
     printer.put(b"> ");
     printer.put_hex(packet);

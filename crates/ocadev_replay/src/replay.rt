@@ -7,7 +7,7 @@ ghost use Rattle.oca_device.specs.Events.{Event, Datagram as DatagramEvent};
 ghost use Rattle.oca_script.specs.Ends.{input};
 ghost use Rattle.oca_script.specs.Replaying.{Awaited, NeverIdles};
 ghost use Rattle.ocadev_replay.specs.Requests.{asked_event};
-ghost use Rattle.ocadev_replay.specs.Replaying.{Serves, ServesAndPrints, Outcome, Replays};
+ghost use Rattle.ocadev_replay.specs.Replaying.{Serves, ServesAndPrints, ReplayOutcome, Replays};
 ghost use Rattle.ocadev_replay.specs.PrivateRequests.{event_of};
 
 use super::answer::{print_packets, print_verdict};
@@ -70,7 +70,8 @@ impl<'a> Language for DeviceScript<'a> {
         requires { _printer.old.held ≡ [] }
         ensures awaited { Awaited NeverIdles _device.old _device.new result _printer.old _printer.new }
         ensures empty { OnOk result (_printer.new.held ≡ []) }
-        ensures source { input (R.remaining _reader.new) (R.failed _reader.new) ≡ input (R.remaining _reader.old) (R.failed _reader.old) }
+        ensures source { input (R.remaining _reader.new) (R.failed _reader.new)
+            ≡ input (R.remaining _reader.old) (R.failed _reader.old) }
         ensures rests { OnOk result (R.ready _reader.new ≡ false → Unit {0}) }
     {
         Ok(())
@@ -132,11 +133,12 @@ pub fn replay<R: Source, W: Sink>(
     ensures known { (w : DeviceSizes) (tree : List Object) (events : List Event) → Represents w device.old tree events →
         IfSome (R.remaining reader.old) (λ given.
         Replays w tree events device.new printer.old printer.new result given) }
-    // Whatever source: there are bytes, those that it gave where it tells them, and the rest of what it had, and their
+    // Whatever source: there are bytes, those that it gave where they are known, and the rest of what it had, and their
     // script was replayed.
     ensures reads { (w : DeviceSizes) (tree : List Object) (events : List Event) → Represents w device.old tree events →
-        Outcome w tree events device.new printer.old printer.new
-        (input (R.remaining reader.old) (R.failed reader.old)) (input (R.remaining reader.new) (R.failed reader.new)) result }
+        ReplayOutcome w tree events device.new printer.old printer.new
+        (input (R.remaining reader.old) (R.failed reader.old)) (input (R.remaining reader.new) (R.failed reader.new))
+        result }
 {
     let mut room = DeviceScript {
         outbox,

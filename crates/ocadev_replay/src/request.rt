@@ -4,7 +4,8 @@ ghost use Rattle.oca_types.specs.declared.words.Peer.{Peer as PeerFields};
 ghost use Rattle.oca_script.specs.Fields.{fields, hex_of};
 ghost use Rattle.oca_script.specs.Script.{longest_line};
 ghost use Rattle.ocadev_replay.specs.Requests.{is_quiet as quiet_word, tick_of, datagram_of, asked_event};
-ghost use Rattle.ocadev_replay.specs.PrivateRequests.{AreFields, FieldsWithin, begun, moment_and_peer_of, datagram_after, event_asked};
+ghost use Rattle.ocadev_replay.specs.PrivateRequests.{AreFields, FieldsWithin, begun, moment_and_peer_of};
+ghost use Rattle.ocadev_replay.specs.PrivateRequests.{datagram_after, event_asked};
 
 use oca_program::field::moment;
 use oca_script::LineFault;

@@ -63,13 +63,13 @@ impl Outcome {
     }
 
     /// What was printed of faults.
-    fn told(&self) -> &[u8] {
+    fn faults(&self) -> &[u8] {
         self.faults.sink().taken.as_slice()
     }
 
     /// Whether the run gave this status, and printed just that and this fault.
     fn is(&self, status: u8, output: &[u8], fault: &[u8]) -> bool {
-        self.status == status && self.output() == output && self.told() == fault
+        self.status == status && self.output() == output && self.faults() == fault
     }
 }
 

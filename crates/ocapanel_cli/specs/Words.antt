@@ -26,30 +26,30 @@ listen_in words = read_or (record { ip = 2130706433; port = 8080 }) is_own_machi
 abbrev pub at_least_two : ℕ → Option ℕ
 at_least_two n = if nat_lt n 2 then None else sized 32 n
 
-abbrev pub span_of : List ℕ → Option ℕ
-span_of text = then_in (number_of 3 255 text) at_least_two
+abbrev pub panel_span_of : List ℕ → Option ℕ
+panel_span_of text = then_in (number_of 3 255 text) at_least_two
 
-abbrev pub span_in : ArgMatches → Option ℕ
-span_in words = read_or 16 span_of (given words (codes "span"))
+abbrev pub panel_span_in : ArgMatches → Option ℕ
+panel_span_in words = read_or 16 panel_span_of (given words (codes "span"))
 
 -- the local port: one of the system's choice unless given
-abbrev pub port_in : ArgMatches → Option ℕ
-port_in words = read_or 0 (number_of 5 65535) (given words (codes "port"))
+abbrev pub local_port_in : ArgMatches → Option ℕ
+local_port_in words = read_or 0 (number_of 5 65535) (given words (codes "port"))
 
-pub record ServingFields : Type 0 where
+pub record PanelFields : Type 0 where
   pub device : Peer
   pub listen : Peer
   pub span : ℕ
   pub port : ℕ
 
-abbrev pub serving_fields : Serving → ServingFields
-serving_fields s = record { device = s.device; listen = s.listen; span = span_size s.span; port = s.port }
+abbrev pub panel_fields : Serving → PanelFields
+panel_fields s = record { device = s.device; listen = s.listen; span = span_size s.span; port = s.port }
 
 -- WHAT THE OPTIONS SAY, where each has its form
-unfoldable pub serving_in : ArgMatches → Option ServingFields
-serving_in words =
+unfoldable pub panel_in : ArgMatches → Option PanelFields
+panel_in words =
     then_in (device_in words) (λ device.
     then_in (listen_in words) (λ listen.
-    then_in (span_in words) (λ span.
-    then_in (port_in words) (λ port.
+    then_in (panel_span_in words) (λ span.
+    then_in (local_port_in words) (λ port.
     Some (record { device = device; listen = listen; span = span; port = port })))))

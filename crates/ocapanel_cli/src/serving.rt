@@ -114,7 +114,7 @@ struct Own {
     made: u64,
 }
 
-/// What the loop waits for, and what it has told.
+/// What the loop waits for, and what it has printed.
 #[derive(Drop)]
 struct Rounds {
     listener: TcpListener,
@@ -393,8 +393,8 @@ fn wait_for<E: End>(rounds: &Rounds, panel: &Panel<Ready<E>>, view: &View, now: 
 }
 
 impl Rounds {
-    /// Whether the browsers wait for the answer to an order that was taken just now: so that who asks right behind it is
-    /// told how it fared.
+    /// Whether the browsers wait for the answer to an order that was taken just now: so that who asks right behind it
+    /// is shown how it fared.
     fn holds(&self, view: &View, now: u64) -> bool {
         now < self.held_until && view.has_orders()
     }
@@ -429,7 +429,7 @@ fn accept<R: RandomSource>(rt: &R, rounds: &mut Rounds, now: u64) {
     }
 }
 
-/// Tells when the device is lost and when it is heard again, where that is asked for.
+/// Prints when the device is lost and when it is heard again, where that is asked for.
 fn note_link<F: Sink>(alloc: Global, rounds: &mut Rounds, view: &View, faults: &mut Printer<F>) {
     let is_lost = view.news().lost_since.is_some();
     if !rounds.verbose || is_lost == rounds.was_lost {

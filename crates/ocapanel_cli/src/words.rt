@@ -2,7 +2,8 @@
 ghost use Rattle.std.specs.Prelude.{◌≡◌};
 ghost use Rattle.std.specs.Option.{option_map};
 ghost use Rattle.oca_types.specs.Sizes.{span_size};
-ghost use Rattle.ocapanel_cli.specs.Words.{device_in, is_own_machine, listen_in, port_in, serving_fields, serving_in, span_in, span_of as span_said};
+ghost use Rattle.ocapanel_cli.specs.Words.{device_in, is_own_machine, listen_in, local_port_in, panel_fields, panel_in};
+ghost use Rattle.ocapanel_cli.specs.Words.{panel_span_in, panel_span_of as span_in_text};
 
 use clap::{Arg, ArgAction, ArgMatches, Command, Error};
 use oca_program::form::bad_option;
@@ -13,7 +14,7 @@ use oca_types::{LOOPBACK, Peer, Span};
 use std::alloc::{AllocError, Global};
 use std::convert::AsStr;
 
-/// Where browsers are listened to, unless it is said.
+/// Where browsers are listened to, unless it is given.
 const LISTEN: Peer = Peer {
     ip: LOOPBACK,
     port: 8080,
@@ -30,7 +31,7 @@ pub struct Serving {
     pub span: Span,
     /// The local port of the socket for the device; 0 is one of the system's choice.
     pub port: u16,
-    /// Whether each change of the link is told.
+    /// Whether each change of the link is printed.
     pub verbose: bool,
 }
 
@@ -43,12 +44,14 @@ pub enum Asked {
     Help(String),
 }
 
+/// What stands behind the options in the help text.
 const EXAMPLE: &str =
-    "Only browsers on this machine can reach the panel. One process serves at most 8 of their connections at once, and runs until it is stopped.
+    "Only browsers on this machine can reach the panel. One process serves at most 8 of their connections at once, and \
+    runs until it is stopped.
 
 Example: ocapanel --device 127.0.0.1:65000, and open http://127.0.0.1:8080/";
 
-/// That each change of the link is told.
+/// The flag for a line at each change of the link.
 fn verbose_option<'a>(alloc: Global) -> Arg<'a> {
     Arg::new(alloc, "verbose")
         .long("verbose")
@@ -79,7 +82,8 @@ fn with_listen<'a>(alloc: Global, command: Command<'a>) -> Result<Command<'a>, A
         alloc,
         "listen",
         "A.B.C.D:PORT",
-        "The address and port for browsers, an address of 127.0.0.0/8 [127.0.0.1:8080 unless given]; at port 0 the system chooses one",
+        "The address and port for browsers, an address of 127.0.0.0/8 [127.0.0.1:8080 unless given]; at port 0 the \
+        system chooses one",
     );
     match command.arg(listen) {
         Ok(command) => with_span(alloc, command),
@@ -93,7 +97,8 @@ fn with_span<'a>(alloc: Global, command: Command<'a>) -> Result<Command<'a>, All
         alloc,
         "span",
         "S",
-        "How far above the oldest command whose answer was not taken the next handle may lie, 2 to 32 [16 unless given]; half of it is kept for what browsers ask to be set",
+        "How far above the oldest command whose answer was not taken the next handle may lie, 2 to 32 [16 unless \
+        given]; half of it is kept for what browsers ask to be set",
     );
     match command.arg(span) {
         Ok(command) => with_port(alloc, command),
@@ -148,9 +153,10 @@ const RULES: [Rule; 4] = [
     },
 ];
 
-/// What is said where each option has its form.
+/// The note where each option has its form.
 const ELSEWHERE: &str =
-    "--listen is not of this machine alone: it is to be an address of 127.0.0.0/8, since the panel asks nobody who he is";
+    "--listen is not of this machine alone: it is to be an address of 127.0.0.0/8, since the panel asks nobody who \
+    he is";
 
 /// What the words ask for, the program's name first, or why they ask for nothing.
 pub fn asked_for<S: AsStr>(alloc: Global, words: &[S]) -> Result<Asked, Failure> {
@@ -164,9 +170,9 @@ pub fn asked_for<S: AsStr>(alloc: Global, words: &[S]) -> Result<Asked, Failure>
 }
 
 /// The panel that the options ask for.
-#[tactic(auto, unfolding(crate::specs::Words::serving_in))]
+#[tactic(auto, unfolding(crate::specs::Words::panel_in))]
 fn serving_of(words: &ArgMatches<'_>) -> Option<Serving>
-    ensures { option_map serving_fields result ≡ serving_in words.now }
+    ensures { option_map panel_fields result ≡ panel_in words.now }
 {
     let device = device_of(words)?;
     let listen = listen_of(words)?;
@@ -212,8 +218,8 @@ fn own_machine(text: &[u8]) -> Option<Peer>
 
 /// The span that a text says: 1 to 3 digits, 2 to 32.
 #[tactic(auto, using(oca_program::proofs::OptionLemmas::size_rules))]
-fn span_said(text: &[u8]) -> Option<Span>
-    ensures { option_map span_size result ≡ span_said text.now }
+fn span_in_text(text: &[u8]) -> Option<Span>
+    ensures { option_map span_size result ≡ span_in_text text.now }
 {
     let size = number(text, 3, 255)? as u8;
     if size < 2 {
@@ -224,17 +230,17 @@ fn span_said(text: &[u8]) -> Option<Span>
 
 /// The span: of 16 commands unless it is given.
 fn span_of(words: &ArgMatches<'_>) -> Option<Span>
-    ensures { option_map span_size result ≡ span_in words.now }
+    ensures { option_map span_size result ≡ panel_span_in words.now }
 {
     match text_of(words, "span") {
-        Some(text) => span_said(text.as_bytes()),
+        Some(text) => span_in_text(text.as_bytes()),
         None => Some(Span::default()),
     }
 }
 
 /// The local port, one of the system's choice unless it is given.
 fn port_of(words: &ArgMatches<'_>) -> Option<u16>
-    ensures { result ≡ port_in words.now }
+    ensures { result ≡ local_port_in words.now }
 {
     match number_or(words, "port", 5, 65535, 0) {
         Some(port) => Some(port as u16),

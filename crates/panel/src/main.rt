@@ -1,6 +1,7 @@
 //! A panel for the two-channel amplifier: an example of embedding a controller.
 //!
-//! `panel [PORT]` opens channel 1 of the amplifier at 127.0.0.1 and that port, sets its gain to -6 dB, and reads it back.
+//! `panel [PORT]` opens channel 1 of the amplifier at 127.0.0.1 and that port, sets its gain to -6 dB, and reads it
+//! back.
 #![tactic(auto)]
 
 use anyhow::Error;

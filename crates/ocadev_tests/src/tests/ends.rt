@@ -150,8 +150,8 @@ const WRITES_FAIL: Cuts = Cuts {
     taken: 10,
 };
 
-/// Words, the ends of their run, its status, how many bytes it prints, and the fault that is told, behind notes where the
-/// words are bad.
+/// Words, the ends of their run, its status, how many bytes it prints, and the fault that is printed, behind notes
+/// where the words are bad.
 const FAILING: &[(&[&str], Cuts, u8, usize, &[u8])] = &[
     (REPLAY, READS_FAIL, 1, 0, b"read failed\n"),
     (REPLAY, WRITES_FAIL, 1, 10, b"write failed\n"),
@@ -168,8 +168,8 @@ fn fails<N: Net + Clock + Files>(
     row: &(&[&str], Cuts, u8, usize, &[u8]),
 ) -> bool {
     let ran = ran(system, alloc, row.0, UNMUTES, row.1);
-    let told = ran.told();
-    let is_fault = told == row.4 || row.2 == 2 && told.ends_with(row.4);
+    let printed = ran.faults();
+    let is_fault = printed == row.4 || row.2 == 2 && printed.ends_with(row.4);
     ran.status == row.2 && ran.output().len() == row.3 && is_fault
 }
 

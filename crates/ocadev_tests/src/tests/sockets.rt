@@ -26,7 +26,8 @@ const REPORT: Report = Report {
 };
 
 const REPORTED: &[u8] =
-    b"turns 18446744073709551615 executed 2 kept 3 old 4 reused 5 malformed 6 no-room 7 oversize 8 quiet 12345678909 failed-receives 10 failed-sends 11\n";
+    b"turns 18446744073709551615 executed 2 kept 3 old 4 reused 5 malformed 6 no-room 7 oversize 8 quiet 12345678909 \
+    failed-receives 10 failed-sends 11\n";
 
 /// Whether the report is printed so.
 fn prints(report: &Report, text: &[u8]) -> bool {

@@ -1,4 +1,4 @@
-//! A device that is served until its end is closed, and what is told of each datagram.
+//! A device that is served until its end is closed, and what is printed of each datagram.
 use super::{bench_device, passes};
 use oca_device::{Device, Outbox, Report};
 use oca_fakes::ShortWriter;
@@ -6,7 +6,7 @@ use oca_net::{MemoryEnd, Scripted};
 use oca_script::Printer;
 use oca_types::Peer;
 use ocadev_cli::keep::Keeping;
-use ocadev_cli::serving::{Telling, serve_on, serve_traced};
+use ocadev_cli::serving::{Tracing, serve_on, serve_traced};
 use ocadev_cli::trace::Watched;
 use std::alloc::Global;
 use std::rt::Files;
@@ -21,11 +21,13 @@ const GET: &[u8] =
 
 /// SetState of 4097 under 40 and of 4098 under 50.
 const TWO_SETS: &[u8] =
-    b"\x3b\x00\x01\x00\x00\x00\x2d\x01\x00\x02\x00\x00\x00\x12\x00\x00\x00\x28\x00\x00\x10\x01\x00\x04\x00\x02\x01\x01\x00\x00\x00\x12\x00\x00\x00\x32\x00\x00\x10\x02\x00\x04\x00\x02\x01\x01";
+    b"\x3b\x00\x01\x00\x00\x00\x2d\x01\x00\x02\x00\x00\x00\x12\x00\x00\x00\x28\x00\x00\x10\x01\x00\x04\x00\x02\x01\
+    \x01\x00\x00\x00\x12\x00\x00\x00\x32\x00\x00\x10\x02\x00\x04\x00\x02\x01\x01";
 
 /// LockTotal of 4098 under handle 60 and of 4099 under 61.
 const TWO_LOCKS: &[u8] =
-    b"\x3b\x00\x01\x00\x00\x00\x2b\x01\x00\x02\x00\x00\x00\x11\x00\x00\x00\x3c\x00\x00\x10\x02\x00\x01\x00\x03\x00\x00\x00\x00\x11\x00\x00\x00\x3d\x00\x00\x10\x03\x00\x01\x00\x03\x00";
+    b"\x3b\x00\x01\x00\x00\x00\x2b\x01\x00\x02\x00\x00\x00\x11\x00\x00\x00\x3c\x00\x00\x10\x02\x00\x01\x00\x03\x00\
+    \x00\x00\x00\x11\x00\x00\x00\x3d\x00\x00\x10\x03\x00\x01\x00\x03\x00";
 
 /// Unlock of 4098 under handle 70.
 const UNLOCK: &[u8] =
@@ -178,11 +180,11 @@ fn traced_at<L: Files>(
     trace: &[u8],
 ) -> Option<(Report, bool)> {
     let mut keeping = Keeping::new(alloc, files, None).ok()?;
-    Some(told_turns(device, outbox, end, &mut keeping, trace))
+    Some(printed_turns(device, outbox, end, &mut keeping, trace))
 }
 
 /// What a device reports of the turns of an end, and whether it is traced by that.
-fn told_turns<L: Files>(
+fn printed_turns<L: Files>(
     device: &mut Device,
     outbox: &mut Outbox,
     end: &mut Watched<MemoryEnd>,
@@ -190,13 +192,13 @@ fn told_turns<L: Files>(
     trace: &[u8],
 ) -> (Report, bool) {
     let mut faults = Printer::new(ShortWriter::new(7, usize::MAX));
-    let telling = Telling::new(true, None);
-    let report = serve_traced(device, end, outbox, u64::MAX, telling, keeping, &mut faults);
+    let tracing = Tracing::new(true, None);
+    let report = serve_traced(device, end, outbox, u64::MAX, tracing, keeping, &mut faults);
     (report, faults.sink().taken.as_slice() == trace)
 }
 
 #[test]
-fn tells_of_each_datagram(rt: HostRuntime) {
+fn prints_each_datagram(rt: HostRuntime) {
     let traced = traced(rt.alloc(), &rt, TRACE);
     passes(
         &rt,

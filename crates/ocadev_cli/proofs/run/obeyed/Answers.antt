@@ -1,5 +1,5 @@
 use Rattle.std.proofs.Common.{Some}
-use Rattle.ocadev_cli.proofs.CommandLemmas.{command-named}
+use Rattle.oca_program.proofs.CommandLemmas.{command-named}
 use Rattle.ocadev_cli.proofs.run.obeyed.Goals as goal
 
 pub returns-in-Some : goal.returns-in-Some

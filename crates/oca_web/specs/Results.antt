@@ -1,0 +1,43 @@
+-- What pages get of their orders, in JSON.
+use Rattle.std.specs.Prelude.{◌≡◌, ℕ, List, [], ◌∷◌, ◌++◌, codes, decimal, Result, Ok, Err}
+use Rattle.json.specs.Token.{Token, begin_array, begin_object, end_array, end_object, key, null, number, string}
+use Rattle.json.specs.Print.{print}
+use Rattle.oca_panel.specs.declared.trouble.Trouble.{Trouble}
+use Rattle.oca_web.specs.declared.order.OrderResult.{OrderResult}
+
+-- whether an order was carried out: null, or words that say why not
+abbrev pub WritesTrouble : Result Unit Trouble → List Token → List Token → Type 0
+WritesTrouble (Ok u) old new = new ≡ old ++ null ∷ []
+WritesTrouble (Err e) old new = (words : List ℕ) × (new ≡ old ++ string words ∷ [])
+
+-- what stands before it: the order's ticket and its object
+abbrev pub with_names : OrderResult → List Token → List Token
+with_names one old =
+    old ++ begin_object ∷ [] ++ key (codes "ticket") ∷ number (decimal one.ticket) ∷ [] ++ key (codes "ono")
+    ∷ number (decimal one.ono.0) ∷ [] ++ key (codes "trouble") ∷ []
+
+-- HOW AN ORDER FARED IS WRITTEN: its ticket, its object, and null where it was carried out, else why not.
+pub record WritesResult (one : OrderResult) (old new : List Token) : Type 0 where
+  pub between : List Token
+  pub trouble : WritesTrouble one.done (with_names one old) between
+  pub end : new ≡ between ++ end_object ∷ []
+
+-- Of each order, in their order.
+unfoldable pub WritesResults : List OrderResult → List Token → List Token → Type 0
+WritesResults [] old new = new ≡ old
+WritesResults (one ∷ all) old new = (between : List Token) × WritesResult one old between
+    × WritesResults all between new
+
+-- THE ANSWER TO /values ends with how the last orders fared.
+pub record WritesValues (all : List OrderResult) (tokens : List Token) : Type 0 where
+  pub before : List Token
+  pub between : List Token
+  pub orders : WritesResults all (before ++ key (codes "told") ∷ begin_array ∷ []) between
+  pub end : tokens ≡ between ++ end_array ∷ end_object ∷ []
+
+-- THE TEXT ENDS SO: what its last tokens print, which end with how the last orders fared
+pub record EndsWithResults (all : List OrderResult) (text : List ℕ) : Type 0 where
+  pub front : List ℕ
+  pub tokens : List Token
+  pub values : WritesValues all tokens
+  pub printed : text ≡ front ++ print tokens

@@ -1,0 +1,293 @@
+//! What a page gets as an answer, in JSON. Values travel as texts, so that those of 64 bits stay exact.
+//!
+//! Each function writes members into a `Writer` that it is lent, in their order; `tree_json` and `values_json` own one.
+ghost use Rattle.std.specs.Prelude.{◌≡◌, ℕ, List, [], ◌∷◌, ◌++◌, decimal, IfOk, OnOk};
+ghost use Rattle.json.specs.Token.{key, number, string};
+ghost use Rattle.oca_web.specs.Results.{WritesResults, WritesResult, EndsWithResults, WritesTrouble, WritesValues};
+
+use crate::inventory::Inventory;
+use crate::object::{Object, class_name, limits_of, word_in};
+use crate::objects::places_since;
+use crate::order::OrderResult;
+use crate::view::View;
+use json::Writer;
+use oca_model::{Reading, Value, word_of};
+use oca_panel::Trouble;
+use std::alloc::{AllocError, Global};
+
+/// A member that is a number.
+fn put_number(out: &mut Writer, name: &str, count: u64) -> Result<(), AllocError>
+    ensures { OnOk result (out.new.tokens ≡ out.old.tokens ++ key name.now ∷ number (decimal count) ∷ []) }
+{
+    out.key(name)?;
+    out.u64(count)
+}
+
+/// A member that is a text.
+fn put_text(out: &mut Writer, name: &str, text: &str) -> Result<(), AllocError> {
+    out.key(name)?;
+    out.string(text)
+}
+
+/// A member that is true or false.
+fn put_truth(out: &mut Writer, name: &str, truth: bool) -> Result<(), AllocError> {
+    out.key(name)?;
+    out.boolean(truth)
+}
+
+/// The word for a value.
+fn put_word(out: &mut Writer, value: Value) -> Result<(), AllocError> {
+    out.string(word_of(value).as_str())
+}
+
+/// What a reading says, or null.
+fn put_value(out: &mut Writer, reading: Option<Reading>) -> Result<(), AllocError> {
+    out.key("value")?;
+    match reading {
+        Some(reading) => out.string(word_in(reading).as_str()),
+        None => out.null(),
+    }
+}
+
+/// The least and the greatest of a reading, or null.
+fn put_limits(out: &mut Writer, reading: Option<Reading>) -> Result<(), AllocError> {
+    out.key("limits")?;
+    match reading.and_then(limits_of) {
+        Some((least, greatest)) => put_both(out, least, greatest),
+        None => out.null(),
+    }
+}
+
+/// Two values.
+fn put_both(out: &mut Writer, least: Value, greatest: Value) -> Result<(), AllocError> {
+    out.begin_array()?;
+    put_word(out, least)?;
+    put_word(out, greatest)?;
+    out.end_array()
+}
+
+/// Why something was not done.
+fn put_words(alloc: Global, out: &mut Writer, trouble: Trouble) -> Result<(), AllocError>
+    ensures { OnOk result ((words : List ℕ) × (out.new.tokens ≡ out.old.tokens ++ string words ∷ [])) }
+{
+    let words = format!(in alloc; "{trouble}")?;
+    out.string(words.as_str())
+}
+
+/// Why something is not there, or null.
+fn put_trouble(
+    alloc: Global,
+    out: &mut Writer,
+    trouble: Option<Trouble>,
+) -> Result<(), AllocError> {
+    out.key("trouble")?;
+    match trouble {
+        Some(trouble) => put_words(alloc, out, trouble),
+        None => out.null(),
+    }
+}
+
+/// The names of a switch's positions.
+fn put_names(out: &mut Writer, object: &Object) -> Result<(), AllocError> {
+    out.key("names")?;
+    out.begin_array()?;
+    for name in object.names.as_slice() {
+        out.string(name.as_str())?;
+    }
+    out.end_array()
+}
+
+/// Which of a switch's positions are enabled.
+fn put_flags(out: &mut Writer, object: &Object) -> Result<(), AllocError> {
+    out.key("flags")?;
+    out.begin_array()?;
+    for flag in object.flags.as_slice() {
+        out.boolean(*flag)?;
+    }
+    out.end_array()
+}
+
+/// What does not change of an object.
+fn put_object(out: &mut Writer, object: &Object) -> Result<(), AllocError> {
+    out.begin_object()?;
+    put_number(out, "ono", u64::from(object.ono.0))?;
+    put_number(out, "in", u64::from(object.container.0))?;
+    put_text(out, "class", class_name(object.class))?;
+    put_text(out, "role", object.role.as_str())?;
+    put_truth(out, "lockable", object.lockable)?;
+    put_names(out, object)?;
+    out.end_object()
+}
+
+/// The objects.
+fn put_objects(out: &mut Writer, objects: &[Object]) -> Result<(), AllocError> {
+    out.key("objects")?;
+    out.begin_array()?;
+    for object in objects {
+        put_object(out, object)?;
+    }
+    out.end_array()
+}
+
+/// The number of the walk, and whether it is over.
+fn put_walk(out: &mut Writer, inventory: &Inventory) -> Result<(), AllocError> {
+    put_number(out, "epoch", inventory.epoch())?;
+    put_truth(out, "walked", inventory.is_walked())
+}
+
+/// The objects, in the order in which they were found: a block stands before its members.
+fn put_tree(out: &mut Writer, inventory: &Inventory) -> Result<(), AllocError> {
+    out.begin_object()?;
+    put_walk(out, inventory)?;
+    put_objects(out, inventory.objects().as_slice())?;
+    out.end_object()
+}
+
+/// The objects, in the order in which they were found: a block stands before its members.
+pub fn tree_json(alloc: Global, inventory: &Inventory) -> Result<Vec<u8>, AllocError> {
+    let mut out = Writer::new(Vec::new(alloc));
+    match put_tree(&mut out, inventory) {
+        Ok(()) => Ok(out.into_inner()),
+        Err(refused) => Err(refused),
+    }
+}
+
+/// What changes of an object.
+fn put_shown(alloc: Global, out: &mut Writer, object: &Object) -> Result<(), AllocError> {
+    out.begin_object()?;
+    put_number(out, "ono", u64::from(object.ono.0))?;
+    put_value(out, object.shown.reading)?;
+    put_limits(out, object.shown.reading)?;
+    put_trouble(alloc, out, object.shown.trouble)?;
+    put_text(out, "lock", object.shown.lock.name())?;
+    put_truth(out, "enabled", object.shown.enabled)?;
+    put_text(out, "label", object.label.as_str())?;
+    put_flags(out, object)?;
+    out.end_object()
+}
+
+/// The objects at these places.
+fn put_places(
+    alloc: Global,
+    out: &mut Writer,
+    objects: &[Object],
+    places: &[usize],
+) -> Result<(), AllocError> {
+    out.key("objects")?;
+    out.begin_array()?;
+    for place in places {
+        if let Some(object) = objects.get(*place) {
+            put_shown(alloc, out, object)?;
+        }
+    }
+    out.end_array()
+}
+
+/// The objects that changed after the change with this number.
+fn put_changes(
+    alloc: Global,
+    out: &mut Writer,
+    objects: &[Object],
+    since: u64,
+) -> Result<(), AllocError> {
+    match places_since(alloc, objects, since) {
+        Ok(places) => put_places(alloc, out, objects, places.as_slice()),
+        Err(_) => Err(AllocError),
+    }
+}
+
+/// Whether an order was carried out: null, or why not.
+fn put_done(alloc: Global, out: &mut Writer, done: Result<(), Trouble>) -> Result<(), AllocError>
+    ensures { OnOk result (WritesTrouble done out.old.tokens out.new.tokens) }
+{
+    match done {
+        Ok(()) => out.null(),
+        Err(trouble) => put_words(alloc, out, trouble),
+    }
+}
+
+/// How an order fared.
+#[tactic(auto, using(crate::proofs::ResultLemmas::result_whole))]
+fn put_result(alloc: Global, out: &mut Writer, one: OrderResult) -> Result<(), AllocError>
+    ensures { OnOk result (WritesResult one out.old.tokens out.new.tokens) }
+{
+    out.begin_object()?;
+    put_number(out, "ticket", one.ticket)?;
+    put_number(out, "ono", u64::from(one.ono.0))?;
+    out.key("trouble")?;
+    put_done(alloc, out, one.done)?;
+    out.end_object()
+}
+
+/// How orders fared.
+#[tactic(auto, using(crate::proofs::ResultLemmas::results_first, crate::proofs::ResultLemmas::results_none))]
+fn put_orders(alloc: Global, out: &mut Writer, all: &[OrderResult]) -> Result<(), AllocError>
+    ensures { OnOk result (WritesResults all.now out.old.tokens out.new.tokens) }
+{
+    match all.split_first() {
+        Some((first, rest)) => {
+            put_result(alloc, out, *first)?;
+            put_orders(alloc, out, rest)
+        }
+        None => Ok(()),
+    }
+}
+
+/// How many milliseconds ago a moment was, or null.
+fn put_ago(out: &mut Writer, name: &str, now: u64, moment: Option<u64>) -> Result<(), AllocError> {
+    out.key(name)?;
+    match moment {
+        Some(moment) => out.u64(now.saturating_sub(moment)),
+        None => out.null(),
+    }
+}
+
+/// How the link is: datagrams that carried neither a keep-alive nor a command for the first time are retransmissions.
+fn put_link(out: &mut Writer, view: &View) -> Result<(), AllocError> {
+    let news = view.news();
+    let submitted = view.submitted();
+    let first = news.keep_alives.saturating_add(submitted);
+    out.key("link")?;
+    out.begin_object()?;
+    put_ago(out, "heard", news.now, news.heard)?;
+    put_ago(out, "lost_for", news.now, news.lost_since)?;
+    put_number(out, "in_flight", view.in_flight() as u64)?;
+    put_number(out, "commands", submitted)?;
+    put_number(out, "again", news.sent.saturating_sub(first))?;
+    put_number(out, "lost", news.lost)?;
+    out.end_object()
+}
+
+/// What changed, and how the link is.
+fn put_news(alloc: Global, out: &mut Writer, view: &View, since: u64) -> Result<(), AllocError> {
+    let objects = view.inventory().objects();
+    put_walk(out, view.inventory())?;
+    put_number(out, "change", objects.changes())?;
+    put_changes(alloc, out, objects.as_slice(), since)?;
+    put_link(out, view)
+}
+
+/// The objects that changed after the change with this number, how the link is, and how the last orders fared.
+fn put_values(alloc: Global, out: &mut Writer, view: &View, since: u64) -> Result<(), AllocError>
+    ensures { OnOk result (WritesValues view.now.orders.results out.new.tokens) }
+{
+    out.begin_object()?;
+    put_news(alloc, out, view, since)?;
+    out.key("told")?;
+    out.begin_array()?;
+    put_orders(alloc, out, view.orders().results())?;
+    out.end_array()?;
+    out.end_object()
+}
+
+/// The objects that changed after the change with this number, how the link is, and how the last orders fared.
+#[tactic(auto, using(crate::proofs::ResultLemmas::results_text))]
+pub fn values_json(alloc: Global, view: &View, since: u64) -> Result<Vec<u8>, AllocError>
+    ensures { IfOk result (λ v. EndsWithResults view.now.orders.results v.items) }
+{
+    let mut out = Writer::new(Vec::new(alloc));
+    match put_values(alloc, &mut out, view, since) {
+        Ok(()) => Ok(out.into_inner()),
+        Err(refused) => Err(refused),
+    }
+}

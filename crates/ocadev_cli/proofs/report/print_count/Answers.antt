@@ -1,0 +1,16 @@
+use Rattle.std.proofs.Common.{ℕ, List, ap, ◌∙◌, append_assoc, decimal}
+use Rattle.oca_script.specs.Ends.{output}
+use Rattle.std.proofs.lemmas.Result.{err_from_is_err_and}
+use Rattle.oca_script.proofs.PrintLemmas.{prints-err, printed-held}
+use Rattle.ocadev_cli.proofs.report.print_count.Goals as goal
+
+pub returns-in_err-make_room : goal.returns-in_err-make_room
+returns-in_err-make_room g c =
+    let p = err_from_is_err_and c.from_residual.result c.from_residual.ensures.1 in
+    prints-err _ p.0 _ _ _ p.1 c.in_err-make_room.ensures.prints
+
+pub returns : goal.returns
+returns g c =
+    let room = c.make_room.new.self in
+    printed-held _ room _ _ (c.put_count.ensures.value ∙ ap (λ (l : List ℕ). output room.contents l room.failed) (append_assoc room.held c.args.word.now (decimal c.args.count)))
+    c.in_ok-make_room.ensures.prints

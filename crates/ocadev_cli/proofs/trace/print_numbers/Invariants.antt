@@ -1,0 +1,7 @@
+use Rattle.std.proofs.Common.{◌++◌, codes, decimal, take}
+use Rattle.std.specs.List.{flat_map}
+use Rattle.oca_script.specs.Printing.{PrintsAll}
+use Rattle.ocadev_cli.proofs.trace.print_numbers.Given as goal
+
+abbrev pub invariant-loop-i : goal.invariant-loop-i
+invariant-loop-i g l = PrintsAll l.fn.faults l.faults (flat_map (λ n. codes " " ++ decimal n.0) (take l.i l.objects))
