@@ -63,12 +63,15 @@ first-removed (x ∷ xs) ys h some first rest = ap (λ (z : ℕ). z ∷ xs) (sym
 
 pub submits : (request : RequestFields) (answer : Result Handle ControlFault) (h : Handle) (s old new : SessionState) → s ≡ old → answer ≡ Ok h
     → Begins request answer s.link new.link s.end_state new.end_state
-    → new.under_way ≡ s.under_way ++ h.0 ∷ [] → new.ahead ≡ s.ahead → new.unanswered ≡ s.unanswered → Submitted request (Ok h) old new
-submits request answer h s old new e is begins under_way ahead unanswered = subst (λ (x : SessionState). Submits request h x new) e (record {
+    → new.under_way ≡ s.under_way ++ h.0 ∷ [] → new.ahead ≡ s.ahead → new.unanswered ≡ s.unanswered → new.socket ≡ s.socket → new.is_open ≡ true
+    → Submitted request (Ok h) old new
+submits request answer h s old new e is begins under_way ahead unanswered socket is_open = subst (λ (x : SessionState). Submits request h x new) e (record {
   begins = subst (λ (z : Result Handle ControlFault). Begins request z s.link new.link s.end_state new.end_state) is begins;
   under_way = under_way;
   ahead = ahead;
   unanswered = unanswered;
+  socket = socket;
+  is_open = is_open;
 })
 
 -- what is refused changes nothing
@@ -98,9 +101,9 @@ awaited left r s w v a b h few = record { text = h.0; awaits = (h.1, few); print
 
 pub first-awaited : (old new : SessionState) (h : ℕ) (o : Outcome) → old.under_way ≡ h ∷ new.under_way → Waits h most_turns old.link o new.link old.end_state new.end_state
     → (new.end_state.receives < last_u64 → ReceivesSoOften most_turns o old.end_state.receives new.end_state.receives) → new.ahead ≡ old.ahead
-    → new.unanswered ≡ (old.unanswered || outcome_status o == 3) → AwaitsFirst old new o
-first-awaited old new h o first waits asks ahead unanswered =
-    record { handle = h; first = first; waits = waits; asks = asks; ahead = ahead; unanswered = unanswered }
+    → new.unanswered ≡ (old.unanswered || outcome_status o == 3) → new.socket ≡ old.socket → new.is_open ≡ old.is_open → AwaitsFirst old new o
+first-awaited old new h o first waits asks ahead unanswered socket is_open =
+    record { handle = h; first = first; waits = waits; asks = asks; ahead = ahead; unanswered = unanswered; socket = socket; is_open = is_open }
 
 pub awaited-from : (s old new : SessionState) (o : Outcome) → s ≡ old → AwaitsFirst s new o → AwaitsFirst old new o
 awaited-from s old new o e h = subst (λ (x : SessionState). AwaitsFirst x new o) e h

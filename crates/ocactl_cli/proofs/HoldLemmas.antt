@@ -3,11 +3,11 @@ use Rattle.std.proofs.Common.{◌≡◌, ℕ, ◌+◌, ◌<◌, List, [], ◌∷
 use Rattle.std.specs.Prelude.{map}
 use Rattle.std.proofs.lemmas.List.{flat_map_more}
 use Rattle.oca_types.specs.declared.words.Ono.{Ono}
-use Rattle.oca_script.specs.Ends.{Output}
+use Rattle.oca_script.specs.Ends.{Input, Output}
 use Rattle.oca_script.specs.Printing.{PrintsAll}
 use Rattle.oca_panel.specs.Panels.{PanelState}
 use Rattle.ocactl_cli.specs.declared.told.Told.{Told}
-use Rattle.ocactl_cli.specs.Hands.{AsksAll, HoldsAll, KeepsHeld, KeepsLocks, Locks, NoneAsked, OneAsked, TakesTurns, gravest, graver_of, held_if, held_of, held_one, told_status}
+use Rattle.ocactl_cli.specs.Hands.{AsksAll, HoldsAll, KeepsHeld, KeepsLocks, KeepsUntilEnd, Locks, NoneAsked, OneAsked, gravest, graver_of, held_if, held_of, held_one, told_status}
 use Rattle.ocactl_cli.specs.PrivateHands.{LocksEach, LocksNext, TellsAll, TellsNext, number_of}
 use Rattle.ocactl_cli.proofs.HandLemmas.{line-told, map-take, tells-next, writes-none}
 
@@ -42,25 +42,25 @@ locked-next onos i d status now held more r s t a b c h x y =
     (locked-more (map number_of (take i onos)) (number_of (get_or onos i d)) status now held more r s t a b c x y)
 
 -- some locks were kept, and taken off
-pub kept-some : (held : List Ono) (before after status : ℕ) (r s t : PanelState) (a b : Output) → 0 < length held → TakesTurns r s
-    → AsksAll (Locks false) (map number_of held) s t after a b → status ≡ graver_of before after → KeepsHeld (map number_of held) before r t status a b
-kept-some [] before after status r s t a b some turns unlocks worst = absurd (omega (arith, some))
-kept-some (o ∷ held) before after status r s t a b some turns unlocks worst =
-    record { kept = s; after = after; turns = turns; unlocks = unlocks; worst = worst }
+pub kept-some : (held : List Ono) (before after status : ℕ) (r s t : PanelState) (i j : Input) (a b : Output) → 0 < length held → KeepsUntilEnd r s i j
+    → AsksAll (Locks false) (map number_of held) s t after a b → status ≡ graver_of before after → KeepsHeld (map number_of held) before r t status i j a b
+kept-some [] before after status r s t i j a b some keeps unlocks worst = absurd (omega (arith, some))
+kept-some (o ∷ held) before after status r s t i j a b some keeps unlocks worst =
+    record { kept = s; after = after; keeps = keeps; unlocks = unlocks; worst = worst }
 
-pub kept-none : (held : List Ono) (before : ℕ) (s : PanelState) (a : Output) → held ≡ [] → KeepsHeld (map number_of held) before s s before a a
-kept-none held before s a none = subst (λ (os : List Ono). KeepsHeld (map number_of os) before s s before a a) (sym none) (refl, refl, refl)
+pub kept-none : (held : List Ono) (before : ℕ) (s : PanelState) (i : Input) (a : Output) → held ≡ [] → KeepsHeld (map number_of held) before s s before i i a a
+kept-none held before s i a none = subst (λ (os : List Ono). KeepsHeld (map number_of os) before s s before i i a a) (sym none) (refl, refl, refl, refl)
 
 -- locked, and kept
-pub held-all : (targets : List ℕ) (held : List Ono) (before status : ℕ) (r s t : PanelState) (a b c : Output)
-    → LocksEach targets r s before held a b → KeepsHeld (map number_of held) before s t status b c → HoldsAll targets r t status a c
-held-all targets held before status r s t a b c h k = record {
+pub held-all : (targets : List ℕ) (held : List Ono) (before status : ℕ) (r s t : PanelState) (i j : Input) (a b c : Output)
+    → LocksEach targets r s before held a b → KeepsHeld (map number_of held) before s t status i j b c → HoldsAll targets r t status i j a c
+held-all targets held before status r s t i j a b c h k = record {
   fared = h.fared;
   locked = s;
   between = b;
   locks = h.locks;
   writes = h.writes;
   keeps =
-      subst (λ (n : ℕ). KeepsHeld (held_of h.fared) n s t status b c) h.worst
-      (subst (λ (ns : List ℕ). KeepsHeld ns before s t status b c) h.listed k);
+      subst (λ (n : ℕ). KeepsHeld (held_of h.fared) n s t status i j b c) h.worst
+      (subst (λ (ns : List ℕ). KeepsHeld ns before s t status i j b c) h.listed k);
 }

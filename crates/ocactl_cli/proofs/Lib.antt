@@ -6,3 +6,6 @@ mod TurnLemmas
 mod HandLemmas
 mod TreeLemmas
 mod HoldLemmas
+mod ProbeLemmas
+mod MatchLemmas
+mod SocketLemmas

@@ -3,7 +3,10 @@ use Rattle.std.proofs.Common.{◌≡◌, ℕ, List, Bool, Result, Ok, Err, refl,
 use Rattle.std.specs.Prelude.{IfOk, IfErr, OnErr, if◌then◌else◌}
 use Rattle.oca_types.specs.Sizes.{span_size}
 use Rattle.oca_control.specs.Links.{LinkState, new_link}
+use Rattle.oca_net.specs.EndStates.{EndState}
 use Rattle.oca_panel.specs.Panels.{PanelState}
+use Rattle.oca_panel.specs.declared.own_port.OwnPort.{OwnPort}
+use Rattle.ocactl_cli.specs.Sockets.{IsOwnPort}
 use Rattle.oca_script.specs.declared.fault.ReplayFault.{ReplayFault}
 use Rattle.oca_script.specs.declared.fault.WriteFailed.{WriteFailed}
 use Rattle.oca_script.specs.Ends.{Input, Output}
@@ -51,12 +54,13 @@ pub replays-part : (linking : Linking) (link after : LinkState) (e : ReplayFault
 replays-part linking link after e why had has was is same made h =
     record { after = after; replayed = Err e; ends = ap failed same; outcome = subst (λ (l : LinkState). Replayed l after (Err e) had has was is) made h }
 
-pub sends-all : (reach : Reach) (sending : Sending) (status : ℕ) (was is : Output) → AsksOver reach sending (Ok status) was is → SendsOne reach sending (Ok status) was is
-sends-all reach sending status was is h = record { sent = Ok status; asks = h; ends = refl }
+pub sends-all : (reach : Reach) (sending : Sending) (own : OwnPort) (before : EndState) (status : ℕ) (was is : Output) → IsOwnPort own
+    → AsksOver reach own.first_handle.0 sending before (Ok status) was is → SendsOne reach sending before (Ok status) was is
+sends-all reach sending own before status was is by h = record { own = own; by_clock = by; sent = Ok status; asks = h; ends = refl }
 
-pub sends-part : (reach : Reach) (sending : Sending) (e : WriteFailed) (why : RunFault) (was is : Output)
-    → why ≡ Write → AsksOver reach sending (Err e) was is → SendsOne reach sending (Err why) was is
-sends-part reach sending e why was is same h = record { sent = Err e; asks = h; ends = ap failed same }
+pub sends-part : (reach : Reach) (sending : Sending) (own : OwnPort) (before : EndState) (e : WriteFailed) (why : RunFault) (was is : Output) → IsOwnPort own
+    → why ≡ Write → AsksOver reach own.first_handle.0 sending before (Err e) was is → SendsOne reach sending before (Err why) was is
+sends-part reach sending own before e why was is by same h = record { own = own; by_clock = by; sent = Err e; asks = h; ends = ap failed same }
 
 pub runs-all : (session after : SessionState) (u : Unit {0}) (status : ℕ) (had has : Input) (was is : Output)
     → status ≡ (if after.unanswered then 3 else 0) → SendsLines session after was is had has (Ok u) → RunsFrom session (Ok status) had has was is

@@ -1,5 +1,5 @@
 -- How commands fare that are sent over a network, one or those of lines (*profile*).
-use Rattle.std.specs.Prelude.{IfSome, ◌≡◌, ℕ, ◌-◌, ◌<◌, ◌≤◌, ◌==◌, Bool, ◌||◌, true, false, None, if◌then◌else◌, List, [], ◌∷◌, ◌++◌, length, codes, Result, Ok, Err}
+use Rattle.std.specs.Prelude.{IfSome, MatchOption, Option, ◌≡◌, ℕ, ℤ, ◌-◌, ◌<◌, ◌≤◌, ◌==◌, Bool, ◌||◌, ◌&&◌, not, min, true, false, Some, None, if◌then◌else◌, List, [], ◌∷◌, ◌++◌, length, codes, Result, Ok, Err}
 use Rattle.oca_types.specs.declared.words.Handle.{Handle}
 use Rattle.oca_types.specs.Peers.{RequestFields}
 use Rattle.oca_net.specs.Ends.{last_u64}
@@ -9,9 +9,9 @@ use Rattle.oca_control.specs.declared.outcome.Outcome.{Outcome}
 use Rattle.oca_control.specs.declared.outcome.Outcome.TheVariants as outcomes
 use Rattle.oca_control.specs.declared.report.DriveReport.{DriveReport}
 use Rattle.oca_control.specs.Answers.{answer_fields}
-use Rattle.oca_control.specs.Links.{LinkState}
+use Rattle.oca_control.specs.Links.{LinkState, IsNextDue, NeverIsDue}
 use Rattle.oca_control.specs.Turning.{Turns}
-use Rattle.oca_control.specs.Asking.{Waits, ReceivesSoOften, Begins, Asks, refused_by}
+use Rattle.oca_control.specs.Asking.{Waits, ReceivesSoOften, Begins, Asks, IsPresent, refused_by}
 use Rattle.oca_control.specs.Untaken.{answer_under}
 use Rattle.oca_script.specs.declared.fault.ReplayFault.{ReplayFault}
 use Rattle.oca_script.specs.declared.fault.ReplayFault.TheVariants.{Line, Read, Write, TooMuch}
@@ -54,17 +54,42 @@ abbrev pub most_turns : ℕ
 most_turns = 4294967295
 
 -- A link, what the end that it is driven over says of itself, the handles of the commands under way in the order of their lines, how
--- many may be, and whether a command got no answer so far.
+-- many may be, and whether a command got no answer so far; the end's descriptor, where it has one that is awaited beside
+-- input; and whether a command was submitted.
 pub record SessionState : Type 0 where
   pub link : LinkState
   pub end_state : EndState
   pub under_way : List ℕ
   pub ahead : ℕ
   pub unanswered : Bool
+  pub socket : Option ℤ
+  pub is_open : Bool
 
 -- no command is under way
 abbrev pub NoneUnderWay : SessionState → Type 0
 NoneUnderWay s = length s.under_way ≤ 0
+
+-- there is nothing to do: no command is under way, and none was submitted or the link is lost
+abbrev pub is_over : SessionState → Bool
+is_over s = (length s.under_way == 0) && (not s.is_open || s.link.lost)
+
+-- How long input may be awaited before the next turn, in milliseconds: until this moment, an hour at most; and not at
+-- all where no descriptor is awaited beside it.
+abbrev pub time_until : Option ℕ → (now : ℕ) → ℕ
+time_until None now = 3600000
+time_until (Some due) now = min (due - now) 3600000
+
+abbrev pub time_beside : Option ℤ → Option ℕ → (now : ℕ) → ℕ
+time_beside None due now = 0
+time_beside (Some socket) due now = time_until due now
+
+-- the next moment at which the link has something to send is counted from the end's present one
+pub record IsPatience (s : SessionState) (time : ℕ) : Type 0 where
+  pub now : ℕ
+  pub due : Option ℕ
+  pub present : IsPresent now s.end_state
+  pub next : MatchOption due (NeverIsDue s.link) (λ t. IsNextDue s.link t)
+  pub beside : time ≡ time_beside s.socket due now
 
 -- The first command under way was waited for, and came out so.
 pub record AwaitsFirst (old new : SessionState) (outcome : Outcome) : Type 0 where
@@ -74,6 +99,8 @@ pub record AwaitsFirst (old new : SessionState) (outcome : Outcome) : Type 0 whe
   pub asks : new.end_state.receives < last_u64 → ReceivesSoOften most_turns outcome old.end_state.receives new.end_state.receives
   pub ahead : new.ahead ≡ old.ahead
   pub unanswered : new.unanswered ≡ (old.unanswered || outcome_status outcome == 3)
+  pub socket : new.socket ≡ old.socket
+  pub is_open : new.is_open ≡ old.is_open
 
 -- Commands under way were waited for, one after another, while more than `left` were; how each came out is printed.
 pub data Awaits (left : ℕ) : (old new : SessionState) (text : List ℕ) → Type 0 where
@@ -97,6 +124,8 @@ pub record TakesOne (old new : SessionState) : Type 0 where
   pub under_way : new.under_way ≡ old.under_way
   pub ahead : new.ahead ≡ old.ahead
   pub unanswered : new.unanswered ≡ old.unanswered
+  pub socket : new.socket ≡ old.socket
+  pub is_open : new.is_open ≡ old.is_open
 
 -- WHILE INPUT IS AWAITED turns are taken, and it is printed how commands came out, in the order of their lines. A turn is taken only
 -- where the first command under way has not come out yet.
@@ -111,6 +140,8 @@ pub record Submits (request : RequestFields) (handle : Handle) (old new : Sessio
   pub under_way : new.under_way ≡ old.under_way ++ handle.0 ∷ []
   pub ahead : new.ahead ≡ old.ahead
   pub unanswered : new.unanswered ≡ old.unanswered
+  pub socket : new.socket ≡ old.socket
+  pub is_open : new.is_open ≡ true
 
 -- The command was refused, which changes nothing.
 abbrev pub Refuses : RequestFields → ControlFault → SessionState → Type 0

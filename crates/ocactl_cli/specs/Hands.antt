@@ -1,5 +1,5 @@
 -- What is asked of objects in words, and what is told of them (AES70-2; the words are the profile's).
-use Rattle.std.specs.Prelude.{◌≡◌, ◌⊎◌, ◌<◌, ℕ, Bool, true, false, ◌==◌, ◌||◌, if◌then◌else◌, List, [], ◌∷◌, ◌++◌, length, codes, decimal, Option, Some, None, Result, Ok, Err}
+use Rattle.std.specs.Prelude.{◌≡◌, ◌⊎◌, ◌+◌, ◌<◌, ℕ, Bool, true, false, ◌==◌, ◌||◌, if◌then◌else◌, List, [], ◌∷◌, ◌++◌, length, codes, decimal, Option, Some, None, Result, Ok, Err}
 use Rattle.std.specs.List.{position, flat_map, fold}
 use Rattle.std.specs.Str.{bytes_eq}
 use Rattle.oca_types.specs.declared.class.Class.{Class}
@@ -7,7 +7,10 @@ use Rattle.oca_types.specs.declared.class.Class.TheVariants as class
 use Rattle.oca_types.specs.declared.words.Handle.{Handle}
 use Rattle.oca_script.specs.Escapes.{escaped}
 use Rattle.oca_script.specs.Fields.{number_of}
-use Rattle.oca_script.specs.Ends.{Output}
+use Rattle.oca_script.specs.Ends.{Input, Output, Remembers}
+use Rattle.oca_script.specs.declared.fault.ReadFailed.{ReadFailed}
+use Rattle.std.specs.Io.KnownBytes.{ReadConsumes}
+use Rattle.oca_net.specs.Ends.{last_u64}
 use Rattle.oca_script.specs.Printing.{WritesWhole}
 use Rattle.oca_program.specs.declared.fault.Failure.{Failure}
 use Rattle.oca_program.specs.declared.fault.RunFault.TheVariants as runs
@@ -319,32 +322,64 @@ held_one fared = held_if fared.0 (told_status fared.1)
 abbrev pub held_of : List (ℕ × Told) → List ℕ
 held_of fared = flat_map held_one fared
 
--- turns were taken
-pub data TakesTurns : (old new : PanelState) → Type 0 where
-  NoTurn : {s : PanelState} → TakesTurns s s
-  OneTurn : {r s t : PanelState} {further : Bool} → TakesTurns r s → TurnsOnce s t further → TakesTurns r t
+-- nothing more comes of an input whose read gave no byte, or failed
+abbrev pub ends_input : Result ℕ ReadFailed → Bool
+ends_input (Ok count) = count == 0
+ends_input (Err e) = true
 
--- Their locks were kept for some turns, and then taken off; the exit status is the graver one.
-pub record KeepsLocks (held : List ℕ) (before : ℕ) (old new : PanelState) (status : ℕ) (was is : Output) : Type 0 where
+-- The input was read once, with room for 4,096 bytes, and that gave this.
+pub record ReadsOnce (read : Result ℕ ReadFailed) (had has : Input) : Type 0 where
+  pub bytes : List ℕ
+  pub room : length bytes ≡ 4096
+  pub consumes : ReadConsumes had.remaining has.remaining read bytes
+  pub failed : Remembers read had.failed has.failed
+
+-- It was read where a read does not wait; and whether it has ended.
+abbrev pub LooksAtInput : (ended : Bool) → Input → Input → Type 0
+LooksAtInput ended had has =
+    ((ended ≡ false) × (has ≡ had)) ⊎ ((read : Result ℕ ReadFailed) × ReadsOnce read had has × (ended ≡ ends_input read))
+
+-- So many turns were taken, each of which the link went on from, and before each the input had not ended.
+pub data KeepsOn : (turns : ℕ) (old new : PanelState) (had has : Input) → Type 0 where
+  NoTurn : {s : PanelState} {i : Input} → KeepsOn 0 s s i i
+  OneTurn : {n : ℕ} {r s t : PanelState} {i j k : Input} → KeepsOn n r s i j → LooksAtInput false j k → TurnsOnce s t true
+      → KeepsOn (n + 1) r t i k
+
+-- no more turns were taken: the input had ended, or the link did not go on from a turn, or there were as many turns as a
+-- number of 64 bits counts
+abbrev pub StopsKeeping : (turns : ℕ) → PanelState → PanelState → Input → Input → Type 0
+StopsKeeping n s t i j =
+    ((t ≡ s) × LooksAtInput true i j) ⊎ ((LooksAtInput false i j × TurnsOnce s t false) ⊎ ((n ≡ last_u64) × (t ≡ s) × (j ≡ i)))
+
+-- THE LINK WAS DRIVEN until the input ended.
+pub record KeepsUntilEnd (old new : PanelState) (had has : Input) : Type 0 where
+  pub turns : ℕ
+  pub last : PanelState
+  pub left : Input
+  pub keeps : KeepsOn turns old last had left
+  pub stops : StopsKeeping turns last new left has
+
+-- Their locks were kept until the input ended, and then taken off; the exit status is the worse one.
+pub record KeepsLocks (held : List ℕ) (before : ℕ) (old new : PanelState) (status : ℕ) (had has : Input) (was is : Output) : Type 0 where
   pub kept : PanelState
   pub after : ℕ
-  pub turns : TakesTurns old kept
+  pub keeps : KeepsUntilEnd old kept had has
   pub unlocks : AsksAll (Locks false) held kept new after was is
   pub worst : status ≡ graver_of before after
 
 -- where there are any
-abbrev pub KeepsHeld : List ℕ → (before : ℕ) → PanelState → PanelState → (status : ℕ) → Output → Output → Type 0
-KeepsHeld [] before old new status was is = (status ≡ before) × (new ≡ old) × (is ≡ was)
-KeepsHeld (target ∷ held) before old new status was is = KeepsLocks (target ∷ held) before old new status was is
+abbrev pub KeepsHeld : List ℕ → (before : ℕ) → PanelState → PanelState → (status : ℕ) → Input → Input → Output → Output → Type 0
+KeepsHeld [] before old new status had has was is = (status ≡ before) × (new ≡ old) × (has ≡ had) × (is ≡ was)
+KeepsHeld (target ∷ held) before old new status had has was is = KeepsLocks (target ∷ held) before old new status had has was is
 
--- ALL OBJECTS WERE LOCKED, and those that are locked kept so for some turns, and unlocked then. When these turns end no clause says.
-pub record HoldsAll (targets : List ℕ) (old new : PanelState) (status : ℕ) (was is : Output) : Type 0 where
+-- ALL OBJECTS WERE LOCKED, and those that are locked kept so until the input ended, and unlocked then.
+pub record HoldsAll (targets : List ℕ) (old new : PanelState) (status : ℕ) (had has : Input) (was is : Output) : Type 0 where
   pub fared : List (ℕ × Told)
   pub locked : PanelState
   pub between : Output
   pub locks : InTurn (Locks true) targets fared old locked
   pub writes : WritesWhole was between (fared_lines fared)
-  pub keeps : KeepsHeld (held_of fared) (gravest fared) locked new status between is
+  pub keeps : KeepsHeld (held_of fared) (gravest fared) locked new status had has between is
 
 -- ---- the words of the command line
 

@@ -10,3 +10,8 @@ pub mod PrivateTrees
 pub mod Asked
 pub mod Sockets
 pub mod Runs
+pub mod CommandLine
+pub mod PrivateCommandLine
+pub mod Matching
+pub mod Probes
+pub mod PrivateSockets

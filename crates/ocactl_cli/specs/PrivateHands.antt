@@ -2,7 +2,7 @@
 use Rattle.std.specs.Prelude.{◌≡◌, ◌⊎◌, ◌<◌, ◌≤◌, ℕ, Bool, true, false, List, [], ◌∷◌, ◌++◌, length, map, Some, Result, Ok, Err}
 use Rattle.oca_types.specs.declared.words.Ono.{Ono}
 use Rattle.oca_script.specs.declared.fault.WriteFailed.{WriteFailed}
-use Rattle.oca_script.specs.Ends.{Output}
+use Rattle.oca_script.specs.Ends.{Input, Output}
 use Rattle.oca_script.specs.Printing.{WritesWhole, WritesFront}
 use Rattle.oca_program.specs.declared.fault.Failure.{Failure}
 use Rattle.oca_program.specs.declared.fault.RunFault.TheVariants.{NoMemory, Write}
@@ -16,7 +16,8 @@ use Rattle.ocactl_cli.specs.declared.setting.Wish.{Wish}
 use Rattle.ocactl_cli.specs.declared.setting.Submitted.{Submitted}
 use Rattle.ocactl_cli.specs.declared.told.Told.{Told}
 use Rattle.ocactl_cli.specs.declared.told.Told.TheVariants.{Hindered}
-use Rattle.ocactl_cli.specs.Hands.{InTurn, KeepsHeld, Locks, held_if, held_of, FindsValue, FindsAll, OnlyFinds, GivesUp, SetCommand, SetsUpTo, SetsEach, fared_by, fared_line, fared_lines, gravest, graver_of, last_refused, line_of, ono_said, told_status}
+use Rattle.oca_script.specs.declared.fault.ReadFailed.{ReadFailed}
+use Rattle.ocactl_cli.specs.Hands.{InTurn, KeepsHeld, ReadsOnce, ends_input, Locks, held_if, held_of, FindsValue, FindsAll, OnlyFinds, GivesUp, SetCommand, SetsUpTo, SetsEach, fared_by, fared_line, fared_lines, gravest, graver_of, last_refused, line_of, ono_said, told_status}
 
 abbrev pub pair_of : Pair → ℕ × List ℕ
 pair_of p = (p.ono.0, p.word)
@@ -168,7 +169,18 @@ pub record LocksNext (target : ℕ) (old new : PanelState) (status now : ℕ) (h
   pub tells : TellsOne (Locks true) target old new (Ok own) was is
   pub lists : ListsHeld target own status now held more
 
+-- one more was locked; or the sink failed, or there was no memory to list the object, which was locked then
+abbrev pub LocksNextOr : (target : ℕ) → PanelState → PanelState → (status : ℕ) → Result ℕ Failure → (held more : List Ono) → Output → Output → Type 0
+LocksNextOr target old new status (Ok now) held more was is = LocksNext target old new status now held more was is
+LocksNextOr target old new status (Err failure) held more was is =
+    ((failure.fault ≡ Write) × (is.failed ≡ true)) ⊎ ((failure.fault ≡ NoMemory) × TellsOne (Locks true) target old new (Ok 0) was is)
+
+-- the input was read, unless it was not ready
+abbrev pub ReadsWhereReady : (ready ended : Bool) → Input → Input → Type 0
+ReadsWhereReady ready ended had has =
+    (ready ≡ false) ⊎ ((read : Result ℕ ReadFailed) × ReadsOnce read had has × (ended ≡ ends_input read))
+
 -- what was held is kept and taken off, or the sink failed
-abbrev pub KeepsOrFails : List ℕ → ℕ → PanelState → PanelState → Result ℕ Failure → Output → Output → Type 0
-KeepsOrFails held before old new (Ok status) was is = KeepsHeld held before old new status was is
-KeepsOrFails held before old new (Err failure) was is = GivesUp failure is
+abbrev pub KeepsOrFails : List ℕ → ℕ → PanelState → PanelState → Result ℕ Failure → Input → Input → Output → Output → Type 0
+KeepsOrFails held before old new (Ok status) had has was is = KeepsHeld held before old new status had has was is
+KeepsOrFails held before old new (Err failure) had has was is = (failure.fault ≡ Write) × (is.failed ≡ true)

@@ -1,7 +1,10 @@
 -- What a run of the program does, by its words (*profile*).
-use Rattle.std.specs.Prelude.{◌≡◌, ◌⊎◌, ℕ, Bool, true, false, if◌then◌else◌, List, [], map}
+use Rattle.std.specs.Prelude.{◌≡◌, ◌⊎◌, ℕ, ℤ, Bool, true, false, if◌then◌else◌, List, [], map}
 use Rattle.std.specs.Prelude.{Option, None, Some, Result, Ok, Err, OnErr}
+use Rattle.clap.specs.Values.{kind_of}
+use Rattle.clap.specs.declared.error.Error.{Error}
 use Rattle.clap.specs.declared.error.kind.ErrorKind.{ErrorKind}
+use Rattle.clap.specs.declared.error.kind.ErrorKind.TheVariants as kinds
 use Rattle.clap.specs.declared.parser.matches.ArgMatches.{ArgMatches}
 use Rattle.oca_types.specs.Sizes.{span_size}
 use Rattle.oca_net.specs.EndStates.{EndState}
@@ -11,7 +14,7 @@ use Rattle.oca_script.specs.declared.fault.WriteFailed.{WriteFailed}
 use Rattle.oca_script.specs.Ends.{Input, Output}
 use Rattle.oca_script.specs.Printing.{WritesOut}
 use Rattle.oca_script.specs.Replaying.{NeverIdles, Outcome}
-use Rattle.oca_program.specs.Commands.{AreMatchesOf, IsCommand}
+use Rattle.oca_program.specs.Commands.{IsCommand}
 use Rattle.oca_program.specs.Faults.{fault_status, run_fault, words_fault}
 use Rattle.oca_program.specs.declared.fault.RunFault.{RunFault}
 use Rattle.oca_program.specs.declared.fault.RunFault.TheVariants as fault
@@ -20,9 +23,13 @@ use Rattle.ocactl_replay.specs.Requests.{asked_call}
 use Rattle.ocactl_replay.specs.Replaying.{Serves as CallsLink}
 use Rattle.ocactl_cli.specs.Asked.{AsksFor, IsRefusal}
 use Rattle.ocactl_cli.specs.Exchanges.{AsksOnce, SendsLines, SessionState}
-use Rattle.ocactl_cli.specs.Hands.{AsksAll, HoldsAll, Gets, Locks, SetsAll, SetsNoneUnfound}
+use Rattle.ocactl_cli.specs.Hands.{AsksAll, HoldsAll, Gets, Locks, SetsAll, SetsNoneUnfound, is_locking}
 use Rattle.ocactl_cli.specs.PrivateHands.{number_of, pair_of}
-use Rattle.ocactl_cli.specs.Sockets.{IsLinkTo, IsUnreached}
+use Rattle.ocactl_cli.specs.Matching.{AreMatched}
+use Rattle.ocactl_cli.specs.Sockets.{IsOwnPort, IsReached, IsUnreached, end_at, link_for, port_or_any}
+use Rattle.oca_panel.specs.declared.own_port.OwnPort.{OwnPort}
+use Rattle.oca_types.specs.declared.words.Peer.{Peer}
+use Rattle.oca_net.specs.Sockets.{IsBoundAt}
 use Rattle.ocactl_cli.specs.Trees.{PrintsTree}
 use Rattle.ocactl_cli.specs.Words.{sending_fields}
 use Rattle.ocactl_cli.specs.declared.told.Told.{Told}
@@ -87,32 +94,46 @@ pub record ReplaysOn (linking : Linking) (ended : Result ℕ RunFault) (had has 
 
 -- ---- one command
 
--- It was asked over a new link, for as many turns as were said, and how it fared was written.
-pub record AsksOver (reach : Reach) (sending : Sending) (sent : Result ℕ WriteFailed) (was is : Output) : Type 0 where
-  pub link : LinkState
+-- It was asked over a new link and an end that did nothing before, for as many turns as were said, and how it fared was
+-- written.
+pub record AsksOver (reach : Reach) (first : ℕ) (sending : Sending) (before : EndState) (sent : Result ℕ WriteFailed) (was is : Output) : Type 0 where
   pub after : LinkState
-  pub before : EndState
   pub behind : EndState
-  pub reaches : IsLinkTo reach link
-  pub asks : AsksOnce (sending_fields sending).command sending.turns link after before behind sent was is
+  pub asks : AsksOnce (sending_fields sending).command sending.turns (link_for reach first 0) after before behind sent was is
 
--- The status is that of how it fared.
-pub record SendsOne (reach : Reach) (sending : Sending) (ended : Result ℕ RunFault) (was is : Output) : Type 0 where
+-- The status is that of how it fared, by a first handle of the clock's where none is said.
+pub record SendsOne (reach : Reach) (sending : Sending) (before : EndState) (ended : Result ℕ RunFault) (was is : Output) : Type 0 where
+  pub own : OwnPort
+  pub by_clock : IsOwnPort own
   pub sent : Result ℕ WriteFailed
-  pub asks : AsksOver reach sending sent was is
+  pub asks : AsksOver reach own.first_handle.0 sending before sent was is
   pub ends : ended ≡ when_sent sent
+
+-- over a socket that was bound at the address that was said, and at the port that was said or one of the system's choice
+pub record SendsBound (reach : Reach) (sending : Sending) (ended : Result ℕ RunFault) (was is : Output) : Type 0 where
+  pub local : Peer
+  pub bound : IsBoundAt reach.ip (port_or_any reach.port) local
+  pub sends : SendsOne reach sending (end_at local) ended was is
 
 -- ONE COMMAND was sent, or the device was not reached.
 abbrev pub SendsAt : Reach → Sending → Result ℕ RunFault → Output → Output → Type 0
 SendsAt reach sending ended was is =
-    SendsOne reach sending ended was is ⊎ ((why : RunFault) × IsUnreached why × FailsWith why ended was is)
+    SendsBound reach sending ended was is ⊎ ((why : RunFault) × IsUnreached why × FailsWith why ended was is)
 
 -- ---- commands of lines
 
--- a session over a new link, in which as many commands may be under way
-abbrev pub new_session : LinkState → EndState → ℕ → SessionState
-new_session link end_state ahead =
-    record { link = link; end_state = end_state; under_way = []; ahead = ahead; unanswered = false }
+-- a session over a new link, in which as many commands may be under way, and the descriptor that is awaited beside input
+abbrev pub new_session : LinkState → EndState → ℕ → Option ℤ → SessionState
+new_session link end_state ahead socket =
+    record {
+      link = link;
+      end_state = end_state;
+      under_way = [];
+      ahead = ahead;
+      unanswered = false;
+      socket = socket;
+      is_open = false;
+    }
 
 -- The commands on standard input were sent over this session; the status is 3 where one of them got no answer.
 pub record RunsFrom (session : SessionState) (ended : Result ℕ RunFault) (had has : Input) (was is : Output) : Type 0 where
@@ -121,12 +142,13 @@ pub record RunsFrom (session : SessionState) (ended : Result ℕ RunFault) (had 
   pub sends : SendsLines session after was is had has sent
   pub ends : ended ≡ when_run after.unanswered sent
 
--- over a new link, up to as many at once as were said
+-- over a new link to a device that is reached as the words say, up to as many at once as were said
 pub record RunsLines (reach : Reach) (ahead : ℕ) (ended : Result ℕ RunFault) (had has : Input) (was is : Output) : Type 0 where
   pub link : LinkState
   pub end_state : EndState
-  pub reaches : IsLinkTo reach link
-  pub runs : RunsFrom (new_session link end_state ahead) ended had has was is
+  pub socket : ℤ
+  pub reaches : IsReached reach false link end_state
+  pub runs : RunsFrom (new_session link end_state ahead (Some socket)) ended had has was is
 
 -- nothing was read or written, since the device was not reached
 abbrev pub Unreached : Result ℕ RunFault → Input → Input → Output → Output → Type 0
@@ -147,9 +169,10 @@ abbrev pub IsDone : (ℕ → Type 0) → Result ℕ RunFault → Output → Type
 IsDone Done (Ok status) is = Done status
 IsDone Done (Err why) is = IsGivenUp why is
 
--- of each of these objects this was asked
+-- of each of these objects this was asked, or a write failed
 abbrev pub AsksEach : (ℕ → PanelState → PanelState → Told → Type 0) → List ℕ → PanelState → PanelState → Result ℕ RunFault → Output → Output → Type 0
-AsksEach One targets old new ended was is = IsDone (λ status. AsksAll One targets old new status was is) ended is
+AsksEach One targets old new (Ok status) was is = AsksAll One targets old new status was is
+AsksEach One targets old new (Err why) was is = (why ≡ fault.Write) × (is.failed ≡ true)
 
 -- they were set, so many at once, or none was
 abbrev pub SetsObjects : ℕ → List (ℕ × List ℕ) → PanelState → PanelState → Result ℕ RunFault → Output → Output → Type 0
@@ -157,8 +180,9 @@ SetsObjects ahead pairs old new ended was is =
     IsDone (λ status. SetsAll ahead pairs old new status was is) ended is × OnErr ended (SetsNoneUnfound pairs old new)
 
 -- they were locked, and kept so until the input ended
-abbrev pub HoldsObjects : List ℕ → PanelState → PanelState → Result ℕ RunFault → Output → Output → Type 0
-HoldsObjects targets old new ended was is = IsDone (λ status. HoldsAll targets old new status was is) ended is
+abbrev pub HoldsObjects : List ℕ → PanelState → PanelState → Result ℕ RunFault → Input → Input → Output → Output → Type 0
+HoldsObjects targets old new ended had has was is =
+    IsDone (λ status. HoldsAll targets old new status had has was is) ended is
 
 -- all were printed as a tree
 abbrev pub PrintsObjects : PanelState → PanelState → Result ℕ RunFault → Output → Output → Type 0
@@ -172,7 +196,7 @@ DoesTask (task.Set ahead pairs) old new ended had has was is =
     SetsObjects (span_size ahead) (map pair_of pairs.items) old new ended was is × (has ≡ had)
 DoesTask (task.Lock onos) old new ended had has was is =
     AsksEach (Locks true) (map number_of onos.items) old new ended was is × (has ≡ had)
-DoesTask (task.Hold onos) old new ended had has was is = HoldsObjects (map number_of onos.items) old new ended was is
+DoesTask (task.Hold onos) old new ended had has was is = HoldsObjects (map number_of onos.items) old new ended had has was is
 DoesTask (task.Unlock onos) old new ended had has was is =
     AsksEach (Locks false) (map number_of onos.items) old new ended was is × (has ≡ had)
 DoesTask task.Tree old new ended had has was is = PrintsObjects old new ended was is × (has ≡ had)
@@ -181,12 +205,13 @@ DoesTask task.Tree old new ended had has was is = PrintsObjects old new ended wa
 abbrev pub new_panel : LinkState → EndState → ℕ → PanelState
 new_panel link end_state turns = record { link = link; end_state = end_state; turns = turns; unanswered = false }
 
--- It was done over a new link, whose commands wait as many turns as were said.
+-- It was done over a new link to a device that is reached as the words say, whose commands wait as many turns as were
+-- said. For locks the socket is at the program's own port, where none was said.
 pub record DoesOver (reach : Reach) (turns : ℕ) (what : Task) (ended : Result ℕ RunFault) (had has : Input) (was is : Output) : Type 0 where
   pub link : LinkState
   pub end_state : EndState
   pub after : PanelState
-  pub reaches : IsLinkTo reach link
+  pub reaches : IsReached reach (is_locking what) link end_state
   pub does : DoesTask what (new_panel link end_state turns) after ended had has was is
 
 -- THE TASK was done, or the device was not reached.
@@ -226,14 +251,27 @@ pub record Obeys (words : ArgMatches) (ended : Result ℕ RunFault) (had has : I
   pub names : IsCommand words command
   pub does : DoesCommand command ended had has was is
 
--- As words that were not matched: some text is told, as that of `--help`, or the run fails.
-abbrev pub Helps : ErrorKind → Result ℕ RunFault → Output → Output → Type 0
-Helps kind ended was is = ((text : List ℕ) × Tells text ended was is) ⊎ FailsWith (words_fault kind) ended was is
+-- a text was asked for, and printed; or there was no memory for it
+abbrev pub HelpsOut : Result ℕ RunFault → Output → Output → Type 0
+HelpsOut ended was is = ((text : List ℕ) × Tells text ended was is) ⊎ FailsWith fault.NoMemory ended was is
 
--- THE PROGRAM'S RUN on these words: they were matched, and the command that they name was done; or it ended as one whose
--- words were not matched (which words are, clap decides). The exit status is that of how it ended.
+-- WORDS THAT WERE NOT MATCHED: where they ask for the text of `--help` or of `--version`, that is printed, and the
+-- status is 0; else nothing is printed, and the run fails, since the words are bad or memory was refused.
+abbrev pub Helps : ErrorKind → Result ℕ RunFault → Output → Output → Type 0
+Helps kinds.DisplayHelp ended was is = HelpsOut ended was is
+Helps kinds.DisplayVersion ended was is = HelpsOut ended was is
+Helps kind ended was is = FailsWith (words_fault kind) ended was is
+
+-- by what matching the words gave
+abbrev pub DoesMatched : Result ArgMatches Error → Result ℕ RunFault → Input → Input → Output → Output → Type 0
+DoesMatched (Ok matches) ended had has was is = Obeys matches ended had has was is
+DoesMatched (Err error) ended had has was is = Helps (kind_of error) ended was is × (has ≡ had)
+
+-- THE PROGRAM'S RUN on these words: they were matched with its own command line, and what that gave decides what was
+-- done. The exit status is that of how it ended.
 pub record RunsOn (words : List (List ℕ)) (status : ℕ) (had has : Input) (was is : Output) : Type 0 where
+  pub matched : Result ArgMatches Error
   pub ended : Result ℕ RunFault
+  pub matches : AreMatched words matched
   pub ends : status ≡ exit_status ended
-  pub does : ((matches : ArgMatches) × AreMatchesOf words matches × Obeys matches ended had has was is)
-      ⊎ ((kind : ErrorKind) × Helps kind ended was is × (has ≡ had))
+  pub does : DoesMatched matched ended had has was is

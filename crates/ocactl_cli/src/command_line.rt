@@ -1,7 +1,13 @@
 //! The commands of the program and their options, as `clap` is told of them.
+ghost use Rattle.std.specs.Prelude.{◌≡◌, [], ◌∷◌, IfOk, false, map, not};
+ghost use Rattle.clap.specs.Simple.{app_of, with_subcommand};
+ghost use Rattle.clap.specs.Walk.{rule_of};
+ghost use Rattle.ocactl_cli.specs.CommandLine.{IsOwn, Takes, bare_program, hold_rule, own_app, values_rule};
+ghost use Rattle.ocactl_cli.specs.CommandLine.{with_commands as with_shapes, with_rules, words_rule};
+ghost use Rattle.ocactl_cli.specs.PrivateCommandLine.{further_rules, row_app, row_command, row_rule};
+
 use clap::{Arg, ArgAction, Command};
 use oca_program::VERSION;
-use oca_program::options::option;
 use std::alloc::{AllocError, Global};
 
 /// An option with a value: its name, the word for its value, what `--help` says of it, and whether it is to be given.
@@ -286,9 +292,11 @@ const COMMANDS: [CommandRow; 8] = [
 
 const PROGRAM_EXAMPLE: &str = "Example: ocactl set --device 127.0.0.1:65000 4097 unmuted";
 
-/// The program with all its commands.
-pub fn program<'a>(alloc: Global) -> Result<Command<'a>, AllocError> {
-    with_commands(without_commands(alloc), &COMMANDS, alloc)
+/// The program with all its commands. Where it is not `plain`, a value of `set` may be a negative number.
+pub fn program<'a>(alloc: Global, plain: bool) -> Result<Command<'a>, AllocError>
+    ensures { IfOk result (Takes (own_app plain)) }
+{
+    with_commands(without_commands(alloc), &COMMANDS, alloc, plain)
 }
 
 /// With these commands.
@@ -296,16 +304,22 @@ fn with_commands<'a>(
     program: Command<'a>,
     rows: &[CommandRow],
     alloc: Global,
-) -> Result<Command<'a>, AllocError> {
+    plain: bool,
+) -> Result<Command<'a>, AllocError>
+    requires { IsOwn program }
+    ensures { IfOk result (Takes (with_shapes (app_of program.entry) (map (row_command plain) rows.now))) }
+{
     let mut so_far = program;
     for row in rows {
-        so_far = with(so_far, command(row, alloc))?;
+        so_far = with(so_far, row, alloc, plain)?;
     }
     Ok(so_far)
 }
 
 /// The program without its commands.
-fn without_commands<'a>(alloc: Global) -> Command<'a> {
+fn without_commands<'a>(alloc: Global) -> Command<'a>
+    ensures { Takes bare_program result }
+{
     Command::new(alloc, "ocactl")
         .about("A controller of OCA (AES70) devices over UDP")
         .version(VERSION)
@@ -313,20 +327,33 @@ fn without_commands<'a>(alloc: Global) -> Command<'a> {
         .subcommand_required(true)
 }
 
-/// With a command, where there is memory for it.
+/// With a command.
 fn with<'a>(
     program: Command<'a>,
-    added: Result<Command<'a>, AllocError>,
-) -> Result<Command<'a>, AllocError> {
-    program.subcommand(added?)
+    row: &CommandRow,
+    alloc: Global,
+    plain: bool,
+) -> Result<Command<'a>, AllocError>
+    requires { IsOwn program }
+    ensures { IfOk result (Takes (with_subcommand (app_of program.entry) (row_command plain row.now))) }
+{
+    let added = command(row, alloc, plain)?;
+    program.subcommand(added)
 }
 
 /// A command.
-fn command<'a>(row: &CommandRow, alloc: Global) -> Result<Command<'a>, AllocError> {
+fn command<'a>(row: &CommandRow, alloc: Global, plain: bool) -> Result<Command<'a>, AllocError>
+    ensures { IfOk result (Takes (row_app plain row.now)) }
+{
     let begun = Command::new(alloc, row.name)
         .about(row.about)
         .after_help(row.example);
-    with_further(with_options(begun, row.options, alloc)?, row.further, alloc)
+    with_further(
+        with_options(begun, row.options, alloc)?,
+        row.further,
+        alloc,
+        plain,
+    )
 }
 
 /// With these options.
@@ -334,7 +361,10 @@ fn with_options<'a>(
     command: Command<'a>,
     rows: &[OptionRow],
     alloc: Global,
-) -> Result<Command<'a>, AllocError> {
+) -> Result<Command<'a>, AllocError>
+    requires { IsOwn command }
+    ensures { IfOk result (Takes (with_rules (app_of command.entry) (map row_rule rows.now))) }
+{
     let mut so_far = command;
     for row in rows {
         so_far = with_option(so_far, row, alloc)?;
@@ -347,8 +377,24 @@ fn with_option<'a>(
     command: Command<'a>,
     row: &OptionRow,
     alloc: Global,
-) -> Result<Command<'a>, AllocError> {
-    command.arg(option(alloc, row.name, row.value, row.help).required(row.required))
+) -> Result<Command<'a>, AllocError>
+    requires { IsOwn command }
+    ensures { IfOk result (Takes (with_rules (app_of command.entry) (row_rule row.now ∷ []))) }
+{
+    command.arg(option(row, alloc))
+}
+
+/// An option with a value.
+fn option<'a>(row: &OptionRow, alloc: Global) -> Arg<'a>
+    ensures rule { rule_of result ≡ row_rule row.now }
+    ensures own { result.global ≡ false }
+{
+    Arg::new(alloc, row.name)
+        .long(row.name)
+        .value_name(row.value)
+        .help(row.help)
+        .action(ArgAction::Set)
+        .required(row.required)
 }
 
 /// With what a command takes besides.
@@ -356,22 +402,32 @@ fn with_further<'a>(
     command: Command<'a>,
     further: Further,
     alloc: Global,
-) -> Result<Command<'a>, AllocError> {
+    plain: bool,
+) -> Result<Command<'a>, AllocError>
+    requires { IsOwn command }
+    ensures { IfOk result (Takes (with_rules (app_of command.entry) (further_rules plain further))) }
+{
     match further {
         Further::Nothing => Ok(command),
         Further::Objects => command.arg(objects(alloc)),
         Further::ObjectsToHold => with_held_objects(command, alloc),
-        Further::Values => command.arg(values(alloc)),
+        Further::Values => command.arg(values(alloc, plain)),
     }
 }
 
 /// With the objects that are locked, and the flag by which their locks are kept.
-fn with_held_objects<'a>(command: Command<'a>, alloc: Global) -> Result<Command<'a>, AllocError> {
+fn with_held_objects<'a>(command: Command<'a>, alloc: Global) -> Result<Command<'a>, AllocError>
+    requires { IsOwn command }
+    ensures { IfOk result (Takes (with_rules (app_of command.entry) (hold_rule ∷ words_rule ∷ []))) }
+{
     command.arg(hold(alloc))?.arg(objects(alloc))
 }
 
 /// The objects that a command is about.
-fn objects<'a>(alloc: Global) -> Arg<'a> {
+fn objects<'a>(alloc: Global) -> Arg<'a>
+    ensures rule { rule_of result ≡ words_rule }
+    ensures own { result.global ≡ false }
+{
     Arg::new(alloc, "ONO")
         .value_name("ONO")
         .help("The numbers of objects")
@@ -381,7 +437,10 @@ fn objects<'a>(alloc: Global) -> Arg<'a> {
 }
 
 /// The flag by which locks are kept until the input ends.
-fn hold<'a>(alloc: Global) -> Arg<'a> {
+fn hold<'a>(alloc: Global) -> Arg<'a>
+    ensures rule { rule_of result ≡ hold_rule }
+    ensures own { result.global ≡ false }
+{
     Arg::new(alloc, "hold")
         .long("hold")
         .help(
@@ -390,13 +449,17 @@ fn hold<'a>(alloc: Global) -> Arg<'a> {
         .action(ArgAction::SetTrue)
 }
 
-/// The objects and the words for their values.
-fn values<'a>(alloc: Global) -> Arg<'a> {
+/// The objects and the words for their values, which may be negative numbers where it is not `plain`.
+fn values<'a>(alloc: Global, plain: bool) -> Arg<'a>
+    ensures rule { rule_of result ≡ values_rule plain }
+    ensures negative { result.allow_negative_numbers ≡ not plain }
+    ensures own { result.global ≡ false }
+{
     Arg::new(alloc, "ONO")
         .value_name("ONO VALUE")
         .help("The numbers of objects, and behind each its value")
         .action(ArgAction::Append)
         .num_args(1..)
-        .allow_negative_numbers(true)
+        .allow_negative_numbers(!plain)
         .required(true)
 }

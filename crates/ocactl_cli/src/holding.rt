@@ -1,23 +1,18 @@
 //! Locks that are kept until the input ends.
 ghost use Rattle.std.specs.Prelude.{◌≡◌, [], IfErr, IfOk, map};
 ghost use Rattle.oca_program.specs.declared.fault.RunFault.TheVariants.{NoMemory};
-ghost use Rattle.ocactl_cli.specs.Hands.{GivesUp, HoldsAll, TakesTurns};
-ghost use Rattle.ocactl_cli.specs.PrivateHands.{KeepsOrFails, ListsHeld, LocksEach, LocksNext, number_of};
+ghost use Rattle.oca_script.specs.Ends.{input};
+ghost use Rattle.ocactl_cli.specs.Hands.{GivesUp, HoldsAll, KeepsUntilEnd, LooksAtInput, ends_input};
+ghost use Rattle.ocactl_cli.specs.PrivateHands.{KeepsOrFails, ReadsWhereReady, ListsHeld, LocksEach, LocksNextOr, number_of};
 
 use super::hands::{lock_all, lock_one};
 use super::told::graver;
-use libc::net::{POLLIN, poll};
-use libc::types::pollfd;
 use oca_net::End;
 use oca_panel::Panel;
 use oca_program::{Failure, RunFault};
-use oca_script::{Printer, Sink, Source};
+use oca_script::{Printer, ReadFailed, Sink, Source};
 use oca_types::Ono;
 use std::alloc::Global;
-use std::os::fd::RawFd;
-
-/// The descriptor of standard input.
-const STANDARD_INPUT: RawFd = 0;
 
 /// How many bytes of the input are read at a time.
 const PIECE: usize = 4096;
@@ -32,8 +27,9 @@ pub fn hold<E: End, R: Source, W: Sink>(
     reader: &mut R,
     printer: &mut Printer<W>,
 ) -> Result<u8, Failure>
-    ensures holds { IfOk result (λ status. HoldsAll (map number_of onos.now)
-        panel.old panel.new status printer.old printer.new) }
+    ensures holds { IfOk result (λ status. HoldsAll (map number_of onos.now) panel.old panel.new status
+        (input (R.remaining reader.old) (R.failed reader.old))
+        (input (R.remaining reader.new) (R.failed reader.new)) printer.old printer.new) }
     ensures fails { IfErr result (λ failure. GivesUp failure printer.new) }
 {
     let mut held = Vec::new(alloc);
@@ -71,9 +67,7 @@ fn lock_next<E: End, W: Sink>(
     status: u8,
     printer: &mut Printer<W>,
 ) -> Result<u8, Failure>
-    ensures locks { IfOk result (λ now. LocksNext ono.0
-        panel.old panel.new status now held.old.items held.new.items printer.old printer.new) }
-    ensures fails { IfErr result (λ failure. GivesUp failure printer.new) }
+    ensures { LocksNextOr ono.0 panel.old panel.new status result held.old.items held.new.items printer.old printer.new }
 {
     match lock_one(panel, ono, true, printer) {
         Ok(own) => list_held(ono, own, held, status),
@@ -84,7 +78,7 @@ fn lock_next<E: End, W: Sink>(
 /// Lists an object where its own status is 0. Returns the exit status so far.
 fn list_held(ono: Ono, own: u8, held: &mut Vec<Ono>, status: u8) -> Result<u8, Failure>
     ensures lists { IfOk result (λ now. ListsHeld ono.0 own status now held.old.items held.new.items) }
-    ensures fails { IfErr result (λ failure. failure.fault ≡ NoMemory) }
+    ensures fails { IfErr result (λ failure. (failure.fault ≡ NoMemory) × (own ≡ 0)) }
 {
     if own == 0 && held.push(ono).is_err() {
         return Err(Failure::from(RunFault::NoMemory));
@@ -100,7 +94,9 @@ fn keep_held<E: End, R: Source, W: Sink>(
     reader: &mut R,
     printer: &mut Printer<W>,
 ) -> Result<u8, Failure>
-    ensures { KeepsOrFails (map number_of held.now) status panel.old panel.new result printer.old printer.new }
+    ensures { KeepsOrFails (map number_of held.now) status panel.old panel.new result
+        (input (R.remaining reader.old) (R.failed reader.old))
+        (input (R.remaining reader.new) (R.failed reader.new)) printer.old printer.new }
 {
     if held.is_empty() {
         return Ok(status);
@@ -114,9 +110,11 @@ fn keep_held<E: End, R: Source, W: Sink>(
 
 /// Drives the link, which sends keep-alives, until the input ends.
 fn keep<E: End, R: Source>(panel: &mut Panel<E>, reader: &mut R)
-    ensures { TakesTurns panel.old panel.new }
+    ensures { KeepsUntilEnd panel.old panel.new
+        (input (R.remaining reader.old) (R.failed reader.old))
+        (input (R.remaining reader.new) (R.failed reader.new)) }
 {
-    for _turn in 0..u64::MAX {
+    for turn in 0..u64::MAX {
         if has_ended(reader) {
             return;
         }
@@ -127,27 +125,27 @@ fn keep<E: End, R: Source>(panel: &mut Panel<E>, reader: &mut R)
 }
 
 /// Whether the input has ended. It is read where a read does not wait, and what it gives is dropped.
-fn has_ended<R: Source>(reader: &mut R) -> bool {
-    if !is_ready(STANDARD_INPUT) {
+fn has_ended<R: Source>(reader: &mut R) -> bool
+    ensures looks { LooksAtInput result
+        (input (R.remaining reader.old) (R.failed reader.old))
+        (input (R.remaining reader.new) (R.failed reader.new)) }
+    ensures ready { ReadsWhereReady (R.ready reader.new) result
+        (input (R.remaining reader.old) (R.failed reader.old))
+        (input (R.remaining reader.new) (R.failed reader.new)) }
+{
+    if !reader.await_input(None, 0) {
         return false;
     }
     let mut piece = [0u8; PIECE];
-    match reader.read(&mut piece) {
-        Ok(count) => count == 0,
-        Err(_) => true,
-    }
+    ends(reader.read(&mut piece))
 }
 
-/// Whether a read of this descriptor does not wait, as far as the system can tell. In the background of a terminal it
-/// is not ready, since a read there would stop the program.
-fn is_ready(descriptor: RawFd) -> bool {
-    if libc::isatty(descriptor) == 1 && libc::tcgetpgrp(descriptor) != libc::getpgrp() {
-        return false;
+/// Whether nothing more comes of an input, by what a read gave.
+fn ends(read: Result<usize, ReadFailed>) -> bool
+    ensures { result ≡ ends_input read }
+{
+    match read {
+        Ok(count) => count == 0,
+        Err(ReadFailed) => true,
     }
-    let mut asked = [pollfd {
-        fd: descriptor,
-        events: POLLIN,
-        revents: 0,
-    }];
-    poll(&mut asked, 0) > 0 && asked[0].revents != 0
 }

@@ -11,6 +11,7 @@ pub mod commands;
 pub mod exchange;
 pub mod hands;
 mod holding;
+mod matching;
 pub mod probe;
 mod reaching;
 mod reason;

@@ -1,7 +1,10 @@
 //! How a device is reached: the socket's port, and a link with its first handle.
-ghost use Rattle.std.specs.Prelude.{◌≡◌, ◌<◌, IfErr, IfOk, true};
-ghost use Rattle.oca_net.specs.Sockets.{IsBoundAt};
-ghost use Rattle.ocactl_cli.specs.Sockets.{IsBoundByChoice, IsBoundFor, IsLinkTo, IsUnreached};
+ghost use Rattle.std.specs.Prelude.{◌≡◌, ◌<◌, IfErr, IfOk};
+ghost use Rattle.oca_net.specs.Sockets.{IsBoundAt, new_socket};
+ghost use Rattle.ocactl_cli.specs.declared.probe.Found.TheVariants.{Deaf};
+ghost use Rattle.ocactl_cli.specs.PrivateSockets.{IsLinkedIfBound, IsMarked, IsNamed};
+ghost use Rattle.ocactl_cli.specs.Sockets.{IsBoundByChoice, IsLinkedBehind, IsLinkedBy, IsLinkedFurther, IsLinkedOver};
+ghost use Rattle.ocactl_cli.specs.Sockets.{IsOwnPort, IsReached, IsSocketFor, IsUnreached, asks_first};
 
 use super::probe::{Found, probe};
 use super::watched::Watched;
@@ -16,6 +19,7 @@ use oca_types::Peer;
 use std::alloc::Global;
 use std::net::Net;
 use std::rt::Clock;
+use std::time::{SystemTime, UNIX_EPOCH};
 
 /// A socket that knows when the device was heard.
 type DeviceEnd<'a, C> = Watched<UdpEnd<'a, C>>;
@@ -33,18 +37,31 @@ pub fn reached<'a, N: Net + Clock, F: Sink>(
     own_alone: bool,
     faults: &mut Printer<F>,
 ) -> Result<(Link, DeviceEnd<'a, N>), Failure>
-    ensures link { IfOk result (λ r. IsLinkTo reach r.0) }
+    ensures reached { IfOk result (λ r. IsReached reach own_alone r.0 r.1.end_state) }
     ensures fault { IfErr result (λ failure. IsUnreached failure.fault) }
 {
-    let own = OwnPort::now(system);
-    match bound(alloc, system, reach, own, own_alone) {
-        Ok((end, is_own)) => Ok(linked(alloc, system, reach, own, is_own, end, faults)),
-        Err(failure) => Err(failure),
+    let own = own_port(system);
+    let bound = bound(alloc, system, reach, own, own_alone);
+    linked_over(alloc, system, reach, own, bound, faults)
+}
+
+/// The program's own port, the other one, and a first handle there, by the clock: those of the beginning of 1970 where
+/// it can't be read.
+pub fn own_port<C: Clock>(clock: &C) -> OwnPort
+    ensures own { IsOwnPort result }
+    ensures below { result.first_handle.0 < 2147483648 }
+{
+    let Ok(now) = SystemTime::now(clock) else {
+        return OwnPort::at(0, 0);
+    };
+    match now.duration_since(UNIX_EPOCH) {
+        Ok(since) => OwnPort::at(since.as_secs(), since.subsec_micros()),
+        Err(_) => OwnPort::at(0, 0),
     }
 }
 
-/// A socket at the port that the words give, else at the program's own or another one; and whether it is the program's
-/// own.
+/// A socket at the port that the words give, else at the program's own or another one; and whether none was given and it
+/// is at the program's own.
 fn bound<'a, N: Net + Clock>(
     alloc: Global,
     system: &'a N,
@@ -52,28 +69,31 @@ fn bound<'a, N: Net + Clock>(
     own: OwnPort,
     own_alone: bool,
 ) -> Result<(UdpEnd<'a, N>, bool), Failure>
-    ensures bound { IfOk result (λ r. IsBoundFor reach.port reach.ip own.port own_alone r.0.local r.1) }
+    ensures bound { IfOk result (λ r. IsSocketFor reach.port reach.ip own.port own_alone r.0.local r.1) }
+    ensures new { IfOk result (λ r. r.0 ≡ new_socket r.0.local) }
     ensures fault { IfErr result (λ failure. IsUnreached failure.fault) }
 {
     match reach.port {
-        Some(port) => at(alloc, system, reach, port, false),
-        None => by_choice(alloc, system, reach, own, own_alone),
+        Some(port) => marked(bind_at(alloc, system, reach, port), None),
+        None => marked(
+            by_choice(alloc, system, reach, own, own_alone),
+            Some(own.port),
+        ),
     }
 }
 
-/// A socket at this port.
-fn at<'a, N: Net + Clock>(
-    alloc: Global,
-    system: &'a N,
-    reach: Reach,
-    port: u16,
-    is_own: bool,
+/// The socket and whether it is at this port, where there is one; or the fault of binding it.
+fn marked<'a, N: Net + Clock>(
+    bound: Result<UdpEnd<'a, N>, Failure>,
+    own: Option<u16>,
 ) -> Result<(UdpEnd<'a, N>, bool), Failure>
-    ensures bound { IfOk result (λ r. IsBoundAt reach.ip port r.0.local × (r.1 ≡ is_own)) }
-    ensures fault { IfErr result (λ failure. IsUnreached failure.fault) }
+    ensures { IsMarked own bound.entry result }
 {
-    match bind_at(alloc, system, reach, port) {
-        Ok(end) => Ok((end, is_own)),
+    match bound {
+        Ok(end) => {
+            let is_own = own == Some(end.local().port);
+            Ok((end, is_own))
+        }
         Err(failure) => Err(failure),
     }
 }
@@ -86,16 +106,17 @@ fn by_choice<'a, N: Net + Clock>(
     reach: Reach,
     own: OwnPort,
     own_alone: bool,
-) -> Result<(UdpEnd<'a, N>, bool), Failure>
-    ensures bound { IfOk result (λ r. IsBoundByChoice reach.ip own.port own_alone r.0.local r.1) }
+) -> Result<UdpEnd<'a, N>, Failure>
+    ensures bound { IfOk result (λ end. IsBoundByChoice reach.ip own.port own_alone end.local) }
+    ensures new { IfOk result (λ end. end ≡ new_socket end.local) }
     ensures fault { IfErr result (λ failure. IsUnreached failure.fault) }
 {
     if own_alone {
         return at_own_alone(alloc, system, reach, own);
     }
     match bind_at(alloc, system, reach, own.port) {
-        Ok(end) => Ok((end, true)),
-        Err(_) => at(alloc, system, reach, 0, false),
+        Ok(end) => Ok(end),
+        Err(_) => bind_at(alloc, system, reach, 0),
     }
 }
 
@@ -105,12 +126,32 @@ fn at_own_alone<'a, N: Net + Clock>(
     system: &'a N,
     reach: Reach,
     own: OwnPort,
-) -> Result<(UdpEnd<'a, N>, bool), Failure>
-    ensures bound { IfOk result (λ r. IsBoundAt reach.ip own.port r.0.local × (r.1 ≡ true)) }
+) -> Result<UdpEnd<'a, N>, Failure>
+    ensures bound { IfOk result (λ end. IsBoundAt reach.ip own.port end.local) }
+    ensures new { IfOk result (λ end. end ≡ new_socket end.local) }
     ensures fault { IfErr result (λ failure. IsUnreached failure.fault) }
 {
     match bind_at(alloc, system, reach, own.other) {
-        Ok(_) => at(alloc, system, reach, own.port, true),
+        Ok(_) => bind_at(alloc, system, reach, own.port),
+        Err(failure) => Err(failure),
+    }
+}
+
+/// A link over a socket, where one was bound; else the fault of binding it.
+fn linked_over<'a, N: Net + Clock, F: Sink>(
+    alloc: Global,
+    system: &'a N,
+    reach: Reach,
+    own: OwnPort,
+    bound: Result<(UdpEnd<'a, N>, bool), Failure>,
+    faults: &mut Printer<F>,
+) -> Result<(Link, DeviceEnd<'a, N>), Failure>
+    requires below { own.first_handle.0 < 2147483648 }
+    requires new { IfOk bound (λ b. b.0 ≡ new_socket b.0.local) }
+    ensures { IsLinkedIfBound reach own bound.entry result }
+{
+    match bound {
+        Ok((end, is_own)) => Ok(linked(alloc, system, reach, own, is_own, end, faults)),
         Err(failure) => Err(failure),
     }
 }
@@ -126,8 +167,10 @@ fn linked<'a, N: Net + Clock, F: Sink>(
     end: UdpEnd<'a, N>,
     faults: &mut Printer<F>,
 ) -> (Link, DeviceEnd<'a, N>)
-    requires { own.first_handle.0 < 2147483648 }
-    ensures { IsLinkTo reach result.0 }
+    requires below { own.first_handle.0 < 2147483648 }
+    requires new { end ≡ new_socket end.local }
+    ensures { IsLinkedOver (asks_first is_own reach.first_handle) reach own end.entry.local
+        result.0 result.1.end_state }
 {
     let end = Watched::new(end, reach.device);
     if is_own && reach.first_handle.is_none() {
@@ -146,7 +189,7 @@ fn answering<'a, N: Net + Clock, F: Sink>(
     faults: &mut Printer<F>,
 ) -> (Link, DeviceEnd<'a, N>)
     requires { own.first_handle.0 < 2147483648 }
-    ensures { IsLinkTo reach result.0 }
+    ensures { IsLinkedBehind reach own end.entry.end_state result.0 result.1.end_state }
 {
     match probe(&mut end, reach.device, own.first_handle) {
         Found::Deaf => elsewhere(alloc, system, reach, own, end, faults),
@@ -164,9 +207,10 @@ fn elsewhere<'a, N: Net + Clock, F: Sink>(
     faults: &mut Printer<F>,
 ) -> (Link, DeviceEnd<'a, N>)
     requires { own.first_handle.0 < 2147483648 }
-    ensures { IsLinkTo reach result.0 }
+    ensures { IsLinkedBy Deaf reach own end.entry.end_state result.0 result.1.end_state }
 {
-    match bind_at(alloc, system, reach, own.other) {
+    let bound = bind_at(alloc, system, reach, own.other);
+    match bound {
         Ok(other) => {
             note_other(alloc, reach.device, own, faults);
             (
@@ -182,13 +226,14 @@ fn elsewhere<'a, N: Net + Clock, F: Sink>(
 }
 
 /// A link over a socket by which a command was sent before.
+#[tactic(auto, using(crate::proofs::SocketLemmas::present_at))]
 fn further<'a, N: Net + Clock>(
     reach: Reach,
     own: OwnPort,
     end: DeviceEnd<'a, N>,
 ) -> (Link, DeviceEnd<'a, N>)
     requires { own.first_handle.0 < 2147483648 }
-    ensures { IsLinkTo reach result.0 }
+    ensures { IsLinkedFurther reach own.first_handle.0 end.entry.end_state result.0 result.1.end_state }
 {
     let now = end.end().now();
     (reach.link(own.first_handle.0 + 1, now), end)
@@ -202,9 +247,21 @@ fn bind_at<'a, N: Net + Clock>(
     port: u16,
 ) -> Result<UdpEnd<'a, N>, Failure>
     ensures bound { IfOk result (λ end. IsBoundAt reach.ip port end.local) }
+    ensures new { IfOk result (λ end. end ≡ new_socket end.local) }
     ensures fault { IfErr result (λ failure. IsUnreached failure.fault) }
 {
-    match bind(alloc, system, reach.ip, port) {
+    named(alloc, bind(alloc, system, reach.ip, port), port)
+}
+
+/// The socket; or the fault of binding it, with the port in its note.
+fn named<'a, N: Net + Clock>(
+    alloc: Global,
+    bound: Result<UdpEnd<'a, N>, Failure>,
+    port: u16,
+) -> Result<UdpEnd<'a, N>, Failure>
+    ensures { IsNamed bound.entry result }
+{
+    match bound {
         Ok(end) => Ok(end),
         Err(failure) => Err(naming(alloc, failure, port)),
     }

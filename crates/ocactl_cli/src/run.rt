@@ -1,35 +1,37 @@
 //! A run of the program.
-ghost use Rattle.std.specs.Prelude.{◌≡◌, if◌then◌else◌, map};
+ghost use Rattle.std.specs.Prelude.{◌≡◌, false, if◌then◌else◌, map};
 ghost use Rattle.clap.specs.Words.{kind_of};
 ghost use Rattle.oca_types.specs.Sizes.{span_size};
 ghost use Rattle.oca_script.specs.Ends.{input};
 ghost use Rattle.oca_script.specs.Printing.{WritesOut};
-ghost use Rattle.oca_program.specs.Faults.{fault_in};
+ghost use Rattle.oca_program.specs.Faults.{fault_in, words_fault};
 ghost use Rattle.oca_panel.specs.Panels.{PanelState};
 ghost use Rattle.ocactl_cli.specs.Hands.{Gets, Locks};
 ghost use Rattle.ocactl_cli.specs.PrivateHands.{number_of, pair_of};
-ghost use Rattle.ocactl_cli.specs.Runs.{exit_status, RunsOn, Obeys, DoesAsked, Does, Helps, Tells};
+ghost use Rattle.ocactl_cli.specs.Matching.{is_help};
+ghost use Rattle.ocactl_cli.specs.Runs.{exit_status, RunsOn, DoesMatched, Obeys, DoesAsked, Does, Helps, HelpsOut, Tells};
 ghost use Rattle.ocactl_cli.specs.Runs.{ReplaysOn, SendsAt, SendsOne, AsksOver, RunsAt, RunsFrom, DoesAt, DoesTask, AsksEach};
 
 use super::commands::send_all;
 use super::exchange::ask_once;
 use super::hands::{get_all, lock_all, set_all};
 use super::holding::hold;
-use super::reaching::reached;
+use super::reaching::{own_port, reached};
 use super::reason::note_silence;
 use super::session::Session;
 use super::tasks::Task;
 use super::walk::walk;
 use super::watched::Watched;
 use super::words::{Asked, Linking, Reach, Sending, asked_for, matches_of};
+use clap::error::ErrorKind;
 use clap::{ArgMatches, Error};
 use oca_net::{End, UdpEnd};
-use oca_panel::{OwnPort, Panel};
+use oca_panel::Panel;
 use oca_program::options::help_or_failure;
 use oca_program::socket::bind;
 use oca_program::{Failure, RunFault, print_note, report};
 use oca_script::{Printer, Sink, Source, WriteFailed};
-use oca_types::{Ono, Span};
+use oca_types::{Handle, Ono, Span};
 use ocactl_replay::replay::replay;
 use std::alloc::Global;
 use std::convert::AsStr;
@@ -59,12 +61,27 @@ pub fn run<N: Net + Clock, S: AsStr, R: Source, W: Sink, F: Sink>(
         (input (R.remaining reader.old) (R.failed reader.old))
         (input (R.remaining reader.new) (R.failed reader.new)) printer.old printer.new }
 {
-    match matches_of(alloc, words) {
-        Ok(matches) => status_of(
-            obeyed(alloc, system, &matches, reader, printer, faults),
-            faults,
-        ),
-        Err(error) => status_of(helped(alloc, &error, printer), faults),
+    let matched = matches_of(alloc, words);
+    let ended = matched_run(alloc, system, &matched, reader, printer, faults);
+    status_of(ended, faults)
+}
+
+/// Does what the words ask for, by what matching them gave.
+fn matched_run<N: Net + Clock, R: Source, W: Sink, F: Sink>(
+    alloc: Global,
+    system: &N,
+    matched: &Result<ArgMatches<'_>, Error>,
+    reader: &mut R,
+    printer: &mut Printer<W>,
+    faults: &mut Printer<F>,
+) -> Result<u8, Failure>
+    ensures { DoesMatched matched.now (fault_in result)
+        (input (R.remaining reader.old) (R.failed reader.old))
+        (input (R.remaining reader.new) (R.failed reader.new)) printer.old printer.new }
+{
+    match matched {
+        Ok(matches) => obeyed(alloc, system, matches, reader, printer, faults),
+        Err(error) => helped(alloc, error, printer),
     }
 }
 
@@ -82,9 +99,41 @@ fn status_of<F: Sink>(ended: Result<u8, Failure>, faults: &mut Printer<F>) -> u8
 fn helped<W: Sink>(alloc: Global, error: &Error, printer: &mut Printer<W>) -> Result<u8, Failure>
     ensures { Helps (kind_of error.now) (fault_in result) printer.old printer.new }
 {
-    match help_or_failure(alloc, error) {
+    match error.kind() {
+        ErrorKind::DisplayHelp | ErrorKind::DisplayVersion => help(alloc, error, printer),
+        _ => Err(unmatched(alloc, error)),
+    }
+}
+
+/// Prints the text of an error that stands for one.
+fn help<W: Sink>(alloc: Global, error: &Error, printer: &mut Printer<W>) -> Result<u8, Failure>
+    ensures { HelpsOut (fault_in result) printer.old printer.new }
+{
+    match error.to_string(alloc) {
         Ok(text) => told(text.as_bytes(), printer),
-        Err(failure) => Err(failure),
+        Err(_) => Err(Failure::from(RunFault::NoMemory)),
+    }
+}
+
+/// Why a run fails whose words were not matched and ask for no text.
+fn unmatched(alloc: Global, error: &Error) -> Failure
+    requires { is_help (kind_of error.now) ≡ false }
+    ensures { result.fault ≡ words_fault (kind_of error.now) }
+{
+    match help_or_failure(alloc, error) {
+        Ok(_) => Failure::from(fault_for(error.kind())),
+        Err(failure) => failure,
+    }
+}
+
+/// The fault of words that were not matched.
+fn fault_for(kind: ErrorKind) -> RunFault
+    requires { is_help kind ≡ false }
+    ensures { result ≡ words_fault kind }
+{
+    match kind {
+        ErrorKind::OutOfMemory => RunFault::NoMemory,
+        _ => RunFault::BadWords,
     }
 }
 
@@ -234,9 +283,10 @@ fn sent_over<N: Net + Clock, W: Sink, F: Sink>(
     printer: &mut Printer<W>,
     faults: &mut Printer<F>,
 ) -> Result<u8, Failure>
-    ensures { SendsOne reach sending.now (fault_in result) printer.old printer.new }
+    ensures { SendsOne reach sending.now end.entry.end_state (fault_in result) printer.old printer.new }
 {
-    match send_one(system, reach, &mut end, sending, printer) {
+    let own = own_port(system);
+    match send_one(reach, own.first_handle, &mut end, sending, printer) {
         Ok(status) => {
             note_no_answer(alloc, system, &mut end, reach, status == 3, false, faults);
             Ok(status)
@@ -410,17 +460,17 @@ fn lock_each<E: End, W: Sink>(
     }
 }
 
-/// Sends a command and prints how it fared.
-fn send_one<C: Clock, E: End, W: Sink>(
-    clock: &C,
+/// Sends a command over a new link with this first handle unless the words give one, and prints how it fared.
+fn send_one<E: End, W: Sink>(
     reach: Reach,
+    first: Handle,
     end: &mut E,
     sending: &Sending,
     printer: &mut Printer<W>,
 ) -> Result<u8, WriteFailed>
-    ensures { AsksOver reach sending.now result printer.old printer.new }
+    ensures { AsksOver reach first.0 sending.now (E.state end.old) result printer.old printer.new }
 {
-    let mut link = reach.link(OwnPort::now(clock).first_handle.0, 0);
+    let mut link = reach.link(first.0, 0);
     ask_once(&mut link, end, sending.command(), sending.turns, printer)
 }
 

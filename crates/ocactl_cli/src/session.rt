@@ -1,7 +1,7 @@
 //! A link, the end that it is driven over, and the commands under way.
-ghost use Rattle.std.specs.Prelude.{◌≡◌, ◌==◌, ◌||◌, ◌-◌, ◌<◌, ◌≤◌, length, true, IfSome};
+ghost use Rattle.std.specs.Prelude.{◌≡◌, ◌==◌, ◌||◌, ◌<◌, length, true};
 ghost use Rattle.oca_types.specs.Peers.{request_of};
-ghost use Rattle.ocactl_cli.specs.Exchanges.{AwaitsFirst, NoneUnderWay, TakesOne, outcome_status};
+ghost use Rattle.ocactl_cli.specs.Exchanges.{AwaitsFirst, IsPatience, NoneUnderWay, TakesOne, is_over, outcome_status, time_beside, time_until};
 ghost use Rattle.ocactl_cli.specs.PrivateExchanges.{Submitted, TakesFirst};
 
 use super::exchange::outcome_status;
@@ -30,7 +30,7 @@ pub struct Session<E: End> {
     ahead: usize,
     unanswered: bool,
     socket: Option<RawFd>,
-    open: bool,
+    is_open: bool,
 }
 
 impl<E: End> Model for Session<E> {
@@ -39,7 +39,7 @@ impl<E: End> Model for Session<E> {
 
     ghost Value = { SessionState };
 
-    ghost view = { λ s. record { link = s.link; end_state = E.state s.end; under_way = s.under_way.items; ahead = s.ahead; unanswered = s.unanswered } };
+    ghost view = { λ s. record { link = s.link; end_state = E.state s.end; under_way = s.under_way.items; ahead = s.ahead; unanswered = s.unanswered; socket = s.socket; is_open = s.is_open } };
 
     ghost invariant = { λ s. (1 ≤ s.ahead) × (s.ahead ≤ 32) };
 }
@@ -54,7 +54,7 @@ impl<E: End + Drop> Drop for Session<E> {
             ahead: _,
             unanswered: _,
             socket: _,
-            open: _,
+            is_open: _,
         } = self;
     }
 }
@@ -66,7 +66,7 @@ impl<E: End> Session<E> {
     /// A session with no command under way, in which as many may be as a span has. `socket` is the end's descriptor, for which is
     /// waited beside input; where there is none, it is not waited for input.
     pub fn new(link: Link, end: E, ahead: Span, socket: Option<RawFd>) -> Session<E>
-        ensures { result ≡ record { link = link; end_state = E.state end; under_way = []; ahead = span_size ahead; unanswered = false } }
+        ensures { result ≡ record { link = link; end_state = E.state end; under_way = []; ahead = span_size ahead; unanswered = false; socket = socket; is_open = false } }
     {
         Session {
             link,
@@ -75,7 +75,7 @@ impl<E: End> Session<E> {
             ahead: usize::from(ahead.get()),
             unanswered: false,
             socket,
-            open: false,
+            is_open: false,
         }
     }
 
@@ -120,7 +120,7 @@ impl<E: End> Session<E> {
             ahead: _,
             unanswered: _,
             socket: _,
-            open: _,
+            is_open: _,
         } = self;
         end
     }
@@ -147,7 +147,7 @@ impl<E: End> Session<E> {
         match begin(&mut self.link, &mut self.end, request) {
             Ok(handle) => {
                 self.under_way.push(handle.0);
-                self.open = true;
+                self.is_open = true;
                 Ok(handle)
             }
             Err(fault) => Err(fault),
@@ -156,24 +156,25 @@ impl<E: End> Session<E> {
 
     /// Whether there is nothing to do: no command is under way, and none was submitted yet or the link is lost.
     pub fn is_over(&self) -> bool
-        ensures { result ≡ true → NoneUnderWay self.now }
+        ensures value { result ≡ is_over self.now }
+        ensures none { result ≡ true → NoneUnderWay self.now }
     {
-        self.under_way.is_empty() && (!self.open || self.link.is_lost())
+        self.under_way.is_empty() && (!self.is_open || self.link.is_lost())
     }
 
     /// The end's descriptor.
-    pub fn socket(&self) -> Option<RawFd> {
+    pub fn socket(&self) -> Option<RawFd>
+        ensures { result ≡ self.now.socket }
+    {
         self.socket
     }
 
     /// How many milliseconds may be waited before the next turn; none where the end has no descriptor.
     pub fn patience(&self) -> u64
-        ensures { result ≤ 3600000 }
+        ensures { IsPatience self.now result }
     {
-        match self.socket {
-            Some(_) => time_until(self.link.next_due(), self.end.now()),
-            None => 0,
-        }
+        let due = self.link.next_due();
+        time_beside(self.socket, due, self.end.now())
     }
 
     /// Takes a turn, and returns whether the link was found lost, or late.
@@ -213,10 +214,19 @@ impl<E: End> Session<E> {
     }
 }
 
+/// How long input may be awaited beside a descriptor, where there is one, until this moment.
+fn time_beside(socket: Option<RawFd>, due: Option<u64>, now: u64) -> u64
+    ensures { result ≡ time_beside socket due now }
+{
+    match socket {
+        Some(_) => time_until(due, now),
+        None => 0,
+    }
+}
+
 /// How many milliseconds it is from now until the moment, an hour at most.
 fn time_until(moment: Option<u64>, now: u64) -> u64
-    ensures until { IfSome moment (λ t. result ≤ t - now) }
-    ensures most { result ≤ 3600000 }
+    ensures { result ≡ time_until moment now }
 {
     match moment {
         Some(due) => due.saturating_sub(now).min(LONGEST_WAIT_MS),

@@ -1,19 +1,18 @@
 //! The words of the command line.
-ghost use Rattle.std.specs.Prelude.{◌≡◌, ◌≤◌, IfErr, IfOk, IfSome, map};
+ghost use Rattle.std.specs.Prelude.{◌≡◌, ◌≤◌, IfErr, IfOk, IfSome};
 ghost use Rattle.std.specs.Option.{option_map};
 ghost use Rattle.oca_types.specs.Sizes.{span_size};
 ghost use Rattle.oca_control.specs.Links.{new_link};
 ghost use Rattle.oca_types.specs.Peers.{request_of};
-ghost use Rattle.oca_program.specs.Commands.{AreMatchesOf};
 ghost use Rattle.oca_program.specs.declared.fault.RunFault.TheVariants.{BadWords};
 ghost use Rattle.ocactl_cli.specs.Reasons.{first_of};
 ghost use Rattle.ocactl_cli.specs.Asked.{AsksFor, AsksSend, AsksRun, IsRefusal};
 ghost use Rattle.ocactl_cli.specs.Words.{array_items, span_of as span_said, span_in as span_given, linking_fields, first_handle_in, linking_in, host_in, own_address, port_in, handle_in, reach_fields, reach_in, ahead_in, handling_fields, handling_in, sending_fields, sending_in, params_of as params_said, params_in as params_given};
 
-use super::command_line::program;
+pub use super::matching::matches_of;
 use super::tasks::{Task, is_task, task_of, turns_of};
 use arrayvec::ArrayVec;
-use clap::{ArgMatches, Error};
+use clap::ArgMatches;
 use oca_control::Link;
 use oca_program::form::bad_option;
 use oca_program::options::{host_in, number_if, number_in, number_or, own_or, peer_in, text_of};
@@ -23,7 +22,6 @@ use oca_types::{
     Handle, LOOPBACK, MOST_COMMAND_PARAMETER_BYTES, MethodId, Ono, Peer, Request, Span,
 };
 use std::alloc::Global;
-use std::convert::AsStr;
 
 /// How many turns `send` takes, unless it is said.
 const TURNS: u64 = 200;
@@ -111,13 +109,6 @@ pub enum Asked {
     Run(Reach, Span),
     /// To do something with objects of a device, where each command waits so many turns for its answer.
     Do(Reach, u32, Task),
-}
-
-/// The words, the program's name first, matched with what the program takes.
-pub fn matches_of<'a, S: AsStr>(alloc: Global, words: &'a [S]) -> Result<ArgMatches<'a>, Error>
-    ensures { IfOk result (AreMatchesOf (map S.text words.entry.now)) }
-{
-    program(alloc)?.try_get_matches_from(words)
 }
 
 /// What a command with these options asks for. Refusals: `BadWords` where it is none, or where a value is not of its

@@ -5,7 +5,4 @@ pub loop-turn-init : goal.loop-turn-init
 loop-turn-init g c = NoTurn
 
 pub loop-turn-preserved : goal.loop-turn-preserved
-loop-turn-preserved g c = OneTurn c.loop-turn.invariant c.turn.ensures
-
-pub returns-then-not-turn : goal.returns-then-not-turn
-returns-then-not-turn g c = OneTurn c.loop-turn.invariant c.turn.ensures
+loop-turn-preserved g c = OneTurn c.loop-turn.invariant c.if-has_ended.ensures.looks c.if-not-turn.ensures

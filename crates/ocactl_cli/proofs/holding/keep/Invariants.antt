@@ -1,5 +1,8 @@
-use Rattle.ocactl_cli.specs.Hands.{TakesTurns}
+use Rattle.oca_script.specs.Ends.{input}
+use Rattle.ocactl_cli.specs.Hands.{KeepsOn}
 use Rattle.ocactl_cli.proofs.holding.keep.Given as goal
 
 abbrev pub invariant-loop-turn : goal.invariant-loop-turn
-invariant-loop-turn g l = TakesTurns l.fn.panel l.panel
+invariant-loop-turn g l =
+    let R = g.R.Source in
+    KeepsOn l.turn l.fn.panel l.panel (input (R.remaining l.fn.reader) (R.failed l.fn.reader)) (input (R.remaining l.reader) (R.failed l.reader))

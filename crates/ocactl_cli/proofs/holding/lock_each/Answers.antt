@@ -6,4 +6,4 @@ loop-ono-init g c = locked-none _ _ _ _ c.requires c.in_ok-flush.ensures.prints 
 
 pub loop-ono-preserved : goal.loop-ono-preserved
 loop-ono-preserved g c =
-    locked-next c.args.onos.now c.loop-ono.ono-index _ _ _ _ _ _ _ _ _ _ _ c.loop-ono-test.true c.loop-ono.invariant c.in_ok-status.ensures.locks
+    locked-next c.args.onos.now c.loop-ono.ono-index _ _ _ _ _ _ _ _ _ _ _ c.loop-ono-test.true c.loop-ono.invariant c.in_ok-status.ensures

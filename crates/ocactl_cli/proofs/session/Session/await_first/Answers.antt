@@ -6,4 +6,4 @@ pub returns : goal.returns
 returns g c =
     awaited-from _ _ _ _ c.self.view_is
     (first-awaited _ _ c.remove.result _ (first-removed _ _ _ (some-under-way _ _ c.self.view_is c.requires) c.remove.ensures.value c.remove.ensures.items)
-    c.wait_for-outcome.ensures.waits c.wait_for-outcome.ensures.receives refl c.gets_none-self-inside.ensures)
+    c.wait_for-outcome.ensures.waits c.wait_for-outcome.ensures.receives refl c.gets_none-self-inside.ensures refl refl)

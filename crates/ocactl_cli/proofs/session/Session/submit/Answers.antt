@@ -5,7 +5,7 @@ use Rattle.ocactl_cli.proofs.session.Session.submit.Goals as goal
 
 pub returns-in-Ok : goal.returns-in-Ok
 returns-in-Ok g c =
-    submits (request_of c.args.request) c.begin.result c.in-Ok.handle _ _ _ c.self.view_is c.in-Ok.is c.begin.ensures c.push.ensures.items refl refl
+    submits (request_of c.args.request) c.begin.result c.in-Ok.handle _ _ _ c.self.view_is c.in-Ok.is c.begin.ensures c.push.ensures.items refl refl refl refl
 
 pub returns-in-Err : goal.returns-in-Err
 returns-in-Err g c =

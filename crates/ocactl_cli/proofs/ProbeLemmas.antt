@@ -1,0 +1,34 @@
+-- A device that is asked whether it answers.
+use Rattle.std.proofs.Common.{◌≡◌, ◌+◌, ℕ, Bool, Option, Some, None, refl, sym, ap, ◌∙◌, subst}
+use Rattle.oca_types.specs.declared.words.Handle.{Handle}
+use Rattle.oca_types.specs.declared.words.Peer.{Peer}
+use Rattle.oca_net.specs.EndStates.{EndState}
+use Rattle.oca_control.specs.declared.report.DriveReport.{DriveReport}
+use Rattle.oca_control.specs.Driving.{GivesOut}
+use Rattle.oca_control.specs.Links.{LinkState, new_link, submission, submitted}
+use Rattle.ocactl_cli.specs.Probes.{Asks, AsksRounds, handle_in, question}
+
+abbrev number_or_none : Option Handle → ℕ
+number_or_none None = 0
+number_or_none (Some h) = h.0
+
+-- the question has the first handle
+pub asked-under : (device : Peer) (first : ℕ) (old : LinkState) (r : Option Handle) (h : Handle)
+    → old ≡ new_link device first 0 16 → r ≡ handle_in (submission question old) → r ≡ Some h → first ≡ h.0
+asked-under device first old r h new is some =
+    sym (ap (λ (l : LinkState). number_or_none (handle_in (submission question l))) new)
+    ∙ ap number_or_none (sym is) ∙ ap number_or_none some
+
+pub asked-all : (device : Peer) (first : ℕ) (old sub l last : LinkState) (d e f : EndState) (report : DriveReport) (h : Handle) (answered : Bool) (r : Option Handle)
+    → old ≡ new_link device first 0 16 → r ≡ handle_in (submission question old) → r ≡ Some h → sub ≡ submitted question 0 old
+    → GivesOut 0 (sub.span + 1) sub l d e report → AsksRounds device h.0 answered l last e f → Asks device first answered d f
+asked-all device first old sub l last d e f report h answered r new is some submits gives rounds =
+    let made : sub ≡ submitted question 0 (new_link device first 0 16) = submits ∙ ap (submitted question 0) new in
+    record {
+      link = l;
+      last = last;
+      between = e;
+      report = report;
+      gives = subst (λ (s : LinkState). GivesOut 0 (s.span + 1) s l d e report) made gives;
+      rounds = subst (λ (n : ℕ). AsksRounds device n answered l last e f) (sym (asked-under device first old r h new is some)) rounds;
+    }

@@ -1,0 +1,6 @@
+use Rattle.std.proofs.Common.{refl}
+use Rattle.ocactl_cli.proofs.MatchLemmas.{whole}
+use Rattle.ocactl_cli.proofs.command_line.program.Goals as goal
+
+pub returns : goal.returns
+returns c = whole c.args.plain c.with_commands.result _ _ c.without_commands.ensures.app refl c.with_commands.ensures

@@ -1,0 +1,7 @@
+use Rattle.ocactl_cli.proofs.ProbeLemmas.{asked-all}
+use Rattle.ocactl_cli.proofs.probe.asks.Goals as goal
+
+pub returns : goal.returns
+returns g c =
+    asked-all c.args.device c.args.first.0 c.args.link.now c.submit.new.link _ _ _ _ _ c.give_out.result c.in-Some.handle c.asks_rounds.result c.submit.result
+    c.requires c.submit.ensures.handle c.in-Some.is c.submit.ensures.link c.give_out.ensures.gives c.asks_rounds.ensures

@@ -1,0 +1,8 @@
+use Rattle.ocactl_cli.specs.Probes.{NoRound, OneRound}
+use Rattle.ocactl_cli.proofs.probe.asks_rounds.Goals as goal
+
+pub loop-round-init : goal.loop-round-init
+loop-round-init g c = NoRound
+
+pub loop-round-preserved : goal.loop-round-preserved
+loop-round-preserved g c = OneRound c.loop-round.invariant c.if-asks_round.ensures

@@ -1,0 +1,72 @@
+-- Whether a device answers the commands of a port: how it is asked (AES70-3; that it is asked is the profile's).
+use Rattle.std.specs.Prelude.{◌≡◌, ◌+◌, ◌<◌, ℕ, Bool, true, false, [], Option, Some, None, Result, Ok, Err}
+use Rattle.oca_types.specs.declared.words.Handle.{Handle}
+use Rattle.oca_types.specs.declared.words.Peer.{Peer}
+use Rattle.oca_types.specs.Peers.{RequestFields}
+use Rattle.oca_pdu.specs.declared.message.Form.TheVariants.{Seconds}
+use Rattle.oca_pdu.specs.Messages.{OneKeepAlive}
+use Rattle.oca_pdu.specs.Encoding.{pdu_encoding}
+use Rattle.oca_net.specs.EndStates.{EndState, Sends}
+use Rattle.oca_control.specs.declared.fault.ControlFault.{ControlFault}
+use Rattle.oca_control.specs.declared.outcome.Outcome.{Outcome}
+use Rattle.oca_control.specs.declared.outcome.Outcome.TheVariants as outcomes
+use Rattle.oca_control.specs.declared.report.DriveReport.{DriveReport}
+use Rattle.oca_control.specs.Asking.{Waits}
+use Rattle.oca_control.specs.Driving.{GivesOut}
+use Rattle.oca_control.specs.Links.{LinkState, new_link, submitted}
+use Rattle.ocactl_cli.specs.Reasons.{WatchState, found_by}
+use Rattle.ocactl_cli.specs.declared.probe.Found.{Found}
+
+-- THE QUESTION: GetClassIdentification (1.1) of the root block, object 100, without parameters.
+abbrev pub question : RequestFields
+question = record { target = 100; level = 1; index = 1; count = 0; params = [] }
+
+abbrev pub handle_in : Result Handle ControlFault → Option Handle
+handle_in (Ok handle) = Some handle
+handle_in (Err fault) = None
+
+-- an answer came
+abbrev pub is_answered : Outcome → Bool
+is_answered (outcomes.Answered a) = true
+is_answered other = false
+
+-- A keep-alive of five seconds was sent to the device.
+abbrev pub SendsKeepAlive : Peer → EndState → EndState → Type 0
+SendsKeepAlive device before after = (sent : Bool) × Sends sent device (pdu_encoding (OneKeepAlive (Seconds 5))) before after
+
+-- One round: a keep-alive was sent, and the answer waited for, five turns at most.
+pub record AsksRound (device : Peer) (h : ℕ) (answered : Bool) (old new : LinkState) (before after : EndState) : Type 0 where
+  pub between : EndState
+  pub outcome : Outcome
+  pub keeps : SendsKeepAlive device before between
+  pub waits : Waits h 5 old outcome new between after
+  pub answers : answered ≡ is_answered outcome
+
+-- so many rounds, without an answer
+pub data AsksInVain (device : Peer) (h : ℕ) : (rounds : ℕ) (old new : LinkState) (before after : EndState) → Type 0 where
+  NoRound : {l : LinkState} {e : EndState} → AsksInVain device h 0 l l e e
+  OneRound : {n : ℕ} {l m o : LinkState} {d e f : EndState} → AsksInVain device h n l m d e
+      → AsksRound device h false m o e f → AsksInVain device h (n + 1) l o d f
+
+-- four rounds without an answer, or fewer and one with it
+abbrev pub AsksRounds : Peer → ℕ → Bool → LinkState → LinkState → EndState → EndState → Type 0
+AsksRounds device h false old new before after = AsksInVain device h 4 old new before after
+AsksRounds device h true old new before after =
+    (n : ℕ) × (m : LinkState) × (e : EndState) × (n < 4) × AsksInVain device h n old m before e
+    × AsksRound device h true m new e after
+
+-- The question was submitted to a new link under this handle at moment 0, and sent; and whether it was answered.
+pub record Asks (device : Peer) (first : ℕ) (answered : Bool) (before after : EndState) : Type 0 where
+  pub link : LinkState
+  pub last : LinkState
+  pub between : EndState
+  pub report : DriveReport
+  pub gives : GivesOut 0 17 (submitted question 0 (new_link device first 0 16)) link before between report
+  pub rounds : AsksRounds device first answered link last between after
+
+-- A DEVICE WAS ASKED whether it answers commands of a port, by a question that changes nothing and by keep-alives; and
+-- this was found, by whether the question was answered and when the device was heard.
+pub record Probes (device : Peer) (first : ℕ) (before : EndState) (asked : WatchState) (found : Found) : Type 0 where
+  pub answered : Bool
+  pub asks : Asks device first answered before asked.end_state
+  pub by : found ≡ found_by answered asked.heard
