@@ -264,7 +264,7 @@ BEHIND = {"get": ["4097"], "set": ["4097", "muted"], "lock": ["4097"], "unlock":
 
 
 def commands_of(folder):
-    """Each command of each program, with its options that take a value, as its help names them."""
+    """Each command of each program, with its options that take a value, and what its help says of each."""
     def help_of(program, *words):
         return subprocess.run([f"{folder}/{program}", *words, "--help"], capture_output=True, text=True, timeout=30).stdout
 
@@ -272,16 +272,19 @@ def commands_of(folder):
         listed = re.search(r"^Commands:\n((?:.+\n)+)", help_of(program), re.M)
         names = [name for name in re.findall(r"^  (\w+)", listed[1], re.M) if name != "help"] if listed else [""]
         for name in names:
-            yield program, name, re.findall(r"^ +(?:-\w, )?--([a-z-]+)[ =]<", help_of(program, *[name] * bool(name)), re.M)
+            yield program, name, dict(re.findall(r"^ +(?:-\w, )?--([a-z-]+)[ =]<[^>]+> +(.*)", help_of(program, *[name] * bool(name)), re.M))
 
 
 def bad_values(checks):
-    """Each option of each command with values that are not of its form: the note names it, the value and the form, and nothing else is done."""
+    """Each option of each command with values that are not of its form: the note names it, the value and the form, and nothing else is done.
+    Where its help says from what to what it may be, that is the form's."""
     for program, name, options in commands_of(checks.folder):
-        for option in options:
+        for option, told in options.items():
             numbers = NUMBERS.get((program, option), NUMBERS.get(option))
             if numbers:
                 digits, least, largest = numbers
+                for said in re.findall(r"\b(\d+) to (\d+)\b", told):
+                    checks.same(f"{program} {name} --{option}: its help", said, (str(least), str(largest)))
                 form = f"1 to {digits} digits, {least} to {largest}"
                 values = ["x", "-1", str(largest + 1), "0" * digits + "1", *([str(least - 1)] if least else [])]
             elif option in FREE:
