@@ -152,6 +152,49 @@ def full_datagram(checks, made):
     run.communicate(timeout=120)
 
 
+LATE = """#define main panel_main
+#include "%s"
+#undef main
+int main(void) {
+    struct line line;
+    uint8_t bytes[9];
+    size_t len = 0;
+    uint32_t ip = 0;
+    uint16_t port = 0;
+    memset(&line, 0, sizeof line);
+    line.file = socket(AF_INET, SOCK_DGRAM, 0);
+    line.to.sin_family = AF_INET;
+    line.to.sin_addr.s_addr = htonl(INADDR_LOOPBACK);
+    if (bind(line.file, (struct sockaddr *)&line.to, sizeof line.to)) return 9;
+    for (uint64_t k = 0; k < 2; k++)
+        if (receive(&line, k * now_ms(&line), bytes, sizeof bytes, &len, &ip, &port)) return 8;
+    return 0;
+}
+"""
+
+
+def late_receives(checks, made, prefix):
+    """The panel of the example waits for nothing where the moment is past, or now."""
+    (made / "late.c").write_text(LATE % (TOP / "examples/c/panel.c"))
+    subprocess.run(["cc", "-std=c11", *STRICT, f"-I{prefix}/include", "-o", made / "late", made / "late.c", prefix / "lib/liboca.a"], check=True)
+    try:
+        checks.same("a receive until a moment that is past", subprocess.run([made / "late"], timeout=30).returncode, 0)
+    except subprocess.TimeoutExpired:
+        checks.same("a receive until a moment that is past", "it waits", 0)
+
+
+def for_every_processor(checks, archive):
+    """The library has no instruction of later processors than the first x86-64: none of AVX, BMI, ABM, SSE3 or above."""
+    if not shutil.which("objdump"):
+        return print("NOT TRIED: the library's instructions, without objdump")
+    text = subprocess.run(["objdump", "-d", "--no-show-raw-insn", archive], capture_output=True, text=True, check=True).stdout
+    used = set(re.findall(r"^ +[0-9a-f]+:\t(\w+)", text, re.M))
+    later = r"v[a-z]\w+|popcnt\w?|lzcnt\w?|andn\w?|bextr\w?|bls\w+|bzhi\w?|mulx\w?|pdep\w?|pext\w?|rorx\w?|s[ahr][lr]x\w?|movbe\w?|crc32\w?|cmpxchg16b" \
+            r"|lddqu|p(shufb|hadd\w+|alignr|abs[bwd]|mulld|(min|max)(s[bd]|u[wd])|insr[bdq]|extr[bdq]|mov[sz]x\w+|test|blend\w+|cmpeqq|cmpgtq)|round[ps][sd]"
+    checks.same("instructions of later processors", {it for it in used if re.fullmatch(later, it)} - {"verr", "verw"}, set())
+    checks.same("instructions", len(used) > 50, True)
+
+
 class Lossy:
     """A network between panels and a device that loses one datagram of five each way; a panel has a port of its own behind it."""
 
@@ -217,7 +260,7 @@ class Asker:
 def desk(front):
     number = struct.Struct(">hhh")
     return [(4097, 4, 1, b"\x02"), (4098, 5, 1, number.pack(-60, -600, 100)), (4593, 4, 1, b"\x02"), (4594, 5, 1, number.pack(-60, -600, 100)),
-            (4113, 4, 1, b"\x01"), (4129, 4, 1, b"\x02"), (4194, 5, 1, number.pack(front, -600, 100)), (4146, 5, 1, number.pack(0, -600, 100)),
+            (4113, 4, 1, b"\x01"), (4161, 4, 1, b"\x01"), (4129, 4, 1, b"\x02"), (4194, 5, 1, number.pack(front, -600, 100)), (4146, 5, 1, number.pack(0, -600, 100)),
             (4227, 4, 1, struct.pack(">HHH", 2, 0, 2)), (4243, 4, 1, struct.pack(">HHH", 0, 0, 2)), (4194, 2, 8, b"\0\4Bass"), (100, 2, 8, b"\0\3FOH"),
             (4195, 2, 1, b"\0"), (4211, 4, 3, b"\0\3DAT"), (4211, 4, 9, b"\0\3\1\0\1")]
 
@@ -244,7 +287,8 @@ def a_mixer(checks, made, name, before=()):
     asker = Asker(network.port)
     for words in ((4194, 2, 9, b"\0\4Bass", 1), (100, 2, 9, b"\0\3FOH", 1), (4195, 2, 2, b"\0", 1), (4211, 4, 4, b"\0\1\0\3DAT", 2), (4211, 4, 8, b"\0\1\0", 2)):
         checks.same(f"{name}: set {words[0]}", asker.ask(*words), (0, b""))
-    told(["gain 7 -30", "source 9 2", "open 3", "gain 4 101", "source 10 3", "gain 33 1", "gain 7 -31"], run)
+    told(["gain 7 -30", "source 9 2", "open 3", "gain 4 101", "source 10 3", "gain 33 1", "y" * 63, "y" * 64, "y" * 65,
+          "open 5" + 300 * " ", "gain 7 -31"], run)
     checks.same(f"{name}: the front", until(lambda: asker.ask(4194, 5, 1)[1][:2] == b"\xff\xe1"), True)
     checks.same(f"{name}: datagrams were lost", network.lost > 0, True)
     network.close()
@@ -258,6 +302,18 @@ def a_mixer(checks, made, name, before=()):
     for ono, level, index, params in desk(-31):
         asked = asker.ask(ono, level, index, struct.pack(">H", 1) if index == 3 else b"", 1 if index == 3 else 0)
         checks.same(f"{name}: {ono} {level}.{index} after the restart", asked, (0, params))
+    run.kill()
+    run.communicate()
+    run, last = start(2), 0
+    asker = Asker(listening(run))
+    asker.end.settimeout(0.05)
+    while run.poll() is None:
+        value = (last + 1) % 100
+        last = value if asker.ask(4194, 5, 2, struct.pack(">h", value), 1) else last
+    run.communicate()
+    run = start(12 if before else 6)
+    asker = Asker(listening(run))
+    checks.same(f"{name}: what was set before its end", asker.ask(4194, 5, 1)[1][:2], struct.pack(">h", last))
     whole = kept.read_bytes()
     (made / f"kept of {name}.new").mkdir()
     told(["gain 7 -32"], run)
@@ -338,6 +394,9 @@ INSTALLED = ["include/oca.h", "lib/cmake/oca/oca-config-version.cmake", "lib/cma
              "share/man/man3/oca_*.3"]
 
 
+PROGRAMS = ("ocadev", "ocactl", "ocapanel")
+
+
 def make(goal, prefix, archive, folder=TOP, **more):
     words = [f"{name}={value}" for name, value in dict(PREFIX=prefix, LIBRARY=archive, **more).items()]
     subprocess.run(["make", "-s", "-C", TOP, goal, *words], cwd=folder, check=True)
@@ -358,6 +417,12 @@ def stays_below(checks, made, archive):
     (room / "opt/oca/lib/another.a").touch()
     make("uninstall", "/opt/oca", archive, DESTDIR=room)
     checks.same("what `make uninstall` leaves", files_below(room), ["opt/oca/lib/another.a"])
+    whole = INSTALLED + [it for name in PROGRAMS for it in (f"bin/{name}", f"share/man/man1/{name}.1")]
+    make("install", "/opt/oca", archive, DESTDIR=room)
+    checks.same("what `make install` puts there", files_below(room), sorted(f"opt/oca/{it}" for it in [*whole, "lib/another.a"]))
+    checks.same("the programs as they were built", [(room / "opt/oca/bin" / name).read_bytes() == (TOP / "bin" / name).read_bytes() for name in PROGRAMS], [True] * 3)
+    make("uninstall", "/opt/oca", archive, DESTDIR=room)
+    checks.same("what `make uninstall` leaves of it", files_below(room), ["opt/oca/lib/another.a"])
 
 
 def prefixes(checks, made, archive):
@@ -455,6 +520,8 @@ def main():
         compile_all(made, prefix)
         names(checks, archive, TOP / "include/oca.h", prefix)
         arenas(checks, made)
+        for_every_processor(checks, archive)
+        late_receives(checks, made, prefix)
         stays_below(checks, made, archive)
         prefixes(checks, made, archive)
         by_cmake(checks, made, prefix)

@@ -629,6 +629,11 @@ def listed_line(r, onos):
             5: line.replace(b'"', b"", 1), 6: b"# " + line, 7: b""}.get(damage, line)
 
 
+def channels_of(tree):
+    """What stands in each channel of the example: the class, the role and the setting of each object."""
+    return [[(o.kind, o.role, o.state) for o in oca.members(tree, block.ono)] for block in tree if block.role.startswith("channel ")]
+
+
 def trees(checks):
     """`show --tree` and `replay --tree` of the example and of random texts, right and wrong, against the second implementation."""
     r = random.Random(1)
@@ -648,6 +653,9 @@ def trees(checks):
                 expected = (b"", f"line {fault.args[0]}: {fault.args[1]}\n".encode(), 2)
             done = subprocess.run([f"{checks.folder}/ocadev", "show", "--tree", path], capture_output=True, timeout=30)
             checks.same(f"show --tree of {text!r}", (done.stdout, done.stderr, done.returncode), expected)
+        strips = channels_of(oca.tree_of_text(texts[0]))
+        checks.same("the example: its channels are alike, muted and at 0", (len(strips), strips), (8, [strips[0]] * 8))
+        checks.same("the example: a channel", strips[0], [("mute", "mute", 1), ("polarity", "polarity", 1), ("int16", "trim", 0), ("switch", "source", 0)])
         Path(path).write_bytes(texts[0])
         get = oca.pdu(1, [oca.Command(1, 4101, 4, 5, 0, b"").body()])
         done = subprocess.run([f"{checks.folder}/ocadev", "replay", "--tree", path], input=f"0 127.0.0.1:9001 {get.hex()}\n".encode(), capture_output=True,
