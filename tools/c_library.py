@@ -305,7 +305,7 @@ def a_mixer(checks, made, name, before=()):
         checks.same(f"{name}: {ono} {level}.{index} after the restart", asked, (0, params))
     run.kill()
     run.communicate()
-    run = start(2, LD_PRELOAD=str(made / "calls.so"), SLOW="3000") if name == "plain" else start(2)
+    run = start(2, LD_PRELOAD=str(made / "calls.so"), SLOW="3000") if name == "plain" else start(12 if before else 2)
     asker = Asker(listening(run))
     for value in (1, 2, 3, 4):
         checks.same(f"{name}: the gain is {value}", asker.ask(4194, 5, 2, struct.pack(">h", value), 1), (0, b""))
