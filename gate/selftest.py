@@ -94,6 +94,47 @@ def knows_the_least(folder):
     return run.least_of_ci(folder) == 5
 
 
+def counts_all():
+    """The whole gate passes only where `rt ci`, its steps and their list do: each of them is made to fail alone."""
+    real = run.watched, run.run_steps, run.left_out
+    try:
+        found = []
+        for of_ci, of_steps, missing in (((3, 0), [(5, 0)], []), ((3, 1), [(5, 0)], []), ((3, 0), [(5, 1)], []), ((3, 0), [(5, 0)], ["x.py"])):
+            run.watched, run.run_steps, run.left_out = lambda *_: of_ci, lambda _: of_steps, lambda *_: missing
+            told = io.StringIO()
+            with contextlib.redirect_stdout(told):
+                found.append((run.main([]), run.last_line(told.getvalue())))
+        return found == [(0, "8 passed, 0 failed")] + [(1, "8 passed, 1 failed")] * 3
+    finally:
+        run.watched, run.run_steps, run.left_out = real
+
+
+def counts_edits():
+    """An edit that is not refused has failed, and so has one that tries the tool itself and is judged wrongly."""
+    edits = importlib.import_module("edits")
+    with contextlib.redirect_stdout(io.StringIO()):
+        found = [edits.verdict([{kind: int(kind == one) for kind in edits.KINDS}]) for one in edits.KINDS]
+    return found == [(1, 0), (0, 1), (1, 0), (0, 1)]
+
+
+def forgives_no_lateness():
+    """A part of network.py that is late each time has failed, once; one that is late once or twice has not; another fault is not tried again."""
+    network = importlib.import_module("network")
+    found = []
+    for late, wrong in ((0, False), (1, False), (2, False), (3, False), (0, True)):
+        checks, tries = network.Checks("", ""), []
+
+        def part(checks):
+            tries.append(1)
+            checks.expect("a time", len(tries) > late, is_time=True)
+            checks.expect("a count", not wrong)
+
+        with contextlib.redirect_stdout(io.StringIO()):
+            checks.part(part)
+        found.append((len(tries), checks.passed, checks.failed))
+    return found == [(1, 2, 0), (2, 2, 0), (3, 2, 0), (3, 1, 1), (1, 1, 1)]
+
+
 def ends_all_that_hangs(folder):
     """What a step has started that hangs is ended with it."""
     place = folder / "late"
@@ -129,6 +170,7 @@ def main():
         tried += [("a tool that no step runs is found", finds_what_is_left_out(Path(room))), ("the least of rt ci", knows_the_least(Path(room))),
                   ("what hangs is ended", ends_all_that_hangs(Path(room)))]
     tried += [(f"{name}.py sees differences", sees_differences(tool)) for name, tool in tools_with_checks()]
+    tried += [("all that is tried counts", counts_all()), ("edits.py counts all", counts_edits()), ("network.py forgives no lateness", forgives_no_lateness())]
     for what, is_well in tried:
         passed, failed = passed + is_well, failed + (not is_well)
         if not is_well:

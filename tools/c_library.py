@@ -152,6 +152,49 @@ def full_datagram(checks, made):
     run.communicate(timeout=120)
 
 
+LATE = """#define main panel_main
+#include "%s"
+#undef main
+int main(void) {
+    struct line line;
+    uint8_t bytes[9];
+    size_t len = 0;
+    uint32_t ip = 0;
+    uint16_t port = 0;
+    memset(&line, 0, sizeof line);
+    line.file = socket(AF_INET, SOCK_DGRAM, 0);
+    line.to.sin_family = AF_INET;
+    line.to.sin_addr.s_addr = htonl(INADDR_LOOPBACK);
+    if (bind(line.file, (struct sockaddr *)&line.to, sizeof line.to)) return 9;
+    for (uint64_t k = 0; k < 2; k++)
+        if (receive(&line, k * now_ms(&line), bytes, sizeof bytes, &len, &ip, &port)) return 8;
+    return 0;
+}
+"""
+
+
+def late_receives(checks, made, prefix):
+    """The panel of the example waits for nothing where the moment is past, or now."""
+    (made / "late.c").write_text(LATE % (TOP / "examples/c/panel.c"))
+    subprocess.run(["cc", "-std=c11", *STRICT, f"-I{prefix}/include", "-o", made / "late", made / "late.c", prefix / "lib/liboca.a"], check=True)
+    try:
+        checks.same("a receive until a moment that is past", subprocess.run([made / "late"], timeout=30).returncode, 0)
+    except subprocess.TimeoutExpired:
+        checks.same("a receive until a moment that is past", "it waits", 0)
+
+
+def for_every_processor(checks, archive):
+    """The library has no instruction of later processors than the first x86-64: none of AVX, BMI, ABM, SSE3 or above."""
+    if not shutil.which("objdump"):
+        return print("NOT TRIED: the library's instructions, without objdump")
+    text = subprocess.run(["objdump", "-d", "--no-show-raw-insn", archive], capture_output=True, text=True, check=True).stdout
+    used = set(re.findall(r"^ +[0-9a-f]+:\t(\w+)", text, re.M))
+    later = r"v[a-z]\w+|popcnt\w?|lzcnt\w?|andn\w?|bextr\w?|bls\w+|bzhi\w?|mulx\w?|pdep\w?|pext\w?|rorx\w?|s[ahr][lr]x\w?|movbe\w?|crc32\w?|cmpxchg16b" \
+            r"|lddqu|p(shufb|hadd\w+|alignr|abs[bwd]|mulld|(min|max)(s[bd]|u[wd])|insr[bdq]|extr[bdq]|mov[sz]x\w+|test|blend\w+|cmpeqq|cmpgtq)|round[ps][sd]"
+    checks.same("instructions of later processors", {it for it in used if re.fullmatch(later, it)} - {"verr", "verw"}, set())
+    checks.same("instructions", len(used) > 50, True)
+
+
 class Lossy:
     """A network between panels and a device that loses one datagram of five each way; a panel has a port of its own behind it."""
 
@@ -217,7 +260,7 @@ class Asker:
 def desk(front):
     number = struct.Struct(">hhh")
     return [(4097, 4, 1, b"\x02"), (4098, 5, 1, number.pack(-60, -600, 100)), (4593, 4, 1, b"\x02"), (4594, 5, 1, number.pack(-60, -600, 100)),
-            (4113, 4, 1, b"\x01"), (4129, 4, 1, b"\x02"), (4194, 5, 1, number.pack(front, -600, 100)), (4146, 5, 1, number.pack(0, -600, 100)),
+            (4113, 4, 1, b"\x01"), (4161, 4, 1, b"\x01"), (4129, 4, 1, b"\x02"), (4194, 5, 1, number.pack(front, -600, 100)), (4146, 5, 1, number.pack(0, -600, 100)),
             (4227, 4, 1, struct.pack(">HHH", 2, 0, 2)), (4243, 4, 1, struct.pack(">HHH", 0, 0, 2)), (4194, 2, 8, b"\0\4Bass"), (100, 2, 8, b"\0\3FOH"),
             (4195, 2, 1, b"\0"), (4211, 4, 3, b"\0\3DAT"), (4211, 4, 9, b"\0\3\1\0\1")]
 
@@ -226,7 +269,8 @@ def a_mixer(checks, made, name, before=()):
     """The mixer of examples/c: what panels and its front set, with one datagram of five lost, is there after a kill and a restart; a file
     that cannot be written stays as it was, and one that is broken is refused."""
     kept, program = made / f"kept of {name}", made / f"mixer-{name}"
-    start = lambda seconds: subprocess.Popen([*before, program, kept, "0", str(seconds)], stdin=subprocess.PIPE, stdout=subprocess.PIPE, stderr=subprocess.PIPE, text=True)
+    start = lambda seconds, **more: subprocess.Popen([*before, program, kept, "0", str(seconds)], stdin=subprocess.PIPE, stdout=subprocess.PIPE, stderr=subprocess.PIPE,
+                                                     text=True, env=dict(os.environ, **more))
     told = lambda lines, run: (run.stdin.write("".join(f"{it}\n" for it in lines)), run.stdin.flush())
 
     def until(test):
@@ -244,7 +288,8 @@ def a_mixer(checks, made, name, before=()):
     asker = Asker(network.port)
     for words in ((4194, 2, 9, b"\0\4Bass", 1), (100, 2, 9, b"\0\3FOH", 1), (4195, 2, 2, b"\0", 1), (4211, 4, 4, b"\0\1\0\3DAT", 2), (4211, 4, 8, b"\0\1\0", 2)):
         checks.same(f"{name}: set {words[0]}", asker.ask(*words), (0, b""))
-    told(["gain 7 -30", "source 9 2", "open 3", "gain 4 101", "source 10 3", "gain 33 1", "gain 7 -31"], run)
+    told(["gain 7 -30", "source 9 2", "open 3", "gain 4 101", "source 10 3", "gain 33 1", "y" * 63, "y" * 64, "y" * 65,
+          "open 5" + 300 * " ", "gain 7 -31"], run)
     checks.same(f"{name}: the front", until(lambda: asker.ask(4194, 5, 1)[1][:2] == b"\xff\xe1"), True)
     checks.same(f"{name}: datagrams were lost", network.lost > 0, True)
     network.close()
@@ -258,6 +303,17 @@ def a_mixer(checks, made, name, before=()):
     for ono, level, index, params in desk(-31):
         asked = asker.ask(ono, level, index, struct.pack(">H", 1) if index == 3 else b"", 1 if index == 3 else 0)
         checks.same(f"{name}: {ono} {level}.{index} after the restart", asked, (0, params))
+    run.kill()
+    run.communicate()
+    run = start(2, LD_PRELOAD=str(made / "calls.so"), SLOW="3000") if name == "plain" else start(12 if before else 2)
+    asker = Asker(listening(run))
+    for value in (1, 2, 3, 4):
+        checks.same(f"{name}: the gain is {value}", asker.ask(4194, 5, 2, struct.pack(">h", value), 1), (0, b""))
+        time.sleep(0.3)
+    run.communicate()
+    run = start(12 if before else 6)
+    asker = Asker(listening(run))
+    checks.same(f"{name}: what was set before its end", asker.ask(4194, 5, 1)[1][:2], b"\0\4")
     whole = kept.read_bytes()
     (made / f"kept of {name}.new").mkdir()
     told(["gain 7 -32"], run)
@@ -276,13 +332,12 @@ def a_mixer(checks, made, name, before=()):
 def kept_safely(checks, made):
     """What the mixer keeps is on the disk before it takes the place of the file before it, and so is the folder then."""
     layer, kept, calls = made / "calls.so", made / "kept safely", made / "calls of the mixer"
-    subprocess.run(["cc", "-O1", "-Wall", "-shared", "-fPIC", "-o", layer, HERE / "unreliable.c", "-ldl"], check=True)
     run = subprocess.Popen([made / "mixer-plain", kept, "0", "600"], stdin=subprocess.PIPE, stdout=subprocess.PIPE, stderr=subprocess.PIPE, text=True,
                            env=dict(os.environ, LD_PRELOAD=str(layer), CALLS=str(calls)))
     listening(run)
     run.stdin.write("gain 7 -30\n")
     run.stdin.flush()
-    made_so_far = lambda: calls.read_text().split() if calls.exists() else []
+    made_so_far = lambda: calls.read_text().splitlines() if calls.exists() else []
     for _ in range(400):
         if len(made_so_far()) >= 3:
             break
@@ -290,13 +345,29 @@ def kept_safely(checks, made):
     said = made_so_far()
     run.kill()
     run.communicate()
-    checks.same("the mixer's file: what is called", (len(said) >= 3, said), (True, (["fsync", "rename", "fsync"] * len(said))[:len(said)]))
+    wanted = [f"fsync {kept}.new", f"rename {kept}.new {kept}", f"fsync {made}"]
+    checks.same("the mixer's file: what is called", (len(said) >= 3, said), (True, (wanted * len(said))[:len(said)]))
+
+
+# Put before the mixer: each call of its running device ends the program where nobody has the lock.
+HELD = """#define _POSIX_C_SOURCE 200809L
+#include <oca.h>
+#include <pthread.h>
+#include <stdlib.h>
+static inline void held(pthread_mutex_t *by) {
+    if (pthread_mutex_trylock(by) == 0) abort();
+}
+""" + "".join(f"#define oca_device_{name}(...) (held(&lock), oca_device_{name}(__VA_ARGS__))\n"
+              for name in ("datagram", "packets", "packet", "written", "tick", "next_lapse", "set", "objects", "object", "spec"))
 
 
 def mixers(checks, made, prefix):
     """The mixer as it is, over addresses and undefined behaviour, over threads, and under valgrind; and as C++."""
     subprocess.run(["c++", "-x", "c++", "-std=c++17", *STRICT, f"-I{prefix}/include", "-c", "-o", made / "mixer.o", TOP / "examples/c/mixer.c"], check=True)
-    for name, more in (("plain", ["-O2"]), ("sanitized", SANITIZED), ("threads", ["-O1", "-g", "-fsanitize=thread"])):
+    (made / "held.h").write_text(HELD)
+    subprocess.run(["cc", "-O1", "-Wall", "-shared", "-fPIC", "-o", made / "calls.so", HERE / "unreliable.c", "-ldl"], check=True)
+    for name, more in (("plain", ["-O2"]), ("sanitized", SANITIZED), ("threads", ["-O1", "-g", "-fsanitize=thread"]),
+                       ("held", ["-O2", "-include", str(made / "held.h")])):
         subprocess.run(["cc", "-std=c11", *STRICT[1:], "-Wpedantic", *more, f"-I{prefix}/include", "-o", made / f"mixer-{name}", TOP / "examples/c/mixer.c",
                         f"{prefix}/lib/liboca.a", "-pthread"], check=True)
         a_mixer(checks, made, name)
@@ -338,6 +409,9 @@ INSTALLED = ["include/oca.h", "lib/cmake/oca/oca-config-version.cmake", "lib/cma
              "share/man/man3/oca_*.3"]
 
 
+PROGRAMS = ("ocadev", "ocactl", "ocapanel")
+
+
 def make(goal, prefix, archive, folder=TOP, **more):
     words = [f"{name}={value}" for name, value in dict(PREFIX=prefix, LIBRARY=archive, **more).items()]
     subprocess.run(["make", "-s", "-C", TOP, goal, *words], cwd=folder, check=True)
@@ -358,6 +432,13 @@ def stays_below(checks, made, archive):
     (room / "opt/oca/lib/another.a").touch()
     make("uninstall", "/opt/oca", archive, DESTDIR=room)
     checks.same("what `make uninstall` leaves", files_below(room), ["opt/oca/lib/another.a"])
+    whole = INSTALLED + [it for name in PROGRAMS for it in (f"bin/{name}", f"share/man/man1/{name}.1")]
+    make("install", "/opt/oca", archive, DESTDIR=room)
+    checks.same("what `make install` puts there", files_below(room), sorted(f"opt/oca/{it}" for it in [*whole, "lib/another.a"]))
+    there = [room / "opt/oca/bin" / name for name in PROGRAMS]
+    checks.same("the programs as they were built", [it.exists() and it.read_bytes() == (TOP / "bin" / it.name).read_bytes() for it in there], [True] * 3)
+    make("uninstall", "/opt/oca", archive, DESTDIR=room)
+    checks.same("what `make uninstall` leaves of it", files_below(room), ["opt/oca/lib/another.a"])
 
 
 def prefixes(checks, made, archive):
@@ -455,6 +536,8 @@ def main():
         compile_all(made, prefix)
         names(checks, archive, TOP / "include/oca.h", prefix)
         arenas(checks, made)
+        for_every_processor(checks, archive)
+        late_receives(checks, made, prefix)
         stays_below(checks, made, archive)
         prefixes(checks, made, archive)
         by_cmake(checks, made, prefix)

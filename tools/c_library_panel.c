@@ -422,9 +422,10 @@ static void hostile(void) {
         network.answer_status = 200;
         same("refused by a status that none has", asked(&panel, (enum question)question), OCA_ASKED_REFUSED);
     }
-    static const char *const bad[] = {"\0\1\x80", "\0\1\xc0\x80", "\0\1\xc3", "\0\1\xed\xa0\x80", "\0\1\xf4\x90\x80\x80", "\0\1\xe0\x80\x80", "\0\2\xc3\xb6"};
-    static const uint32_t sizes[] = {3, 4, 3, 5, 6, 5, 4};
-    for (int k = 0; k < 7; k++) {
+    static const char *const bad[] = {"\0\1\x80", "\0\1\xc0\x80", "\0\1\xc3", "\0\1\xed\xa0\x80", "\0\1\xf4\x90\x80\x80", "\0\1\xe0\x80\x80", "\0\2\xc3\xb6",
+        "\0\1\xf0\x80\x80\x80", "\0\1\xf0\x8f\xbf\xbf", "\0\1\xf5\x80\x80\x80", "\0\1\xe2\x82", "\0\1\xe2\x82\xc0"};
+    static const uint32_t sizes[] = {3, 4, 3, 5, 6, 5, 4, 6, 6, 6, 4, 5};
+    for (int k = 0; k < 12; k++) {
         answer_is(&network, 1, bad[k], sizes[k]);
         same("no UTF-8, or another count", asked(&panel, ASKS_ROLE), OCA_ASKED_UNREADABLE);
     }
@@ -435,6 +436,29 @@ static void hostile(void) {
     put(network.answer, 64, 2);
     network.answer_len = 66;
     same("a text of 64 bytes", asked(&panel, ASKS_ROLE), OCA_ASKED_DONE);
+    static const char *const well[] = {"\0\1\0", "\0\1\x7f", "\0\1\xc2\x80", "\0\1\xdf\xbf", "\0\1\xe0\xa0\x80", "\0\1\xed\x9f\xbf", "\0\1\xee\x80\x80",
+        "\0\1\xf0\x90\x80\x80", "\0\1\xf4\x8f\xbf\xbf"};
+    static const uint32_t lengths[] = {3, 3, 4, 4, 5, 5, 5, 6, 6};
+    for (int k = 0; k < 9; k++) {
+        answer_is(&network, 1, well[k], lengths[k]);
+        same("the first and last scalars of each length", asked(&panel, ASKS_ROLE), OCA_ASKED_DONE);
+    }
+    for (uint32_t count = 15; count <= 18; count++) {
+        memset(network.answer, 0, 2 + 2 * count);
+        network.answer[1] = (uint8_t)count;
+        network.answer_len = 2 + 2 * count;
+        same("names, at most 16", asked(&panel, ASKS_NAMES), count <= 16 ? OCA_ASKED_DONE : OCA_ASKED_UNREADABLE);
+        memset(network.answer, 0, 4 + 2 * count);
+        network.answer[1] = (uint8_t)count;
+        network.answer_len = 4 + 2 * count;
+        same("fields of a class, at most 16", asked(&panel, ASKS_CLASS), count <= 16 ? OCA_ASKED_DONE : OCA_ASKED_UNREADABLE);
+    }
+    for (uint32_t count = 180; count <= 182; count++) {
+        memset(network.answer, 0, 2 + 8 * count);
+        network.answer[1] = (uint8_t)count;
+        network.answer_len = 2 + 8 * (count < 182 ? count : 181);
+        same("members, at most 181", asked(&panel, ASKS_MEMBERS), count < 182 ? OCA_ASKED_DONE : OCA_ASKED_UNREADABLE);
+    }
     struct oca_class_id id = {9, {9}, 9};
     answer_is(&network, 1, "\0\3\0\1\xff\xff\0\7\0\2", 10);
     same("a class of another profile", oca_panel_class(&panel, 1, &id).asked == OCA_ASKED_DONE && id.class_number == 0 && id.fields[1] == 0xffff, 1);
@@ -496,6 +520,19 @@ static void waits(void) {
     says("in words", oca_outcome_text(outcome), "late");
     same("nothing is sent again", network.sent, sent);
     same("and nothing begins", oca_panel_begin_set(&panel, 4097, oca_mute(true), &handle), OCA_LOST);
+    oca_panel_close(&panel);
+    begins_network(&network, &panel);
+    network.silent = true;
+    same("begin", oca_panel_begin_set(&panel, 4097, oca_mute(true), &handle), OCA_DONE);
+    for (uint32_t k = 1; k < 20; k++) {
+        const uint64_t last = network.now;
+        network.now += 30;
+        while (network.sent == k) (void)oca_panel_turn(&panel);
+        same("sent again 250 ms later", (uint32_t)(network.now - last), 250);
+    }
+    network.now += 30;
+    while (oca_panel_turn(&panel).asked == OCA_ASKED_DONE) {}
+    same("lost 5 seconds after the first", (uint32_t)(network.now - (UINT64_C(1) << 40)), 5000);
     oca_panel_close(&panel);
     oca_panel_close(&panel);
     oca_panel_close(NULL);

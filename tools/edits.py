@@ -327,6 +327,13 @@ def stands(library):
     return all(os.path.getmtime(file) < made for file in files)
 
 
+def verdict(counts):
+    """How many edits passed and failed, those that try the tool itself counted, by the counts of all crates."""
+    refused, missed, tried_well, tried_badly = (sum(it[key] for it in counts) for key in KINDS)
+    say(f"edits: {refused} of {refused + missed} refused; the tool itself: {tried_well} of {tried_well + tried_badly}")
+    return refused + tried_well, missed + tried_badly
+
+
 def main(names):
     os.chdir(ROOT)
     rtlib.guarded()
@@ -344,11 +351,8 @@ def main(names):
     for crate in crates:
         work = crate.count(rb"\n") + 30 * len(listed(Path(crate.folder, "wrong")))
         tasks[crate.name, "edits"] = ([], work, rt.need(crate), lambda given, jobs, it=crate: tried(it))
-    counts = rt.in_lanes(tasks).values()
-    refused, missed, tried_well, tried_badly = (sum(it[key] for it in counts) for key in KINDS)
-    say(f"edits: {refused} of {refused + missed} refused; the tool itself: {tried_well} of {tried_well + tried_badly}")
-    failed = missed + tried_badly
-    print(f"{refused + tried_well} passed, {failed} failed")
+    passed, failed = verdict(rt.in_lanes(tasks).values())
+    print(f"{passed} passed, {failed} failed")
     return 1 if failed else 0
 
 

@@ -10,6 +10,7 @@ import re
 import socket
 import subprocess
 import sys
+from pathlib import Path
 
 import oca_profile as oca
 
@@ -149,6 +150,21 @@ def objects(checks, folder):
     amplifier.stop()
 
 
+def bound_at(port):
+    """The addresses of this machine at which somebody has this UDP port, of IPv4."""
+    rows = [line.split()[1].split(":") for line in Path("/proc/net/udp").read_text().splitlines()[1:]]
+    return [socket.inet_ntoa(bytes.fromhex(ip)[::-1]) for ip, number in rows if int(number, 16) == port]
+
+
+def at_this_machine(checks, folder):
+    """The amplifier listens where it says, and nowhere else; the panel says what is no port, and sends nothing."""
+    amplifier = Amplifier(folder)
+    checks.same("where the amplifier listens", bound_at(amplifier.port), ["127.0.0.1"])
+    amplifier.stop()
+    for port in ("x", "65536", "-1", ""):
+        checks.same(f"the panel at port {port!r}", panel(folder, port).splitlines()[0][:7] in ("", "invalid", "number ", "cannot "), True)
+
+
 def closed(checks, folder):
     """Both serve where standard input or output is closed."""
     for descriptor in (0, 1):
@@ -164,7 +180,7 @@ def closed(checks, folder):
 
 def main():
     checks = Checks()
-    for part in (panel_sets, knobs, objects, closed):
+    for part in (panel_sets, knobs, objects, at_this_machine, closed):
         part(checks, sys.argv[1])
     print(f"embedded: the samples, each from both sides\n{checks.passed} passed, {checks.failed} failed")
     return 1 if checks.failed else 0

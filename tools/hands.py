@@ -7,8 +7,11 @@ Usage: hands.py BIN     BIN is the folder with `ocactl`
 What is to be printed is made here from the objects of the second implementation and the rules of docs/PROTOCOL.md. The
 last line is 'N passed, M failed'."""
 import contextlib
+import os
+import pty
 import re
 import select
+import signal
 import socket
 import subprocess
 import sys
@@ -169,8 +172,13 @@ class Checks:
         return done.stdout, done.stderr, done.returncode
 
     def prints(self, what, device, words, printed, status, said=""):
-        """The words print just that, and this on standard error: nothing unless given."""
+        """The words print just that, and this on standard error: nothing unless given. So many milliseconds ago is not before the run;
+        where a command was lost, which takes 5 seconds without a datagram, it is some seconds ago."""
+        begun = time.monotonic()
         out, err, code = self.run(device, *words)
+        took = (time.monotonic() - begun) * 1000
+        for ago in map(int, re.findall(r"\b(\d+) ms ago", err)):
+            self.same(f"{what}: {ago} ms ago of {took:.0f}", (3000 if " lost\n" in out else 0) <= ago <= took, True)
         self.same(what, (out, re.sub(r"\b\d+ ms ago", "N ms ago", err), code), (printed, said, status))
 
 
@@ -445,6 +453,94 @@ class Deaf(Served):
         return self.answers(peer, data, now)
 
 
+class Missing(Served):
+    """The second implementation's device, which misses the first copy of each command."""
+
+    def __init__(self, tree):
+        super().__init__(tree)
+        self.answers, self.missed = self.device.datagram, set()
+        self.device.datagram = self.datagram
+
+    def datagram(self, peer, data, now):
+        for message in oca.check(data):
+            if message[0] == "command" and (peer, message[2].handle) not in self.missed:
+                self.missed.add((peer, message[2].handle))
+                return "", []
+        return self.answers(peer, data, now)
+
+
+def missed_first(checks):
+    """One datagram that is lost does not make the program take its other port."""
+    for command, words, printed in (("lock", (4097,), "4097 locked\n"), ("get", (4097,), "4097 muted\n")):
+        with Missing(stagebox()) as device:
+            own = own_ports.by_turns()[0]
+            run = subprocess.run([f"{checks.folder}/ocactl", command, "--device", f"127.0.0.1:{device.port}", *map(str, words)],
+                                 capture_output=True, text=True, timeout=60)
+            checks.same(f"{command}: the first copy is lost", (run.stdout, run.stderr, run.returncode), (printed, "", 0))
+            if command == "lock":
+                checks.same("lock: the holder, where the first copy is lost", [o.lock for o in device.tree if o.ono == 4097], [("total", (127, 0, 0, 1, own))])
+
+
+class Terminal:
+    """A run at a terminal of its own, in the foreground."""
+
+    def __init__(self, *words):
+        self.pid, self.file = pty.fork()
+        if self.pid == 0:
+            os.execvp(words[0], words)
+        self.said = b""
+
+    def write(self, text):
+        os.write(self.file, text)
+
+    def says(self, text, seconds=10):
+        """Whether it prints this in time."""
+        until = time.monotonic() + seconds
+        while text not in self.said and time.monotonic() < until:
+            if select.select([self.file], [], [], 0.1)[0]:
+                try:
+                    self.said += os.read(self.file, 4096)
+                except OSError:  # the run has ended
+                    break
+        return text in self.said
+
+    def ends(self, seconds=10):
+        """The status of the run, where it ends in time."""
+        until = time.monotonic() + seconds
+        while time.monotonic() < until:
+            pid, status = os.waitpid(self.pid, os.WNOHANG)
+            if pid:
+                os.close(self.file)
+                return os.waitstatus_to_exitcode(status)
+            self.says(b"nothing that it says", 0.1)
+        os.kill(self.pid, signal.SIGKILL)
+        os.waitpid(self.pid, 0)
+        return None
+
+
+def at_a_terminal(checks):
+    """At a terminal: lines that are typed are read, also where a script runs the program; commands under way are sent again meanwhile;
+    Ctrl-D ends `run`, and `lock --hold`, whose locks are then taken off."""
+    for script in (False, True):
+        with Missing(stagebox()) as device:
+            words = [f"{checks.folder}/ocactl", "run", "--device", f"127.0.0.1:{device.port}", "--port", str(free_port())]
+            run = Terminal("sh", "-c", f"{' '.join(words)}; exit $?") if script else Terminal(*words)
+            for line, answer in ((b"4097 4 1 0 -\n", b"answer 0 1 01"), (b"4098 4 1 0 -\n", b"answer 0 1 01"), (b"4101 5 1 0 -\n", b"answer 0 1 00")):
+                before, run.said = run.said, b""
+                run.write(line)
+                checks.same(f"run at a terminal, {script}: {line}", run.says(answer), True)
+            run.write(b"\x04")
+            checks.same(f"run at a terminal, {script}: its end", run.ends(), 0)
+    with Served(stagebox()) as device:
+        run = Terminal(f"{checks.folder}/ocactl", "lock", "--hold", "--device", f"127.0.0.1:{device.port}", "--port", str(free_port()), "4097")
+        checks.same("lock --hold at a terminal", run.says(b"4097 locked"), True)
+        run.write(b"a line that is dropped\n")
+        checks.same("lock --hold at a terminal: it is kept", run.says(b"unlocked", 1), False)
+        run.write(b"\x04")
+        checks.same("lock --hold at a terminal: Ctrl-D", (run.says(b"4097 unlocked"), run.ends()), (True, 0))
+        checks.same("lock --hold at a terminal: no lock", [o.lock for o in device.tree], [None] * len(device.tree))
+
+
 class OldSession(Served):
     """The second implementation's device, with a session of the program's own port that is ahead of the clock."""
 
@@ -526,9 +622,9 @@ def held(checks):
 def main():
     checks = Checks(sys.argv[1])
     for part in (trees, gets, sets, sets_at_once, tells_at_once, refusals, bad_words, locks, strange_answers, silence, failed_sends,
-                 old_sessions, own_port_in_use, held):
+                 old_sessions, own_port_in_use, missed_first, at_a_terminal, held):
         try:
-            with own_ports.alone() if part in (old_sessions, own_port_in_use) else contextlib.nullcontext():
+            with own_ports.alone() if part in (old_sessions, own_port_in_use, missed_first) else contextlib.nullcontext():
                 part(checks)
         except (OSError, KeyError, subprocess.TimeoutExpired) as fault:
             checks.failed += 1

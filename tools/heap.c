@@ -4,6 +4,13 @@
 #include "../examples/c/heap.c"
 #include <stdio.h>
 
+/* The arena says how it is aligned: that it lies so here anyway may be the compiler's doing. */
+#if defined(__GNUC__) && defined(__cplusplus)
+static_assert(__alignof__(arena) >= ALIGNMENT, "the arena is aligned");
+#elif defined(__GNUC__)
+_Static_assert(__alignof__(arena) >= ALIGNMENT, "the arena is aligned");
+#endif
+
 static unsigned long passed, failed;
 
 static void expect(bool good, size_t room, size_t size) {

@@ -6,7 +6,7 @@ name.
 Usage: manual.py BIN     BIN is the folder with the programs
 
 In a page a command is a `.SS`, and an option of it a `.BI \\-\\-NAME " VALUE"` or, without a value, a `.B \\-\\-NAME`.
-Where groff is installed, it must find nothing to warn of. The last line is 'N passed, M failed'."""
+Where groff is installed, it must find nothing to warn of. The step is tried itself, by pages that are wrong. The last line is 'N passed, M failed'."""
 import re
 import shutil
 import subprocess
@@ -72,9 +72,8 @@ def defaults_in_page(text, name):
     return {o: default_of(b) for o, b in said.items() if default_of(b)}, {o for o, b in said.items() if "As of" in b}
 
 
-def faults_of(page, program):
-    """What differs, a line each, and how much was compared."""
-    text = page.read_text()
+def faults_of(text, program):
+    """What differs between the text of a page and the program, a line each, and how much was compared."""
     documented, there = commands_in_page(text), commands_in_help(program)
     faults = [f"command {name} is in one of both alone" for name in documented.keys() ^ there.keys()]
     count = len(there)
@@ -90,20 +89,46 @@ def faults_of(page, program):
             page_has, help_has = documented[name].get(option, "nothing"), said.get(option, "nothing")
             if page_has != help_has:
                 faults.append(f"{name} --{option}: {page_has!r} in the page, {help_has!r} in the help")
-    if shutil.which("groff"):
-        warned = subprocess.run(["groff", "-man", "-Tutf8", "-ww", str(page)], capture_output=True, text=True).stderr
-        faults += [f"groff: {line}" for line in warned.splitlines()]
     return faults, count
+
+
+def warnings_of(page):
+    """What groff warns of, where it is installed."""
+    if not shutil.which("groff"):
+        return []
+    warned = subprocess.run(["groff", "-man", "-Tutf8", "-ww", str(page)], capture_output=True, text=True).stderr
+    return [f"groff: {line}" for line in warned.splitlines()]
+
+
+# Pages that are wrong: the program, a text that stands there, and what stands in its place: a command that is missing, one that is
+# none, an option that is missing, one that is none, one of another value or without one, and another default.
+WRONG = [("ocadev", ".SS show\n", ".SS shows\n"), ("ocactl", ".SS unlock\n", ".PP\n"), ("ocadev", '.BI \\-\\-stats " SECONDS"\n', ".PP\n"),
+         ("ocactl", ".B \\-\\-hold\n", ".B \\-\\-held\n"), ("ocadev", '.BI \\-\\-stats " SECONDS"', '.BI \\-\\-stats " MINUTES"'),
+         ("ocadev", '.BI \\-\\-keep " FILE"', ".B \\-\\-keep"), ("ocadev", "1 to 64; 32 unless given", "1 to 64; 31 unless given")]
+
+
+def is_found(name, there, other, folder):
+    """Whether a page that is wrong so differs from the program."""
+    text = (PAGES / f"{name}.1").read_text()
+    return there in text and len(faults_of(text.replace(there, other, 1), f"{folder}/{name}")[0]) > 0
 
 
 def main():
     passed = failed = 0
     for name in ("ocadev", "ocactl", "ocapanel"):
-        faults, count = faults_of(PAGES / f"{name}.1", f"{sys.argv[1]}/{name}")
+        page = PAGES / f"{name}.1"
+        faults, count = faults_of(page.read_text(), f"{sys.argv[1]}/{name}")
+        faults += warnings_of(page)
         for fault in faults:
             print(f"{name}.1: {fault}")
         failed += len(faults)
         passed += max(0, count - len(faults))
+    for name, there, other in WRONG:
+        if is_found(name, there, other, sys.argv[1]):
+            passed += 1
+        else:
+            failed += 1
+            print(f"not found: {other!r} in place of {there!r} in {name}.1")
     print(f"{passed} passed, {failed} failed")
     return 1 if failed else 0
 

@@ -307,6 +307,13 @@ def asleep(checks):
             got = answer(other, 1, ("127.0.0.1", port))[0]
             checks.same(f"a sleep of {seconds} seconds: what another peer gets", got and got[18], status)
         run.kill()
+    run, port = checks.serve(100000, UNBOOTED=1000)
+    with bound() as holder, bound() as other:
+        holder.sendto(lock, ("127.0.0.1", port))
+        checks.same("no clock that counts sleep: the lock", holder.recv(2000), oca.pdu(3, [oca.response_body(1, 0, 0, b"")]))
+        got = answer(other, 1, ("127.0.0.1", port))[0]
+        checks.same("no clock that counts sleep, and the date is set: another peer", got and got[18], 3)
+    run.kill()
     for seconds, copies in ((101, 1), (60, 20)):
         with bound() as silent:
             got = checks.send(f"127.0.0.1:{silent.getsockname()[1]}", 1, SLEPT=seconds)
@@ -322,21 +329,55 @@ def asleep(checks):
 def kept_safely(checks):
     """A state that is kept is on the disk before it takes the place of the one before."""
     with tempfile.TemporaryDirectory() as room, bound() as peer:
-        run, port = checks.serve(100000, "--keep", f"{room}/state", CALLS=f"{room}/calls")
+        run, port = checks.serve(100000, "--keep", f"{os.path.realpath(room)}/state", CALLS=f"{room}/calls")
         for handle, state in ((1, b"\2"), (2, b"\1")):
             peer.sendto(oca.pdu(1, [oca.Command(handle, 4097, 4, 2, 1, state).body()]), ("127.0.0.1", port))
             checks.same(f"--keep: the answer to {handle}", peer.recv(2000), oca.pdu(3, [oca.response_body(handle, 0, 0, b"")]))
-            until, wanted = time.monotonic() + 30, ["fsync", "rename", "fsync"] * handle
+            until, state = time.monotonic() + 30, f"{os.path.realpath(room)}/state"
+            wanted = [f"fsync {state}.new", f"rename {state}.new {state}", f"fsync {os.path.realpath(room)}"] * handle
             while time.monotonic() < until and (said := calls_in(room)) != wanted:
                 time.sleep(0.01)
             checks.same(f"--keep: what is called for {handle}", said, wanted)
         run.kill()
 
 
+def a_failed_receive(checks):
+    """Behind a receive that failed the next one comes soon: an answer that is there is taken, and its command not sent again."""
+    for _ in range(3):
+        with bound() as device:
+            run = checks.start("ocactl", "send", "--device", f"127.0.0.1:{device.getsockname()[1]}", "--first-handle", 1, "--target", 4097, "--level", 4,
+                               "--index", 1, "--count", 0, FAIL_RECEIVE=1, ERRNO=errno.ENETDOWN)
+            data, sender = device.recvfrom(2000)
+            device.sendto(response(1), sender)
+            out = run.communicate(timeout=60)
+            checks.same("a receive that failed: the answer", (*out, run.returncode), ("answer 0 1 01\n", "", 0))
+            device.setblocking(False)
+            copies = []
+            with contextlib.suppress(BlockingIOError):
+                while True:
+                    copies.append(device.recv(2000))
+        if not copies:
+            break
+    checks.expect("a receive that failed: the command is not sent again", not copies, copies, is_time=True)
+
+
+def reports_behind_a_sleep(checks):
+    """`--stats 1`: behind a sleep of 20 seconds one report is told, and not one for each second of it."""
+    run, port = checks.serve(100000, "--stats", 1, SLEPT=20)
+    with bound() as peer:
+        checks.same("--stats: the answer", answer(peer, 1, ("127.0.0.1", port))[0], response(1))
+        begun = time.monotonic()
+        lines = [run.stderr.readline() for _ in range(3)]
+        took = time.monotonic() - begun
+    checks.same("--stats behind a sleep: what is told", [line[:12] for line in lines], ["note: turns "] * 3)
+    checks.expect("--stats behind a sleep: three reports take more than a second", took > 1, f"{took:.2f} s")
+    run.kill()
+
+
 def calls_in(room):
     """What the layer told of calls."""
     path = Path(room, "calls")
-    return path.read_text().split() if path.exists() else []
+    return path.read_text().splitlines() if path.exists() else []
 
 
 def calls_in_a_row(checks):
@@ -363,7 +404,7 @@ def main():
         subprocess.run(["gcc", "-O1", "-Wall", "-shared", "-fPIC", "-o", layer, str(HERE / "unreliable.c"), "-ldl"], check=True)
         checks = Checks(os.path.abspath(sys.argv[1]), layer)
         try:
-            for part in (closed_descriptors, null_at_closed, quiet_turns, signals, refused_sends, a_stalled_neighbour, asleep, kept_safely, calls_in_a_row, other_addresses):
+            for part in (closed_descriptors, null_at_closed, quiet_turns, signals, refused_sends, a_stalled_neighbour, asleep, a_failed_receive, reports_behind_a_sleep, kept_safely, calls_in_a_row, other_addresses):
                 checks.part(part)
         finally:
             for run in checks.runs:

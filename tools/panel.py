@@ -14,6 +14,7 @@ import os
 import random
 import re
 import select
+import shutil
 import socket
 import subprocess
 import sys
@@ -22,7 +23,10 @@ import threading
 import time
 from pathlib import Path
 
+import oca_profile as oca
+from hands import SETS, Deaf, stagebox
 from own_ports import free_port
+from served import Served
 
 TOP = Path(__file__).resolve().parent.parent
 TREE = TOP / "examples" / "stagebox.tree"
@@ -58,9 +62,10 @@ class Device:
 class Panel:
     """`ocapanel` at a port that the system chose."""
 
-    def __init__(self, folder, device_port, *words):
-        self.process = subprocess.Popen([f"{folder}/ocapanel", "--device", f"127.0.0.1:{device_port}", "--listen", "127.0.0.1:0", *words],
-                                        stdout=subprocess.DEVNULL, stderr=subprocess.PIPE, text=True)
+    def __init__(self, folder, device_port, *words, address=None, **more):
+        device = address or f"127.0.0.1:{device_port}"
+        self.process = subprocess.Popen([f"{folder}/ocapanel", "--device", device, "--listen", "127.0.0.1:0", *words],
+                                        stdout=subprocess.DEVNULL, stderr=subprocess.PIPE, text=True, env=dict(os.environ, **more))
         line = self.process.stderr.readline()
         found = re.fullmatch(r"listening http://127\.0\.0\.1:(\d+)/\n", line)
         self.port = int(found[1]) if found else sys.exit(f"panel: ocapanel said {line!r}")
@@ -168,7 +173,7 @@ def page(panel):
         check(len(inside) == 1 and f"{tag}-src 'sha256-{digest}'" in policy, f"the hash of the {tag} is sha256-{digest}")
     check("default-src 'none'" in policy and "unsafe" not in policy and "frame-ancestors 'none'" in policy, policy)
     check(not re.search(r"src\s*=\s*[\"']|@import|https?://|innerHTML|outerHTML|insertAdjacentHTML|document\.write|eval\(", text), "nothing from elsewhere, no HTML from texts")
-    for name, value in [("cache-control", "no-store"), ("x-content-type-options", "nosniff"), ("x-frame-options", "DENY"), ("referrer-policy", "no-referrer")]:
+    for name, value in [("cache-control", "no-store"), ("x-content-type-options", "nosniff"), ("x-frame-options", "DENY"), ("referrer-policy", "no-referrer"), ("cross-origin-resource-policy", "same-origin")]:
         check(headers.get(name) == value, name)
 
 
@@ -481,6 +486,152 @@ def rest(folder):
         print(f"from an order to its answer: {1000 * sorted(times)[50]:.1f} ms at the 50th, {1000 * sorted(times)[90]:.1f} ms at the 90th of 100")
 
 
+def classes(folder):
+    """An object of each class: its class, its value and its limits are those of the device, to the last digit."""
+    tree = stagebox()
+    with Served(tree) as device, Panel(folder, device.port) as panel:
+        check(panel.wait(lambda v: v["walked"] and all(panel.value(o.ono) is not None for o in tree if o.kind != "block")) is not None, "each class is read")
+        told = {o["ono"]: o for o in panel.get("/tree")["objects"]}
+        for o in tree:
+            check(told[o.ono]["class"] == o.kind and told[o.ono]["in"] == o.container, f"{o.ono}: its class: {told[o.ono]}")
+            if o.kind in oca.WIDTHS:
+                shown = panel.shown[o.ono]
+                check((shown["value"], shown["limits"]) == (str(o.state), [str(o.low), str(o.high)]), f"{o.ono}: its value and limits: {shown}")
+
+
+def command(port, *words):
+    """A command of another controller, until it is answered: its status."""
+    with socket.socket(socket.AF_INET, socket.SOCK_DGRAM) as s:
+        s.settimeout(0.25)
+        for _ in range(40):
+            s.sendto(oca.pdu(1, [oca.Command(1, *words).body()]), ("127.0.0.1", port))
+            with contextlib.suppress(TimeoutError):
+                return s.recv(2000)[18]
+    return None
+
+
+def seldom(folder):
+    """What changes seldom is shown too: a label, whether an object is enabled, and which positions are."""
+    with Device(folder) as device, Panel(folder, device.port) as panel:
+        panel.wait(lambda v: v["walked"])
+        check(command(device.port, MUTE, 2, 9, 1, oca.text_bytes("Vox")) == 0 and command(device.port, TRIM, 2, 2, 1, b"\0") == 0
+              and command(device.port, SOURCE, 4, 8, 2, b"\0\1\0") == 0, "another controller sets a label and two flags")
+        check(panel.wait(lambda _: panel.shown[MUTE]["label"] == "Vox", 60) is not None, "its label is shown")
+        check(panel.wait(lambda _: panel.shown[TRIM]["enabled"] is False, 60) is not None, "that it is not enabled is shown")
+        check(panel.wait(lambda _: panel.shown[SOURCE]["flags"] == [True, False, True, True], 60) is not None, "that a position is not enabled is shown")
+
+
+def of_other_classes(folder):
+    """A device that is back at once with the same numbers, one of another class, is walked anew."""
+    with tempfile.TemporaryDirectory() as place:
+        other = Path(place) / "other.tree"
+        other.write_text(TREE.read_text().replace(f"{MUTE} 4097 mute muted lockable mute", f"{MUTE} 4097 int16 -5 5 0 lockable mute"))
+        first = Device(folder)
+        with Panel(folder, first.port) as panel:
+            panel.wait(lambda v: v["walked"])
+            first.__exit__()
+            with Device(folder, first.port, ("--tree", str(other))):
+                is_new = lambda v: v["walked"] and {o["ono"]: o["class"] for o in panel.get("/tree")["objects"]}[MUTE] == "int16"
+                check(panel.wait(is_new, 30) is not None, "an object of another class under the same number is found")
+
+
+def visible_first(folder):
+    """What a page shows is read twice in a round, and all else once."""
+    tree = oca.bench(60)
+    with Served(tree) as device, Panel(folder, device.port) as panel:
+        panel.wait(lambda v: v["walked"], 60)
+        places = {o["ono"]: at for at, o in enumerate(panel.get("/tree")["objects"])}
+        *_, other, seen = (o for o in sorted(places, key=places.get) if next(t for t in tree if t.ono == o).kind == "int16")
+        device.heard.clear()
+        until = time.monotonic() + 4
+        while time.monotonic() < until:
+            panel.look(f"&first={places[seen]}&count=1")
+            time.sleep(0.02)
+        asked = [m[2].target for data, _ in list(device.heard) for m in oca.check(data) if m[0] == "command" and m[2].level == 5]
+        check(asked.count(seen) > 1.5 * asked.count(other) > 0, f"what is visible is read first: {asked.count(seen)} times, another {asked.count(other)} times")
+
+
+def beside_an_order(folder):
+    """While an order waits for its answer, pages are answered."""
+    with Deaf(stagebox(), SETS) as device, Panel(folder, device.port) as panel:
+        panel.wait(lambda v: v["walked"])
+        for _ in range(3):
+            status, _ticket = panel.order("/set", 4097, "unmuted")
+            begun = time.monotonic()
+            panel.look()
+            took = time.monotonic() - begun
+            if took < 1:
+                break
+        check(status == 202 and took < 1, f"a page beside an order without an answer waits {took:.1f} s")
+
+
+def asleep(folder):
+    """The sleep of the machine counts: a command that was sent before it is not sent again."""
+    with tempfile.TemporaryDirectory() as place, socket.socket(socket.AF_INET, socket.SOCK_DGRAM) as silent:
+        layer = f"{place}/unreliable.so"
+        subprocess.run(["gcc", "-O1", "-Wall", "-shared", "-fPIC", "-o", layer, str(TOP / "tools/unreliable.c"), "-ldl"], check=True)
+        silent.bind(("127.0.0.1", 0))
+        silent.settimeout(0.2)
+        for seconds, again in ((101, False), (60, True)):
+            heard, until = [], time.monotonic() + 2
+            with Panel(folder, silent.getsockname()[1], LD_PRELOAD=layer, SLEPT=str(seconds)):
+                while time.monotonic() < until:
+                    with contextlib.suppress(TimeoutError):
+                        data = silent.recv(2000)
+                        heard += [m[2].handle for m in oca.check(data) if m[0] == "command"]
+            check(bool(heard) and (heard.count(min(heard)) > 1) == again, f"a sleep of {seconds} seconds: the first command is sent {heard.count(min(heard)) if heard else 0} times")
+            with contextlib.suppress(TimeoutError):
+                while True:
+                    silent.recv(2000)
+
+
+def bound_for(folder):
+    """The socket for a device on this machine is at 127.0.0.1, that for any other at every address."""
+    for device, wanted in (("127.0.0.1:9", "127.0.0.1"), ("127.255.0.2:9", "127.0.0.1"), ("10.255.255.254:9", "0.0.0.0"), ("126.0.0.1:9", "0.0.0.0"), ("192.0.2.1:9", "0.0.0.0")):
+        panel = Panel(folder, 0, address=device)
+        links = [os.readlink(it) for it in Path(f"/proc/{panel.process.pid}/fd").iterdir()]
+        rows = [line.split() for line in Path("/proc/net/udp").read_text().splitlines()[1:]]
+        at = [socket.inet_ntoa(bytes.fromhex(row[1].split(":")[0])[::-1]) for row in rows if f"socket:[{row[9]}]" in links]
+        check(at == [wanted], f"the socket for {device} is at {at}, not {wanted}")
+        panel.__exit__()
+
+
+# What the page's script does when its controls are used, with what stands for a document; a line for each order.
+PAGE_SCRIPT = r"""
+const orders=[],made=()=>new Proxy(function(){},{get:(t,k)=>k in t?t[k]:k===Symbol.toPrimitive?()=>"":made(),set:(t,k,v)=>(t[k]=v,true),apply:()=>made()});
+const element=()=>{const e={style:{},dataset:{},classList:{add(){},remove(){},toggle(){}},setAttribute(){},append(){},prepend(){},after(){},addEventListener(){},textContent:""};return e};
+globalThis.document={createElement:element,getElementById:element,addEventListener(){},body:element(),hidden:false,activeElement:null};
+globalThis.window=globalThis;globalThis.IntersectionObserver=class{observe(){}unobserve(){}disconnect(){}};
+globalThis.fetch=(path,how)=>{if(how)orders.push(path+" "+how.body);return new Promise(()=>{})};
+const script=require("fs").readFileSync(0,"utf8");
+const page=new Function(script+";return{toggle,choice,number,locker}")();
+const row=more=>({ono:7,ticket:0,box:element(),flags:[],names:[],inputs:[],...more});
+for(const[cls,on,off]of[["mute","muted","unmuted"],["polarity","inverted","non-inverted"],["boolean","on","off"]])
+ for(const value of[on,off])page.toggle(row({value}),cls,on,off)[0].onclick();
+for(const kind of["int8","uint32","uint64"]){const r=row({kind,value:"1",limits:["0","9"]}),c=page.number(r);c[c.length-1].value="5";c[c.length-1].onchange();
+ if(c.length>1){const d=page.number(row({kind,value:"1",limits:["0","9"]}));d[0].value="6";d[0].oninput()}}
+const r=row({kind:"switch",value:"0",names:["a","b"]}),c=page.choice(r);c[0].value="1";c[0].onchange();
+for(const lock of["free","own","other"])page.locker(row({lock}),true).onclick();
+console.log(orders.join(String.fromCharCode(10)));
+"""
+SET = ["unmuted", "muted", "non-inverted", "inverted", "off", "on", "5", "6", "5", "6", "5", "1"]
+
+
+def controls(panel):
+    """What the page's controls order, where node is installed: a click turns a toggle, and so on."""
+    if not shutil.which("node"):
+        return print("NOT TRIED: the page's script, without node")
+    script = re.search(r"<script>(.*?)</script>", panel.ask("GET", "/")[2].decode(), re.DOTALL)[1]
+    with tempfile.NamedTemporaryFile("w", suffix=".js") as file:
+        file.write(PAGE_SCRIPT)
+        file.flush()
+        done = subprocess.run(["node", file.name], input=script, capture_output=True, text=True, timeout=60)
+    told = [line.split(" ", 1) for line in done.stdout.splitlines()]
+    got = [(path, json.loads(body)) for path, body in told]
+    rows = [("/set", {"ono": 7, "value": value}) for value in SET] + [(path, {"ono": 7}) for path in ("/lock", "/unlock", "/lock")]
+    check(got == rows, f"what the page's controls order: {got} {done.stderr[-300:]}")
+
+
 def asked_at_once(folder, *given):
     """How many commands are in flight at a device that answers none, by their handles."""
     with socket.socket(socket.AF_INET, socket.SOCK_DGRAM) as silent:
@@ -508,8 +659,11 @@ def main():
     folder = sys.argv[1]
     words(folder)
     spans(folder)
+    for part in (bound_for, classes, seldom, of_other_classes, visible_first, beside_an_order, asleep):
+        part(folder)
     with Device(folder) as device, Panel(folder, device.port) as panel:
         page(panel)
+        controls(panel)
         objects(folder, device, panel)
         hostile(panel)
         slow(panel)

@@ -10,7 +10,9 @@
  *   STALL=PORT       a send to this port finds no room: it waits as long as the socket lets it, for ever where it does
  *   SLEPT=N          behind the first send that is taken the machine seems to have slept for N seconds: the clock that counts sleep,
  *                    CLOCK_BOOTTIME, is so far ahead, and no other
- *   CALLS=FILE       a line goes to this file for each fsync and each rename, as it is made */
+ *   UNBOOTED=N       the clock that counts sleep can't be read, and the date is so many seconds ahead behind the first send that is taken
+ *   CALLS=FILE       a line goes to this file for each fsync and each rename, as it is made, with the names of the files
+ *   SLOW=N           each fsync takes N milliseconds more */
 #define _GNU_SOURCE
 #include <dlfcn.h>
 #include <errno.h>
@@ -35,7 +37,7 @@ static long requests, reads, writes, refuse, refuse_from, fail_read, fail_write,
 static int (*real_clock_gettime)(clockid_t, struct timespec *);
 static int (*real_fsync)(int);
 static int (*real_rename)(const char *, const char *);
-static long receives, sends, interrupt, interrupted, fail_receive, fail_send, with, stall, slept;
+static long receives, sends, interrupt, interrupted, fail_receive, fail_send, with, stall, slept, unbooted;
 static int started, has_sent;
 
 static long set(const char *name) {
@@ -78,6 +80,7 @@ __attribute__((constructor)) static void start(void) {
     with = set("ERRNO");
     stall = set("STALL");
     slept = set("SLEPT");
+    unbooted = set("UNBOOTED");
     if (set("SIGNALS")) send_signals(set("SIGNALS"));
     started = 1;
 }
@@ -155,7 +158,9 @@ ssize_t sendto(int file, const void *bytes, size_t size, int flags, const struct
 
 int clock_gettime(clockid_t clock, struct timespec *time) {
     if (!real_clock_gettime) find();
+    if (clock == CLOCK_BOOTTIME && unbooted) { errno = EINVAL; return -1; }
     int status = real_clock_gettime(clock, time);
+    if (status == 0 && clock == CLOCK_REALTIME && has_sent) time->tv_sec += unbooted;
     if (status == 0 && clock == CLOCK_BOOTTIME && has_sent) time->tv_sec += slept;
     return status;
 }
@@ -168,13 +173,23 @@ static void tell_call(const char *line) {
     close(file);
 }
 
+/* Told with the file's name; it takes so many milliseconds more. */
 int fsync(int file) {
-    tell_call("fsync\n");
+    char line[4200], at[32], name[4096];
+    snprintf(at, sizeof at, "/proc/self/fd/%d", file);
+    ssize_t length = readlink(at, name, sizeof name - 1);
+    name[length > 0 ? length : 0] = 0;
+    snprintf(line, sizeof line, "fsync %s\n", name);
+    tell_call(line);
+    struct timespec time = {set("SLOW") / 1000, set("SLOW") % 1000 * 1000000};
+    if (time.tv_sec || time.tv_nsec) nanosleep(&time, NULL);
     return real_fsync(file);
 }
 
 int rename(const char *from, const char *to) {
-    tell_call("rename\n");
+    char line[8300];
+    snprintf(line, sizeof line, "rename %.4000s %.4000s\n", from, to);
+    tell_call(line);
     return real_rename(from, to);
 }
 

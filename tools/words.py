@@ -264,7 +264,7 @@ BEHIND = {"get": ["4097"], "set": ["4097", "muted"], "lock": ["4097"], "unlock":
 
 
 def commands_of(folder):
-    """Each command of each program, with its options that take a value, as its help names them."""
+    """Each command of each program, with its options that take a value, and what its help says of each."""
     def help_of(program, *words):
         return subprocess.run([f"{folder}/{program}", *words, "--help"], capture_output=True, text=True, timeout=30).stdout
 
@@ -272,16 +272,19 @@ def commands_of(folder):
         listed = re.search(r"^Commands:\n((?:.+\n)+)", help_of(program), re.M)
         names = [name for name in re.findall(r"^  (\w+)", listed[1], re.M) if name != "help"] if listed else [""]
         for name in names:
-            yield program, name, re.findall(r"^ +(?:-\w, )?--([a-z-]+)[ =]<", help_of(program, *[name] * bool(name)), re.M)
+            yield program, name, dict(re.findall(r"^ +(?:-\w, )?--([a-z-]+)[ =]<[^>]+> +(.*)", help_of(program, *[name] * bool(name)), re.M))
 
 
 def bad_values(checks):
-    """Each option of each command with values that are not of its form: the note names it, the value and the form, and nothing else is done."""
+    """Each option of each command with values that are not of its form: the note names it, the value and the form, and nothing else is done.
+    Where its help says from what to what it may be, that is the form's."""
     for program, name, options in commands_of(checks.folder):
-        for option in options:
+        for option, told in options.items():
             numbers = NUMBERS.get((program, option), NUMBERS.get(option))
             if numbers:
                 digits, least, largest = numbers
+                for said in re.findall(r"\b(\d+) to (\d+)\b", told):
+                    checks.same(f"{program} {name} --{option}: its help", said, (str(least), str(largest)))
                 form = f"1 to {digits} digits, {least} to {largest}"
                 values = ["x", "-1", str(largest + 1), "0" * digits + "1", *([str(least - 1)] if least else [])]
             elif option in FREE:
@@ -626,6 +629,11 @@ def listed_line(r, onos):
             5: line.replace(b'"', b"", 1), 6: b"# " + line, 7: b""}.get(damage, line)
 
 
+def channels_of(tree):
+    """What stands in each channel of the example: the class, the role and the setting of each object."""
+    return [[(o.kind, o.role, o.state) for o in oca.members(tree, block.ono)] for block in tree if block.role.startswith("channel ")]
+
+
 def trees(checks):
     """`show --tree` and `replay --tree` of the example and of random texts, right and wrong, against the second implementation."""
     r = random.Random(1)
@@ -645,6 +653,9 @@ def trees(checks):
                 expected = (b"", f"line {fault.args[0]}: {fault.args[1]}\n".encode(), 2)
             done = subprocess.run([f"{checks.folder}/ocadev", "show", "--tree", path], capture_output=True, timeout=30)
             checks.same(f"show --tree of {text!r}", (done.stdout, done.stderr, done.returncode), expected)
+        strips = channels_of(oca.tree_of_text(texts[0]))
+        checks.same("the example: its channels are alike, muted and at 0", (len(strips), strips), (8, [strips[0]] * 8))
+        checks.same("the example: a channel", strips[0], [("mute", "mute", 1), ("polarity", "polarity", 1), ("int16", "trim", 0), ("switch", "source", 0)])
         Path(path).write_bytes(texts[0])
         get = oca.pdu(1, [oca.Command(1, 4101, 4, 5, 0, b"").body()])
         done = subprocess.run([f"{checks.folder}/ocadev", "replay", "--tree", path], input=f"0 127.0.0.1:9001 {get.hex()}\n".encode(), capture_output=True,
