@@ -17,6 +17,7 @@ pub record Oversize (now : ℕ) (old new : EndState) : Type 0 where
   pub above : largest_datagram < length long
   pub grew : IsTrue old.tells → new.delivered ≡ old.delivered ++ Datagram from long now ∷ []
 
+-- what is received as too large was too large
 pub oversize_heard : {now : ℕ} {bytes : List ℕ} {old new : EndState} → Receives (heard.Oversize now) bytes old new → Oversize now old new
 oversize_heard {now} {bytes} {old} {new} r = let d = by_tells old.tells r.delivered in record { from = d.0; long = d.1; above = d.2; grew = d.3 }
   where

@@ -17,9 +17,11 @@ pub record Delivered (deliveries : List Delivery) (failed_receives failed_sends 
   pub grew : IsTrue old.tells → new.delivered ≡ old.delivered ++ deliveries
   pub failures : new.failures < last_u64 → new.failures ≡ old.failures + (failed_receives + failed_sends)
 
+-- no deliveries change nothing
 pub delivered_none : (e : EndState) → Delivered [] 0 0 e e
 delivered_none e = record { telling = refl; grew = λ _. sym (append-nil e.delivered); failures = λ _. omega arith }
 
+-- deliveries after deliveries
 pub delivered_more : {ds es : List Delivery} {m n k j : ℕ} {a b c : EndState} → Delivered ds m n a b → Delivered es k j b c → Delivered (ds ++ es) (m + k) (n + j) a c
 delivered_more {ds} {es} {m} {n} {k} {j} {a} {b} {c} f g = record {
   telling = g.telling ∙ f.telling;
@@ -62,9 +64,11 @@ delivered_of r = record { telling = r.telling; grew = r.delivered; failures = r.
 runs_of : {ds : List Delivery} {xs : List Sent} {m n : ℕ} {a b : EndState} → Delivered ds m n a b → (IsTrue a.tells → TakesAllBut n a.taken b.taken xs) → Runs ds xs m n a b
 runs_of d taken = record { telling = d.telling; delivered = d.grew; taken = taken; failures = d.failures }
 
+-- no turns change nothing
 pub runs_none : (e : EndState) → Runs [] [] 0 0 e e
 runs_none e = runs_of (delivered_none e) (λ _. takes_none e.taken e.taken refl)
 
+-- turns after turns
 pub runs_more : {ds es : List Delivery} {xs ys : List Sent} {m n k j : ℕ} {a b c : EndState} → Runs ds xs m n a b → Runs es ys k j b c → Runs (ds ++ es) (xs ++ ys) (m + k) (n + j) a c
 runs_more f g = runs_of (delivered_more (delivered_of f) (delivered_of g)) (λ told. takes_more (f.taken told) (g.taken (f.telling ∙ told)))
 

@@ -19,9 +19,11 @@ lacks_both k j xs ys us vs (missing {k = i} y a) b = subst (λ (n : ℕ). Lacks 
     one_later : (i j : ℕ) → i + j + 1 ≡ i + 1 + j
     one_later i j = omega arith
 
+-- nothing is taken
 pub takes_none : (t t' : List Sent) → t' ≡ t → TakesAllBut 0 t t' []
 takes_none t t' same = record { sent = []; grew = same ∙ sym (append-nil t); part = none }
 
+-- datagrams are taken after others
 pub takes_more : {k j : ℕ} {a b c xs ys : List Sent} → TakesAllBut k a b xs → TakesAllBut j b c ys → TakesAllBut (k + j) a c (xs ++ ys)
 takes_more {k} {j} {a} {b} {c} {xs} {ys} f g = record {
   sent = f.sent ++ g.sent;

@@ -10,6 +10,7 @@ same-remainder (suc zero) zero h k e = let apart : 65002 ≡ 65001 = e in absurd
 same-remainder (suc zero) (suc y) h k e = omega (arith, k)
 same-remainder (suc (suc x)) y h k e = absurd (omega (arith, h))
 
+-- first handles rise, or a port rests
 pub rise-or-rest : HandlesRiseOrRest
 rise-or-rest a b less same low =
     let even : (a / handles_a_turn) % 2 ≡ (b / handles_a_turn) % 2 =

@@ -95,10 +95,12 @@ is-set ono v r a = record {
   call = record { of_method = (set_method v, (refl, refl), a.method); count = a.count; parameters = a.params };
 }
 
+-- a set command asks what its request says
 pub asks-set : (ono : ℕ) (v : Value) (r : ValueRequest) (old new : PanelState) (o : Outcome)
     → Asks (class_of_value v) (set_method v) r 1 (value_encoding v) → AsksIn (request_to ono r) old new o → AsksFor ono (class_of_value v) (Set v) old new o
 asks-set ono v r old new o a h = record { request = request_to ono r; calls = is-set ono v r a; asks = h }
 
+-- a set command that is begun asks what its request says
 pub begins-set : (ono : ℕ) (v : Value) (r : ValueRequest) (q : RequestFields) (returned : Result Handle ControlFault) (old new : PanelState)
     → Asks (class_of_value v) (set_method v) r 1 (value_encoding v) → q ≡ request_to ono r → BeginsIn q returned old new → BeginsSetting ono v returned old new
 begins-set ono v r q returned old new a e h = record {
@@ -117,6 +119,7 @@ is-get ono of m r a by = record {
 not-none : {A : Type 0} (r : A) → Some r ≡ None → ⊥
 not-none r e = cc e
 
+-- a reading is that of the class
 pub reads-by : (ono : ℕ) (of : Class) (m : Option Method) (q : Option ValueRequest) (r : ValueRequest) (o : Outcome) (old new : PanelState) (result : Result Reading Trouble)
     → q ≡ Some r → AsksForValue m of q → m ≡ get_method of → AsksIn (request_to ono r) old new o → result ≡ reading_answered of o → ReadsBy ono of m old new result
 reads-by ono of None q r o old new result e a by h is = absurd (not-none r (sym e ∙ a))

@@ -19,7 +19,8 @@ use Rattle.oca_panel.specs.Panels.{PanelState, BeginsIn}
 use Rattle.oca_panel.specs.Objects.{IsRequestTo}
 
 -- The command that asks this of an object of the class was begun, or refused by the link.
-pub record BeginsRequest (target : ℕ) (of : Class) (asked : Request) (returned : Result Handle ControlFault) (old new : PanelState) : Type 0 where
+pub record BeginsRequest (target : ℕ) (of : Class) (asked : Request) (returned : Result Handle ControlFault)
+    (old new : PanelState) : Type 0 where
   pub request : RequestFields
   pub calls : IsRequestTo target of asked request
   pub begins : BeginsIn request returned old new
@@ -31,7 +32,8 @@ AsksNothing of asked old new = (fault : RequestFault) × IsRefusedCall of asked 
 -- THIS WAS BEGUN: its handle, or why it was not, which changes nothing.
 abbrev pub BeginsAsking : ℕ → Class → Request → Result Handle Trouble → PanelState → PanelState → Type 0
 BeginsAsking target of asked (Ok handle) old new = BeginsRequest target of asked (Ok handle) old new
-BeginsAsking target of asked (Err (trouble.NotSubmitted fault)) old new = BeginsRequest target of asked (Err fault) old new
+BeginsAsking target of asked (Err (trouble.NotSubmitted fault)) old new = BeginsRequest target of asked
+    (Err fault) old new
 BeginsAsking target of asked (Err trouble.NoValue) old new = AsksNothing of asked old new
 BeginsAsking target of asked (Err (trouble.Refused status)) old new = ⊥
 BeginsAsking target of asked (Err trouble.Unreadable) old new = ⊥
@@ -41,7 +43,8 @@ BeginsAsking target of asked (Err trouble.Unanswered) old new = ⊥
 
 -- what the answer to a method of an object of the class says
 abbrev pub model_answered : Class → Method → Outcome → Result Answer Trouble
-model_answered of method (outcomes.Answered a) = if a.status == 0 then readable (answer_in of method a.count a.params.items) else Err (trouble.Refused a.status)
+model_answered of method (outcomes.Answered a) = if a.status == 0
+    then readable (answer_in of method a.count a.params.items) else Err (trouble.Refused a.status)
 model_answered of method (outcomes.Refused fault) = Err (trouble.NotSubmitted fault)
 model_answered of method outcomes.Lost = Err trouble.Lost
 model_answered of method outcomes.Unanswered = Err trouble.Unanswered

@@ -38,12 +38,12 @@ read_from read (Ok params) = readable (read params)
 read_from read (Err t) = Err t
 
 -- the command was carried out
-abbrev pub carried_out : Result (List ℕ) Trouble → Result Unit Trouble
-carried_out (Ok params) = Ok tt
-carried_out (Err t) = Err t
+abbrev pub done_or_trouble : Result (List ℕ) Trouble → Result Unit Trouble
+done_or_trouble (Ok params) = Ok tt
+done_or_trouble (Err t) = Err t
 
 abbrev pub done_answered : Outcome → Result Unit Trouble
-done_answered outcome = carried_out (parameters_answered outcome)
+done_answered outcome = done_or_trouble (parameters_answered outcome)
 
 -- the fields of the class's identifier
 abbrev pub fields_answered : Outcome → Result (List ℕ) Trouble
@@ -84,7 +84,8 @@ truth_of _ = Err trouble.Unreadable
 
 abbrev pub truth_answered : Outcome → Result Bool Trouble
 truth_answered (outcomes.Answered a) =
-    if a.status == 0 then truth_of (answer_in class.Block method.GetEnabled a.count a.params.items) else Err (trouble.Refused a.status)
+    if a.status == 0 then truth_of (answer_in class.Block method.GetEnabled a.count a.params.items)
+    else Err (trouble.Refused a.status)
 truth_answered (outcomes.Refused fault) = Err (trouble.NotSubmitted fault)
 truth_answered outcomes.Lost = Err trouble.Lost
 truth_answered outcomes.Unanswered = Err trouble.Unanswered

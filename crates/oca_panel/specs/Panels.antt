@@ -25,7 +25,12 @@ pub record PanelState : Type 0 where
 pub record IsOpened (device : Peer) (first span turns : ℕ) (before : EndState) (p : PanelState) : Type 0 where
   pub now : ℕ
   pub present : IsPresent now before
-  pub panel : p ≡ record { link = new_link device first now span; end_state = before; turns = turns; unanswered = false }
+  pub panel : p ≡ record {
+    link = new_link device first now span;
+    end_state = before;
+    turns = turns;
+    unanswered = false;
+  }
 
 -- no answer came
 abbrev pub came_to_nothing : Outcome → Bool
@@ -35,7 +40,8 @@ came_to_nothing outcomes.Lost = true
 came_to_nothing outcomes.Unanswered = true
 
 -- The request was begun: it got its handle and what was due was sent, or it was refused, which changes nothing.
-pub record BeginsIn (request : RequestFields) (returned : Result Handle ControlFault) (old new : PanelState) : Type 0 where
+pub record BeginsIn (request : RequestFields) (returned : Result Handle ControlFault)
+    (old new : PanelState) : Type 0 where
   pub begins : Begins request returned old.link new.link old.end_state new.end_state
   pub turns : new.turns ≡ old.turns
   pub unanswered : new.unanswered ≡ old.unanswered

@@ -1,5 +1,6 @@
 -- A walk through the objects of a device: what is asked, in which order, and what is found (AES70-2, OcaBlock).
-use Rattle.std.specs.Prelude.{◌≡◌, ◌⊎◌, ℕ, ◌≤◌, ◌==◌, Bool, true, false, List, [], ◌∷◌, ◌++◌, length, Option, Some, None, Result, Ok, Err}
+use Rattle.std.specs.Prelude.{◌≡◌, ◌⊎◌, ℕ, ◌≤◌, ◌==◌, Bool, true, false, List, [], ◌∷◌, ◌++◌, length, Option, Some}
+use Rattle.std.specs.Prelude.{None, Result, Ok, Err}
 use Rattle.std.specs.List.{list_any}
 use Rattle.oca_types.specs.declared.class.Class.{Class}
 use Rattle.oca_types.specs.declared.class.Class.TheVariants as class
@@ -35,7 +36,8 @@ most_places = 4096
 -- the members of a block as places that wait: the first one last
 abbrev pub places_of : Ono → List ℕ → List Place
 places_of container [] = []
-places_of container (member ∷ members) = places_of container members ++ (record { ono = record { 0 = member }; container = container }) ∷ []
+places_of container (member ∷ members) = places_of container members
+    ++ (record { ono = record { 0 = member }; container = container }) ∷ []
 
 -- the object was visited
 abbrev pub is_visited : Ono → List Ono → Bool
@@ -48,15 +50,18 @@ abbrev pub both : {A B : Type 0} → A → Result B Trouble → Result (A × B) 
 both a (Ok b) = Ok (a, b)
 both a (Err t) = Err t
 
-abbrev pub DescribesFrom : Result (List ℕ) Trouble → ℕ → PanelState → PanelState → Result (List ℕ × List ℕ) Trouble → Type 0
+abbrev pub DescribesFrom : Result (List ℕ) Trouble → ℕ → PanelState → PanelState → Result (List ℕ × List ℕ) Trouble
+    → Type 0
 DescribesFrom (Err t) target old new described = (new ≡ old) × (described ≡ Err t)
 DescribesFrom (Ok fields) target old new described =
-    (role : Result (List ℕ) Trouble) × Reads target class.Block requests.GetRole text_answered old new role × (described ≡ both fields role)
+    (role : Result (List ℕ) Trouble) × Reads target class.Block requests.GetRole text_answered old new role
+    × (described ≡ both fields role)
 
 -- The class of an object was asked, and then its role.
 abbrev pub Describes : ℕ → PanelState → PanelState → Result (List ℕ × List ℕ) Trouble → Type 0
 Describes target old new described =
-    (fields : Result (List ℕ) Trouble) × (s : PanelState) × Reads target class.Block requests.GetClassIdentification fields_answered old s fields
+    (fields : Result (List ℕ) Trouble) × (s : PanelState)
+    × Reads target class.Block requests.GetClassIdentification fields_answered old s fields
     × DescribesFrom fields target s new described
 
 -- a description's fields and role
@@ -64,9 +69,9 @@ abbrev pub parts_of : Description → List ℕ × List ℕ
 parts_of d = (d.fields.items, d.role)
 
 -- whether these are the fields of OcaBlock
-abbrev pub is_block : Option Class → Bool
-is_block (Some class.Block) = true
-is_block _ = false
+abbrev pub is_block_class : Option Class → Bool
+is_block_class (Some class.Block) = true
+is_block_class _ = false
 
 abbrev pub with_members : Ono → List Place → Result (List ℕ) Trouble → List Place
 with_members container rest (Ok members) = rest ++ places_of container members
@@ -79,15 +84,19 @@ FindsObject true d ono rest old new is waiting =
     (members : Result (List ℕ) Trouble) × Reads ono.0 class.Block requests.GetMembers members_answered old new members
     × (is ≡ found.Block d (on_ok (λ ms. tt) members)) × (waiting ≡ with_members ono rest members)
 
-abbrev pub FindsDescribed : Result Description Trouble → Ono → List Place → PanelState → PanelState → Found → List Place → Type 0
+abbrev pub FindsDescribed : Result Description Trouble → Ono → List Place → PanelState → PanelState → Found → List Place
+    → Type 0
 FindsDescribed (Err t) ono rest old new is waiting = (new ≡ old) × (is ≡ found.Undescribed t) × (waiting ≡ rest)
-FindsDescribed (Ok d) ono rest old new is waiting = FindsObject (is_block (class_with d.fields.items)) d ono rest old new is waiting
+FindsDescribed (Ok d) ono rest old new is waiting = FindsObject
+    (is_block_class (class_with d.fields.items)) d ono rest old new is waiting
 
--- An object that was not visited before was asked what it is, and a block for its members; another one was asked nothing.
+-- An object that was not visited before was asked what it is, and a block for its members; another one was asked
+-- nothing.
 abbrev pub Finds : Bool → Ono → List Place → PanelState → PanelState → Found → List Place → Type 0
 Finds true ono rest old new is waiting = (new ≡ old) × (is ≡ found.Again) × (waiting ≡ rest)
 Finds false ono rest old new is waiting =
-    (described : Result Description Trouble) × (s : PanelState) × Describes ono.0 old s (on_ok parts_of described) × FindsDescribed described ono rest s new is waiting
+    (described : Result Description Trouble) × (s : PanelState) × Describes ono.0 old s (on_ok parts_of described)
+    × FindsDescribed described ono rest s new is waiting
 
 -- THE NEXT PLACE WAS VISITED, and this was found there: nothing was set.
 pub record VisitsNext (old : WalkState) (before after : PanelState) (visit : Visit) (new : WalkState) : Type 0 where

@@ -13,10 +13,14 @@ use oca_types::{Class, Handle, Ono, Text};
 impl<E: End> Panel<E> {
     ghost use Rattle.std.specs.Prelude.{◌≡◌};
     ghost use Rattle.oca_types.specs.declared.class.Class.TheVariants.{Block, Switch};
-    ghost use Rattle.oca_model.specs.declared.request.Request.TheVariants.{GetClassIdentification, LockTotal, Unlock, GetLabel, SetLabel, GetRole, GetEnabled, GetMembers, GetPositionName, GetPositionNames};
+    ghost use Rattle.oca_model.specs.declared.request.Request.TheVariants.{GetClassIdentification, LockTotal, Unlock};
+    ghost use Rattle.oca_model.specs.declared.request.Request.TheVariants.{GetLabel, SetLabel, GetRole, GetEnabled};
+    ghost use Rattle.oca_model.specs.declared.request.Request.TheVariants.{GetMembers, GetPositionName};
+    ghost use Rattle.oca_model.specs.declared.request.Request.TheVariants.{GetPositionNames};
     ghost use Rattle.oca_model.specs.Readings.{value_of};
     ghost use Rattle.oca_model.specs.Values.{get_method};
-    ghost use Rattle.oca_panel.specs.Outcomes.{on_ok, done_answered, fields_answered, members_answered, names_answered, text_answered, truth_answered};
+    ghost use Rattle.oca_panel.specs.Outcomes.{on_ok, done_answered, fields_answered, members_answered, names_answered};
+    ghost use Rattle.oca_panel.specs.Outcomes.{text_answered, truth_answered};
     ghost use Rattle.oca_panel.specs.Objects.{AsksClass, Finishes, GetsValue, Reads, ReadsBy, ReadsObject, SetsValue};
 
     /// The class of an object, by GetClassIdentification (AES70-2). `NoValue` for one that is not of this profile.
@@ -31,7 +35,8 @@ impl<E: End> Panel<E> {
     /// The fields of an object's class identifier, of any class, by GetClassIdentification (AES70-2).
     #[tactic(auto, using(crate::proofs::RequestLemmas::ask_class))]
     pub fn class_fields(&mut self, ono: Ono) -> Result<ClassFields, Trouble>
-        ensures { Reads ono.0 Block GetClassIdentification fields_answered self.old self.new (on_ok (λ fields. fields.items) result) }
+        ensures { Reads ono.0 Block GetClassIdentification fields_answered self.old self.new
+            (on_ok (λ fields. fields.items) result) }
     {
         let outcome = self.ask_for(ono, Class::Block, &Request::GetClassIdentification);
         fields_in(&outcome)
@@ -146,7 +151,8 @@ impl<E: End> Panel<E> {
     /// there are more than a response has room for, some 90.
     #[tactic(auto, using(crate::proofs::RequestLemmas::ask_members))]
     pub fn members(&mut self, ono: Ono) -> Result<MemberNumbers, Trouble>
-        ensures { Reads ono.0 Block GetMembers members_answered self.old self.new (on_ok (λ members. members.items) result) }
+        ensures { Reads ono.0 Block GetMembers members_answered self.old self.new
+            (on_ok (λ members. members.items) result) }
     {
         let outcome = self.ask_for(ono, Class::Block, &Request::GetMembers);
         members_in(&outcome)
@@ -164,7 +170,8 @@ impl<E: End> Panel<E> {
     /// The names of a switch's positions, in their order, at most 16.
     #[tactic(auto, using(crate::proofs::RequestLemmas::ask_names))]
     pub fn position_names(&mut self, ono: Ono) -> Result<Names, Trouble>
-        ensures { Reads ono.0 Switch GetPositionNames names_answered self.old self.new (on_ok (λ names. names.items) result) }
+        ensures { Reads ono.0 Switch GetPositionNames names_answered self.old self.new
+            (on_ok (λ names. names.items) result) }
     {
         let outcome = self.ask_for(ono, Class::Switch, &Request::GetPositionNames);
         names_in(&outcome)

@@ -3,7 +3,9 @@ ghost use Rattle.std.specs.Prelude.{◌≡◌};
 ghost use Rattle.oca_types.specs.declared.class.Class.TheVariants.{Block};
 ghost use Rattle.oca_types.specs.declared.class.Method.TheVariants.{GetEnabled};
 ghost use Rattle.oca_model.specs.Answers.{answer_in};
-ghost use Rattle.oca_panel.specs.Outcomes.{on_ok, parameters_answered, done_answered, fields_answered, class_answered, reading_answered, text_answered, members_answered, names_answered, truth_of, truth_answered};
+ghost use Rattle.oca_panel.specs.Outcomes.{on_ok, parameters_answered, done_answered, fields_answered, class_answered};
+ghost use Rattle.oca_panel.specs.Outcomes.{reading_answered, text_answered, members_answered, names_answered, truth_of};
+ghost use Rattle.oca_panel.specs.Outcomes.{truth_answered};
 
 use crate::trouble::Trouble;
 use oca_control::{Answer, Outcome};

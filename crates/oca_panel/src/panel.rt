@@ -25,7 +25,12 @@ impl<E: End> Model for Panel<E> {
 
     ghost Value = { PanelState };
 
-    ghost view = { λ p. record { link = p.link; end_state = E.state p.end; turns = p.turns; unanswered = p.unanswered } };
+    ghost view = { λ p. record {
+      link = p.link;
+      end_state = E.state p.end;
+      turns = p.turns;
+      unanswered = p.unanswered;
+    } };
 }
 
 impl<E: End + Drop> Drop for Panel<E> {

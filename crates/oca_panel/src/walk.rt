@@ -2,7 +2,8 @@
 ghost use Rattle.std.specs.Prelude.{◌≡◌, ◌++◌, IfOk};
 ghost use Rattle.oca_model.specs.Members.{class_with};
 ghost use Rattle.oca_panel.specs.Outcomes.{on_ok};
-ghost use Rattle.oca_panel.specs.Walks.{Describes, Finds, FindsObject, StepsTo, StepsToPlace, is_block, is_visited, parts_of, places_of};
+ghost use Rattle.oca_panel.specs.Walks.{Describes, Finds, FindsObject, StepsTo, StepsToPlace, is_block_class};
+ghost use Rattle.oca_panel.specs.Walks.{is_visited, parts_of, places_of};
 
 use crate::panel::Panel;
 use crate::trouble::Trouble;
@@ -128,7 +129,9 @@ fn step<E: End>(
     visited: &mut Vec<Ono>,
     panel: &mut Panel<E>,
 ) -> Result<Option<Visit>, NoMemory>
-    ensures { IfOk result (λ found. StepsTo (record { waiting = waiting.old.items; visited = visited.old.items }) panel.old panel.new found (record { waiting = waiting.new.items; visited = visited.new.items })) }
+    ensures { IfOk result
+        (λ found. StepsTo (record { waiting = waiting.old.items; visited = visited.old.items }) panel.old panel.new found
+        (record { waiting = waiting.new.items; visited = visited.new.items })) }
 {
     if visited.len() >= MOST_PLACES {
         return Ok(None);
@@ -152,7 +155,10 @@ fn step_to_place<E: End>(
     visited: &mut Vec<Ono>,
     panel: &mut Panel<E>,
 ) -> Result<Option<Visit>, NoMemory>
-    ensures { IfOk result (λ found. StepsToPlace (record { waiting = waiting.old.items; visited = visited.old.items }) panel.old panel.new found (record { waiting = waiting.new.items; visited = visited.new.items })) }
+    ensures { IfOk result
+        (λ found. StepsToPlace
+        (record { waiting = waiting.old.items; visited = visited.old.items }) panel.old panel.new found
+        (record { waiting = waiting.new.items; visited = visited.new.items })) }
 {
     if visited.len() >= MOST_PLACES {
         return Ok(None);
@@ -210,7 +216,7 @@ fn describe<E: End>(panel: &mut Panel<E>, ono: Ono) -> Result<Description, Troub
 
 /// Whether these are the fields of a block's class identifier.
 fn are_of_block(fields: &[u16]) -> bool
-    ensures { result ≡ is_block (class_with fields.now) }
+    ensures { result ≡ is_block_class (class_with fields.now) }
 {
     match class_with(fields) {
         Some(Class::Block) => true,
@@ -225,7 +231,9 @@ fn find_in<E: End>(
     description: Description,
     waiting: &mut Vec<Place>,
 ) -> Result<Found, NoMemory>
-    ensures { IfOk result (λ found. FindsObject (is_block (class_with description.fields.items)) description ono waiting.old.items panel.old panel.new found waiting.new.items) }
+    ensures { IfOk result
+        (λ found. FindsObject (is_block_class (class_with description.fields.items)) description ono waiting.old.items
+        panel.old panel.new found waiting.new.items) }
 {
     if !are_of_block(description.fields.as_slice()) {
         return Ok(Found::Object(description));

@@ -34,6 +34,7 @@ adds_command respond c old new fits is short =
     let len : length new ≡ length old + length (pdu_encoding (Commands respond (c ∷ []))) = ap length is ∙ length-append old (pdu_encoding (Commands respond (c ∷ []))) in
     adds (Commands respond (c ∷ [])) old new (omega arith, omega arith, (fits, tt), omega (arith, len, short)) is short
 
+-- a response in an empty datagram is the only one
 pub adds_response : (r : ResponseFields) (old new : List ℕ) → ResponseFits r → new ≡ old ++ pdu_encoding (Responses (r ∷ [])) → length new ≤ 1472 → AddsPdu (Responses (r ∷ [])) old new
 adds_response r old new fits is short =
     let len : length new ≡ length old + length (pdu_encoding (Responses (r ∷ []))) = ap length is ∙ length-append old (pdu_encoding (Responses (r ∷ []))) in
@@ -43,6 +44,7 @@ adds_response r old new fits is short =
 pub two_parts : (old first new front params pdu : List ℕ) → first ≡ old ++ front → new ≡ first ++ params → front ++ params ≡ pdu → new ≡ old ++ pdu
 two_parts old first new front params pdu e1 e2 e3 = e2 ∙ ap (λ (l : List ℕ). l ++ params) e1 ∙ append_assoc old front params ∙ ap (λ (l : List ℕ). old ++ l) e3
 
+-- a status is one byte
 pub status_below : (s : Status) → status_number s < 2 ^ 8
 status_below status.Ok = omega arith
 status_below status.ProtocolVersionError = omega arith
@@ -70,6 +72,7 @@ ten_each (r ∷ rs) = omega (arith, ten_each rs, ap length (flat_map-cons respon
 responses_len : (rs : List ResponseFields) → length (pdu_encoding (Responses rs)) ≡ 10 + length (flat_map response_encoding rs)
 responses_len rs = omega arith
 
+-- a datagram has room for the count of its messages
 pub count_below : (bytes : List ℕ) → HoldsResponses bytes → length bytes ≤ 1472 → number_at w16 8 bytes + 1 < 2 ^ 16
 count_below bytes holds short =
     let rs : List ResponseFields = holds.0 in
@@ -77,6 +80,7 @@ count_below bytes holds short =
     let count : number_at w16 8 bytes ≡ length rs = ap (number_at w16 8) holds.1 ∙ from_be_bytes-to_be_bytes_2 (length rs) many in
     omega (arith, count, ten_each rs, responses_len rs, ap length holds.1, short)
 
+-- a response joins those that are there
 pub joins_responses : (rs : List ResponseFields) (r : ResponseFields) (old new : List ℕ) → ResponseFits r → IsDatagram (Responses rs ∷ []) old → IsResponses (rs ++ r ∷ []) new → length new ≤ 1472
     → IsDatagram (Responses (rs ++ r ∷ []) ∷ []) new
 joins_responses rs r old new fits was is short =
@@ -94,9 +98,11 @@ is_responses rs bytes s = s.bytes_are ∙ append-nil (pdu_encoding (Responses rs
 
 -- ---- what holds responses
 
+-- a datagram of one response holds responses
 pub holds_one : (r : ResponseFields) (old new : List ℕ) → old ≡ [] → new ≡ old ++ pdu_encoding (Responses (r ∷ [])) → HoldsResponses new
 holds_one r old new none is = (r ∷ [], is ∙ ap (λ (l : List ℕ). l ++ pdu_encoding (Responses (r ∷ []))) none)
 
+-- and so does one with a response more
 pub holds_more : {T E : Type 0} (result : Result T E) (r : ResponseFields) (old new : Items ℕ) → HoldsResponses old.items
     → ((rs : List ResponseFields) → IsResponses rs old.items → OnOk result (IsResponses (rs ++ r ∷ []) new.items)) → OnErr result (new ≡ old) → HoldsResponses new.items
 holds_more (Ok x) r old new holds ok err = (holds.0 ++ r ∷ [], ok holds.0 holds.1)

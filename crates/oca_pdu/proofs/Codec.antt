@@ -16,9 +16,11 @@ use Rattle.oca_pdu.specs.Reading.{number_at, least_size, command_in, message_in,
 abbrev pub IsBytes : List ℕ → Type 0
 IsBytes bytes = (i : ℕ) → get_or bytes i 0 < 256
 
+-- bytes without their front are bytes
 pub IsBytes-drop : (n : ℕ) (bytes : List ℕ) → IsBytes bytes → IsBytes (drop n bytes)
 IsBytes-drop n bytes h i = rw get_or-drop (h (n + i))
 
+-- the front of bytes is bytes
 pub IsBytes-take : (n : ℕ) (bytes : List ℕ) → IsBytes bytes → IsBytes (take n bytes)
 IsBytes-take n bytes h i =
     elim (cases_lt i n) [
@@ -33,6 +35,7 @@ pub record Codec {X : Type 0} (kind : Kind) (encoding : X → List ℕ) (Fits : 
   pub says : (x : X) → Fits x → message_in kind (encoding x) ≡ say x
   pub found : (bytes : List ℕ) → IsBytes bytes → least_size kind ≤ length bytes → number_at w32 0 bytes ≡ length bytes → (x : X) × Fits x × (encoding x ≡ bytes)
 
+-- a message has at least four bytes
 pub least_four : (kind : Kind) → 4 ≤ least_size kind
 least_four kinds.Command = omega arith
 least_four kinds.CommandWithResponse = omega arith
@@ -48,6 +51,7 @@ message_whole kind m bytes rest size least =
     let c : ltb (length (bytes ++ rest)) (length bytes) ≡ false = le-ltb _ _ (omega (arith, length-append bytes rest)) in
     rw (a, t, size, b, c, take_at bytes rest (length bytes) refl, drop_at bytes rest (length bytes) refl) refl
 
+-- what is written of a message is read as the message
 pub message_again : {X : Type 0} (kind : Kind) (encoding : X → List ℕ) (Fits : X → Type 0) (say : X → Msg) → Codec kind encoding Fits say → (x : X) (m : ℕ) (rest : List ℕ) → Fits x → message_at kind m (encoding x ++ rest) ≡ Ok (say x, rest)
 message_again kind encoding Fits say codec x m rest fits =
     message_whole kind m (encoding x) rest (codec.size x fits) (codec.long x) ∙ ap (λ (f : Msg). Ok (f, rest)) (codec.says x fits)
@@ -66,9 +70,11 @@ quad_below b fits = omega (arith, fits 0, fits 1, fits 2, fits 3)
 pair_below : (b : List ℕ) → IsBytes b → from_be_bytes w16 b < 2 ^ 16
 pair_below b fits = omega (arith, fits 0, fits 1)
 
+-- four bytes are a number of 32 bits
 pub below_w32 : (i : ℕ) (b : List ℕ) → IsBytes b → number_at w32 i b < 2 ^ 32
 below_w32 i b fits = quad_below (take 4 (drop i b)) (IsBytes-take 4 (drop i b) (IsBytes-drop i b fits))
 
+-- two bytes are a number of 16 bits
 pub below_w16 : (i : ℕ) (b : List ℕ) → IsBytes b → number_at w16 i b < 2 ^ 16
 below_w16 i b fits = pair_below (take 2 (drop i b)) (IsBytes-take 2 (drop i b) (IsBytes-drop i b fits))
 
@@ -76,6 +82,7 @@ below_w16 i b fits = pair_below (take 2 (drop i b)) (IsBytes-take 2 (drop i b) (
 pub front_w32 : (b : List ℕ) → IsBytes b → 4 ≤ length b → b ≡ to_be_bytes w32 (number_at w32 0 b) ++ drop 4 b
 front_w32 b fits le = sym (take-append-drop 4 b) ∙ ap (λ (x : List ℕ). x ++ drop 4 b) (sym (quad 0 b fits (omega (arith, le))))
 
+-- the first two bytes are their number's
 pub front_w16 : (b : List ℕ) → IsBytes b → 2 ≤ length b → b ≡ to_be_bytes w16 (number_at w16 0 b) ++ drop 2 b
 front_w16 b fits le = sym (take-append-drop 2 b) ∙ ap (λ (x : List ℕ). x ++ drop 2 b) (sym (pair 0 b fits (omega (arith, le))))
 
@@ -85,10 +92,12 @@ cut i k j b e = rw (e, ← drop-drop k i b) (sym (take-append-drop k (drop i b))
 
 -- ---- commands
 
+-- the kind of a command, by whether a response is required
 abbrev pub command_kind : Bool → Kind
 command_kind false = kinds.Command
 command_kind true = kinds.CommandWithResponse
 
+-- the least size of a command
 pub least_command : (respond : Bool) → least_size (command_kind respond) ≡ 17
 least_command false = refl
 least_command true = refl
@@ -133,6 +142,7 @@ command_size c fits =
 command_long : (c : CommandFields) → 17 ≤ length (command_encoding c)
 command_long c = omega arith
 
+-- commands are written and read
 pub command_codec : (respond : Bool) → Codec (command_kind respond) command_encoding CommandFits (λ c. Command respond c)
 command_codec false = record { size = command_size; long = command_long; says = command_says false; found = command_found }
 command_codec true = record { size = command_size; long = command_long; says = command_says true; found = command_found }
@@ -169,5 +179,6 @@ response_says : (r : ResponseFields) → ResponseFits r → message_in kinds.Res
 response_says r fits =
     ap (λ (h : ℕ). Response (record { handle = h; status = r.status; count = r.count; params = r.params })) (from_be_bytes-to_be_bytes_4 r.handle fits.handle)
 
+-- responses are written and read
 pub response_codec : Codec kinds.Response response_encoding ResponseFits (λ r. Response r)
 response_codec = record { size = response_size; long = response_long; says = response_says; found = response_found }

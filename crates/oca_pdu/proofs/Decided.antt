@@ -37,6 +37,7 @@ same_or_not m n = elim (cases_lt m n) [
   ]
 ]
 
+-- what holds of each of two lists holds of each of both
 pub each-append : {X : Type 0} (P : X → Type 0) (xs ys : List X) → AllByRecursion P xs → AllByRecursion P ys → AllByRecursion P (xs ++ ys)
 each-append P [] ys all more = more
 each-append P (x ∷ xs) ys all more = (all.0, each-append P xs ys all.1 more)
@@ -319,6 +320,7 @@ go_on (suc n) bytes qs rest some short all parts le fits = elim (same_or_not (le
       ]
 ]
 
+-- bytes are a datagram or have a first fault
 pub datagram_decided : (bytes : List ℕ) → IsBytes bytes → DatagramOrFault bytes
 datagram_decided bytes fits = elim (same_or_not (length bytes) 0) [
   | inl none ↦ inr (at_fault Empty 0, NoBytes (nil_from_length bytes none) (refl, refl))

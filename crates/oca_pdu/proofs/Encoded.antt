@@ -109,16 +109,19 @@ frame_read p type count body behind count_fits size_fits least =
     ∙ ap (λ (b : List ℕ). inside_at p b >>= λ ms. Ok (ms, behind)) front
     ∙ ap (λ (r : Result (List Msg) PduFault). r >>= λ ms. Ok (ms, behind)) (inside_frame p type count body count_fits)
 
+-- the content of a PDU with messages is read as those
 pub messages_content : (kind : Kind) (count p : ℕ) (body : List ℕ) → (count ≡ 0 → ⊥) → content_at (Some (contents.Messages kind)) count p body ≡ messages_at kind count p (p + 10) body
 unfolding content_at
 messages_content kind count p body some =
     let a : eqb count 0 ≡ false = ne_eqb _ _ some in
     rw a refl
 
+-- the content of a keep-alive is read as that
 pub keep_alive_content : (p : ℕ) (body : List ℕ) → content_at (Some contents.KeepAlive) 1 p body ≡ keep_alive_at p body
 unfolding content_at
 keep_alive_content p body = refl
 
+-- a command's PduType has commands as its content
 pub command_content : (respond : Bool) → content_of (command_type respond) ≡ Some (contents.Messages (command_kind respond))
 command_content false = refl
 command_content true = refl
@@ -155,6 +158,7 @@ pdu_again (OneKeepAlive form) p rest fits =
     frame_read p 4 1 (keep_alive_encoding form) rest (omega arith) (keep_alive_len form).1 (keep_alive_len form).0
     ∙ ap (with_rest rest) (keep_alive_content p (keep_alive_encoding form) ∙ keep_alive_again form p fits)
 
+-- a PDU has at least one byte
 pub pdu_some : (q : Pdu) → 0 < length (pdu_encoding q)
 pdu_some (Commands respond cs) = omega arith
 pdu_some (Responses rs) = omega arith
@@ -212,6 +216,7 @@ pdus_some : (qs : List Pdu) → 0 < length qs → 0 < length (flat_map pdu_encod
 pdus_some [] h = absurd (omega (arith, h))
 pdus_some (q ∷ qs) h = omega (arith, ap length (flat_map-cons pdu_encoding q qs), length-append (pdu_encoding q) (flat_map pdu_encoding qs), pdu_some q)
 
+-- a datagram is read as its messages
 pub datagram_again : (qs : List Pdu) (bytes : List ℕ) → IsDatagram qs bytes → read_datagram bytes ≡ Ok (flat_map messages_of qs)
 unfolding read_datagram
 datagram_again qs bytes s =

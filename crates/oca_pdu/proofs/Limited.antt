@@ -103,6 +103,7 @@ within qs bytes are =
     let all = take_all qs in
     record { messages = few qs short; commands = omega (arith, all.commands, short); no_responses = omega (arith, all.answered, short) }
 
+-- what is read is within the limits of its numbers
 pub limited : (bytes : List ℕ) → IsBytes bytes → is_ok (read_datagram bytes) ≡ true → IsWithinLimits (read_or_none (read_datagram bytes))
 limited bytes fits ok =
     let h = check_found bytes fits ok in

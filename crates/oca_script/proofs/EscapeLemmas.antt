@@ -119,6 +119,7 @@ read_back text u =
 
 -- ---- what is printed of a character
 
+-- a character with a letter is printed as a backslash and that letter
 pub letter_printed : (c l : ℕ) → letter_for c ≡ Some l → encode_utf8_all (escape c) ≡ 92 ∷ l ∷ []
 unfolding escape
 letter_printed c l e = rw (e, encode_ascii l (letter_low c l e), encode_ascii 92 (omega arith)) refl
@@ -143,11 +144,13 @@ digits_encoded false c lt t =
     two_encoded (c / 256) (two_digits (c % 256) ++ codes "}") (omega (arith, lt))
     ∙ ap (λ l. two_digits (c / 256) ++ l) (two_encoded (c % 256) (codes "}") (omega (arith, lt)) ∙ ap (λ l. two_digits (c % 256) ++ l) brace)
 
+-- any other hidden one is printed by its number
 pub hidden_printed : (c : ℕ) → letter_for c ≡ None → is_hidden c ≡ true → encode_utf8_all (escape c) ≡ codes "\\u{" ++ digits_of c ++ codes "}"
 unfolding escape
 hidden_printed c e h =
     rw (e, h, encode_ascii 92 (omega arith), encode_ascii 117 (omega arith), encode_ascii 123 (omega arith), digits_encoded (nat_lt c 256) c (hidden_low c h) refl) refl
 
+-- any other character is printed as it is
 pub plain_printed : (c : ℕ) → letter_for c ≡ None → is_hidden c ≡ false → encode_utf8_all (escape c) ≡ encode_utf8 c
 unfolding escape
 plain_printed c e h = rw (e, h) (append-nil (encode_utf8 c))
@@ -157,5 +160,6 @@ pub one_more : (cs : List ℕ) (c : ℕ) → encode_utf8_all (flat_map escape (c
 one_more cs c =
     rw (flat_map-append escape cs (c ∷ []), encodes-append (flat_map escape cs) (escape c ++ [])) (ap (λ l. encode_utf8_all (flat_map escape cs) ++ encode_utf8_all l) (append-nil (escape c)))
 
+-- a text has no more characters than bytes
 pub few_chars : (text : List ℕ) → IsUtf8 text → length (chars text) ≤ length text
 few_chars text u = subst (λ l. length (chars text) ≤ length l) (encodes-chars text u) (length-le-encodes (chars text))

@@ -7,12 +7,15 @@ use Rattle.std.proofs.lemmas.List.{take_more}
 use Rattle.std.proofs.Math.Seq.{drop-cons}
 use Rattle.oca_script.specs.Fields.{value_after, at_most, number_of, split_at, fields, onto_first}
 
+-- a digit behind a number
 pub value_after-digit : (n c : ℕ) (cs : List ℕ) → 48 ≤ c → c ≤ 57 → value_after n (c ∷ cs) ≡ value_after (n * 10 + (c - 48)) cs
 value_after-digit n c cs low high = grind (arith, nat_tests)
 
+-- a byte below the digits ends the value
 pub value_after-low : (n c : ℕ) (cs : List ℕ) → c < 48 → value_after n (c ∷ cs) ≡ None
 value_after-low n c cs low = grind (arith, nat_tests)
 
+-- a byte above the digits ends the value
 pub value_after-high : (n c : ℕ) (cs : List ℕ) → 57 < c → value_after n (c ∷ cs) ≡ None
 value_after-high n c cs low = grind (arith, nat_tests)
 
@@ -83,9 +86,11 @@ fields-by (b ∷ bs) =
     joined None = refl
     joined (Some p) = refl
 
+-- without a space there is one field
 pub fields-one : (s : List ℕ) → split_at 32 s ≡ None → fields s ≡ s ∷ []
 fields-one s e = fields-by s ∙ ap (cut_fields s) e
 
+-- the first field, and those behind its space
 pub fields-more : (s front rest : List ℕ) → split_at 32 s ≡ Some (front, rest) → fields s ≡ front ∷ fields rest
 fields-more s front rest e = fields-by s ∙ ap (cut_fields s) e
 
@@ -98,6 +103,7 @@ fields-first s =
 
 pub ruleset field_rules = (fields-one, fields-more)
 
+-- a number that is too large at one digit is too large with those behind it
 pub number-too_large : (most largest v i : ℕ) (ds : List ℕ) → 0 < length ds → length ds ≤ most → i < length ds
     → 48 ≤ get_or ds i 0 → get_or ds i 0 ≤ 57 → largest < v * 10 + (get_or ds i 0 - 48)
     → at_most largest (value_after 0 ds) ≡ at_most largest (value_after v (drop i ds)) → None ≡ number_of most largest ds

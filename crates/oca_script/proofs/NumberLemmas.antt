@@ -35,6 +35,7 @@ number-value most largest n ds e = by_test ((length ds == 0) || ltb most (length
     by_test false None p e = cc e
     by_test false (Some v) p e = (v, p)
 
+-- a number's text has no byte but digits
 pub number-free : (s most largest n : ℕ) (ds : List ℕ) → (s < 48) ⊎ (57 < s) → number_of most largest ds ≡ Some n → Free s ds
 number-free s most largest n ds other e = let h = number-value most largest n ds e in digits-free s 0 h.0 ds other h.1
 
@@ -159,13 +160,16 @@ pub record Digit (text : List ℕ) (i : ℕ) : Type 0 where
   pub low : 48 ≤ get_or text i 0
   pub high : get_or text i 0 ≤ 57
 
+-- the value of a digit
 pub front-one : (text : List ℕ) → 0 < length text → Digit text 0 → value_after 0 (take 1 text) ≡ Some (get_or text 0 0 - 48)
 front-one text within a = number_before-on text 0 0 within a.low a.high refl ∙ ap Some (omega arith)
 
+-- the value of two digits
 pub front-two : (text : List ℕ) → 1 < length text → Digit text 0 → Digit text 1
     → value_after 0 (take 2 text) ≡ Some ((get_or text 0 0 - 48) * 10 + (get_or text 1 0 - 48))
 front-two text within a b = number_before-on text 1 (get_or text 0 0 - 48) within b.low b.high (front-one text (omega arith) a)
 
+-- the value of three digits
 pub front-three : (text : List ℕ) → 2 < length text → Digit text 0 → Digit text 1 → Digit text 2
     → value_after 0 (take 3 text) ≡ Some (((get_or text 0 0 - 48) * 10 + (get_or text 1 0 - 48)) * 10 + (get_or text 2 0 - 48))
 front-three text within a b c =

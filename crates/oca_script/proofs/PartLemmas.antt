@@ -12,14 +12,17 @@ abbrev pub Free : ℕ → List ℕ → Type 0
 Free s [] = Unit {0}
 Free s (b ∷ bs) = ((b == s) ≡ false) × Free s bs
 
+-- a byte that stands in neither text stands nowhere in both
 pub free-append : (s : ℕ) (xs ys : List ℕ) → Free s xs → Free s ys → Free s (xs ++ ys)
 free-append s [] ys h k = k
 free-append s (x ∷ xs) ys h k = (h.0, free-append s xs ys h.1 k)
 
+-- the first separator stands behind a text that has none
 pub free-after : (s : ℕ) (front rest : List ℕ) → Free s front → split_at s (front ++ s ∷ rest) ≡ Some (front, rest)
 free-after s [] rest h = let same : (s == s) ≡ true = grind (arith, nat_tests) in rw same refl
 free-after s (b ∷ bs) rest h = rw h.0 (ap (option_map (λ p. (b ∷ p.0, p.1))) (free-after s bs rest h.1))
 
+-- a text without the separator is not split
 pub free-nowhere : (s : ℕ) (text : List ℕ) → Free s text → split_at s text ≡ None
 free-nowhere s [] h = refl
 free-nowhere s (b ∷ bs) h = rw h.0 (ap (option_map (λ p. (b ∷ p.0, p.1))) (free-nowhere s bs h.1))
@@ -96,6 +99,7 @@ module _ {A : Type 0} (read : List ℕ → Option A) (s : ℕ) where
           (free-append s front h.front free h.free)
           ∙ ap (option_map (λ x. (x, h.rest))) (none h.front)
 
+-- steps that give the same leave the same
 pub then-ap : {A B : Type 0} (o : Option A) (f g : A → Option B) → ((x : A) → f x ≡ g x) → then_in o f ≡ then_in o g
 then-ap None f g h = refl
 then-ap (Some x) f g h = h x

@@ -26,6 +26,7 @@ take-sum zero j xs = rw zero-add refl
 take-sum (suc i) j [] = simp (take-nil, drop-nil)
 take-sum (suc i) j (x ∷ xs) = let e : suc i + j ≡ suc (i + j) = omega arith in rw e (ap (λ (l : List ℕ). x ∷ l) (take-sum i j xs))
 
+-- one piece more is appended
 pub Appends-more : (a b c : Option (List ℕ)) (i j : ℕ) (xs : List ℕ) → Appends a b (take i xs)
     → Appends b c (take j (take (length xs - i) (drop i xs))) → Appends a c (take (i + j) xs)
 Appends-more a b c i j xs h k =
@@ -52,15 +53,18 @@ Emits-then a b c p q r x y h k = record {
 
 -- ---- with what is held
 
+-- two texts are printed one after the other
 pub PrintsAll-then : (a b c : Output) (x y : List ℕ) → PrintsAll a b x → PrintsAll b c y → PrintsAll a c (x ++ y)
 PrintsAll-then a b c x y h k = record {
   emits = Emits-then _ _ _ _ _ _ _ _ h.emits k.emits;
   failed = k.failed ∙ h.failed;
 }
 
+-- a text is printed whole, and of the next one a part
 pub PrintsPart-then : (a b c : Output) (x y : List ℕ) → PrintsAll a b x → PrintsPart b c y → PrintsPart a c (x ++ y)
 PrintsPart-then a b c x y h k = record { lost = k.lost; emits = Emits-then _ _ _ _ _ _ _ _ h.emits k.emits; failed = k.failed }
 
+-- nothing is printed
 pub PrintsAll-nil : (a : Output) → PrintsAll a a []
 PrintsAll-nil a = record { emits = Emits-nil a.contents a.held; failed = refl }
 
@@ -158,6 +162,7 @@ part-less a b x y h = record {
   failed = h.failed;
 }
 
+-- where a part of the first text is printed, a part of both is
 pub prints-less : (r : Result Unit WriteFailed) (e : WriteFailed) (a b : Output) (x y : List ℕ) → r ≡ Err e → PrintsPart a b x → Prints r a b (x ++ y)
 prints-less r e a b x y is h = subst (λ (z : Result Unit WriteFailed). Prints z a b (x ++ y)) (sym is) (part-less a b x y h)
 

@@ -46,6 +46,7 @@ counted-long line [] long =
     ([], rw test refl)
 counted-long line (next ∷ ls) long = (counted (next ∷ ls), refl)
 
+-- a line that is too long has that fault
 pub asks-long : (line : List ℕ) → 4096 < length line → asks line ≡ Err TooLong
 unfolding asks
 asks-long line long =

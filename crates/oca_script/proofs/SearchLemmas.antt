@@ -30,6 +30,7 @@ first-cut sep (x ∷ xs) (suc k) within before here =
       | false ↦ λ e. ap (option_map (λ p. (x ∷ p.0, p.1))) (first-cut sep xs k (omega arith) (λ j low high. before (suc j) (omega arith) (omega arith)) here)
     ] refl
 
+-- a text is split at the first separator
 pub split_at-first : (sep : ℕ) (s : List ℕ) (k : ℕ) → k < length s → Nowhere (Passes (is_byte sep) s) 0 k → Passes (is_byte sep) s k
     → split_at sep s ≡ Some (take k s, drop (k + 1) s)
 split_at-first sep s k within before here = rw add-one (first-cut sep s k within before here)
@@ -51,6 +52,7 @@ ascii-not (x ∷ xs) (suc i) high = elim (nat_lt x 128) as (λ v. (v && is_ascii
   | false ↦ refl
 ]
 
+-- the test of ASCII is that of the definition
 pub ascii-told : (s : List ℕ) (r : Bool) → MatchBool r (IsAscii s) (IsNotAscii s) → r ≡ is_ascii s
 ascii-told s true h = sym (ascii-all s h)
 ascii-told s false h = sym (ascii-not s h.0 h.1)

@@ -17,6 +17,7 @@ use Rattle.oca_script.proofs.ScriptLemmas.{asks-long}
 
 -- ---- what is printed
 
+-- a text is printed whole before what the result says was printed
 pub Printed-then : (r : Result Unit ReplayFault) (a b c : Output) (x y : List ℕ) → PrintsAll a b x → Printed r b c y → Printed r a c (x ++ y)
 Printed-then (Ok u) a b c x y h k = PrintsAll-then a b c x y h k
 Printed-then (Err (Line n w)) a b c x y h k = PrintsAll-then a b c x y h k
@@ -49,6 +50,7 @@ module _ {S R : Type 0} (serves : S → R → S → List ℕ → Type 0) (idles 
   pub awaited-not : (a : S) (u v : Output) (r : Result Unit WriteFailed) (e f : WriteFailed) → r ≡ Err e → Prints (Err f) u v [] → Awaited idles a a r u v
   awaited-not a u v r e f is h = record { text = []; goes_on = inl (refl, refl); prints = not-printed r e f u v [] is h }
 
+-- requests in front of requests
 pub behind-behind : {R : Type 0} (xs ys : List R) (s : Script R) → behind xs (behind ys s) ≡ behind (xs ++ ys) s
 behind-behind {R} xs ys s = ap behind_as (sym (append_assoc xs ys s.requests))
   where

@@ -16,6 +16,7 @@ pub hex_text-none : (bs : List ℕ) → length bs ≡ 0 → hex_text bs ≡ code
 hex_text-none [] h = refl
 hex_text-none (b ∷ bs) h = absurd (omega arith)
 
+-- each byte has two digits
 pub length-encode_lower : (a : List ℕ) → length (encode_lower a) ≡ 2 * length a
 length-encode_lower a = length-encode_with lower_digits a
 

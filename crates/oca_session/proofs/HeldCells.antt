@@ -137,6 +137,7 @@ kept_full o hs cs above size end n a held full at =
 below_more : (hs : List Held) (above more : ℕ) → All (λ g. g.handle.0 < above) hs → above ≤ more → All (λ g. g.handle.0 < more) hs
 below_more hs above more below le = λ k d within. let low = below k d within in omega (arith, low, le)
 
+-- one more command is held, in a cell of its own
 pub held_more : (hs : List Held) (cs : List Cell) (above more : ℕ) (n : Held) (a : Cell) → AreHeld hs cs above → All (λ g. is_under n.handle.0 g ≡ false) hs
     → above ≤ more → n.handle.0 < more → n.cell ≡ length hs → AreHeld (hs ++ n ∷ []) (cs ++ a ∷ []) more
 held_more hs cs above more n a held none le lt at =
@@ -152,6 +153,7 @@ held_more hs cs above more n a held none le lt at =
     below : (a b : ℕ) → a < b → (a == b) ≡ false
     below a b lt = grind (arith, nat_tests)
 
+-- where the window is full, the command is held in the cell of the oldest
 pub held_full : (o : Held) (hs : List Held) (cs : List Cell) (above more : ℕ) (n : Held) (a : Cell) → AreHeld (o ∷ hs) cs above → All (λ g. is_under n.handle.0 g ≡ false) (o ∷ hs)
     → above ≤ more → n.handle.0 < more → n.cell ≡ o.cell → AreHeld (hs ++ n ∷ []) (slice_set cs n.cell a) more
 held_full o hs cs above more n a held none le lt at =
@@ -209,10 +211,12 @@ first_out (h ∷ hs) n o size some le is =
 pub not_full : (n size : ℕ) → n ≤ size → (n == size) ≡ false → n < size
 not_full n size le other = grind (arith, nat_tests)
 
+-- where none is first, none is held
 pub none_first : (hs : List Held) → slice_get hs 0 ≡ None → length hs ≡ 0
 none_first [] none = refl
 none_first (h ∷ hs) none = cc
 
+-- the oldest command's cell is the one that is used again
 pub cell_is : (hs rest : List Held) (o : Held) (size cell : ℕ) → IsCellOfOldest hs size cell → hs ≡ o ∷ rest → cell ≡ o.cell
 cell_is hs rest o size cell is e = is.same ∙ ap (λ (g : Held). g.cell) (same_Some is.oldest o (sym is.first ∙ ap (λ (ys : List Held). slice_get ys 0) e))
 
@@ -240,6 +244,7 @@ found_front h xs ys zs g all is = rw (← all) (in_front xs is)
         by_test true is rest = is
         by_test false is rest = rest is
 
+-- what is not found in front is found behind it
 pub found_back : (h : ℕ) (xs ys zs : List Held) → xs ++ ys ≡ zs → find (is_under h) xs ≡ None → find (is_under h) zs ≡ find (is_under h) ys
 found_back h xs ys zs all none = rw (← all) (past_front xs none)
   where
@@ -264,6 +269,7 @@ under_none h (x ∷ hs) cs within none =
     by_test true a none rest = cc
     by_test false a none rest = rest none
 
+-- a command that is found under its handle has a cell
 pub under_some : (h : ℕ) (hs : List Held) (cs : List Cell) (g : Held) (a : Cell) → Within cs hs → find (is_under h) hs ≡ Some g → slice_get cs g.cell ≡ Some a
     → entry_under h (entries_of hs cs) ≡ Some (entry_in g.handle a)
 under_some h [] cs g a within found is = cc
@@ -320,6 +326,7 @@ pub from_end : (end h : ℕ) → end ≤ h → is_above (floor_before end) h ≡
 from_end zero h le = refl
 from_end (suc f) h le = grind (arith, nat_tests)
 
+-- no handle below the end is above the floor before it
 pub before_end : (end h : ℕ) → h < end → is_above (floor_before end) h ≡ false
 before_end zero h lt = absurd (omega (arith, lt))
 before_end (suc f) h lt = grind (arith, nat_tests)
@@ -334,6 +341,7 @@ fresh_above above size end c hs cs held low high =
     other : (a b : ℕ) → a < b → (a == b) ≡ false
     other a b lt = grind (arith, nat_tests)
 
+-- a command that is held is judged by its cell
 pub judged_by_cell : (k : Retained) (c : CommandFields) (a : Cell)
     → option_map (λ (e : Entry). duplicate_or_reused e c) (entry_under c.handle k.entries) ≡ Some (judge_cell a c) → judgement_by_window k c ≡ judge_cell a c
 judged_by_cell k c a h = by_found (entry_under c.handle k.entries) h
@@ -342,6 +350,7 @@ judged_by_cell k c a h = by_found (entry_under c.handle k.entries) h
     by_found None e = cc
     by_found (Some e) is = cc
 
+-- any other is judged by the floor
 pub judged_by_floor : (k : Retained) (c : CommandFields) (above : Bool)
     → option_map (λ (e : Entry). duplicate_or_reused e c) (entry_under c.handle k.entries) ≡ None → is_above k.floor c.handle ≡ above
     → judgement_by_window k c ≡ cond above Fresh Old

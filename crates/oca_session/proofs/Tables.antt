@@ -53,6 +53,7 @@ known_by_place p ss =
     is_some-place (nat_lt (position_or_len (is_of p) ss) (length ss)) (position_or_len (is_of p) ss)
     ∙ find_by_place (is_of p) ss
 
+-- a peer that is not found has no session
 pub none_known : (p : Peer) (ss : List Session) → position (is_of p) ss ≡ None → session_of p ss ≡ None
 none_known p ss h = none (session_of p ss) (sym (known_by_place p ss) ∙ ap is_some h)
   where
@@ -73,15 +74,19 @@ found_at p ss i d h =
 
 -- ---- one session for a peer
 
+-- a peer that is not one of two that are the same is not the other
 pub other_peer : (p q r : Peer) → same_peer p r ≡ true → same_peer p q ≡ false → same_peer q r ≡ false
 other_peer p q r same other = grind (arith, nat_tests)
 
+-- the same, with the other of the two
 pub other_peer' : (p q r : Peer) → same_peer q r ≡ true → same_peer p q ≡ false → same_peer p r ≡ false
 other_peer' p q r same other = grind (arith, nat_tests)
 
+-- of sessions with one a peer, those behind the first
 pub IsOnePerPeer-tail : (s : Session) (ss : List Session) → IsOnePerPeer (s ∷ ss) → IsOnePerPeer ss
 IsOnePerPeer-tail s ss one = λ i j d before within. one (suc i) (suc j) d (omega arith) (omega arith)
 
+-- none behind the first is of its peer
 pub IsOnePerPeer-head : (s : Session) (ss : List Session) → IsOnePerPeer (s ∷ ss) → All (λ t. same_peer s.peer t.peer ≡ false) ss
 IsOnePerPeer-head s ss one = λ k d within. one 0 (suc k) d (omega arith) (omega arith)
 
@@ -141,6 +146,7 @@ session_in p items seen count at old same placed was =
 
 -- ---- what the calls leave
 
+-- a change that keeps the peer keeps the peers
 pub peers_of-changed : (p : Peer) (f : Session → Session) → ((s : Session) → (f s).peer ≡ s.peer) → (ss : List Session) →
     peers_of (changed p f ss) ≡ peers_of ss
 peers_of-changed p f same [] = refl
@@ -155,9 +161,11 @@ All-cons : {X : Type 0} (P : X → Type 0) (x : X) (xs : List X) → P x → All
 All-cons P x xs here rest zero d within = here
 All-cons P x xs here rest (suc k) d within = rest k d (omega arith)
 
+-- what holds of all holds of those behind the first
 pub All-tail : {X : Type 0} (P : X → Type 0) (x : X) (xs : List X) → All P (x ∷ xs) → All P xs
 All-tail P x xs all = λ k d within. all (suc k) d (omega arith)
 
+-- what holds of all and of one more holds of them together
 pub All-push : {X : Type 0} (P : X → Type 0) (xs : List X) (y : X) → All P xs → P y → All P (xs ++ y ∷ [])
 All-push P [] y all last = All-cons P y [] last (λ k d within. absurd (omega arith))
 All-push P (x ∷ xs) y all last =
@@ -200,6 +208,7 @@ all_others p (s ∷ ss) h =
     by_test true q = cc
     by_test false q = (refl, q)
 
+-- a session of a peer that has none is added
 pub IsOnePerPeer-push : (ss : List Session) (s : Session) → session_of s.peer ss ≡ None → IsOnePerPeer ss → IsOnePerPeer (ss ++ s ∷ [])
 IsOnePerPeer-push ss s h one = push ss (all_others s.peer ss h) one
   where
@@ -210,6 +219,7 @@ IsOnePerPeer-push ss s h one = push ss (all_others s.peer ss h) one
         (All-push (λ u. same_peer t.peer u.peer ≡ false) ts s (IsOnePerPeer-head t ts one') (others 0 t (omega arith)))
         (push ts (All-tail (λ u. is_of s.peer u ≡ false) t ts others) (IsOnePerPeer-tail t ts one'))
 
+-- a peer is itself
 pub same_peer-self : (p : Peer) → same_peer p p ≡ true
 same_peer-self p = grind (arith, nat_tests)
 
@@ -228,6 +238,7 @@ pub known_same : (p : Peer) (ss ts : List Session) → peers_of ss ≡ peers_of 
 known_same p ss ts h =
     known_by_peers p ss ∙ ap (list_any (λ q. same_peer q p)) h ∙ sym (known_by_peers p ts)
 
+-- a session that is added is known
 pub known-push : (p : Peer) (ss : List Session) (s : Session) → is_of p s ≡ true → is_some (session_of p (ss ++ s ∷ [])) ≡ true
 known-push p [] s here = ap (λ b. is_some (cond b (Some s) None)) here
 known-push p (t ∷ ts) s here = by_test (is_of p t) (known-push p ts s here)
@@ -266,6 +277,7 @@ Contains-cons q x qs (k, within, is) = (suc k, omega arith, is)
 lapsed_or_stays : (w moment : ℕ) (s : Session) → IsSession w s → is_lapsed moment s ≡ false → stays moment s ≡ true
 lapsed_or_stays w moment s sound h = let most = sound.most in grind (arith, nat_tests)
 
+-- the sessions that are forgotten are those that lapsed
 pub forgotten_lapsed : (w moment : ℕ) (ss : List Session) → All (IsSession w) ss →
     All (Contains (lapsed moment ss)) (peers_of (forgotten moment ss))
 forgotten_lapsed w moment [] all = λ k d within. absurd (omega arith)
@@ -286,6 +298,7 @@ forgotten_lapsed w moment (s ∷ ss) all =
 
 -- ---- a write at the place of a peer's session
 
+-- a change of one session leaves one a peer
 pub one_in : (p : Peer) (f : Session → Session) → ((s : Session) → (f s).peer ≡ s.peer) →
     (items seen : List Session) (count at : ℕ) (old new : Session) →
     IsOnePerPeer (take count items) → seen ≡ items → position (is_of p) (take count seen) ≡ Some at →
@@ -294,6 +307,7 @@ one_in p f peers items seen count at old new one same placed was is =
     subst IsOnePerPeer (sym (changed_in p f items seen count at old new one same placed was is))
     (IsOnePerPeer-changed p f peers (take count items) one)
 
+-- a change of one session that keeps it sound keeps all so
 pub sound_in : (w : ℕ) (p : Peer) (f : Session → Session) → ((s : Session) → IsSession w s → IsSession w (f s)) →
     (items seen : List Session) (count at : ℕ) (old new : Session) →
     All (IsSession w) items → seen ≡ items → position (is_of p) (take count seen) ≡ Some at →
@@ -306,17 +320,21 @@ sound_in w p f stays_sound items seen count at old new all same placed was is =
     let before : IsSession w old = subst (IsSession w) (sym was) (all at old below) in
     All-set (IsSession w) items at new (subst (IsSession w) (sym is) (stays_sound old before)) all
 
+-- a session stays sound when its peer is heard
 pub heard_sound : (w moment : ℕ) (s : Session) → IsSession w s → IsSession w (heard_at moment s)
 heard_sound w moment s h = record { size = h.size; least = h.least; most = h.most }
 
+-- and when its heartbeat is set
 pub heartbeat_sound : (w ms : ℕ) (s : Session) → IsSession w s → IsSession w (with_heartbeat ms s)
 heartbeat_sound w ms s h = record { size = h.size; least = omega arith; most = omega arith }
 
+-- and when a command is entered
 pub entry_sound : (w : ℕ) (e : Entry) (s : Session) → IsSession w s → IsSession w (with_entry e s)
 entry_sound w e s h = record { size = h.size; least = h.least; most = h.most }
 
 -- ---- an opened session
 
+-- a session that is opened is sound
 pub opened_sound : (w : ℕ) (p : Peer) (moment : ℕ) → IsSession w (opened_session w p moment)
 opened_sound w p moment = record { size = refl; least = omega arith; most = omega arith }
 
@@ -355,6 +373,7 @@ first_place p (s ∷ ss) (suc i) d one within here =
     ap (λ b. cond (not b) (1 + position_or_len (is_of p) ss) 0) no
     ∙ ap (λ n. 1 + n) (first_place p ss i d (IsOnePerPeer-tail s ss one) below here) ∙ one_more i
 
+-- the session of a peer stands where one of that peer is found
 pub placed_at : (p : Peer) (ss : List Session) (i : ℕ) (d : Session) → IsOnePerPeer ss → i < length ss → is_of p (get_or ss i d) ≡ true →
     position (is_of p) ss ≡ Some i
 placed_at p ss i d one within here =
@@ -405,12 +424,14 @@ quiet_kept p e q items seen count at old new quiet same placed was is =
 no_lapse : (q moment : ℕ) (s : Session) → q ≤ s.heard + 3 * s.heartbeat → moment ≤ q → is_lapsed moment s ≡ false
 no_lapse q moment s quiet le = grind (arith, nat_tests)
 
+-- until the table is to be looked at, no session lapses
 pub quiet_lapsed : (q moment : ℕ) (ss : List Session) → IsQuietUntil q ss → moment ≤ q → lapsed moment ss ≡ []
 quiet_lapsed q moment [] quiet le = refl
 quiet_lapsed q moment (s ∷ ss) quiet le =
     let here : q ≤ s.heard + 3 * s.heartbeat = quiet 0 s (omega arith) in
     rw (no_lapse q moment s here le) (quiet_lapsed q moment ss (All-tail (λ s. q ≤ s.heard + 3 * s.heartbeat) s ss quiet) le)
 
+-- until then all stay
 pub quiet_staying : (w q moment : ℕ) (ss : List Session) → All (IsSession w) ss → IsQuietUntil q ss → moment ≤ q → staying moment ss ≡ ss
 quiet_staying w q moment [] all quiet le = refl
 quiet_staying w q moment (s ∷ ss) all quiet le =

@@ -106,6 +106,7 @@ judgement_by_window-retained_of w A c =
     judge_entry_cases (entry_under h kept) (is_above (greatest out) h) c
     ∙ ap (λ b. cond b Fresh (judge_unaccepted (entry_under h kept) c)) same
 
+-- where the window agrees with the accepted commands, it judges as they do
 pub judgement_by_window_agreed : (w : ℕ) (A : List Entry) (k : Retained) (c : CommandFields) → Agrees w A k → judgement_by_window k c ≡ judgement w A c
 judgement_by_window_agreed w A k c e = ap (λ x. judgement_by_window x c) e ∙ judgement_by_window-retained_of w A c
 
@@ -158,5 +159,6 @@ retained_after-retained_of w A e =
     pair : {X Y : Type 0} {a b : X} {c d : Y} → a ≡ b → c ≡ d → let p : X × Y = (a, c) in let q : X × Y = (b, d) in p ≡ q
     pair {X} {Y} {a} {b} {c} {d} p q = ap (λ x. (x, c)) p ∙ ap (λ y. (b, y)) q
 
+-- and it agrees after one more
 pub retained_after_agreed : (w : ℕ) (A : List Entry) (k : Retained) (e : Entry) → Agrees w A k → Agrees w (A ++ e ∷ []) (retained_after k e)
 retained_after_agreed w A k e h = ap (λ x. retained_after x e) h ∙ retained_after-retained_of w A e

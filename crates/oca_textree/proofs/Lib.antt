@@ -7,3 +7,6 @@ pub mod FieldsBack
 pub mod TextsBack
 pub mod ValuesBack
 pub mod LinesBack
+pub mod ListedLemmas
+pub mod CommandedLemmas
+pub mod MadeLemmas

@@ -3,6 +3,7 @@ pub mod Lines
 pub mod Stored
 pub mod Texts
 pub mod Written
+pub mod Made
 pub mod PrivateLines
 pub mod PrivateStored
 pub mod PrivateWritten

@@ -27,6 +27,7 @@ split_same (a ∷ front) (b ∷ bs) x y l e =
 pub fixed_found : {V : Type 0} (codec : Codec V) (n : ℕ) → IsFixed codec n → (old front new : List ℕ) → length front ≡ n → IsBytes front → old ≡ front ++ new → Takes codec.IsEncoding (codec.value_in front) old new
 fixed_found codec n fixed old front new l fits e = (front, fixed.whole front l fits, e)
 
+-- what is read of a value of fixed size is the only value that the bytes encode
 pub fixed_only : {V : Type 0} (codec : Codec V) (n : ℕ) → IsFixed codec n → (old front new : List ℕ) → length front ≡ n → old ≡ front ++ new → TakesEach codec.IsEncoding old (Ok (codec.value_in front)) new
 fixed_only codec n fixed old front new l e = λ v other rest enc e2.
     let parts = split_same front other new rest (omega (arith, l, fixed.size v other enc)) (sym e ∙ e2) in
@@ -49,6 +50,7 @@ IsBytes-zeros n i = elim (cases_lt i n) [
   | inr le ↦ rw (get_or_past (zeros n) i 0 (omega (arith, le, length-replicate {A = ℕ} n 0))) (omega arith)
 ]
 
+-- fewer bytes are cut short
 pub fixed_short : {V : Type 0} (codec : Codec V) (n : ℕ) → IsFixed codec n → (old : List ℕ) → length old < n → IsBytes old → IsCutShort codec.IsEncoding old
 fixed_short codec n fixed old lt fits =
     let more = zeros (n - length old) in

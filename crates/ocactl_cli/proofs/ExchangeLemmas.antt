@@ -16,7 +16,7 @@ use Rattle.oca_control.specs.declared.outcome.Outcome.{Outcome}
 use Rattle.oca_control.specs.declared.outcome.Outcome.TheVariants as outcomes
 use Rattle.oca_panel.specs.declared.trouble.Trouble.{Trouble}
 use Rattle.oca_panel.specs.declared.trouble.Trouble.TheVariants as trouble
-use Rattle.oca_panel.specs.Outcomes.{carried_out, done_answered}
+use Rattle.oca_panel.specs.Outcomes.{done_or_trouble, done_answered}
 use Rattle.ocactl_cli.specs.Hands.{trouble_status}
 use Rattle.ocactl_cli.specs.Trees.{listed_status}
 use Rattle.oca_control.specs.Links.{LinkState}
@@ -246,7 +246,7 @@ concludes ended result old new v z a b c h k none is = record {
 
 -- ---- the exit status of a command
 
-by-status : (b : Bool) (params : List ℕ) (s : ℕ) (d : Result Unit Trouble) → d ≡ carried_out (if b then Ok params else Err (trouble.Refused s))
+by-status : (b : Bool) (params : List ℕ) (s : ℕ) (d : Result Unit Trouble) → d ≡ done_or_trouble (if b then Ok params else Err (trouble.Refused s))
     → (if b then 0 else 4) ≡ listed_status d
 by-status true params s d is = sym (ap listed_status is)
 by-status false params s d is = sym (ap listed_status is)

@@ -1,0 +1,339 @@
+-- What commands leave: the texts that they set are in UTF-8 and of at most 64 bytes, and no role and no number changes.
+use Rattle.std.proofs.Common.{◌≡◌, ℕ, zero, suc, ◌+◌, ◌<◌, ◌≤◌, ◌==◌, Bool, true, false, cond, ◌&&◌, List, [], ◌∷◌, ◌++◌, length, map, take, drop, Option, Some, None, refl, sym, ap, ◌∙◌, subst, arith, IsUtf8, eqb-true}
+use Rattle.std.specs.Prelude.{nat_lt, nat_le, slice_set, codes}
+use Rattle.std.specs.List.{All, find, range_with_len}
+use Rattle.std.specs.Option.{option_map, option_and_then}
+use Rattle.std.specs.Str.{chars, is_utf8}
+use Rattle.std.specs.Int.{w8, w16}
+use Rattle.std.proofs.lemmas.Bool.{and_parts, both_ways, eq-eqb}
+use Rattle.std.proofs.lemmas.List.Elements.{All-nil, All-cons, All-head, All-tail, All-set, All-map, All-weaker}
+use Rattle.std.proofs.lemmas.Str.{IsUtf8-from_is_utf8}
+use Rattle.oca_types.specs.declared.class.Method.{Method}
+use Rattle.oca_types.specs.declared.class.Method.TheVariants as methods
+use Rattle.oca_types.specs.declared.class.MethodKind.{MethodKind}
+use Rattle.oca_types.specs.declared.class.MethodKind.TheVariants.{Known, LeftOut, Unknown}
+use Rattle.oca_types.specs.declared.status.Status.{Status}
+use Rattle.oca_types.specs.declared.status.Status.TheVariants as status
+use Rattle.oca_types.specs.declared.words.Peer.{Peer}
+use Rattle.oca_types.specs.Peers.{CommandFields}
+use Rattle.oca_types.specs.Reading.{unsigned_at, bool_at, is_text_of, text_front, text_at}
+use Rattle.oca_tree.specs.declared.object.Object.{Object}
+use Rattle.oca_tree.specs.declared.object.Switch.{Switch}
+use Rattle.oca_tree.specs.declared.object.Value.{Value}
+use Rattle.oca_tree.specs.declared.object.Value.TheVariants as values
+use Rattle.oca_tree.specs.declared.request.Request.{Request}
+use Rattle.oca_tree.specs.declared.request.Request.TheVariants as requests
+use Rattle.oca_tree.specs.declared.request.SwitchRequest.{SwitchRequest}
+use Rattle.oca_tree.specs.declared.request.SwitchRequest.TheVariants as switches
+use Rattle.oca_tree.specs.Kinds.{number_at}
+use Rattle.oca_tree.specs.Parameters.{whole, pair_at, items_at, list_at}
+use Rattle.oca_tree.specs.Requests.{positions, with_parameters, without_parameters, setting_request, position_names_request, position_enableds_request, request_of}
+use Rattle.oca_tree.specs.Execution.{changed, changed_value, changed_switch, changed_positions, Execution, execution, request_at, kind_at, status_of, by_status}
+use Rattle.oca_tree.specs.Objects.{has_number, object_of, with_object}
+use Rattle.oca_tree.specs.Locks.{without_lock_of, is_held_by, released}
+use Rattle.oca_tree.specs.Copies.{names_in}
+use Rattle.oca_textree.specs.Written.{IsShortText, IsNamed}
+use Rattle.oca_tree.proofs.Positions.{find_passes}
+use Rattle.oca_textree.proofs.ListedLemmas.{short-text, no-names, Rooted}
+
+-- ---- a text that a command carries
+
+-- what is found passes the test and is one of the list
+found : (p : ℕ → Bool) (low n k : ℕ) → find p (range_with_len low n) ≡ Some k → (p k ≡ true) × (k < low + n)
+found p low zero k e = absurd (cc)
+found p low (suc n) k e = by (p low) refl (found p (low + 1) n k) e
+  where
+    by : (b : Bool) → p low ≡ b → (find p (range_with_len (low + 1) n) ≡ Some k → (p k ≡ true) × (k < low + 1 + n)) → cond b (Some low) (find p (range_with_len (low + 1) n)) ≡ Some k → (p k ≡ true) × (k < low + suc n)
+    by true t next h = let same : low ≡ k = cc in (subst (λ (x : ℕ). p x ≡ true) same t, omega (arith, same))
+    by false t next h = let r = next h in (r.0, omega (arith, r.1))
+
+take-few : (k : ℕ) (bytes : List ℕ) → length (take k bytes) ≤ k
+take-few zero bytes = omega arith
+take-few (suc k) [] = omega arith
+take-few (suc k) (b ∷ bs) = omega (arith, take-few k bs)
+
+front-short : (n : ℕ) (bytes : List ℕ) (x : List ℕ × List ℕ) → text_front n bytes ≡ Some x → IsShortText x.0
+unfolding text_front
+front-short n bytes x e = by (find (λ k. is_text_of n (take k bytes)) (range_with_len 0 65)) refl e
+  where
+    by : (o : Option ℕ) → find (λ k. is_text_of n (take k bytes)) (range_with_len 0 65) ≡ o
+        → option_map (λ k. (take k bytes, drop k bytes)) o ≡ Some x → IsShortText x.0
+    by None q h = absurd (cc)
+    by (Some k) q h =
+        let r = found (λ k. is_text_of n (take k bytes)) 0 65 k q in
+        let utf8 = IsUtf8-from_is_utf8 (take k bytes) (and_parts (is_utf8 (take k bytes)) (length (chars (take k bytes)) == n) r.0).0 in
+        let few : length (take k bytes) ≤ 64 = omega (arith, take-few k bytes, r.1) in
+        let same : (take k bytes, drop k bytes) ≡ x = cc in
+        subst (λ (y : List ℕ × List ℕ). IsShortText y.0) same (short-text (take k bytes) utf8 few)
+
+text-short : (bytes : List ℕ) (x : List ℕ × List ℕ) → text_at bytes ≡ Some x → IsShortText x.0
+unfolding text_at
+text-short bytes x e = by (unsigned_at w16 bytes) e
+  where
+    by : (o : Option (ℕ × List ℕ)) → option_and_then (λ n. text_front n.0 n.1) o ≡ Some x → IsShortText x.0
+    by None h = absurd (cc)
+    by (Some n) h = front-short n.0 n.1 x h
+
+whole-short : {X : Type 0} (P : X → Type 0) (o : Option (X × List ℕ)) (x : X) → ((y : X × List ℕ) → o ≡ Some y → P y.0) → whole o ≡ Some x → P x
+whole-short P None x h e = absurd (cc)
+whole-short P (Some (y, [])) x h e = let same : y ≡ x = cc in subst P same (h (y, []) refl)
+whole-short P (Some (y, b ∷ rest)) x h e = absurd (cc)
+
+with-short : {X : Type 0} (P : X → Type 0) (number count : ℕ) (read : List ℕ → Option (X × List ℕ)) (params : List ℕ) (x : X)
+    → ((y : X × List ℕ) → read params ≡ Some y → P y.0) → with_parameters number read count params ≡ Some x → P x
+with-short P number count read params x h e = by (count == number) e
+  where
+    by : (b : Bool) → cond b (whole (read params)) None ≡ Some x → P x
+    by true t = whole-short P (read params) x h t
+    by false t = absurd (cc)
+
+second-short : (params : List ℕ) (y : (ℕ × List ℕ) × List ℕ) → pair_at (unsigned_at w16) text_at params ≡ Some y → IsShortText y.0.1
+second-short params y e = by (unsigned_at w16 params) e
+  where
+    pair-with : (n : ℕ) (o : Option (List ℕ × List ℕ)) → ((t : List ℕ × List ℕ) → o ≡ Some t → IsShortText t.0)
+        → option_map (λ t. ((n, t.0), t.1)) o ≡ Some y → IsShortText y.0.1
+    pair-with n None is h = absurd (cc)
+    pair-with n (Some t) is h = let same : ((n, t.0), t.1) ≡ y = cc in subst (λ (z : (ℕ × List ℕ) × List ℕ). IsShortText z.0.1) same (is t refl)
+
+    by : (o : Option (ℕ × List ℕ)) → option_and_then (λ x. option_map (λ t. ((x.0, t.0), t.1)) (text_at x.1)) o ≡ Some y → IsShortText y.0.1
+    by None h = absurd (cc)
+    by (Some x) h = pair-with x.0 (text_at x.1) (text-short x.1) h
+
+items-short : (n : ℕ) (bytes : List ℕ) (y : List (List ℕ) × List ℕ) → items_at text_at n bytes ≡ Some y → All IsShortText y.0
+unfolding items_at
+items-short zero bytes y e = let same : ([], bytes) ≡ y = cc in subst (λ (z : List (List ℕ) × List ℕ). All IsShortText z.0) same no-names
+items-short (suc n) bytes y e = by (text_at bytes) (text-short bytes) (items-short n) e
+  where
+    pair-with : (t : List ℕ) (o : Option (List (List ℕ) × List ℕ)) → IsShortText t → ((z : List (List ℕ) × List ℕ) → o ≡ Some z → All IsShortText z.0)
+        → option_map (λ z. (t ∷ z.0, z.1)) o ≡ Some y → All IsShortText y.0
+    pair-with t None is more h = absurd (cc)
+    pair-with t (Some z) is more h =
+        let same : (t ∷ z.0, z.1) ≡ y = cc in
+        subst (λ (x : List (List ℕ) × List ℕ). All IsShortText x.0) same (All-cons IsShortText t z.0 is (more z refl))
+
+    by : (o : Option (List ℕ × List ℕ)) → ((t : List ℕ × List ℕ) → o ≡ Some t → IsShortText t.0)
+        → ((after : List ℕ) (z : List (List ℕ) × List ℕ) → items_at text_at n after ≡ Some z → All IsShortText z.0)
+        → option_and_then (λ x. option_map (λ z. (x.0 ∷ z.0, z.1)) (items_at text_at n x.1)) o ≡ Some y → All IsShortText y.0
+    by None is more h = absurd (cc)
+    by (Some x) is more h = pair-with x.0 (items_at text_at n x.1) (is x refl) (more x.1) h
+
+list-short : (n : ℕ) (bytes : List ℕ) (y : List (List ℕ) × List ℕ) → list_at text_at n bytes ≡ Some y → All IsShortText y.0
+list-short n bytes y e = by (unsigned_at w16 bytes) e
+  where
+    test : (b : Bool) (after : List ℕ) → cond b (items_at text_at n after) None ≡ Some y → All IsShortText y.0
+    test true after h = items-short n after y h
+    test false after h = absurd (cc)
+
+    by : (o : Option (ℕ × List ℕ)) → option_and_then (λ x. cond (x.0 == n) (items_at text_at n x.1) None) o ≡ Some y → All IsShortText y.0
+    by None h = absurd (cc)
+    by (Some x) h = test (x.0 == n) x.1 h
+
+-- ---- what is asked
+
+-- the texts that a request sets are short
+unfoldable SetsShort : Request → Type 0
+SetsShort (requests.SetLabel text) = IsShortText text
+SetsShort (requests.Switch (switches.SetPositionName n text)) = IsShortText text
+SetsShort (requests.Switch (switches.SetPositionNames texts)) = All IsShortText texts
+SetsShort _ = Unit {0}
+
+plainly : (q r : Request) (count : ℕ) (params : List ℕ) → SetsShort q → without_parameters q count params ≡ Some r → SetsShort r
+plainly q r count params h e = by ((count == 0) && (length params == 0)) e
+  where
+    by : (b : Bool) → cond b (Some q) None ≡ Some r → SetsShort r
+    by true t = let same : q ≡ r = cc in subst SetsShort same h
+    by false t = absurd (cc)
+
+asked : {X : Type 0} (f : X → Request) (o : Option X) (r : Request) → ((x : X) → o ≡ Some x → SetsShort (f x)) → option_map f o ≡ Some r → SetsShort r
+asked f None r h e = absurd (cc)
+asked f (Some x) r h e = let same : f x ≡ r = cc in subst SetsShort same (h x refl)
+
+asked-setting : (value : Value) (count : ℕ) (params : List ℕ) (r : Request) → setting_request value count params ≡ Some r → SetsShort r
+unfolding SetsShort
+asked-setting values.Block count params r e = absurd (cc)
+asked-setting (values.Mute state) count params r e = absurd (cc)
+asked-setting (values.Polarity state) count params r e = absurd (cc)
+asked-setting (values.Switch switch) count params r e = absurd (cc)
+asked-setting (values.Boolean truth) count params r e = asked requests.SetBoolean _ r (λ x q. tt) e
+asked-setting (values.Number range) count params r e = asked requests.SetNumber _ r (λ x q. tt) e
+
+asked-short : (value : Value) (method : Method) (count : ℕ) (params : List ℕ) (r : Request) → request_of value method count params ≡ Some r → SetsShort r
+unfolding request_of SetsShort
+asked-short value methods.GetClassIdentification count params r e = plainly requests.GetClassIdentification r count params tt e
+asked-short value methods.GetLockable count params r e = plainly requests.GetLockable r count params tt e
+asked-short value methods.LockTotal count params r e = plainly requests.LockTotal r count params tt e
+asked-short value methods.Unlock count params r e = plainly requests.Unlock r count params tt e
+asked-short value methods.GetRole count params r e = plainly requests.GetRole r count params tt e
+asked-short value methods.LockReadonly count params r e = plainly requests.LockReadonly r count params tt e
+asked-short value methods.GetEnabled count params r e = plainly requests.GetEnabled r count params tt e
+asked-short value methods.SetEnabled count params r e = asked requests.SetEnabled _ r (λ x q. tt) e
+asked-short value methods.GetLabel count params r e = plainly requests.GetLabel r count params tt e
+asked-short value methods.SetLabel count params r e =
+    asked requests.SetLabel (with_parameters 1 text_at count params) r (λ x q. with-short IsShortText 1 count text_at params x (text-short params) q) e
+asked-short value methods.GetOwner count params r e = plainly requests.GetOwner r count params tt e
+asked-short value methods.GetMembers count params r e = plainly requests.GetMembers r count params tt e
+asked-short value methods.GetMembersRecursive count params r e = plainly requests.GetMembersRecursive r count params tt e
+asked-short value methods.GetState count params r e = plainly requests.GetState r count params tt e
+asked-short value methods.SetState count params r e = asked requests.SetState _ r (λ x q. tt) e
+asked-short value methods.GetPosition count params r e = plainly (requests.Switch switches.GetPosition) r count params tt e
+asked-short value methods.SetPosition count params r e = asked (λ n. requests.Switch (switches.SetPosition n)) _ r (λ x q. tt) e
+asked-short value methods.GetPositionName count params r e = asked (λ n. requests.Switch (switches.GetPositionName n)) _ r (λ x q. tt) e
+asked-short value methods.SetPositionName count params r e =
+    asked (λ x. requests.Switch (switches.SetPositionName x.0 x.1)) (with_parameters 2 (pair_at (unsigned_at w16) text_at) count params) r
+    (λ x q. with-short (λ (y : ℕ × List ℕ). IsShortText y.1) 2 count (pair_at (unsigned_at w16) text_at) params x (second-short params) q) e
+asked-short value methods.GetPositionNames count params r e = plainly (requests.Switch switches.GetPositionNames) r count params tt e
+asked-short value methods.SetPositionNames count params r e =
+    asked (λ x. requests.Switch (switches.SetPositionNames x)) (with_parameters 1 (list_at text_at (positions value)) count params) r
+    (λ x q. with-short (All IsShortText) 1 count (list_at text_at (positions value)) params x (list-short (positions value) params) q) e
+asked-short value methods.GetPositionEnabled count params r e = asked (λ n. requests.Switch (switches.GetPositionEnabled n)) _ r (λ x q. tt) e
+asked-short value methods.SetPositionEnabled count params r e = asked (λ x. requests.Switch (switches.SetPositionEnabled x.0 x.1)) _ r (λ x q. tt) e
+asked-short value methods.GetPositionEnableds count params r e = plainly (requests.Switch switches.GetPositionEnableds) r count params tt e
+asked-short value methods.SetPositionEnableds count params r e = asked (λ x. requests.Switch (switches.SetPositionEnableds (record { items = x }))) _ r (λ x q. tt) e
+asked-short value methods.GetSetting count params r e = plainly requests.GetSetting r count params tt e
+asked-short value methods.SetSetting count params r e = asked-setting value count params r e
+
+request-short : (o : Object) (kind : MethodKind) (c : CommandFields) (r : Request) → request_at (Some o) kind c ≡ Some r → SetsShort r
+request-short o (Known method access) c r e = asked-short o.value method c.count c.params r e
+request-short o LeftOut c r e = absurd (cc)
+request-short o Unknown c r e = absurd (cc)
+
+-- ---- what is changed
+
+switch-kept : (s : Switch) (q : SwitchRequest) → SetsShort (requests.Switch q) → All IsShortText s.names.items → All IsShortText (changed_switch s q).names.items
+unfolding SetsShort
+switch-kept s (switches.SetPositionName n text) is h = All-set IsShortText s.names.items n text is h
+switch-kept s (switches.SetPositionNames texts) is h = is
+switch-kept s switches.GetPosition is h = h
+switch-kept s (switches.SetPosition n) is h = h
+switch-kept s (switches.GetPositionName n) is h = h
+switch-kept s switches.GetPositionNames is h = h
+switch-kept s (switches.GetPositionEnabled n) is h = h
+switch-kept s (switches.SetPositionEnabled n truth) is h = h
+switch-kept s switches.GetPositionEnableds is h = h
+switch-kept s (switches.SetPositionEnableds truths) is h = h
+
+positions-kept : (s : Switch) (r : Request) → SetsShort r → All IsShortText s.names.items → All IsShortText (changed_positions s r).names.items
+positions-kept s (requests.Switch q) is h = switch-kept s q is h
+positions-kept s _ is h = h
+
+value-kept : (v : Value) (r : Request) → SetsShort r → All IsShortText (names_in v) → All IsShortText (names_in (changed_value v r))
+unfolding changed_value names_in
+value-kept values.Block r is h = h
+value-kept (values.Mute state) r is h = h
+value-kept (values.Polarity state) r is h = h
+value-kept (values.Switch s) r is h = positions-kept s r is h
+value-kept (values.Boolean truth) r is h = h
+value-kept (values.Number range) r is h = h
+
+-- the same number, container, role, and whether it can be locked
+pub record IsSameBut (o new : Object) : Type 0 where
+  pub number : new.ono.0 ≡ o.ono.0
+  pub role : new.role ≡ o.role
+  pub lockable : new.lockable ≡ o.lockable
+  pub named : IsNamed o → IsNamed new
+
+abbrev valued_as : Object → Value → Object
+valued_as o v = record o { value = v }
+
+value-named : (o : Object) (r : Request) → SetsShort r → IsNamed o → IsNamed (valued_as o (changed_value o.value r))
+value-named o r is h = record {
+  ono = h.ono;
+  container = h.container;
+  role = h.role;
+  some = h.some;
+  label = h.label;
+  names = value-kept o.value r is h.names;
+}
+
+changed-same : (o : Object) (peer : Peer) (r : Request) → SetsShort r → IsSameBut o (changed o peer r)
+unfolding changed SetsShort
+changed-same o peer requests.LockTotal is = record { number = refl; role = refl; lockable = refl; named = λ h. record { ono = h.ono; container = h.container; role = h.role; some = h.some; label = h.label; names = h.names } }
+changed-same o peer requests.LockReadonly is = record { number = refl; role = refl; lockable = refl; named = λ h. record { ono = h.ono; container = h.container; role = h.role; some = h.some; label = h.label; names = h.names } }
+changed-same o peer requests.Unlock is = record { number = refl; role = refl; lockable = refl; named = λ h. record { ono = h.ono; container = h.container; role = h.role; some = h.some; label = h.label; names = h.names } }
+changed-same o peer (requests.SetEnabled truth) is = record { number = refl; role = refl; lockable = refl; named = λ h. record { ono = h.ono; container = h.container; role = h.role; some = h.some; label = h.label; names = h.names } }
+changed-same o peer (requests.SetLabel text) is = record { number = refl; role = refl; lockable = refl; named = λ h. record { ono = h.ono; container = h.container; role = h.role; some = h.some; label = is; names = h.names } }
+changed-same o peer r is = record { number = refl; role = refl; lockable = refl; named = value-named o r is }
+
+-- ---- in the list
+
+placed : (tree : List Object) (new : Object) → IsNamed new → All IsNamed tree → All IsNamed (with_object tree new)
+placed [] new is h = h
+placed (o ∷ os) new is h = by (o.ono.0 == new.ono.0) (placed os new is (All-tail IsNamed o os h))
+  where
+    by : (b : Bool) → All IsNamed (with_object os new) → All IsNamed (cond b (new ∷ os) (o ∷ with_object os new))
+    by true rest = All-cons IsNamed new os is (All-tail IsNamed o os h)
+    by false rest = All-cons IsNamed o (with_object os new) (All-head IsNamed o os h) rest
+
+-- the object with a number has that number, and is one of the list
+number-of : (tree : List Object) (n : ℕ) (o : Object) → object_of tree n ≡ Some o → o.ono.0 ≡ n
+number-of tree n o e = eqb-true o.ono.0 n (find_passes (has_number n) tree o e)
+
+named-at : (tree : List Object) (n : ℕ) (o : Object) → object_of tree n ≡ Some o → All IsNamed tree → IsNamed o
+named-at [] n o e h = absurd (cc)
+named-at (x ∷ xs) n o e h = by (x.ono.0 == n) e (named-at xs n o)
+  where
+    by : (b : Bool) → cond b (Some x) (object_of xs n) ≡ Some o → (object_of xs n ≡ Some o → All IsNamed xs → IsNamed o) → IsNamed o
+    by true t rest = let is : x ≡ o = cc in subst IsNamed is (All-head IsNamed x xs h)
+    by false t rest = rest t (All-tail IsNamed x xs h)
+
+-- the object that has the number of the first is the first
+root-placed : (tree : List Object) (n : ℕ) (o new : Object) → object_of tree n ≡ Some o → IsSameBut o new → Rooted tree → Rooted (with_object tree new)
+root-placed [] n o new e same h = h
+root-placed (x ∷ xs) n o new e same h = by (x.ono.0 == n) refl e (x.ono.0 == new.ono.0) refl
+  where
+    by : (b : Bool) → (x.ono.0 == n) ≡ b → cond b (Some x) (object_of xs n) ≡ Some o → (c : Bool) → (x.ono.0 == new.ono.0) ≡ c → Rooted (cond c (new ∷ xs) (x ∷ with_object xs new))
+    by b t q false u = h
+    by true t q true u = let is : x ≡ o = cc in (same.role ∙ ap (λ (y : Object). y.role) (sym is) ∙ h.0, same.lockable ∙ ap (λ (y : Object). y.lockable) (sym is) ∙ h.1)
+    by false t q true u =
+        let number : x.ono.0 ≡ n = eqb-true x.ono.0 new.ono.0 u ∙ same.number ∙ number-of xs n o q in
+        absurd (both_ways (x.ono.0 == n) t (eq-eqb x.ono.0 n number))
+
+abbrev KeptBy : List Object → Execution → Type 0
+KeptBy tree x = Rooted tree → All IsNamed tree → Rooted x.tree × All IsNamed x.tree
+
+carried : (tree : List Object) (peer : Peer) (n : ℕ) (o : Object) (r : Request) → object_of tree n ≡ Some o → SetsShort r → Rooted tree → All IsNamed tree
+    → Rooted (with_object tree (changed o peer r)) × All IsNamed (with_object tree (changed o peer r))
+carried tree peer n o r at is root named =
+    let same = changed-same o peer r is in
+    (root-placed tree n o (changed o peer r) at same root, placed tree (changed o peer r) (same.named (named-at tree n o at named)) named)
+
+by-status : (tree : List Object) (peer : Peer) (n : ℕ) (o : Option Object) (r : Option Request) (s : Status) → object_of tree n ≡ o
+    → ((x : Object) (q : Request) → o ≡ Some x → r ≡ Some q → SetsShort q) → KeptBy tree (by_status tree peer o r s)
+by-status tree peer n (Some o) (Some r) status.Ok at is root named = carried tree peer n o r at (is o r refl refl) root named
+by-status tree peer n None r s at is root named = (root, named)
+by-status tree peer n (Some o) None s at is root named = (root, named)
+by-status tree peer n (Some o) (Some r) s at is root named = (root, named)
+
+-- A COMMAND LEAVES the root as it was made, and objects that fit a line.
+pub command-kept : (tree : List Object) (peer : Peer) (c : CommandFields) → KeptBy tree (execution tree peer c)
+unfolding execution
+command-kept tree peer c = by (object_of tree c.target) refl
+  where
+    by : (o : Option Object) → object_of tree c.target ≡ o
+        → KeptBy tree (by_status tree peer o (request_at o (kind_at o c) c) (status_of tree peer o c))
+    by None at = by-status tree peer c.target None (request_at None (kind_at None c) c) (status_of tree peer None c) at (λ x q e. absurd (cc))
+    by (Some o) at =
+        by-status tree peer c.target (Some o) (request_at (Some o) (kind_at (Some o) c) c) (status_of tree peer (Some o) c) at
+        (λ x q e f. request-short o (kind_at (Some o) c) c q f)
+
+-- ---- locks that are released
+
+without-named : (peer : Peer) (o : Object) → IsNamed o → IsNamed (without_lock_of peer o)
+without-named peer o h = by (is_held_by peer o.lock)
+  where
+    by : (b : Bool) → IsNamed (cond b (record o { lock = None }) o)
+    by true = record { ono = h.ono; container = h.container; role = h.role; some = h.some; label = h.label; names = h.names }
+    by false = h
+
+without-root : (peer : Peer) (o : Object) (os : List Object) → Rooted (o ∷ os) → Rooted (without_lock_of peer o ∷ map (without_lock_of peer) os)
+without-root peer o os h = by (is_held_by peer o.lock)
+  where
+    by : (b : Bool) → Rooted (cond b (record o { lock = None }) o ∷ map (without_lock_of peer) os)
+    by true = h
+    by false = h
+
+-- Releasing the locks of a peer leaves them so too.
+pub release-kept : (tree : List Object) (peer : Peer) → Rooted tree → All IsNamed tree → Rooted (released tree peer) × All IsNamed (released tree peer)
+unfolding released
+release-kept [] peer root named = (root, named)
+release-kept (o ∷ os) peer root named = (without-root peer o os root, All-map IsNamed (without_lock_of peer) (o ∷ os) (All-weaker IsNamed (λ x. IsNamed (without_lock_of peer x)) (without-named peer) (o ∷ os) named))
