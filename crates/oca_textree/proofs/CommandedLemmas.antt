@@ -26,7 +26,7 @@ use Rattle.oca_tree.specs.declared.request.Request.TheVariants as requests
 use Rattle.oca_tree.specs.declared.request.SwitchRequest.{SwitchRequest}
 use Rattle.oca_tree.specs.declared.request.SwitchRequest.TheVariants as switches
 use Rattle.oca_tree.specs.Kinds.{number_at}
-use Rattle.oca_tree.specs.Parameters.{whole, pair_at, items_at, list_at}
+use Rattle.oca_model.specs.Parameters.{whole, pair_at, items_at, list_at}
 use Rattle.oca_tree.specs.Requests.{positions, with_parameters, without_parameters, setting_request, position_names_request, position_enableds_request, request_of}
 use Rattle.oca_tree.specs.Execution.{changed, changed_value, changed_switch, changed_positions, Execution, execution, request_at, kind_at, status_of, by_status}
 use Rattle.oca_tree.specs.Objects.{has_number, object_of, with_object}
