@@ -1,5 +1,5 @@
 -- The program's command line, as clap computes with it.
-use Rattle.std.proofs.Common.{◌≡◌, ℕ, Bool, List, true, false, not, ◌&&◌, Result, Ok, Err, refl}
+use Rattle.std.proofs.Common.{◌≡◌, ℕ, Bool, List, true, false, not, ◌&&◌, Result, Ok, Err, refl, ap, subst, ◌∙◌}
 use Rattle.std.specs.Prelude.{IfOk}
 use Rattle.clap.specs.declared.error.Error.{Error}
 use Rattle.clap.specs.declared.parser.matches.ArgMatches.{ArgMatches}
@@ -30,3 +30,10 @@ pub matching-gives : (app : App) (words : List (List ℕ)) (r : Result ArgMatche
     → FailsBy (fault_of app words) r → MatchingGives app words r
 matching-gives app words (Ok m) simple found faults = let h = found simple in record { fits = faults; options = h.0; command = h.1 }
 matching-gives app words (Err e) simple found faults = faults
+
+-- of a command that is this one
+pub matching-line : (app line : App) (words : List (List ℕ)) (r : Result ArgMatches Error) → app ≡ line → is_simple line ≡ true → is_simple_and_free line ≡ true
+    → IfOk r (HasMatchesOf app words) → (is_simple_and_free app ≡ true → FailsBy (fault_of app words) r) → MatchingGives line words r
+matching-line app line words r same simple free found faults =
+    matching-gives line words r simple (subst (λ (a : App). IfOk r (HasMatchesOf a words)) same found)
+    (subst (λ (a : App). FailsBy (fault_of a words) r) same (faults (ap is_simple_and_free same ∙ free)))

@@ -4,6 +4,8 @@ use Rattle.std.specs.Prelude.{slice_get}
 use Rattle.oca_types.specs.declared.status.Status.{Status}
 use Rattle.oca_types.specs.declared.status.Status.TheVariants as statuses
 use Rattle.oca_types.specs.Status.{status_name}
+use Rattle.oca_pdu.specs.declared.fault.PduFault.{PduFault}
+use Rattle.oca_pdu.specs.Datagrams.{read_or_none}
 use Rattle.oca_pdu.specs.Messages.{Msg}
 use Rattle.oca_script.specs.declared.fault.WriteFailed.{WriteFailed}
 use Rattle.oca_script.specs.Ends.{Output}
@@ -53,6 +55,11 @@ none-left ms ss is = ap (λ (l : List Msg). messages_text l ss) is
 pub behind-all : (a b : Output) (ms : List Msg) (ss all : List ℕ) → Behind a b ms ss all → ms ≡ [] → PrintsAll a b all
 behind-all a b ms ss all h is =
     subst (PrintsAll a b) (sym (append-nil h.so_far) ∙ ap (λ (l : List ℕ). h.so_far ++ l) (sym (none-left ms ss is)) ∙ h.rest) h.printed
+
+-- of no messages nothing is printed
+pub prints-no-messages : (a : Output) (r : Result (List Msg) PduFault) (f : PduFault) (ss : List ℕ) → r ≡ Err f → PrintsAll a a (messages_text (read_or_none r) ss)
+prints-no-messages a r f ss e =
+    subst (PrintsAll a a) (sym (none-left (read_or_none r) ss (ap read_or_none e))) (PrintsAll-nil a)
 
 -- ---- names of statuses are short
 

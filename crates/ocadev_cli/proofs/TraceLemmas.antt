@@ -1,11 +1,30 @@
 -- Printing a text and then writing another one out.
-use Rattle.std.proofs.Common.{◌≡◌, ℕ, List, ◌++◌, Result, Ok, Err, refl, sym, ap, ◌∙◌, append_assoc, subst}
+use Rattle.std.proofs.Common.{◌≡◌, ◌<◌, ◌==◌, ℕ, true, false, List, ◌++◌, length, get_or, codes, decimal, Option, Some, Result, Ok, Err, refl, sym, ap, ◌∙◌, append_assoc, arith, subst}
+use denote.Ref.{Bor}
+use Rattle.std.specs.Prelude.{IfSome, is_some, nat_lt, slice_get}
+use Rattle.std.proofs.lemmas.Bool.Decides.{nat_tests}
+use Rattle.std.proofs.lemmas.Option.{slice_get_read}
+use Rattle.oca_types.specs.declared.words.Ono.{Ono}
 use Rattle.std.specs.Io.KnownBytes.{Appends}
 use Rattle.std.proofs.KnownBytes.{Appends-trans}
 use Rattle.oca_script.specs.declared.fault.WriteFailed.{WriteFailed}
-use Rattle.oca_script.specs.Ends.{Output}
+use Rattle.oca_script.specs.Ends.{Output, output}
 use Rattle.oca_script.specs.Printing.{PrintsAll, PrintsPart, WritesOut}
+use Rattle.ocadev_cli.specs.Traces.{failed_sends_text}
 use Rattle.oca_script.proofs.PrintLemmas.{not-written, prints-less}
+
+-- of a count that is not 0
+is-some : (n : ℕ) → 0 < n → (n == 0) ≡ false
+is-some n h = grind (arith, nat_tests)
+
+pub failed-text : (n : ℕ) → 0 < n → failed_sends_text n ≡ codes " failed-sends " ++ decimal n
+failed-text n some = let e : (n == 0) ≡ false = is-some n some in rw e refl
+
+pub held-failures : (a b : Output) (n : ℕ) → 0 < n → b ≡ output a.contents (a.held ++ codes " failed-sends " ++ decimal n) a.failed
+    → b ≡ output a.contents (a.held ++ failed_sends_text n) a.failed
+held-failures a b n some e =
+    e ∙ ap (λ (l : List ℕ). output a.contents l a.failed)
+    (append_assoc a.held (codes " failed-sends ") (decimal n) ∙ ap (λ (l : List ℕ). a.held ++ l) (sym (failed-text n some)))
 
 -- a write failed within the first text
 pub writes-less : (r : Result Unit WriteFailed) (e : WriteFailed) (a b : Output) (x y : List ℕ) → r ≡ Err e → PrintsPart a b x → WritesOut r a b (x ++ y)
@@ -32,3 +51,13 @@ writes-then (Err e) a b c x y h k = record {
   };
   failed = k.failed;
 }
+
+within : (i n : ℕ) → nat_lt i n ≡ true → i < n
+within i n h = grind (arith, nat_tests)
+
+-- what a slice has at a place, by what `get` says
+pub found-at : (xs : List Ono) (i : ℕ) (r : Option (Bor Ono)) (x : Bor Ono) → r ≡ Some x → is_some r ≡ nat_lt i (length xs)
+    → IfSome r (λ y. y.now ≡ get_or xs i y.now) → slice_get xs i ≡ Some x.now
+found-at xs i r x is there read =
+    slice_get_read xs (length xs) i x.now refl (within i (length xs) (sym there ∙ ap is_some is))
+    (subst (λ (o : Option (Bor Ono)). IfSome o (λ y. y.now ≡ get_or xs i y.now)) is read)

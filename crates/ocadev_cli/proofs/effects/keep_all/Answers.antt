@@ -1,15 +1,13 @@
-use Rattle.std.proofs.Common.{rules, ◌≡◌, ◌++◌, take, ap}
-use Rattle.oca_types.specs.Sizes.{largest_datagram}
+use Rattle.std.proofs.Common.{rules, ◌≡◌, ap}
 use Rattle.oca_pdu.specs.Datagrams.{messages_left}
 use Rattle.oca_pdu.specs.Messages.{msg_of}
-use Rattle.ocadev_cli.specs.Effects.{response_statuses}
-use Rattle.ocadev_cli.proofs.KeepLemmas.{keeps-all, keeps-more}
+use Rattle.ocadev_cli.proofs.KeepLemmas.{keeps-all, keeps-first, keeps-more}
 use Rattle.ocadev_cli.proofs.effects.keep_all.Goals as goal
 
 pub loop-message-init : goal.loop-message-init
 loop-message-init c =
     let same : c.into_iter-message-iterator.result ≡ c.args.messages = first_of (assumption (c.into_iter-message-iterator.ensures.into_iter_gives), cc, search rules) in
-    ap (λ m. take largest_datagram (c.args.statuses.now.items ++ response_statuses (messages_left m))) same
+    keeps-first (messages_left c.into_iter-message-iterator.result) (messages_left c.args.messages) _ (ap messages_left same)
 
 pub loop-message-preserved : goal.loop-message-preserved
 loop-message-preserved c =

@@ -20,4 +20,4 @@ loop-message-preserved g c =
     behind-more _ c.loop-message.faults _ (msg_of c.in-Some.message) _ _ c.loop-message.left.now _ _ _ c.loop-message.invariant c.in-Some.ensures.steps c.first.ensures.value c.left_after-left.ensures c.in_ok-print_message.ensures
 
 pub returns : goal.returns
-returns g c = behind-all _ _ (messages_left _) _ _ c.loop-message.invariant c.in-None.ensures.steps.0
+returns g c = behind-all _ _ _ _ _ c.loop-message.invariant c.in-None.ensures.steps.0
