@@ -1,5 +1,5 @@
 -- Locks that are kept.
-use Rattle.std.proofs.Common.{◌≡◌, ℕ, ◌+◌, ◌<◌, List, [], ◌∷◌, ◌++◌, length, take, get_or, Ok, refl, sym, ap, ◌∙◌, subst, true, false, arith}
+use Rattle.std.proofs.Common.{◌≡◌, ℕ, ◌+◌, ◌<◌, List, [], ◌∷◌, ◌++◌, length, take, get_or, refl, sym, ap, ◌∙◌, subst, false, arith}
 use Rattle.std.specs.Prelude.{map}
 use Rattle.std.proofs.lemmas.List.{flat_map_more}
 use Rattle.oca_types.specs.declared.words.Ono.{Ono}
@@ -7,7 +7,7 @@ use Rattle.oca_script.specs.Ends.{Input, Output}
 use Rattle.oca_script.specs.Printing.{PrintsAll}
 use Rattle.oca_panel.specs.Panels.{PanelState}
 use Rattle.ocactl_cli.specs.declared.told.Told.{Told}
-use Rattle.ocactl_cli.specs.Hands.{AsksAll, HoldsAll, KeepsHeld, KeepsLocks, KeepsUntilEnd, Locks, NoneAsked, OneAsked, gravest, graver_of, held_if, held_of, held_one, told_status}
+use Rattle.ocactl_cli.specs.Hands.{AsksAll, HoldsAll, KeepsHeld, KeepsUntilEnd, Locks, NoneAsked, OneAsked, graver_of, held_if, held_of, held_one}
 use Rattle.ocactl_cli.specs.PrivateHands.{LocksEach, LocksNext, TellsAll, TellsNext, number_of}
 use Rattle.ocactl_cli.proofs.HandLemmas.{line-told, map-take, tells-next, writes-none}
 

@@ -1,10 +1,9 @@
 -- How a run ends, by what its last call gave.
-use Rattle.std.proofs.Common.{◌≡◌, ℕ, List, Bool, Result, Ok, Err, refl, ap, subst}
+use Rattle.std.proofs.Common.{◌≡◌, ℕ, List, Result, Ok, Err, refl, ap, subst}
 use Rattle.std.specs.Prelude.{IfOk, IfErr, OnErr, if◌then◌else◌}
 use Rattle.oca_types.specs.Sizes.{span_size}
 use Rattle.oca_control.specs.Links.{LinkState, new_link}
 use Rattle.oca_net.specs.EndStates.{EndState}
-use Rattle.oca_panel.specs.Panels.{PanelState}
 use Rattle.oca_panel.specs.declared.own_port.OwnPort.{OwnPort}
 use Rattle.ocactl_cli.specs.Sockets.{IsOwnPort}
 use Rattle.oca_script.specs.declared.fault.ReplayFault.{ReplayFault}

@@ -1,4 +1,4 @@
-use Rattle.std.specs.Prelude.{map, true}
+use Rattle.std.specs.Prelude.{true}
 use Rattle.ocactl_cli.specs.CommandLine.{own_app}
 use Rattle.ocactl_cli.proofs.MatchLemmas.{matched-by, simple-own}
 use Rattle.ocactl_cli.proofs.matching.plain_matches.Goals as goal
