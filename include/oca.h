@@ -317,7 +317,7 @@ enum oca_result oca_device_start(struct oca_device *device, uint8_t window, uint
  * has room for 122, as many as a datagram can ask for. All commands of a datagram are executed, whatever the room; the first packets are
  * kept, and the others are left out, as if the network had lost them: a controller that sends such a command again gets the retained
  * reply. A datagram is never answered with more packets than it has commands and keep-alives, so nothing is left out of what answers a
- * controller that has fewer commands in flight than there is room for packets. */
+ * controller that has fewer commands in flight than there is room for packets, and at most one keep-alive in a datagram. */
 enum oca_result oca_device_start_within(struct oca_device *device, uint8_t window, uint8_t peers, size_t packets) OCA_CHECKED;
 
 /* What became of a datagram. `kind` is 0 for one that was served, with how many of its commands were executed, were duplicates, were
